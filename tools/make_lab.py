@@ -11,89 +11,85 @@ page of terms to hand out at the end.
 The site needs the workbench's WebAssembly modules, and the slides need the program, built of the sources as they are: where they are not,
 these are left out, which is said. All else needs Python 3.8 alone, on any system. The same sources give the same bytes.
 """
+from __future__ import annotations
+
 import io
 import os
 import sys
 import zipfile
 
 sys.dont_write_bytecode = True
-import films
 import given
 import make_site
 import make_slides
 from lab import sheets
-from lab.tests import NoLab, read, tests_of
+from lab.tests import NoLab, make_tests, read_file
 from page import web_files
-from shared import start
+from shared import command, start
 
 NO_SITE = "make_lab: the site is left out: there are no modules of these sources (tools/build_wasm.py makes them)"
 
 NO_SLIDES = "make_lab: the slides are left out: there is no program of these sources (./lw builds it)"
 
 
-def students(lab, modules):
-    """The files for students: of each name its bytes."""
-    tests = tests_of(lab)
-    texts = {"sheet.html": sheets.sheet(lab, tests, bool(modules)), "card.html": sheets.document("CARD"), "index.html": sheets.index(bool(modules))}
+def make_student_files(lab: str, modules: list[bytes]) -> dict[str, bytes]:
+    """Returns the files for students: of each name its bytes."""
+    tests = make_tests(lab)
+    texts = {
+        "sheet.html": sheets.make_sheet(lab, tests, "site/index.html" if modules else None), "card.html": sheets.render_document("CARD"),
+        "index.html": sheets.make_index(bool(modules)),
+    }
     texts.update((f"tests/{name}.litmus", text) for name, text in tests.items())
     if modules:
-        texts.update((f"site/{name}", text) for name, text in make_site.folder(modules, make_site.WEB, {}).items())
+        texts.update((f"site/{name}", text) for name, text in make_site.make_folder(modules, make_site.WEB, has_documents=False).items())
     return {name: text.encode() for name, text in texts.items()}
 
 
-def packed(files, top):
-    """Files as one, in which all lie in a folder. The same files give the same bytes."""
-    made = io.BytesIO()
-    with zipfile.ZipFile(made, "w") as archive:
+def make_zip(files: dict[str, bytes], top: str) -> bytes:
+    """Returns files as one zip file, in which all are in a folder. The same files give the same bytes."""
+    stream = io.BytesIO()
+    with zipfile.ZipFile(stream, "w") as archive:
         for name in sorted(files):
             info = zipfile.ZipInfo(f"{top}/{name}")
             info.compress_type = zipfile.ZIP_DEFLATED
             info.external_attr = 0o644 << 16
             info.create_system = 3
             archive.writestr(info, files[name])
-    return made.getvalue()
+    return stream.getvalue()
 
 
-def slides_if_built():
-    """The slides, or None where the program is not built, or not for this system."""
-    try:
-        films.check_program()
-        return make_slides.page()
-    except (films.NoFilm, ImportError, OSError):
-        return None
-
-
-def contents(modules, shown):
-    """All files, with a site of the modules where there are some, and with the slides where they are given: of each name its bytes."""
-    lab = read("docs/LAB.md")
-    given_out = students(lab, modules)
+def make_files(modules: list[bytes], slides: str | None) -> dict[str, bytes]:
+    """Returns all files: of each name its bytes. There is a site if there are modules, and slides if they are passed."""
+    lab = read_file("docs/LAB.md")
+    given_out = make_student_files(lab, modules)
     files = {f"students/{name}": it for name, it in given_out.items()}
-    files["students.zip"] = packed(given_out, "lw-lab")
-    files["teacher/timetable.html"] = sheets.timetable(lab).encode()
-    files["teacher/solutions.html"] = sheets.solutions().encode()
-    files["teacher/glossary.html"] = sheets.document("GLOSSARY").encode()
-    if shown is not None:
-        files["teacher/slides.html"] = shown.encode()
+    files["students.zip"] = make_zip(given_out, "lw-lab")
+    files["teacher/timetable.html"] = sheets.make_timetable(lab).encode()
+    files["teacher/solutions.html"] = sheets.render_solutions().encode()
+    files["teacher/glossary.html"] = sheets.render_document("GLOSSARY").encode()
+    if slides is not None:
+        files["teacher/slides.html"] = slides.encode()
     return files
 
 
-def write(folder, files):
+def write_files(folder: str, files: dict[str, bytes]) -> None:
     """Writes files into a folder."""
-    for name, it in files.items():
+    for name, content in files.items():
         path = os.path.join(folder, *name.split("/"))
         os.makedirs(os.path.dirname(path), exist_ok=True)
         with open(path, "wb") as file:
-            file.write(it)
+            file.write(content)
 
 
-def main():
-    given.print_as_lw()
-    if len(sys.argv) != 2 or sys.argv[1].startswith("-"):
-        print(__doc__, file=sys.stderr, end="")
-        return 2
+def main() -> int:
+    """Runs the command that the arguments describe. Returns the exit status."""
+    given.set_output_encoding()
+    reader = command.Reader(__doc__)
+    reader.add_argument("folder", metavar="FOLDER")
+    folder = reader.read().folder
     try:
-        modules, shown = web_files.modules(), slides_if_built()
-        write(sys.argv[1], contents(modules, shown))
+        modules, shown = web_files.read_modules(), make_slides.make_page_if_built()
+        write_files(folder, make_files(modules, shown))
     except (NoLab, make_site.NoSite, OSError) as why:
         return given.refuse(f"make_lab: {why}")
     for line in (None if modules else NO_SITE, NO_SLIDES if shown is None else None):
@@ -103,4 +99,4 @@ def main():
 
 
 if __name__ == "__main__":
-    sys.exit(start.run(main, __doc__))
+    sys.exit(start.run(main))

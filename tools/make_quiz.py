@@ -10,14 +10,17 @@ seed makes the same bytes.
 The answers are hidden in the file, but not well: a determined student can read them. Each verdict is read off the program's reports (./lw
 states), and where there is no program of these sources, off those of tools/plain.py, which is said. Python 3.8 is enough, on any system.
 """
+from __future__ import annotations
+
 import os
 import sys
+from collections.abc import Callable
 
 sys.dont_write_bytecode = True
 import films
 import given
 from lab import codes, quiz
-from make_site import in_script
+from make_site import format_in_script
 from shapes.edges import NoCycle
 from shared import command, start
 
@@ -25,38 +28,39 @@ NOT_PROVED = "make_quiz: the verdicts are those of tools/plain.py: there is no p
 TEMPLATE = os.path.join(os.path.dirname(os.path.abspath(quiz.__file__)), "quiz.html")
 
 
-def page(count, seed, report):
-    """The quiz as one page."""
-    with open(TEMPLATE, encoding="utf-8") as it:
-        made = it.read()
+def make_page(count: int, seed: str, report: Callable[[str], str]) -> str:
+    """Returns the quiz as one page."""
+    with open(TEMPLATE, encoding="utf-8") as file:
+        html = file.read()
     parts = {
-        "@SYMBOLS@": codes.SYMBOLS, "@LETTERS@": codes.LETTERS, "@MARKS@": str(codes.MARKS), "@MOST@": str(codes.MOST_TESTS),
+        "@SYMBOLS@": codes.SYMBOLS, "@LETTERS@": codes.LETTERS, "@MARKS@": str(codes.MARKS), "@MOST@": str(codes.MAX_TESTS),
         "@BYTES@": str(codes.BYTES),
         "@PRIME@": str(codes.PRIME), "@SUM@": str(codes.LENGTH_OF_SUM),
-        "@QUIZ@": in_script(quiz.data_of(seed, quiz.tests_of(count, seed, report))),
+        "@QUIZ@": format_in_script(quiz.make_data(seed, quiz.make_tests(count, seed, report))),
     }
     for name, part in parts.items():
-        made = made.replace(name, part)
-    return made
+        html = html.replace(name, part)
+    return html
 
 
-def main():
-    given.print_as_lw()
-    reader = command.words_of(__doc__)
+def main() -> int:
+    """Runs the command that the arguments describe. Returns the exit status."""
+    given.set_output_encoding()
+    reader = command.Reader(__doc__)
     reader.add_argument("out", metavar="OUT.html")
     reader.add_argument("--tests", type=int, default=10, metavar="N")
     reader.add_argument("--seed", default="1", metavar="S")
-    words = reader.parse_args()
-    report = quiz.reports()
+    arguments = reader.read()
+    report = quiz.choose_reporter()
     try:
-        made = page(words.tests, words.seed, report)
-        with open(words.out, "w", encoding="utf-8", newline="\n") as it:
-            it.write(made)
+        html = make_page(arguments.tests, arguments.seed, report)
+        with open(arguments.out, "w", encoding="utf-8", newline="\n") as file:
+            file.write(html)
     except OSError as why:
         return given.refuse(f"make_quiz: {why.filename}: {why.strerror}")
     except (quiz.NoQuiz, NoCycle, films.NoFilm) as why:
         return given.refuse(f"make_quiz: {why}")
-    if report is quiz.report_by_plain:
+    if report is quiz.make_report_by_plain:
         print(NOT_PROVED, file=sys.stderr)
     return 0
 

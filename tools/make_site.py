@@ -4,14 +4,17 @@
     python3 tools/make_site.py FOLDER [--module FILE]...
     python3 tools/make_site.py FILE.html --one-file [--module FILE]...
 
-The page is that of web/, with the tutorial, the lab, the terms and the syntax beside it where the site is a folder, over the proved workbench as a WebAssembly module: those that tools/build_wasm.py has made, or each FILE. Of
-several a browser uses the first that it takes. There is no server: the module runs in a worker of the page. All examples are in it.
-Nothing is loaded from elsewhere.
+The page is that of web/, over the proved workbench as a WebAssembly module: those that tools/build_wasm.py has made, or each FILE. Of several a
+browser uses the first that it takes. There is no server: the module runs in a worker of the page. All examples are in it. A folder also has the
+documents of tools/page/documents.py, whose links open on the page what they show, and the lab's slides if the program is built. Nothing is loaded
+from elsewhere.
 
 A page that was opened as a file may load neither JSON nor modules of JavaScript, so those of web/ are put together to one classic
-script each for the page and its worker, and tables and modules come in scripts too: all of it packed, as gzip in base64. In a folder the page
+script each for the page and its worker, and tables and modules come in scripts too: all of it packed, as gzip in letters. In a folder the page
 asks for a module as soon as the tables are there, and for the second only if the browser does not take the first.
 """
+from __future__ import annotations
+
 import base64
 import gzip
 import hashlib
@@ -19,11 +22,12 @@ import json
 import os
 import re
 import sys
+from typing import Dict
 
 sys.dont_write_bytecode = True
-from lab import sheets
-from page import web_files
-from shared import start
+import make_slides
+from page import documents, letters, origin, web_files
+from shared import command, start
 
 WEB = f"{web_files.HOME}/web"
 IMPORT = re.compile(r'^import (?:\* as (\w+)|\{([^}]*)\}) from "\./(\w+)\.js";\n', re.M)
@@ -32,13 +36,20 @@ COMMENT = re.compile(r"^[ \t]*(?://[^\n]*|/\*\*.*?\*/)\n", re.M | re.S)
 # What a site is made without, so that less has to be loaded: blanks at the start of lines, and comments of styles.
 INDENT = re.compile(r"^[ \t]+", re.M)
 STYLE_COMMENT = re.compile(r"/\*.*?\*/\n?", re.S)
+# Where a style has a blank or a line end that says nothing: around braces, and after a line's last semicolon.
+STYLE_BLANK = re.compile(r"\s*([{}])\s*|(;)\s*\n\s*")
+# And what else says nothing outside of its strings: a blank after a colon or a comma, or around `>`, the 0 before a decimal point, the last semicolon.
+STYLE_STRING = re.compile(r'("[^"]*")')
+# The value of an attribute in a selector, which needs no quotes if it is a name.
+STYLE_NAME = re.compile(r'="([A-Za-z][\w-]*)"\]')
+STYLE_SPARE = re.compile(r"(?<=[:,]) +| *(>) *|(?<![\w.])0(?=\.\d)|;(?=\})| +(?=!important)")
 EXPORT = re.compile(r"^export ((?:async )?(?:function\*?|class|const) (\w+))", re.M)
-# The documents that a site of files has beside the page, by their names there.
-DOCUMENTS = {"card.html": "CARD", "lab.html": "LAB", "terms.html": "GLOSSARY", "tutorial.html": "TUTORIAL"}
+# The colours of the page, by light and by dark: the first rules of its style sheet.
+COLOURS = re.compile(r":root \{.*?\n\}\n:root\[data-theme=\"light\"\].*?\n:root\[data-theme=\"dark\"\].*?\n", re.S)
 # Unpacks a script in the browser, and runs it.
 UNPACKING = """"use strict";
 (async () => {
-const bytes = Uint8Array.from(atob(PACKED), (it) => it.charCodeAt(0));
+const bytes = globalThis.site.bytesOf(PACKED);
 const script = document.createElement("script");
 script.text = await new Response(new Blob([bytes]).stream().pipeThrough(new DecompressionStream("gzip"))).text();
 document.body.append(script);
@@ -62,17 +73,22 @@ class NoSite(Exception):
     """The site can't be made, and why."""
 
 
-def read(name, web):
-    with open(f"{web}/{name}", encoding="utf-8") as it:
-        return it.read()
+# The site's files: of each name its text.
+Files = Dict[str, str]
+
+
+def read_source(name: str, web: str) -> str:
+    """Returns the text of a file of the folder of the page's sources."""
+    with open(f"{web}/{name}", encoding="utf-8") as file:
+        return file.read()
 
 
 # Modules of JavaScript, put together to one script.
 
 
-def bundle(entry, web):
-    """One classic script that does what a module and all that it imports do."""
-    done = {}
+def bundle_module(entry: str, web: str) -> str:
+    """Returns one classic script that does what a module and all that it imports do. Raises NoSite if it has what no script in place may have."""
+    done: dict[str, str] = {}
     add_module(entry, web, done, ())
     text = '"use strict";\n' + INDENT.sub("", COMMENT.sub("", "".join(done.values())))
     if re.search(r"</script|<!--|^\s*(?:import|export)\b", text, re.M | re.I):
@@ -80,153 +96,176 @@ def bundle(entry, web):
     return text
 
 
-def add_module(name, web, done, importers):
-    """Adds a module behind those that it imports. Each is the body of a function that returns what it exports."""
+def add_module(name: str, web: str, done: dict[str, str], importers: tuple[str, ...]) -> None:
+    """Adds a module after those that it imports. Each is the body of a function that returns what it exports. `importers` are the modules that led to
+    it. Raises NoSite if a module imports itself.
+    """
     if name in importers:
         raise NoSite(f"web/{name}.js imports itself")
     if name in done:
         return
-    text = read(f"{name}.js", web)
+    text = read_source(f"{name}.js", web)
     for _, _, other in IMPORT.findall(text):
         add_module(other, web, done, (*importers, name))
     exported = ", ".join(it for _, it in EXPORT.findall(text))
-    body = EXPORT.sub(r"\1", IMPORT.sub(imported, text))
+    body = EXPORT.sub(r"\1", IMPORT.sub(rewrite_import, text))
     done[name] = f"const from_{name} = (() => {{\n{body}return {{ {exported} }};\n}})();\n"
 
 
-def imported(statement):
-    """What stands in place of an import."""
+def rewrite_import(statement: re.Match[str]) -> str:
+    """Returns what replaces an import."""
     whole, names, name = statement.groups()
     return f"const {whole} = from_{name};\n" if whole else f"const {{{names}}} = from_{name};\n"
 
 
-def in_script(value):
-    """A value as a script has it, also in place."""
+def format_in_script(value: object) -> str:
+    """Returns a value as a script has it, also in place."""
     return json.dumps(value, ensure_ascii=True).replace("<", "\\u003c")
 
 
 # The files.
 
 
-def packed(content):
-    """Bytes as a text: gzip in base64, which is the same for the same bytes."""
-    return base64.b64encode(gzip.compress(content, mtime=0)).decode()
+def pack_bytes(content: bytes) -> str:
+    """Returns bytes as a text: gzip in letters, which is the same for the same bytes."""
+    return letters.encode(gzip.compress(content, mtime=0))
 
 
-def unpacking(script):
+def make_unpacking_script(script: str) -> str:
     """Returns a script that unpacks another one and runs it: the page's own code is a third as long when it is packed."""
-    return UNPACKING.replace("PACKED", in_script(packed(script.encode())))
+    return UNPACKING.replace("PACKED", format_in_script(pack_bytes(script.encode())))
 
 
-def scripts(modules, is_kept, web, documents=()):
-    """The scripts of the page, in their order: what `site` is, which web/supplies.js takes, the page's own code, and the modules."""
-    tables = {"examples": web_files.families(), "sentences": web_files.sentences(), "worker": bundle("worker", web)}
+def make_scripts(modules: list[bytes], is_kept: bool, web: str, has_documents: bool = False) -> Files:
+    """Returns the scripts of the page, in their order: what `site` is, which web/supplies.js takes, the page's own code, and the modules."""
+    tables = {"examples": web_files.list_families(), "sentences": web_files.list_sentences(), "worker": bundle_module("worker", web)}
     names = [f"workbench{number}.js" for number, _ in enumerate(modules, 1)]
     site = {
-        "tables": packed(json.dumps(tables).encode()),
+        "tables": pack_bytes(json.dumps(tables).encode()),
         "isKept": is_kept,
-        "documents": sorted(documents),
+        "origin": origin.describe_origin(origin.read_origin()),
+        "documents": documents.list_documents() if has_documents else [],
         "modules": [],
         "numberOfModules": len(modules),
         # In a folder the page asks itself for each module after the first; in one file they are after the page.
         "moduleFiles": ["", *names[1:]] if is_kept else [],
     }
-    first = FETCHING.replace("FILE", in_script(names[0])) if is_kept and names else ""
-    made = {"tables.js": f"globalThis.site = {in_script(site)};\n{first}", "page.js": unpacking(bundle("main", web))}
+    first = FETCHING.replace("FILE", format_in_script(names[0])) if is_kept and names else ""
+    begin = f"globalThis.site = {format_in_script(site)};\nglobalThis.site.bytesOf = {letters.DECODER};\n"
+    scripts_by_name = {"tables.js": begin + first, "page.js": make_unpacking_script(bundle_module("main", web))}
     for name, module in zip(names, modules):
-        made[name] = f"globalThis.site.modules.push({in_script(packed(module))});\nglobalThis.site.came?.();\n"
-    return made
+        scripts_by_name[name] = f"globalThis.site.modules.push({format_in_script(pack_bytes(module))});\nglobalThis.site.came?.();\n"
+    return scripts_by_name
 
 
-def page(web):
-    """The page, without its scripts and styles: a front part and a back part."""
-    html = read("index.html", web)
+def split_page(web: str) -> tuple[str, str]:
+    """Returns the page, without its scripts and styles: a front part and a back part. Raises NoSite if web/index.html has another form."""
+    html = read_source("index.html", web)
     policy = f'<meta http-equiv="Content-Security-Policy" content="{POLICY}">\n'
-    front, found, back = html.partition('<link rel="icon" href="icon.svg">\n<link rel="stylesheet" href="style.css">\n')
+    front, separator, back = html.partition('<link rel="icon" href="icon.svg">\n<link rel="stylesheet" href="style.css">\n')
     script = '<script type="module" src="main.js"></script>\n'
-    if not found or script not in back:
+    if not separator or script not in back:
         raise NoSite("web/index.html does not have its icon, its styles and its script where they are looked for")
     return front + policy, back.replace(script, "", 1)
 
 
-def styles(web):
-    """The style sheet, without what only its writers need."""
-    return INDENT.sub("", STYLE_COMMENT.sub("", read("style.css", web)))
+def read_styles(web: str) -> str:
+    """Returns the style sheet, without what only its writers need."""
+    return shorten_style(read_source("style.css", web))
 
 
-def one_file(modules, web):
-    """The site as one file."""
-    front, back = page(web)
-    icon = base64.b64encode(read("icon.svg", web).encode()).decode()
-    style = styles(web)
+def shorten_style(text: str) -> str:
+    """Returns a style sheet that says the same with fewer bytes: browsers wait for all of it before they show anything."""
+    shorter = STYLE_BLANK.sub(r"\1\2", INDENT.sub("", STYLE_COMMENT.sub("", text)))
+    parts = STYLE_STRING.split(STYLE_NAME.sub(r"=\1]", shorter))
+    return "".join(STYLE_SPARE.sub(lambda it: it[1] or "", part).replace("; ", ";") if index % 2 == 0 else part for index, part in enumerate(parts))
+
+
+def make_one_file(modules: list[bytes], web: str) -> str:
+    """Returns the site as one file. Raises NoSite if the style has what none in place may have."""
+    front, back = split_page(web)
+    icon = base64.b64encode(read_source("icon.svg", web).encode()).decode()
+    style = read_styles(web)
     if "</style" in style:
         raise NoSite("web/style.css has what no style in place may have")
     head = f'<link rel="icon" href="data:image/svg+xml;base64,{icon}">\n<style>\n{style}</style>\n'
-    inner = "".join(f"<script>\n{it}</script>\n" for it in scripts(modules, False, web).values())
+    inner = "".join(f"<script>\n{it}</script>\n" for it in make_scripts(modules, False, web).values())
     body, end, rest = back.rpartition("</body>")
     return front + head + body + inner + end + rest
 
 
-def folder(modules, web, documents=DOCUMENTS):
-    """The site as files: of each name its text; with some documents."""
-    front, back = page(web)
-    files = {"icon.svg": read("icon.svg", web), "style.css": styles(web)}
-    files.update(scripts(modules, True, web, documents))
-    files.update({name: sheets.document(of) for name, of in documents.items()})
+def make_documents(web: str, slides: str | None) -> Files:
+    """Returns the documents of a site, with their style and their script, and the slides if there are some: of each file its text. Raises NoSite if
+    web/style.css has another form.
+    """
+    match = COLOURS.search(read_source("style.css", web))
+    if match is None:
+        raise NoSite("web/style.css does not begin with the colours by light and by dark")
+    style = shorten_style(match[0] + read_source(documents.STYLE, web))
+    return {**documents.make_pages(POLICY, slides), documents.STYLE: style, documents.SCRIPT: read_source(documents.SCRIPT, web)}
+
+
+def make_folder(modules: list[bytes], web: str, has_documents: bool = True, slides: str | None = None) -> Files:
+    """Returns the site as files: of each name its text; with the documents, or without them for a class that is to find the answers."""
+    front, back = split_page(web)
+    files = {"icon.svg": read_source("icon.svg", web), "style.css": read_styles(web)}
+    files.update(make_scripts(modules, True, web, has_documents))
+    if has_documents:
+        files.update(make_documents(web, slides))
     head = '<link rel="icon" href="icon.svg">\n<link rel="stylesheet" href="style.css">\n'
     head += "".join(f'<script defer src="{name}"></script>\n' for name in ("tables.js", "page.js"))
     files["index.html"] = front + head + back
     edition = hashlib.sha256(json.dumps(files).encode()).hexdigest()[:16]
     kept = ["./", *sorted(files)]
-    files["offline.js"] = f"const edition = {in_script(edition)};\nconst files = {in_script(kept)};\n" + read("offline.js", web)
+    files["offline.js"] = f"const edition = {format_in_script(edition)};\nconst files = {format_in_script(kept)};\n" + read_source("offline.js", web)
     return files
 
 
-def write(path, text):
-    with open(path, "w", encoding="utf-8", newline="\n") as it:
-        it.write(text)
+def write_file(path: str, text: str) -> None:
+    """Writes a file."""
+    with open(path, "w", encoding="utf-8", newline="\n") as file:
+        file.write(text)
 
 
-def make(out, modules, is_one_file=False, web=WEB):
+def make_site(out: str, modules: list[bytes], is_one_file: bool = False, web: str = WEB) -> None:
     """Makes a site of modules, each by its bytes."""
     if is_one_file:
-        write(out, one_file(modules, web))
+        write_file(out, make_one_file(modules, web))
         return
-    files = folder(modules, web)
+    files = make_folder(modules, web, slides=make_slides.make_page_if_built())
     os.makedirs(out, exist_ok=True)
     for name, text in files.items():
-        write(f"{out}/{name}", text)
+        write_file(f"{out}/{name}", text)
 
 
 # The command line.
 
 
-def modules_of(paths):
-    """The bytes of the modules: those that are named, or the one that is built."""
+def read_modules(paths: list[str]) -> list[bytes]:
+    """Returns the bytes of the modules: those that are named, or the one that is built. Raises NoSite if there is none, or a file is none."""
     if not paths:
-        built = web_files.modules()
+        built = web_files.read_modules()
         if not built:
             raise NoSite("there is no module of these sources: run tools/build_wasm.py, or name one by --module FILE")
         return built
-    found = []
+    modules = []
     for path in paths:
-        with open(path, "rb") as it:
-            found.append(it.read())
-        if not found[-1].startswith(b"\0asm"):
+        with open(path, "rb") as file:
+            modules.append(file.read())
+        if not modules[-1].startswith(b"\0asm"):
             raise NoSite(f"{path} is no WebAssembly module")
-    return found
+    return modules
 
 
-def main():
-    words = sys.argv[1:]
-    is_one_file = "--one-file" in words
-    words = [it for it in words if it != "--one-file"]
-    out, paths = words[:1], words[2::2]
-    if not out or out[0].startswith("-") or set(words[1::2]) - {"--module"} or len(words) % 2 == 0:
-        print(__doc__, file=sys.stderr, end="")
-        return 2
+def main() -> int:
+    """Runs the command that the arguments describe. Returns the exit status."""
+    reader = command.Reader(__doc__)
+    reader.add_argument("out", metavar="FOLDER")
+    reader.add_argument("--one-file", action="store_true")
+    reader.add_argument("--module", action="append", default=[], metavar="FILE")
+    arguments = reader.read()
     try:
-        make(out[0], modules_of(paths), is_one_file)
+        make_site(arguments.out, read_modules(arguments.module), arguments.one_file)
     except (NoSite, OSError) as why:
         print(f"make_site: {why}", file=sys.stderr)
         return 1
@@ -234,4 +273,4 @@ def main():
 
 
 if __name__ == "__main__":
-    sys.exit(start.run(main, __doc__))
+    sys.exit(start.run(main))

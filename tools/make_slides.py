@@ -9,6 +9,8 @@ the ends. N shows notes for the teacher. The number after `#` in the address is 
 What is shown of tests comes from the program (`./lw states` and `./lw replay`), which has to be built: so it needs Linux. The pictures are
 those of tools/picture.py and tools/graph.py. The same sources give the same bytes.
 """
+from __future__ import annotations
+
 import sys
 from html import escape
 
@@ -17,7 +19,7 @@ import films
 import given
 from lab import slides
 from lab.tests import NoLab
-from shared import start
+from shared import command, start
 
 TITLE = "lw: an introduction"
 POLICY = "default-src 'none'; style-src 'unsafe-inline'; script-src 'unsafe-inline'"
@@ -35,6 +37,16 @@ html, body { margin: 0; background: #fff; color: #111 }
 .slide footer { position: absolute; right: 2vw; bottom: 1vh; font-size: .6em; color: #555 }
 .running .slide { display: none }
 .running .slide.shown { display: flex }
+/* On a phone that is held upright a slide is as high as it has to be, in type that can be read. */
+@media screen and (max-width: 40rem) and (orientation: portrait) {
+  .running .slide, .slide { width: 100%; height: auto; min-height: 100vh; overflow: visible; justify-content: flex-start; gap: 1rem;
+    padding: 1rem 1rem 2.5rem; font-size: 1.0625rem }
+  .slide h2 { font-size: 1.3em }
+  .slide pre { font-size: .9375em; overflow-x: auto }
+  .slide figure { flex: none }
+  .slide svg { height: auto }
+  .slide footer { right: 1rem; font-size: .8em }
+}
 @media print {
   .running .slide, .slide { display: flex; width: 297mm; height: 209mm; padding: 10mm 14mm; font-size: 17pt; break-after: page }
   .slide:last-of-type { break-after: auto }
@@ -48,6 +60,7 @@ let at = 0;
 function show(number) {
   at = Math.min(Math.max(number, 0), slides.length - 1);
   slides.forEach((it, index) => it.classList.toggle("shown", index === at));
+  scrollTo(0, 0);
   history.replaceState(null, "", `#${at + 1}`);
 }
 
@@ -71,12 +84,12 @@ show((parseInt(location.hash.slice(1), 10) || 1) - 1);
 """
 
 
-def page():
+def make_page() -> str:
     """Returns the slides as one page."""
-    made = slides.slides()
+    all_slides = slides.render_slides()
     body = "".join(
-        f'<section class="slide">\n<h2>{escape(title, quote=False)}</h2>\n{html}<footer>{number} / {len(made)}</footer>\n</section>\n'
-        for number, (title, html) in enumerate(made, 1)
+        f'<section class="slide">\n<h2>{escape(title, quote=False)}</h2>\n{html}<footer>{number} / {len(all_slides)}</footer>\n</section>\n'
+        for number, (title, html) in enumerate(all_slides, 1)
     )
     return (
         f'<!doctype html>\n<html lang="en">\n<head>\n<meta charset="utf-8">\n'
@@ -85,20 +98,30 @@ def page():
     )
 
 
-def main():
-    given.print_as_lw()
-    if len(sys.argv) != 2 or sys.argv[1].startswith("-"):
-        print(__doc__, file=sys.stderr, end="")
-        return 2
+def make_page_if_built() -> str | None:
+    """Returns the slides, or None if the program is not built, or not for this system."""
     try:
         films.check_program()
-        made = page()
-        with open(sys.argv[1], "w", encoding="utf-8", newline="\n") as it:
-            it.write(made)
+        return make_page()
+    except (films.NoFilm, ImportError, OSError):
+        return None
+
+
+def main() -> int:
+    """Runs the command that the arguments describe. Returns the exit status."""
+    given.set_output_encoding()
+    reader = command.Reader(__doc__)
+    reader.add_argument("out", metavar="OUT.html")
+    out = reader.read().out
+    try:
+        films.check_program()
+        html = make_page()
+        with open(out, "w", encoding="utf-8", newline="\n") as file:
+            file.write(html)
     except (films.NoFilm, NoLab, OSError) as why:
         return given.refuse(f"make_slides: {why}")
     return 0
 
 
 if __name__ == "__main__":
-    sys.exit(start.run(main, __doc__))
+    sys.exit(start.run(main))

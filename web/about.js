@@ -1,16 +1,23 @@
 // What the page is, in a few sentences, and what its words and keys mean.
 
 import { button, byId, el, plainMark, sentence } from "./dom.js";
-import { documents } from "./supplies.js";
+import { documents, origin } from "./supplies.js";
 
 const TERMS = [
   ["store buffer", "where a processor keeps its stores before others can see them: a queue, the oldest first; the processor itself reads from it"],
   ["drain", "the oldest entry of a store buffer goes to memory; in a schedule `D0` is a drain of P0, and `P0` its next instruction"],
   ["final state", "what the registers and locations that the test asks about have when all threads and buffers are done"],
   ["condition", "what the test asks about a final state. `exists`: can a run end this way; `~exists`: can none; `forall`: does every run"],
-  ["fence", "an instruction that waits until the own store buffer is empty: `MFENCE`, `XCHG`, `LOCK XADD`"],
+  ["fence", "an instruction that waits until the own store buffer is empty: `MFENCE`, `XCHG`, `LOCK XADD`. Point between two instructions of an x86 " +
+    "test: `+ fence` puts one into the text"],
   ["interleaving", "the threads take turns on one memory, without store buffers"],
-  ["complete (proved)", "the list has every final state and no other: found by the orders of what conflicts, or by a search of the machine's states"],
+  ["arrows of a graph", "`po`: program order; `rf`: a read has its word from that write; `co`: that write comes later to the same location; `fr`: " +
+    "that write comes after the one that was read. They run from what comes before"],
+  ["global happens-before", "the order that all processors agree on: `rf` between threads, `co`, `fr`, and program order, but not from a store to a " +
+    "later load without a fence between them. A state that needs a cycle of it is forbidden"],
+  ["coherence", "the accesses to one location have one order, which all processors agree on. A state that needs a cycle of it is forbidden"],
+  ["complete (proved)", "the list has every final state and no other. lw finds them by going through all orders of accesses that conflict (two to one " +
+    "location, at least one of them a store), or by a search of the machine's states"],
   ["not proved", "found by the page's own code: graphs, why a state is missing, texts with other fences, and how two lists differ"],
 ];
 const KEYS = [
@@ -20,22 +27,27 @@ const KEYS = [
   ["Ctrl+Enter", "run the text in the editor"],
   ["Esc", "leave the projector's view"],
 ];
-const DOCUMENTS = [
-  ["tutorial.html", "Tutorial: an hour's walk"], ["lab.html", "A lab of 90 minutes"], ["terms.html", "Terms, beside those of textbooks"],
-  ["card.html", "The syntax, on one page"],
-];
 const WHAT =
   "lw answers a question about a small parallel program, a litmus test: in which states can it end? On x86 a store waits in its processor's " +
   "store buffer, while loads after it go ahead; so there are final states that no interleaving explains. It is for students of concurrency and " +
   "for programmers of lock-free code.";
 const PROVED = "Reports, schedules, compiled texts and each step of a run come from a program that is proved correct";
+const NOT_CLAIMED = "The machine is x86-TSO as it was published. That processors on sale behave like it is not proved.";
+// What is said of the page's origin if it has a server.
+const SERVED = "The program, its sources and its proof are in the repository that `./page` was started in.";
+const THEOREMS = "theorems.html";
 const PLAIN = ". What the page's own code finds, which is not proved, is marked ";
 
-/** Links to the documents, where the page is a site that carries some. */
+/** Returns a link to what is proved, if the page is a site that carries that document. */
+function more() {
+  const found = documents.find(([file]) => file === THEOREMS);
+  return found ? [" ", el("a", { href: THEOREMS, target: "reading" }, "What is proved, in plain words"), "."] : [];
+}
+
+/** Returns links to the documents, if the page is a site that carries some. */
 function reading() {
-  const there = DOCUMENTS.filter(([file]) => documents.includes(file));
-  const link = ([file, words]) => el("li", {}, el("a", { href: file, target: "_blank" }, words));
-  return there.length ? [el("h3", {}, "To read"), el("ul", { class: "reading" }, there.map(link))] : [];
+  const link = ([file, words]) => el("li", {}, el("a", { href: file, target: "reading" }, words));
+  return documents.length ? [el("h3", {}, "To read"), el("ul", { class: "reading" }, documents.map(link))] : [];
 }
 
 /** Fills the dialog that says what the page is, and opens it on a click. */
@@ -45,9 +57,11 @@ export function about(place) {
     el("h2", { id: "about-title", tabindex: "-1", autofocus: true }, "What is this?"),
     el("p", {}, WHAT),
     el("p", {}, PROVED, el("span", { id: "where" }), PLAIN, plainMark(), ". Nothing is sent anywhere."),
+    el("p", {}, NOT_CLAIMED, ...more()),
     el("h3", {}, "Words"), list(TERMS),
     el("h3", {}, "Keys"), list(KEYS),
     ...reading(),
+    el("p", { class: "origin small" }, sentence(origin ?? SERVED)),
     el("p", { class: "row" }, button("Close", () => place.close(), { class: "main" })),
   );
   place.addEventListener("click", (event) => event.target === place && place.close());

@@ -16,14 +16,21 @@ let known = location.hash;
 keep();
 addEventListener("pageshow", keep);
 
-/** Returns what the part of an address after `#` says. In the name of an example a bare `+` is a plus. */
+/**
+ * Returns what the part of an address after `#` says. In the name of an example a bare `+` is a plus.
+ * @param {string} text
+ * @returns {URLSearchParams}
+ */
 function parsed(text) {
   const found = new URLSearchParams(text);
   for (const name of NAMES) if (found.has(name)) found.set(name, found.get(name).replaceAll(" ", "+"));
   return found;
 }
 
-/** Returns what was kept for a reload, if this is one. */
+/**
+ * Returns what was kept for a reload, if this is one.
+ * @returns {string | null}
+ */
 function keptForReload() {
   try {
     return performance.getEntriesByType("navigation")[0]?.type === "reload" ? sessionStorage.getItem(KEY) : null;
@@ -32,6 +39,7 @@ function keptForReload() {
   }
 }
 
+/** Stores what is kept, for when the page is loaded anew. */
 function keep() {
   try {
     sessionStorage.setItem(KEY, String(kept));
@@ -40,12 +48,19 @@ function keep() {
   }
 }
 
-/** Returns what the address says, as an object of texts. */
+/**
+ * Returns what the address says, as an object of texts.
+ * @returns {Object<string, string>}
+ */
 export function read() {
   return Object.fromEntries(kept);
 }
 
-/** Changes some of what the address says; what is null is left out. What is new has an entry of its own in the browser's history. */
+/**
+ * Changes some of what the address says; what is null is left out. What is new has an entry of its own in the browser's history.
+ * @param {Object<string, string | number | null>} changes
+ * @param {boolean} [isNew]
+ */
 export function put(changes, isNew = false) {
   if (isNew) write();
   for (const [key, value] of Object.entries(changes)) {
@@ -60,6 +75,7 @@ export function put(changes, isNew = false) {
   }
 }
 
+/** Writes the address now, unless somebody has changed it. */
 function write() {
   clearTimeout(timer);
   timer = null;
@@ -72,7 +88,10 @@ function written() {
   return String(kept) ? `#${kept}` : location.href.split("#")[0];
 }
 
-/** Calls back where the address is changed by anybody else: a link that is pasted, or the browser's Back; with what it said before. */
+/**
+ * Calls back where the address is changed by anybody else: a link that is pasted, or the browser's Back; with what it said before.
+ * @param {function(Object<string, string>): void} act
+ */
 export function onLink(act) {
   addEventListener("hashchange", () => {
     clearTimeout(timer);

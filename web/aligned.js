@@ -1,19 +1,28 @@
 // The text of a test as it is shown where nobody writes in it: in rows that have a cell for each thread, the cells of a thread stand one
 // below the other. Nothing but blanks is added.
 
-/** Returns the cells of a line of the table, or null if it is none. */
+/**
+ * Returns the cells of a line of the table, or null if it is none.
+ * @param {string} line
+ * @returns {string[] | null}
+ */
 function cellsOf(line) {
   const row = /^\s*(.*?)\s*;\s*$/.exec(line);
   return row && row[1].split("|").map((cell) => cell.trim());
 }
 
+/**
+ * Returns a test whose rows of cells are aligned in columns.
+ * @param {string} text
+ * @returns {string}
+ */
 export function aligned(text) {
   const lines = text.split("\n");
   const begin = lines.findIndex((line) => /^\s*P0\s*[|;]/.test(line));
   const threads = cellsOf(lines[begin] ?? "")?.length;
   const isRow = (cells, at) => cells && at >= begin && cells.length === threads;
-  const rows = lines.map(cellsOf).map((cells, at) => (isRow(cells, at) ? cells : null));
+  const rows = lines.map(cellsOf).map((cells, index) => (isRow(cells, index) ? cells : null));
   const widths = Array.from({ length: threads ?? 0 }, (_, thread) => Math.max(...rows.map((cells) => cells?.[thread].length ?? 0)));
   const shown = (cells) => ` ${cells.map((cell, thread) => cell.padEnd(widths[thread])).join(" | ")} ;`;
-  return lines.map((line, at) => (rows[at] ? shown(rows[at]) : line)).join("\n");
+  return lines.map((line, index) => (rows[index] ? shown(rows[index]) : line)).join("\n");
 }

@@ -38,13 +38,19 @@ class Asked {
     this.resolve(answer);
   }
 
-  /** Ends what runs by itself when it has taken so many milliseconds. */
+  /**
+   * Ends what runs by itself when it has taken so many milliseconds.
+   * @param {number} most
+   */
   endAfter(most) {
     const words = `This ran by itself, and was ended after ${most / SECOND} seconds. Run it to let it take longer.`;
     this.limit = setTimeout(() => this.end({ error: words }), most);
   }
 
-  /** Returns what is shown until the answer arrives: after a while how long it takes, how to end it, and the other way to an answer. */
+  /**
+   * Returns what is shown until the answer arrives: after a while how long it takes, how to end it, and the other way to an answer.
+   * @returns {Element}
+   */
   line() {
     const said = el("span", {}, "…");
     const line = el("p", { class: "row asking", role: "status" }, said);
@@ -78,6 +84,11 @@ function askedOn(editor) {
  * Returns the answer: an object that has `fault` or `error` if there is no other; null if the same was asked again meanwhile. Until then a
  * `place` shows that it is waited for. What is asked for at several places has a `name` for each. `most` is the most milliseconds that it
  * may take, if the reader has not asked for it.
+ * @param {Editor} editor
+ * @param {string} question
+ * @param {object} fields
+ * @param {{place?: Element, name?: string, most?: number}} [options]
+ * @returns {Promise<object | null>}
  */
 export async function ask(editor, question, fields, { place = null, name = question, most = null } = {}) {
   askedOn(editor).get(name)?.end(null);
@@ -88,7 +99,10 @@ export async function ask(editor, question, fields, { place = null, name = quest
   return asking.answer;
 }
 
-/** Ends all that was asked for: its answers would be of another test. */
+/**
+ * Ends all that was asked for: its answers would be of another test.
+ * @param {Editor} editor
+ */
 export function forget(editor) {
   for (const it of askedOn(editor).values()) it.end(null);
   askedOn(editor).clear();

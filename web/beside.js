@@ -8,7 +8,7 @@ import { differenceOf } from "./differences.js";
 import * as guess from "./guess.js";
 import { Lockstep } from "./lockstep.js";
 import { Side } from "./side.js";
-import { tell } from "./told.js";
+import { showError } from "./errors.js";
 import { nameOf } from "./tokens.js";
 
 // What the second test can be besides an example: made of the first, by the names that an answer has for them.
@@ -24,11 +24,15 @@ export class Beside {
     this.place = byId("beside");
     const revealed = () => this.compare();
     const moved = () => this.lockstep?.follow();
-    this.first = new Side("first", "The first test", { chosen: choose, revealed, drawn, moved });
-    this.second = new Side("second", "The second test", { chosen: (value) => this.choose(value), revealed, drawn, moved });
+    const fitted = () => {
+      drawn();
+      this.fitLater();
+    };
+    this.first = new Side("first", "The first test", { chosen: choose, revealed, drawn: fitted, moved });
+    this.second = new Side("second", "The second test", { chosen: (value) => this.choose(value), revealed, drawn: fitted, moved });
     this.sides = [this.first, this.second];
     this.lockstep = new Lockstep(this.sides.map((it) => it.states.run), () => this.giveKeys(null));
-    this.told = el("div", {});
+    this.notices = el("div", {});
     this.compared = el("span", { class: "compared", role: "status" });
     this.layOut(copyLink);
     this.listen();
@@ -46,7 +50,7 @@ export class Beside {
     ];
     const title = el("h2", { class: "hidden", id: "beside-title" }, "Two tests side by side");
     const sides = el("div", { class: "sides" }, this.sides.map((it) => it.place));
-    this.place.append(title, el("div", { class: "row both" }, controls), this.told, sides);
+    this.place.append(title, el("div", { class: "row both" }, controls), this.notices, sides);
   }
 
   /** Listens to the button that compares, and gives the keys to what was used last: one side, or both together. */
@@ -99,8 +103,9 @@ export class Beside {
     document.title = `${(this.isOpen ? [this.editor.text, text] : [this.editor.text]).map(nameOf).join(" beside ")} - lw`;
   }
 
+  /** Shows a second test beside the first. */
   show(text, example) {
-    this.told.replaceChildren();
+    this.notices.replaceChildren();
     this.first.put(this.editor.text, this.examples.name, this.examples.options());
     const made = Object.entries(MADE).map(([value, words]) => el("option", { value: `=${value}` }, words));
     const options = [...this.examples.options(), el("optgroup", { label: "The first test" }, made)];
@@ -114,7 +119,7 @@ export class Beside {
     if (value) return this.take({ beside: value });
     if (this.own.text?.trim()) return this.take({ beside_text: this.own.text });
     this.follow();
-    this.told.append(notice("You have not written a test yet. Go back to one test, and write it in the editor."));
+    this.notices.append(notice("You have not written a test yet. Go back to one test, and write it in the editor."));
   }
 
   /** Takes for the second test what the first is compiled to, or that without its fences. */
@@ -122,13 +127,18 @@ export class Beside {
     const { text } = this.editor;
     this.follow();
     const first = "First say what you expect of the first test.";
-    if (guess.isAwaited(text)) return guess.wait(text, this.told, notice(first), () => this.told.replaceChildren());
-    const answer = await ask(this.second.sheet, "compile", { text }, { place: this.told });
+    if (guess.isAwaited(text)) return guess.wait(text, this.notices, notice(first), () => this.notices.replaceChildren());
+    const answer = await ask(this.second.sheet, "compile", { text }, { place: this.notices });
     if (!answer || text !== this.editor.text) return;
-    this.told.replaceChildren();
-    if (!answer[kind]) return tell(answer, this.told, this.second.sheet);
+    this.notices.replaceChildren();
+    if (!answer[kind]) return showError(answer, this.notices, this.second.sheet);
     this.made = { of: text, text: answer[kind], kind };
     this.take({ beside_text: answer[kind] });
+  }
+
+  /** Fits the code of both machines, after something of one side is shown: both have their parts in the same rows. */
+  fitLater() {
+    requestAnimationFrame(() => this.sides.forEach((it) => it.states.run.view.stage.fit()));
   }
 
   /** Says how the lists of states differ, once both are shown, and marks in each what the other has not. */
@@ -139,6 +149,7 @@ export class Beside {
     const [first, second] = alone.map((lines) => lines?.length);
     const states = (number) => (number === 1 ? "1 state" : `${number} states`);
     const numbers = `${states(both)} in both, ${first} only left, ${second} only right. `;
+    this.fitLater();
     this.compared.replaceChildren(...(why ? [why] : both === undefined ? [] : [numbers, plainMark()]));
   }
 }

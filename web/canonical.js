@@ -1,10 +1,17 @@
 // The canonical text of an x86 test, written anew for a test without some of its fences, and the cells of code that the page shows.
 // Not proved: canonical texts of whole tests are lw's own.
+//
+// A `Cell` has its `text` and `at`, the position of its statement, or of the next one if it only has a label.
 
 import { conditionText, siteName, sortedSites } from "./propositions.js";
 import { REGISTERS } from "./token_reader.js";
 
-/** Returns an instruction in the canonical text. */
+/**
+ * Returns an instruction in the canonical text.
+ * @param {Test} test
+ * @param {Statement} it
+ * @returns {string}
+ */
 export function instructionText(test, it) {
   const names = REGISTERS.X86;
   const register = names[it.register] ?? "";
@@ -20,16 +27,20 @@ export function instructionText(test, it) {
 /** Returns the cells of a thread in the canonical text. */
 function cellsOfThread(test, code) {
   const targets = new Set(code.map((it) => it.target));
-  const cells = code.map((it, at) => (targets.has(at) ? `L${at}: ` : "") + instructionText(test, it));
+  const cells = code.map((it, index) => (targets.has(index) ? `L${index}: ` : "") + instructionText(test, it));
   return targets.has(code.length) ? [...cells, `L${code.length}:`] : cells;
 }
 
-/** Returns the canonical text of an x86 test. */
+/**
+ * Returns the canonical text of an x86 test.
+ * @param {Test} test
+ * @returns {string}
+ */
 export function canonicalText(test) {
   const row = (cells) => ` ${cells.join(" | ")} ;`;
   const columns = test.threads.map((code) => cellsOfThread(test, code));
-  const registers = test.registers.flatMap((words, thread) => words.map((word, at) => [`${thread}:${REGISTERS.X86[at]}`, word]));
-  const words = test.locations.map((name, at) => [name, test.words[at]]);
+  const registers = test.registers.flatMap((words, thread) => words.map((word, index) => [`${thread}:${REGISTERS.X86[index]}`, word]));
+  const words = test.locations.map((name, index) => [name, test.words[index]]);
   const block = [...registers.filter(([, word]) => word), ...words].map(([name, word]) => ` ${name}=${word};`);
   const height = Math.max(...columns.map((it) => it.length));
   const rows = Array.from({ length: height }, (_, at) => row(columns.map((column) => column[at] ?? "")));
@@ -39,14 +50,22 @@ export function canonicalText(test) {
   return [...lines, conditionText(test)].map((line) => `${line}\n`).join("");
 }
 
-/** Returns of each thread its cells in a canonical text: row k has instruction k. */
+/**
+ * Returns of each thread its cells in a canonical text: row k has instruction k.
+ * @param {string} canonical
+ * @returns {Cell[][]}
+ */
 export function x86Cells(canonical) {
   const lines = canonical.slice(canonical.indexOf("\n}\n") + 3).split("\n").filter((line) => line.startsWith(" "));
   const [head, ...rows] = lines.map((line) => line.slice(1, -2).split(" | "));
-  return head.map((_, thread) => rows.map((row, at) => ({ text: row[thread], at })).filter((it) => it.text));
+  return head.map((_, thread) => rows.map((row, index) => ({ text: row[thread], at: index })).filter((it) => it.text));
 }
 
-/** Returns of each thread its cells that are not empty, each with the number of its statement; a cell with only a label has the next one's. */
+/**
+ * Returns of each thread its cells that are not empty, each with the number of its statement; a cell with only a label has the next one's.
+ * @param {Test} test
+ * @returns {Cell[][]}
+ */
 export function sourceCells(test) {
   return test.columns.map((cells) => {
     let at = 0;
@@ -58,14 +77,22 @@ export function sourceCells(test) {
   });
 }
 
-/** Returns whether a statement follows a cell's labels. */
+/**
+ * Returns whether a statement follows a cell's labels.
+ * @param {Token[]} cell
+ * @returns {boolean}
+ */
 function hasStatement(cell) {
   let at = 0;
   while (cell[at + 1]?.text === ":") at += 2;
   return at < cell.length;
 }
 
-/** Spells a cell of a source test. */
+/**
+ * Spells a cell of a source test.
+ * @param {Token[]} cell
+ * @returns {string}
+ */
 function cellText(cell) {
   const text = cell.map((it) => it.text).join(" ").replaceAll(" : ", ": ");
   return text.endsWith(" :") ? `${text.slice(0, -2)}:` : text;

@@ -3,6 +3,12 @@
 
 // What part of a line may be missing at the end of a code that is shown as a whole.
 const SPARE = 0.35;
+// In a narrow window the threads are in so many columns. Codes that are fitted have so many lines at least.
+const PHONE = "(max-width: 40rem)";
+const COLUMNS = 2;
+const LEAST_LINES = 3;
+// What is left empty below a machine, in pixels.
+const MARGIN = 14;
 
 /** Puts the next instruction of each thread's code into sight, and says which lines are there. */
 export function showNext(place) {
@@ -13,14 +19,72 @@ export function showNext(place) {
     code.classList.toggle("whole", isWhole);
     if (isWhole) code.scrollTop = 0;
     else if (next) scrollTo(code, next);
-    tellLines(code);
+    showLinesInSight(code);
   }
+}
+
+/**
+ * Returns how high a machine may be to be in sight as a whole, the best first: on a phone on the first screen, or else once it is scrolled there. Returns
+ * nothing if it has the room that the page gives it.
+ */
+function roomsOf(place) {
+  const { top } = place.getBoundingClientRect();
+  const column = place.closest(".side")?.parentElement.parentElement;
+  if (matchMedia(PHONE).matches) {
+    if (column) return [];
+    const head = place.closest(".run").querySelector(".run-head");
+    return [innerHeight - top - scrollY, innerHeight - head.offsetHeight];
+  }
+  if (!column || getComputedStyle(column).overflowY !== "auto") return [];
+  return [column.clientHeight - (top - column.getBoundingClientRect().top + column.scrollTop) - MARGIN];
+}
+
+/** Lets the codes of a machine be so high that all of the machine is in sight: on a phone, and beside another one. */
+export function fitCodes(place) {
+  place.style.removeProperty("--code-fit");
+  place.classList.remove("below-first-screen");
+  const codes = [...place.querySelectorAll(".code")];
+  const rooms = codes.length && place.closest(".run") ? roomsOf(place) : [];
+  if (!rooms.length) return;
+  const rows = matchMedia(PHONE).matches ? Math.ceil(codes.length / COLUMNS) : 1;
+  const most = Math.max(...codes.map((it) => it.clientHeight));
+  const least = Math.min(most, LEAST_LINES * codes[0].firstElementChild.offsetHeight);
+  const fitting = rooms.map((room) => most - Math.ceil((place.offsetHeight - room) / rows));
+  const fit = fitting.find((it) => it >= least) ?? least;
+  // Memory lies over nothing: if the machine is not in sight as a whole at first, memory is scrolled with it.
+  place.classList.toggle("below-first-screen", matchMedia(PHONE).matches && fit !== fitting[0]);
+  if (fit < most) place.style.setProperty("--code-fit", `${fit}px`);
+}
+
+/** Returns how much of a machine is out of sight at first in a column that is scrolled, in pixels. */
+export function hiddenHeight(place) {
+  const column = place.closest("#answers");
+  if (!column || getComputedStyle(column).overflowY !== "auto") return 0;
+  const [threads, memory] = [".threads", ".memory"].map((css) => place.querySelector(css));
+  const bottom = threads.getBoundingClientRect().bottom + parseFloat(getComputedStyle(place).rowGap) + memory.offsetHeight;
+  return Math.max(0, bottom - column.getBoundingClientRect().bottom + column.scrollTop);
+}
+
+/**
+ * Returns how much lower a machine can be: as much as is out of sight, if each code still has its least number of lines then, and otherwise as much
+ * as leaves them.
+ */
+export function spareHeight(place) {
+  const hidden = hiddenHeight(place);
+  if (!hidden) return 0;
+  const spares = [...place.querySelectorAll(".thread")].map((thread) => {
+    const [code, waits, below] = [".code", ".waits", ".below"].map((css) => thread.querySelector(css));
+    const least = Math.min(code.children.length, LEAST_LINES) * code.firstElementChild.offsetHeight;
+    return below.getBoundingClientRect().top - code.getBoundingClientRect().top - waits.offsetHeight - least;
+  });
+  return Math.max(0, Math.min(hidden + 1, ...spares));
 }
 
 /** Watches the codes of a machine: what is in sight of them changes with the room and when the reader scrolls them. */
 export function watchCodes(place) {
-  place.addEventListener("scroll", ({ target }) => target.classList?.contains("code") && tellLines(target), { capture: true, passive: true });
+  place.addEventListener("scroll", ({ target }) => target.classList?.contains("code") && showLinesInSight(target), { capture: true, passive: true });
   new ResizeObserver(() => showNext(place)).observe(place);
+  addEventListener("resize", () => fitCodes(place));
 }
 
 /** Scrolls a line into sight inside its box, with one line around it, and nothing else. The first line in sight is whole. */
@@ -43,14 +107,14 @@ function firstLine(code, line) {
 }
 
 /** Says which lines of a code are in sight. */
-function tellLines(code) {
+function showLinesInSight(code) {
   const isWhole = code.classList.contains("whole");
   const [top, bottom] = [code.scrollTop, code.scrollTop + code.clientHeight];
   code.classList.toggle("more-above", !isWhole && top > 2);
   code.classList.toggle("more-below", !isWhole && bottom < code.lastElementChild.offsetTop + code.lastElementChild.offsetHeight - 2);
   const lines = [...code.children].slice(0, -1);
   const middle = (it) => it.offsetTop + it.offsetHeight / 2;
-  const seen = lines.flatMap((it, at) => (middle(it) > top && middle(it) < bottom ? [at + 1] : []));
+  const seen = lines.flatMap((it, index) => (middle(it) > top && middle(it) < bottom ? [index + 1] : []));
   const said = code.parentElement.querySelector(".lines-in-sight");
   if (said) said.textContent = isWhole || !seen.length || seen.length === lines.length ? "" : `lines ${seen[0]} to ${seen.at(-1)} of ${lines.length}`;
 }

@@ -9,7 +9,7 @@ import { leftOut } from "./reports.js";
 import { isTooLong, searchOffer } from "./search.js";
 import { Strip } from "./strip.js";
 import { codeNodes, tintsOf } from "./tint.js";
-import { tell, tellNothing } from "./told.js";
+import { showError, clearFault } from "./errors.js";
 
 // Of how many rows and threads at most a code is shown large.
 const [MOST_ROWS, MOST_THREADS] = [6, 2];
@@ -23,6 +23,7 @@ export class Compile {
     panel.append(this.place, this.film.place);
   }
 
+  /** Removes what is shown. */
   clear() {
     this.askedOf = null;
     this.place.replaceChildren();
@@ -34,23 +35,25 @@ export class Compile {
     return this.askedOf === this.editor.text ? null : this.ask(most);
   }
 
+  /** Asks what the test is compiled to, once the guess is made. The answer takes `most` milliseconds at most, or any time if that is null. */
   ask(most = null) {
     this.clear();
     this.askedOf = this.editor.text;
-    tellNothing(this.editor);
-    return guess.unlock("compile", this.editor, this.place, () => this.show(most));
+    clearFault(this.editor);
+    return guess.unlock(this.editor, this.place, () => this.show(most));
   }
 
+  /** Shows what the test is compiled to. */
   async show(most) {
     const { text } = this.editor;
     const answer = await ask(this.editor, "compile", { text }, { place: this.place, most });
     if (!answer) return;
     this.place.replaceChildren();
-    if (!answer.compiled) return tell(answer, this.place, this.editor);
+    if (!answer.compiled) return showError(answer, this.place, this.editor);
     this.tints = tintsOf(text);
     const lists = this.listsOf(answer, text);
     const codes = this.codesOf(answer);
-    const columns = lists.map((it, at) => el("div", {}, codes[at], it.place));
+    const columns = lists.map((it, index) => el("div", {}, codes[index], it.place));
     this.place.append(this.wordsOn(answer), el("div", { class: "columns" }, columns));
     const [bare, compiled] = ["bare", "compiled"].map((name) => lists.find((it) => it.name === name));
     await Promise.all(lists.map((it) => it.ask({ most, listed: () => bare?.markWhatIsNewTo(compiled) })));
@@ -60,16 +63,17 @@ export class Compile {
   wordsOn(answer) {
     const isSource = answer.language === "SRC";
     const number = answer.fences.length;
-    const said = number === 0 ? "There is no fence." : number === 1 ? "There is one fence." : `There are ${number} fences.`;
-    const source = "The source test, what it is compiled to, and that without its fences.";
-    const shown = isSource ? source : "The test, and the same without its fences.";
+    const said = number === 0 ? (isSource ? "No fence is needed." : "The test has no fence.") : number === 1 ? "There is one fence." : `There are ${number} fences.`;
+    const source = number ? "The source test, what it is compiled to, and that without its fences." : "The source test, and what it is compiled to.";
+    const shown = isSource ? source : number ? "The test, and the same without its fences." : "";
     return el("p", { role: "status" }, shown, " ", said, " ", isSource ? sentence(mappedNames(answer.compiled)) : "");
   }
 
   /** Returns the code of each text: of the source, of what it is compiled to, and of that without its fences. */
   codesOf(answer) {
     const isSource = answer.language === "SRC";
-    const found = [this.code(isSource ? "x86, with its fences" : "x86, as it is", answer.cells, answer.compiled)];
+    const compiled = answer.fences.length ? "x86, with its fences" : "x86, no fence needed";
+    const found = [this.code(isSource ? compiled : "x86, as it is", answer.cells, answer.compiled)];
     if (isSource) found.unshift(this.code("Source", answer.cells_of_source));
     if (answer.fences.length) found.push(this.code(["x86, without fences ", plainMark()], answer.bare_cells, answer.bare));
     return found;
@@ -91,7 +95,7 @@ export class Compile {
     const isSource = language === "SRC";
     const { editor } = this;
     const watch = (of, run = null) => ({ text: shown, isSearched }, line) => this.film.show(line, { text: shown, of, run, search: isSearched });
-    const [title, asItIs] = isSource ? ["With fences", "of the compiled program "] : ["As it is", ""];
+    const [title, asItIs] = isSource ? [fences.length ? "With fences" : "Compiled", "of the compiled program "] : ["As it is", ""];
     const lists = [new List("compiled", title, compiled, { editor, watch: watch([asItIs]) })];
     if (isSource) lists.unshift(new List("source", "By interleaving", text, { editor, watch: watch([], "source") }));
     const without = ["of the program without fences ", plainMark(), " "];
@@ -128,11 +132,12 @@ class List {
 
   /** Says why there is no list, and offers a search if it would take too long. */
   fail(answer, place, listed) {
-    tell(answer, place, this.editor);
+    showError(answer, place, this.editor);
     const search = () => this.ask({ listed, search: true });
     if (isTooLong(answer)) place.append(searchOffer(search, this.editor.id(`search-${this.name}`)));
   }
 
+  /** Draws the list of states. */
   draw() {
     const { report, isSearched } = this;
     this.strip.wide = this.place.closest("[role=tabpanel]");

@@ -2,29 +2,42 @@
 // here once more to find the source run that a compiled program's run stands for. Not proved; the run is shown only if its replay
 // by lw ends in the same state.
 
-/** Returns the positions that may follow a statement. */
-function followers(statement, at) {
-  if (statement.target === undefined) return [at + 1];
-  return statement.kind === "goto" ? [statement.target] : [at + 1, statement.target];
+/**
+ * Returns the positions that may follow a statement.
+ * @param {Statement} statement
+ * @param {number} position
+ * @returns {number[]}
+ */
+function followers(statement, position) {
+  if (statement.target === undefined) return [position + 1];
+  return statement.kind === "goto" ? [statement.target] : [position + 1, statement.target];
 }
 
-/** Returns the positions of the loads that some way through a thread reaches from a store, with nothing between that waits for it. */
+/**
+ * Returns the positions of the loads that some way through a thread reaches from a store, with nothing between that waits for it.
+ * @param {Statement[]} statements
+ * @returns {Set<number>}
+ */
 function fencedLoads(statements) {
   const fenced = new Set();
   const reached = new Set();
-  const waiting = statements.flatMap((it, at) => (it.kind === "store" ? followers(it, at) : []));
+  const waiting = statements.flatMap((it, position) => (it.kind === "store" ? followers(it, position) : []));
   while (waiting.length) {
-    const at = waiting.pop();
-    if (at === statements.length || reached.has(at)) continue;
-    reached.add(at);
-    const { kind } = statements[at];
-    if (kind === "load") fenced.add(at);
-    else if (kind !== "swap" && kind !== "fetchadd") waiting.push(...followers(statements[at], at));
+    const position = waiting.pop();
+    if (position === statements.length || reached.has(position)) continue;
+    reached.add(position);
+    const { kind } = statements[position];
+    if (kind === "load") fenced.add(position);
+    else if (kind !== "swap" && kind !== "fetchadd") waiting.push(...followers(statements[position], position));
   }
   return fenced;
 }
 
-/** Returns how many instructions a source statement becomes, without a fence. */
+/**
+ * Returns the number of instructions of a source statement, without a fence.
+ * @param {Statement} statement
+ * @returns {number}
+ */
 function numberOfInstructions({ kind, register, value, left }) {
   if (kind === "store" || kind === "load" || kind === "set" || kind === "goto") return 1;
   if (kind === "swap" || kind === "fetchadd") return value.register === register ? 1 : 2;
@@ -32,13 +45,17 @@ function numberOfInstructions({ kind, register, value, left }) {
   return 2;
 }
 
-/** Returns the numbers of the first instructions of a compiled thread's statements. */
+/**
+ * Returns the position of the first instruction of each statement of a thread, in its compiled program.
+ * @param {Statement[]} statements
+ * @returns {number[]}
+ */
 export function beginsOf(statements) {
   const fenced = fencedLoads(statements);
-  let at = 0;
-  return statements.map((statement, number) => {
-    const begin = at;
-    at += (fenced.has(number) ? 1 : 0) + numberOfInstructions(statement);
+  let next = 0;
+  return statements.map((statement, position) => {
+    const begin = next;
+    next += (fenced.has(position) ? 1 : 0) + numberOfInstructions(statement);
     return begin;
   });
 }

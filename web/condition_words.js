@@ -10,7 +10,11 @@ const MOST_ATOMS = 6;
 const READS = ["load", "xchg", "xadd", "swap", "fetchadd"];
 const SETS = ["set", "add", "sum"];
 
-/** Reads a text as a test. Returns null if the page's own reader does not read it. */
+/**
+ * Reads a text as a test. Returns null if the page's own reader does not read it.
+ * @param {string} text
+ * @returns {Test | null}
+ */
 function testOf(text) {
   try {
     return readTest(text);
@@ -19,26 +23,41 @@ function testOf(text) {
   }
 }
 
-/** Returns the atoms of a conjunction, or null if it is none. */
+/**
+ * Returns the atoms of a conjunction, or null if it is none.
+ * @param {Proposition} proposition
+ * @returns {{site: Site, word: number}[] | null}
+ */
 function atomsOf({ kind, parts, site, word }) {
-  if (kind === "is") return [{ site, word }];
-  if (kind !== "and") return null;
+  if (kind === "Eq") return [{ site, word }];
+  if (kind !== "And") return null;
   const found = parts.map(atomsOf);
   return found.includes(null) ? null : found.flat();
 }
 
-/** Returns the read whose word a register has at the end of every run: its place and its location; or null. */
+/**
+ * Returns the read whose word a register has at the end of every run, with its position; or null.
+ * @param {Test} test
+ * @param {Site} site
+ * @returns {Statement | null}
+ */
 function readInto(test, { thread, register }) {
   const code = test.threads[thread];
   if (code.some((it) => it.target !== undefined)) return null;
-  const writes = code.flatMap((it, at) => (it.register === register && [...READS, ...SETS].includes(it.kind) ? [{ ...it, at }] : []));
+  const writes = code.flatMap((it, position) => (it.register === register && [...READS, ...SETS].includes(it.kind) ? [{ ...it, position }] : []));
   return writes.length === 1 && READS.includes(writes[0].kind) ? writes[0] : null;
 }
 
-/** Says what one thread does: its reads in the order of its code, and the words that it ends with. */
+/**
+ * Says what one thread does: its reads in the order of its code, and the words that it ends with.
+ * @param {Test} test
+ * @param {number} thread
+ * @param {{site: Site, word: number}[]} atoms
+ * @returns {string}
+ */
 function wordsOfThread(test, thread, atoms) {
   const found = atoms.map(({ site, word }) => ({ site, word, read: readInto(test, site) }));
-  const reads = found.filter((it) => it.read).sort((a, b) => a.read.at - b.read.at);
+  const reads = found.filter((it) => it.read).sort((first, second) => first.read.position - second.read.position);
   const others = found.filter((it) => !it.read).map(({ site, word }) => `\`${siteName(test, site).slice(2)}=${word}\``);
   const parts = [];
   if (reads.length) parts.push(`reads ${reads.map(({ read, word }) => `\`${test.locations[read.location]}=${word}\``).join(", then ")}`);
@@ -46,13 +65,17 @@ function wordsOfThread(test, thread, atoms) {
   return `P${thread} ${parts.join(" and ")}`;
 }
 
-/** Returns the condition in words, in which code is between backquotes; or null. */
+/**
+ * Returns the condition in words, in which code is between backquotes; or null.
+ * @param {string} text
+ * @returns {string | null}
+ */
 export function conditionWords(text) {
   const test = testOf(text);
   const atoms = test && atomsOf(test.proposition);
   if (!atoms || atoms.length > MOST_ATOMS) return null;
   const threads = test.threads.map((_, thread) => atoms.filter(({ site }) => site.thread === thread));
-  const phrases = threads.flatMap((of, thread) => (of.length ? [wordsOfThread(test, thread, of)] : []));
+  const phrases = threads.flatMap((atomsOfThread, thread) => (atomsOfThread.length ? [wordsOfThread(test, thread, atomsOfThread)] : []));
   const words = atoms.filter(({ site }) => site.location !== undefined).map(({ site, word }) => `\`${siteName(test, site)}=${word}\``);
   if (words.length) phrases.push(`memory ends with ${words.join(" and ")}`);
   return [...phrases.slice(0, -1), phrases.at(-1)].join(phrases.length > 2 ? "; " : " and ");
@@ -61,6 +84,8 @@ export function conditionWords(text) {
 /**
  * Returns what a test asks about: `isAsked` says of a state's line whether the condition asks about it, and `words` which words it names at each
  * site, by name. Of a text that is not read, all states are asked about.
+ * @param {string} text
+ * @returns {{isAsked: function(string): boolean, words: Map<string, number[]>}}
  */
 export function questionOf(text) {
   const test = testOf(text);
@@ -68,14 +93,19 @@ export function questionOf(text) {
   const wanted = test.quantifier !== "forall";
   const words = new Map();
   const collect = ({ kind, parts, site, word }) => {
-    if (kind === "is") words.set(siteName(test, site), [...(words.get(siteName(test, site)) ?? []), word]);
+    if (kind === "Eq") words.set(siteName(test, site), [...(words.get(siteName(test, site)) ?? []), word]);
     parts.forEach(collect);
   };
   collect(test.proposition);
   return { isAsked: (line) => holds(test.proposition, outcomeOf(test, line)) === wanted, words };
 }
 
-/** Returns the outcome that a report's line says. */
+/**
+ * Returns the outcome that a report's line says.
+ * @param {Test} test
+ * @param {string} line
+ * @returns {Outcome}
+ */
 function outcomeOf(test, line) {
   const outcome = { registers: test.threads.map(() => ({})), words: {} };
   const byName = new Map(wordsOf(line));
@@ -84,12 +114,16 @@ function outcomeOf(test, line) {
   return outcome;
 }
 
-/** Returns the registers that a test's list shows. */
+/**
+ * Returns the registers that a test's list shows.
+ * @param {Test} test
+ * @returns {Site[]}
+ */
 function sitesOf(test) {
   const found = new Map();
   const add = (site) => site.location === undefined && found.set(siteKey(site), site);
   const collect = ({ kind, parts, site }) => {
-    if (kind === "is") add(site);
+    if (kind === "Eq") add(site);
     parts.forEach(collect);
   };
   test.listed.forEach(add);

@@ -3,10 +3,14 @@
 
 import { registerNumber, wordsOf } from "./replays.js";
 
-const OTHER_NAMES = "The states are not compared, since the tests show different registers and locations.";
+const OTHER_NAMES = "Not compared: the tests show different registers and locations.";
 const NOT_WHOLE = "The states are not compared, since not all of them are shown.";
 
-/** Returns what a line says, whatever the language and the order of its names: pairs of a name and a word. */
+/**
+ * Returns what a line says, whatever the language and the order of its names: pairs of a name and a word.
+ * @param {string} line
+ * @returns {[string, number][]}
+ */
 function pairsOf(line) {
   const pairs = wordsOf(line).map(([name, word]) => {
     const [, thread, register] = /^(\d):(\w+)$/.exec(name) ?? [];
@@ -15,7 +19,11 @@ function pairsOf(line) {
   return pairs.sort();
 }
 
-/** Returns a key of the state that a line says: the same for two lines if they say the same, in either language. */
+/**
+ * Returns a key of the state that a line says: the same for two lines if they say the same, in either language.
+ * @param {string} line
+ * @returns {string}
+ */
 export function keyOf(line) {
   return String(pairsOf(line));
 }
@@ -24,12 +32,16 @@ function namesOf({ states }) {
   return String(pairsOf(states[0]?.line ?? "").map(([name]) => name));
 }
 
-/** Returns how many states are in both of two reports, and the lines that only one of them has (`alone`); or `why` they can't be compared. */
+/**
+ * Returns how many states are in both of two reports, and the lines that only one of them has (`alone`); or `why` they can't be compared.
+ * @param {...Report} reports
+ * @returns {{both: number, alone: string[][]} | {why: string}}
+ */
 export function differenceOf(...reports) {
   if (reports.some((it) => it.left_out)) return { why: NOT_WHOLE };
   if (namesOf(reports[0]) !== namesOf(reports[1])) return { why: OTHER_NAMES };
   const lines = reports.map(({ states }) => new Map(states.map(({ line }) => [keyOf(line), line])));
   const others = [...lines].reverse();
-  const alone = lines.map((it, at) => [...it].filter(([key]) => !others[at].has(key)).map(([, line]) => line));
+  const alone = lines.map((it, index) => [...it].filter(([key]) => !others[index].has(key)).map(([, line]) => line));
   return { both: lines[0].size - alone[0].length, alone };
 }

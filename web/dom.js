@@ -1,6 +1,12 @@
 // Makes elements. Whatever a test says becomes text nodes, and nothing else.
 
-/** Makes an element with attributes, and children that are elements, texts or lists of them. A function is a listener, `true` is set. */
+/**
+ * Makes an element with attributes, and children that are elements, texts or lists of them. A function is a listener, `true` is set.
+ * @param {string} tag
+ * @param {Object<string, string | boolean | null | Function>} [attributes]
+ * @param {...((Node | string | null | false)[] | Node | string | null | false)} children
+ * @returns {Element}
+ */
 export function el(tag, attributes = {}, ...children) {
   const made = document.createElement(tag);
   for (const [name, value] of Object.entries(attributes)) {
@@ -12,20 +18,39 @@ export function el(tag, attributes = {}, ...children) {
   return made;
 }
 
+/**
+ * Returns a button that calls `act` if it is clicked.
+ * @param {string} text
+ * @param {function(Event): void} act
+ * @param {Object<string, string | boolean | null>} [attributes]
+ * @returns {HTMLButtonElement}
+ */
 export function button(text, act, attributes = {}) {
   return el("button", { type: "button", click: act, ...attributes }, text);
 }
 
-/** Returns a sentence of the documents, in which text between backquotes is code. */
+/**
+ * Returns a sentence of the documents, in which text between backquotes is code.
+ * @param {string} text
+ * @returns {(Node | string)[]}
+ */
 export function sentence(text) {
-  return text.split("`").map((part, at) => (at % 2 ? el("code", {}, part) : part));
+  return text.split("`").map((part, index) => (index % 2 ? el("code", {}, part) : part));
 }
 
-/** Makes the mark of what is not proved. */
+/**
+ * Makes the mark of what is not proved.
+ * @returns {Element}
+ */
 export function plainMark() {
   return el("span", { class: "plain", title: "found by the page's own code, which is not proved" }, "not proved");
 }
 
+/**
+ * Returns the element with an id.
+ * @param {string} id
+ * @returns {HTMLElement}
+ */
 export function byId(id) {
   return document.getElementById(id);
 }

@@ -41,10 +41,12 @@ export class Editor {
     return name;
   }
 
+  /** Returns the text of the test. */
   get text() {
     return this.area.value;
   }
 
+  /** Replaces the text of the test. */
   set text(text) {
     this.area.value = text;
     this.known = this.text;
@@ -66,11 +68,12 @@ export class Editor {
     this.draw();
   }
 
+  /** Draws the line numbers, the colours and the mark of a fault. */
   draw() {
     const lines = this.text.split("\n");
-    const rows = lines.map((_, at) => {
-      const isFaulty = this.fault && this.fault.row === at + 1;
-      return el("span", { class: isFaulty ? "faulty" : "" }, `${isFaulty ? "✗ " : ""}${at + 1}\n`);
+    const rows = lines.map((_, index) => {
+      const isFaulty = this.fault && this.fault.row === index + 1;
+      return el("span", { class: isFaulty ? "faulty" : "" }, `${isFaulty ? "✗ " : ""}${index + 1}\n`);
     });
     this.numbers.replaceChildren(...rows);
     this.size(lines);
@@ -101,6 +104,15 @@ export class Editor {
     this.marks.scrollLeft = this.area.scrollLeft;
     this.colours.scrollTop = this.area.scrollTop;
     this.colours.scrollLeft = this.area.scrollLeft;
+  }
+
+  /** Replaces a part of the text as if the reader had written it, so that the browser can undo it. */
+  replace({ begin, end, text }) {
+    this.area.focus();
+    this.area.setSelectionRange(begin, end);
+    if (document.execCommand("insertText", false, text)) return;
+    this.area.setRangeText(text, begin, end, "end");
+    this.area.dispatchEvent(new Event("input"));
   }
 
   /** Goes to the place of the fault. */

@@ -1,6 +1,6 @@
 // What each event of a run does, in words, and what is to be lit of it: the register that it puts a word into, and the location or the
 // entry of the own store buffer that it reads. This is found by the text of the instruction, which is lw's own, or of the statement; and
-// told only if the state behind the event is as the words say.
+// said only if the state after the event is as the words say.
 //
 // An effect has a `thread` and `words`, in which code stands between backquotes, and where they are there a `register` (its name), a
 // `location` that is read from memory, or an `entry` that is read (its number in the buffer). Where a word that is said to be in memory is in
@@ -20,17 +20,37 @@ const REFUSALS = {
   8: "there was no memory for a store buffer's entry",
 };
 
-/** Why an event is refused, as a sentence without marks. */
+/**
+ * Why an event is refused, as a sentence without marks.
+ * @param {number} number
+ * @returns {string}
+ */
 export function refusal(number) {
   return REFUSALS[number].replaceAll("`", "");
 }
 
-/** Returns the effect of an event, given the states before and after it. */
+/**
+ * Returns the effect of an event, given the states before and after it.
+ * @param {string} event
+ * @param {Cell[][]} cells
+ * @param {State} before
+ * @param {State} after
+ * @returns {Effect}
+ */
 export function effectOf(event, cells, before, after) {
   const thread = Number(event[1]);
   return { thread, ...effectOfThread(event, thread, cells, before, after) };
 }
 
+/**
+ * Returns the effect of an event of a thread, by the states before and after it.
+ * @param {string} event
+ * @param {number} thread
+ * @param {Cell[][]} cells
+ * @param {State} before
+ * @param {State} after
+ * @returns {Effect}
+ */
 function effectOfThread(event, thread, cells, before, after) {
   if (event[0] === "D") return drain(thread, before, after);
   if (event[0] === "E") return { words: `P${thread}'s cache gives up its line of \`${event.slice(3)}\`` };
@@ -47,17 +67,31 @@ class Step {
     this.name = `P${thread}`;
   }
 
-  /** Returns the word of a number, with a `$` before it or without, or of a register. */
+  /**
+   * Returns the word of a number, with a `$` before it or without, or of a register.
+   * @param {string} text
+   * @returns {number}
+   */
   value(text) {
     return this.registers.get(text) ?? Number(text.replace("$", ""));
   }
 
-  /** Returns whether the step leaves a word in a register. */
+  /**
+   * Returns whether the step leaves a word in a register.
+   * @param {string} register
+   * @param {number} word
+   * @returns {boolean}
+   */
   leaves(register, word) {
     return new Map(this.left.registers).get(register) === word;
   }
 
-  /** Returns what memory has at a location, as a load finds it. */
+  /**
+   * Returns what memory has at a location, as a load finds it.
+   * @param {string} location
+   * @param {State} [state]
+   * @returns {number}
+   */
   memory(location, state = this.before) {
     return new Map(state.content).get(location);
   }
@@ -104,7 +138,12 @@ const FORMS = [
   [/^goto (\w+)$/, (step, label) => ({ words: `${step.name} goes to \`${label}\`` })],
 ];
 
-/** Returns what a statement does, or null if that is not known. */
+/**
+ * Returns what a statement does, or null if that is not known.
+ * @param {Step} step
+ * @param {string} text
+ * @returns {Effect | null}
+ */
 function statement(step, text) {
   for (const [form, effect] of FORMS) {
     const parts = form.exec(text);
@@ -113,6 +152,13 @@ function statement(step, text) {
   return null;
 }
 
+/**
+ * Returns the effect of a store of a value to a location, or null.
+ * @param {Step} step
+ * @param {string} location
+ * @param {string} value
+ * @returns {Effect | null}
+ */
 function store(step, location, value) {
   const word = step.value(value);
   const [name, now] = step.left.buffer ? (step.left.buffer.at(-1) ?? []) : [location, step.memory(location, step.after)];
@@ -121,6 +167,13 @@ function store(step, location, value) {
   return { words: `${step.name} ${does} \`${location}=${word}\` ${where}` };
 }
 
+/**
+ * Returns the effect of a load of a location into a register, or null.
+ * @param {Step} step
+ * @param {string} register
+ * @param {string} location
+ * @returns {Effect | null}
+ */
 function load(step, register, location) {
   const entry = step.newest(location);
   const word = entry < 0 ? step.memory(location) : step.place.buffer[entry][1];
@@ -134,12 +187,26 @@ function put(step, register, word) {
   return step.leaves(register, word) ? { words: `${step.name} sets \`${register}=${word}\``, register } : null;
 }
 
+/**
+ * Returns the effect of ADD, or null.
+ * @param {Step} step
+ * @param {string} register
+ * @param {string} value
+ * @returns {Effect | null}
+ */
 function add(step, register, value) {
   const word = (step.value(register) + step.value(value)) % WORD;
   if (!step.leaves(register, word)) return null;
   return { words: `${step.name} adds ${step.value(value)}, which makes \`${register}=${word}\``, register };
 }
 
+/**
+ * Returns the effect of CMP.
+ * @param {Step} step
+ * @param {string} register
+ * @param {string} value
+ * @returns {Effect}
+ */
 function compare(step, register, value) {
   const [one, other] = [step.value(register), step.value(value)];
   const found = one === other ? "are equal" : "differ";
@@ -152,6 +219,7 @@ function jump(step, label) {
   return { words: jumps ? `${step.name} jumps to \`${label}\`` : `${step.name} does not jump` };
 }
 
+/** Returns the effect of `if r = n goto L`, or of one with `!=`; or null. */
 function conditionalJump(step, register, sign, number, label) {
   const word = step.value(register);
   const jumps = (word === Number(number)) === (sign === "=");

@@ -1,7 +1,7 @@
 // The examples by family, and what the comment of the one that is chosen says.
 
 import { aligned } from "./aligned.js";
-import { byId, el, sentence } from "./dom.js";
+import { button, byId, el, sentence } from "./dom.js";
 import { caches } from "./preferences.js";
 import { nameOf } from "./tokens.js";
 
@@ -16,7 +16,7 @@ function partsOf(name) {
 
 /** Returns the number of letters with which two names both begin. */
 function commonLetters(one, other) {
-  const differs = [...one].findIndex((letter, at) => letter !== other[at]);
+  const differs = [...one].findIndex((letter, index) => letter !== other[index]);
   return differs < 0 ? one.length : differs;
 }
 
@@ -27,17 +27,26 @@ function withoutCaches(text) {
   return kept.length ? kept.join(" ") : text;
 }
 
-/** Returns a link to the run that a comment describes: the list may have another run to the same state. */
-function linkToRun({ name, known }) {
-  const schedule = /A telling schedule: ([^.()]*)/.exec(known)?.[1].trim();
-  if (!schedule) return [];
-  const href = `#${new URLSearchParams({ example: name, view: "hand", schedule })}`;
-  return [" ", el("a", { href, title: schedule }, "See such a run.")];
+// What may be the name of another example in a comment: what ends in -x86, what is between backquotes, and what follows `see`.
+const NAME = /(`?[\w.+]+-x86\b`?|`[\w.+]+`|(?<=\b[Ss]ee )[\w.+]*\w)/;
+
+/** Returns the schedule of the run that a comment describes, or null. */
+function scheduleIn(comment) {
+  return /\bA (?:telling schedule|run): ([\w\s:]+)/.exec(comment)?.[1].trim().replace(/\s+/g, " ") ?? null;
+}
+
+/** Returns what is said beside the comment of a source test if only the compiler's fences forbid its outcome on x86; or "". */
+function fencesWords({ name, text, known }, tests) {
+  const isHeldByFences = text.startsWith("SRC") && /^Interleaving: forbidden\. x86-TSO: allowed\./.test(known);
+  if (!isHeldByFences) return "";
+  const bare = `${name}-x86`;
+  return ` On x86 the compiler's fences forbid this outcome; without them it is allowed${tests.has(bare) ? `: \`${bare}\`` : ""}.`;
 }
 
 export class Examples {
-  constructor(families) {
-    this.families = families;
+  /** Takes the examples by family. It calls `choose` with the name of one that the reader follows from another's comment. */
+  constructor(families, choose) {
+    Object.assign(this, { families, choose });
     caches.onChange(() => this.tests.has(this.name) && this.show(this.name, ""));
     this.tests = new Map(families.flatMap((family) => family.tests).map((it) => [it.name, { ...it, text: aligned(it.text) }]));
   }
@@ -57,11 +66,18 @@ export class Examples {
     this.name = name;
     byId("example-name").textContent = test ? name : nameOf(text);
     byId("example-shows").textContent = test ? "" : "my own";
-    const about = test && el("p", { class: "about" }, sentence(withoutCaches(test.about)), linkToRun(test));
-    const known = test && el("p", {}, sentence(test.known));
+    const about = test && el("p", { class: "about" }, this.linked(`${withoutCaches(test.about)}${fencesWords(test, this.tests)}`));
+    const known = test && el("p", {}, this.linked(test.known));
     const folded = (title, ...inner) => el("details", {}, el("summary", {}, title), inner);
     byId("about").replaceChildren(test && !isPredicting ? about : "");
     byId("known").replaceChildren(test ? (isPredicting ? folded("About it", about, known) : folded("What is known about it", known)) : "");
+  }
+
+  /** Returns a sentence in which the name of another example leads to it. */
+  linked(text) {
+    const isOther = (name) => name !== this.name && this.tests.has(name);
+    const link = (name) => (isOther(name) ? button(name, () => this.choose(name), { class: "link" }) : this.tests.has(name) && el("code", {}, name));
+    return text.split(NAME).flatMap((part, index) => (index % 2 && link(part.replaceAll("`", ""))) || sentence(part));
   }
 
   /** Returns the same x86 test with fences, or undefined if there is none. */
@@ -92,5 +108,15 @@ export class Examples {
 
   textOf(name) {
     return this.tests.get(name)?.text;
+  }
+
+  /** Returns the name of the example with a text, or undefined. */
+  nameOf(text) {
+    return [...this.tests.values()].find((it) => it.text === text)?.name;
+  }
+
+  /** Returns the schedule that a text has of its own: of an example that of the comment beside it, and otherwise that of a comment in it; or null. */
+  scheduleOf(text) {
+    return scheduleIn(this.tests.get(this.nameOf(text))?.known ?? text);
   }
 }

@@ -3,23 +3,21 @@
 import { ask } from "./ask.js";
 import { button, el, plainMark } from "./dom.js";
 import { save } from "./output.js";
-import { tell } from "./told.js";
+import { showError } from "./errors.js";
 
 // The height of a line of a picture, the width of a letter, and what is empty below its events.
 const LINE = 19;
 const LETTER = 7.9;
 const EMPTY = 10;
-// The arrows that a graph may have, each by its name there and in words. `rfi` and `init` are drawn as `rf` is.
+// The arrows that a graph may have, by how they are drawn: each with its names there, and these in words. In this order they take the fewest lines.
 const ARROWS = [
-  ["po", "po", "program order"],
-  ["rf", "rf", "reads from"],
-  ["rf", "rfi", "reads its own thread's store"],
-  ["rf", "init", "reads the initial value"],
-  ["co", "co", "written before"],
-  ["fr", "fr", "read before that write"],
+  ["po", { po: "program order" }],
+  ["co", { co: "written before" }],
+  ["rf", { rf: "reads from", rfi: "reads its own store", init: "reads the initial value" }],
+  ["fr", { fr: "read before that write" }],
 ];
-const WITH_CYCLE = "This run as a graph. The bold arrows are a cycle: no interleaving ends this way. ";
-const WITHOUT_CYCLE = "This run as a graph. It has no cycle: interleaving can end this way, too. ";
+const WITH_CYCLE = "The bold arrows are a cycle: no interleaving ends this way. ";
+const WITHOUT_CYCLE = "No cycle: interleaving can end this way, too. ";
 // How many graphs were shown so far.
 let shownGraphs = 0;
 const SVG = "http://www.w3.org/2000/svg";
@@ -27,11 +25,14 @@ const SVG = "http://www.w3.org/2000/svg";
 /**
  * Returns a picture for the page, whose style sheet has its colours, since the page's policy takes no style from a picture; and the lines of
  * text below it.
+ * @param {string} text
+ * @param {Tints} tints
+ * @returns {{graph: Element, said: string[]}}
  */
 export function shownGraph(text, tints) {
   shownGraphs += 1;
   // The heads of arrows of a graph that is hidden are not drawn in another one, so each graph has its own.
-  const bare = text.split(/<\/?style>/).filter((_, at) => at % 2 === 0).join("").replace(/(id="|url\(#)to-/g, `$1to-${shownGraphs}-`);
+  const bare = text.split(/<\/?style>/).filter((_, index) => index % 2 === 0).join("").replace(/(id="|url\(#)to-/g, `$1to-${shownGraphs}-`);
   const svg = new DOMParser().parseFromString(bare, "image/svg+xml").documentElement;
   svg.setAttribute("class", "graph");
   svg.setAttribute("role", "img");
@@ -71,16 +72,25 @@ function nameOf({ dataset: { from, to }, classList }) {
   return kind === "rf" && from.split(":")[0] === to.split(":")[0] ? "rfi" : kind;
 }
 
-/** Returns a legend of the arrows in some graphs, and of no others: how each is drawn, its name, and that in words. */
+/**
+ * Returns a legend of the arrows in some graphs, and of no others: how each is drawn, its names, and these in words.
+ * @param {...Element} graphs
+ * @returns {Element}
+ */
 export function legend(...graphs) {
   const drawn = graphs.flatMap((it) => [...it.querySelectorAll("path[data-to]")]);
   const names = new Set(drawn.map(nameOf));
-  const shown = ([kind, name, words]) => el("span", { class: `relation ${kind}` }, arrow(), el("b", {}, name), ` ${words}`);
+  const shown = ([kind, words]) => {
+    const here = Object.keys(words).filter((it) => names.has(it));
+    const inner = here.map((it, index) => [index ? ", " : "", el("b", {}, it), ` ${words[it]}`]);
+    return here.length > 0 && el("span", { class: `relation ${kind}` }, arrow(), inner);
+  };
   const cycle = drawn.some((it) => it.classList.contains("marked"));
   const bold = cycle && el("span", { class: "relation cycle" }, arrow(), el("b", {}, "bold"), " the cycle");
-  return el("p", { class: "legend" }, ARROWS.filter(([, name]) => names.has(name)).map(shown), bold);
+  return el("p", { class: "legend" }, ARROWS.map(shown), bold);
 }
 
+/** Returns a short arrow for the legend. */
 function arrow() {
   const svg = document.createElementNS(SVG, "svg");
   svg.setAttribute("viewBox", "0 0 28 8");
@@ -91,24 +101,42 @@ function arrow() {
   return svg;
 }
 
-/** Draws the execution of a whole run into a place. */
-export async function graphOf(editor, text, schedule, place, tints) {
+/**
+ * Draws the execution of a whole run into a place; `lead` is what is said first, if the run is another than the one that is shown.
+ * @param {Editor} editor
+ * @param {string} text
+ * @param {string} schedule
+ * @param {Element} place
+ * @param {Tints} tints
+ * @param {(string | Element)[] | null} [lead]
+ * @returns {Promise<void>}
+ */
+export async function graphOf(editor, text, schedule, place, tints, lead = null) {
   const answer = await ask(editor, "graph", { text, schedule }, { place });
   if (!answer) return;
   place.replaceChildren();
   if (answer.isUnended) place.append(el("p", { class: "small" }, "The graph is drawn when the run has ended."));
-  else if (answer.graph) place.append(...graphParts(answer, tints));
-  else tell(answer, place, editor);
+  else if (answer.graph) place.append(...graphParts(answer, tints, lead));
+  else showError(answer, place, editor);
   place.dispatchEvent(new Event("drawn"));
 }
 
-/** Returns what is shown of the execution of a run: what its graph says, the graph with its legend, and the same in words. */
-export function graphParts(answer, tints) {
+/**
+ * Returns what is shown of the execution of a run: what its graph says, the graph with its legend, and the same in words.
+ * @param {{graph: string, words: string[], hasCycle: boolean}} answer
+ * @param {Tints} tints
+ * @param {(string | Element)[] | null} [lead]
+ * @returns {Element[]}
+ */
+export function graphParts(answer, tints, lead = null) {
   const { graph, said } = shownGraph(answer.graph, tints);
+  // The places of another run's events are not those of the code that is shown.
+  if (lead) for (const it of graph.querySelectorAll("[data-at]")) it.removeAttribute("data-at");
   const words = answer.hasCycle ? WITH_CYCLE : WITHOUT_CYCLE;
   const pairs = said.slice(1).map((it) => it.replace(/^(\w+), then (\w+): no fence between$/, "between $1 and $2"));
   const missing = pairs.length ? `No fence is ${pairs.join(", nor ")}. ` : "";
-  const told = el("details", {}, el("summary", {}, "In words"), el("pre", {}, answer.words.join("\n")));
+  const inWords = el("details", {}, el("summary", {}, "In words"), el("pre", {}, answer.words.join("\n")));
+  const body = el("div", { class: "graph-body" }, graph, legend(graph));
   const keep = button("Save this graph", () => save("execution.svg", "image/svg+xml", answer.graph));
-  return [el("p", { class: "graph-head" }, words, missing, plainMark()), graph, legend(graph), el("div", { class: "row" }, told, keep)];
+  return [el("p", { class: "graph-head" }, lead, words, missing, plainMark()), body, el("div", { class: "row" }, inWords, keep)];
 }

@@ -24,23 +24,38 @@ export class Execution {
     this.ends = this.findWords();
   }
 
-  /** Returns the same execution with other coherence orders, on which no word depends. */
+  /**
+   * Returns the same execution with other coherence orders, on which no word depends.
+   * @param {Map<number, number[]>} co
+   * @returns {Execution}
+   */
   withOrders(co) {
     return Object.assign(Object.create(Execution.prototype), this, { co });
   }
 
+  /**
+   * Returns the instruction of an event.
+   * @param {number} event
+   * @returns {Statement}
+   */
   instruction(event) {
     return this.test.threads[threadOf(event)][positionOf(event)];
   }
 
-  /** Returns the accesses to memory and the fences, thread by thread. */
+  /**
+   * Returns the accesses to memory and the fences, thread by thread.
+   * @returns {number[]}
+   */
   events() {
     return eventsOf(this.paths).filter((it) => hasPlace(this.instruction(it)));
   }
 
   // Words.
 
-  /** Returns of each thread its registers at its end, or null if a jump goes another way. */
+  /**
+   * Returns of each thread its registers at its end, or null if a jump goes another way.
+   * @returns {(number | null)[][] | null}
+   */
   findWords() {
     for (;;) {
       const before = JSON.stringify([...this.written]);
@@ -50,6 +65,12 @@ export class Execution {
     }
   }
 
+  /**
+   * Returns the registers of a thread at the end of its path, or null if the words lead it elsewhere.
+   * @param {number} thread
+   * @param {number[]} path
+   * @returns {(number | null)[] | null}
+   */
   goAlong(thread, path) {
     const code = this.test.threads[thread];
     let state = { at: 0, registers: this.test.registers[thread], zero: false };
@@ -64,11 +85,20 @@ export class Execution {
     return state.at === code.length || state.at === null ? state.registers : null;
   }
 
+  /**
+   * Returns the word that an event reads, or null if it is not known.
+   * @param {number} event
+   * @returns {number | null}
+   */
   wordRead(event) {
     const source = this.rf.get(event);
     return source === null ? this.test.words[this.instruction(event).location] : (this.written.get(source) ?? null);
   }
 
+  /**
+   * Returns all threads' registers and the locations' words.
+   * @returns {Outcome}
+   */
   outcome() {
     const words = this.test.words.map((word, location) => {
       const last = this.co.get(location)?.at(-1);
@@ -79,20 +109,36 @@ export class Execution {
 
   // Relations.
 
+  /**
+   * Returns program order, all pairs.
+   * @returns {Edge[]}
+   */
   po() {
     const events = this.events();
     const pairs = events.flatMap((a) => events.filter((b) => threadOf(a) === threadOf(b) && a < b).map((b) => [a, b]));
     return pairs.map(edgeOf("po"));
   }
 
+  /**
+   * Returns reads-from, except from the initial words.
+   * @returns {Edge[]}
+   */
   rfEdges() {
     return [...this.rf].filter(([, source]) => source !== null).map(([read, source]) => edgeOf("rf")([source, read]));
   }
 
+  /**
+   * Returns coherence order, all pairs.
+   * @returns {Edge[]}
+   */
   coEdges() {
-    return [...this.co.values()].flatMap((row) => row.flatMap((a, at) => row.slice(at + 1).map((b) => [a, b]))).map(edgeOf("co"));
+    return [...this.co.values()].flatMap((row) => row.flatMap((a, index) => row.slice(index + 1).map((b) => [a, b]))).map(edgeOf("co"));
   }
 
+  /**
+   * Returns from-reads: from each read to the writes after the one that it reads from.
+   * @returns {Edge[]}
+   */
   frEdges() {
     return [...this.rf].flatMap(([read, source]) => {
       const row = this.co.get(this.instruction(read).location) ?? [];
@@ -101,29 +147,48 @@ export class Execution {
     });
   }
 
-  /** Returns whether all threads see a pair of program order in its order: every pair except a store and then a load. */
+  /**
+   * Returns whether all threads see a pair of program order in its order: every pair except a store and then a load.
+   * @param {Edge} edge
+   * @returns {boolean}
+   */
   isPreserved({ source, target }) {
     return !(this.instruction(source).kind === "store" && this.instruction(target).kind === "load");
   }
 
-  /** Returns whether a fence or a locked instruction is between the events of a pair of program order. */
+  /**
+   * Returns whether a fence or a locked instruction is between the events of a pair of program order.
+   * @param {Edge} edge
+   * @returns {boolean}
+   */
   hasFenceBetween({ source, target }) {
     const between = this.events().filter((it) => source < it && it < target);
     return between.some((it) => !["store", "load"].includes(this.instruction(it).kind));
   }
 
+  /**
+   * Returns the edges of the axiom of coherence.
+   * @returns {Edge[]}
+   */
   coherence() {
     const placeOf = (event) => this.instruction(event).location;
     const isSame = ({ source, target }) => placeOf(source) !== undefined && placeOf(source) === placeOf(target);
     return [...this.po().filter(isSame), ...this.rfEdges(), ...this.coEdges(), ...this.frEdges()];
   }
 
+  /**
+   * Returns the edges of the axiom of global happens-before.
+   * @returns {Edge[]}
+   */
   happensBefore() {
     const external = this.rfEdges().filter((it) => threadOf(it.source) !== threadOf(it.target));
     return [...this.po().filter((it) => this.isPreserved(it)), ...external, ...this.coEdges(), ...this.frEdges()];
   }
 
-  /** Returns the first axiom that the execution breaks, with a shortest cycle; null if it keeps both. */
+  /**
+   * Returns the first axiom that the execution breaks, with a shortest cycle; null if it keeps both.
+   * @returns {{axiom: string, cycle: Edge[]} | null}
+   */
   broken() {
     const coherence = cycleIn(this.coherence());
     if (coherence) return { axiom: "coherence", cycle: coherence };
@@ -131,30 +196,61 @@ export class Execution {
     return order && { axiom: "global happens-before", cycle: order };
   }
 
-  /** Returns a shortest cycle of all relations together: there is one if the execution is not sequentially consistent. */
+  /**
+   * Returns a shortest cycle of all relations together: there is one if the execution is not sequentially consistent.
+   * @returns {Edge[] | null}
+   */
   cycle() {
     return cycleIn([...this.po(), ...this.rfEdges(), ...this.coEdges(), ...this.frEdges()]);
   }
 }
 
+/**
+ * Returns whether an instruction accesses memory or is a fence.
+ * @param {Statement} it
+ * @returns {boolean}
+ */
 function hasPlace(it) {
   return it.location !== undefined || it.kind === "mfence";
 }
 
+/**
+ * Returns the events of paths, thread by thread.
+ * @param {number[][]} paths
+ * @returns {number[]}
+ */
 function eventsOf(paths) {
   return paths.flatMap((path, thread) => path.map((position) => eventOf(thread, position)));
 }
 
 // One thread's instructions, with words that may not be known (null).
 
+/**
+ * Returns the word of a value, or null if it is not known.
+ * @param {Value} value
+ * @param {(number | null)[]} registers
+ * @returns {number | null}
+ */
 function known(value, registers) {
   return value.number === undefined ? registers[value.register] : value.number;
 }
 
+/**
+ * Returns the sum of two words, or null if one is not known.
+ * @param {number | null} first
+ * @param {number | null} second
+ * @returns {number | null}
+ */
 function total(first, second) {
   return first === null || second === null ? null : (first + second) % WORD;
 }
 
+/**
+ * Returns whether two words are the same, or null if one is not known.
+ * @param {number | null} first
+ * @param {number | null} second
+ * @returns {boolean | null}
+ */
 function isSame(first, second) {
   return first === null || second === null ? null : first === second;
 }
@@ -163,6 +259,13 @@ function put(list, at, item) {
   return list.map((it, number) => (number === at ? item : it));
 }
 
+/**
+ * Returns the word that an instruction writes to memory.
+ * @param {Statement} it
+ * @param {(number | null)[]} registers
+ * @param {number | null} read
+ * @returns {number | null}
+ */
 function writtenWord(it, registers, read) {
   if (it.kind === "store") return known(it.value, registers);
   return it.kind === "xchg" ? registers[it.register] : total(read, registers[it.register]);
@@ -190,7 +293,11 @@ function stateAfter(it, position, { registers, zero }, read) {
 
 // Cycles.
 
-/** Returns the edges of a shortest cycle, or null. */
+/**
+ * Returns the edges of a shortest cycle, or null.
+ * @param {Edge[]} edges
+ * @returns {Edge[] | null}
+ */
 export function cycleIn(edges) {
   const leaving = new Map();
   for (const it of edges) {
@@ -203,7 +310,11 @@ export function cycleIn(edges) {
   return found.reduce((best, it) => (it.length < best.length ? it : best));
 }
 
-/** Returns whether there is no cycle: events without a successor are removed until none is left. */
+/**
+ * Returns whether there is no cycle: events without a successor are removed until none is left.
+ * @param {Map<number, Edge[]>} leaving
+ * @returns {boolean}
+ */
 function isAcyclic(leaving) {
   let left = [...leaving].map(([source, targets]) => [source, [...targets.keys()]]);
   while (left.length) {
@@ -215,7 +326,12 @@ function isAcyclic(leaving) {
   return true;
 }
 
-/** Returns a shortest cycle through an event, or null. */
+/**
+ * Returns a shortest cycle through an event, or null.
+ * @param {number} start
+ * @param {Map<number, Edge[]>} leaving
+ * @returns {Edge[] | null}
+ */
 function cycleFrom(start, leaving) {
   const cameBy = new Map();
   const waiting = [start];
@@ -231,6 +347,13 @@ function cycleFrom(start, leaving) {
   return null;
 }
 
+/**
+ * Returns the edges of a cycle that ends with an edge to its start. `cameBy` has the edge by which each event was reached.
+ * @param {number} start
+ * @param {Edge} last
+ * @param {Map<number, Edge>} cameBy
+ * @returns {Edge[]}
+ */
 function wayBack(start, last, cameBy) {
   const found = [last];
   while (found.at(-1).source !== start) found.push(cameBy.get(found.at(-1).source));
@@ -239,19 +362,33 @@ function wayBack(start, last, cameBy) {
 
 // All candidate executions.
 
-/** Yields every choice of one item of each list; the last list's item changes first. */
+/**
+ * Yields every choice of one item of each list; the last list's item changes first.
+ * @param {Item[][]} lists
+ * @returns {Generator<Item[]>}
+ */
 function* choices(lists) {
   if (!lists.length) return yield [];
   const [first, ...others] = lists;
   for (const it of first) for (const rest of choices(others)) yield [it, ...rest];
 }
 
+/**
+ * Returns all orders of a row.
+ * @param {Item[]} row
+ * @returns {Item[][]}
+ */
 function permutations(row) {
   if (row.length < 2) return [row];
-  return row.flatMap((it, at) => permutations([...row.slice(0, at), ...row.slice(at + 1)]).map((rest) => [it, ...rest]));
+  return row.flatMap((it, index) => permutations([...row.slice(0, index), ...row.slice(index + 1)]).map((rest) => [it, ...rest]));
 }
 
-/** Returns the flow paths of a thread's code. */
+/**
+ * Returns the flow paths of a thread's code.
+ * @param {Statement[]} code
+ * @param {number} [at]
+ * @returns {number[][]}
+ */
 function pathsOf(code, at = 0) {
   if (at === code.length) return [[]];
   const { kind, target } = code[at];
@@ -259,7 +396,12 @@ function pathsOf(code, at = 0) {
   return followers.flatMap((next) => pathsOf(code, next).map((path) => [at, ...path]));
 }
 
-/** Yields all candidate executions of a test. Throws TooMany after `most` of them. */
+/**
+ * Yields all candidate executions of a test. Throws TooMany after `most` of them.
+ * @param {Test} test
+ * @param {number} most
+ * @returns {Generator<Execution>}
+ */
 export function* candidates(test, most) {
   let number = 0;
   for (const paths of choices(test.threads.map((code) => pathsOf(code)))) {
@@ -275,11 +417,11 @@ export function* candidates(test, most) {
     for (const chosen of choices(sources)) {
       number += 1;
       if (number > most) throw new TooMany();
-      const one = new Execution(test, paths, new Map(reads.map((read, at) => [read, chosen[at]])), writes);
+      const one = new Execution(test, paths, new Map(reads.map((read, index) => [read, chosen[index]])), writes);
       if (one.ends === null) continue;
       for (const rows of choices([...writes.values()].map(permutations))) {
         number += 1;
-        yield one.withOrders(new Map([...writes.keys()].map((location, at) => [location, rows[at]])));
+        yield one.withOrders(new Map([...writes.keys()].map((location, index) => [location, rows[index]])));
       }
     }
   }

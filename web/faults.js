@@ -1,5 +1,9 @@
-// A fault of a text in a sentence for beginners: what is at its place, and what lw expects there. That is found by the fault's name and by the
-// token at its place; lw's own line is shown beside it. Not proved.
+// A fault of a text in a sentence for beginners: what is at its place, what lw expects there, and what may be meant, which a button puts into the
+// text. That is found by the fault's name and by the token at its place; lw's own line is shown beside it. Not proved.
+
+import { nearest } from "./nearest.js";
+import { otherCode, otherHead, otherRegister } from "./other_language.js";
+import { TEMPLATE } from "./template.js";
 
 const TOKEN = /0x[\da-fA-F]+|\d\w*|[A-Za-z_]\w*|:=|[!=]=|=>|<>|&&|\|\||\/\\|\\\/|[^]/uy;
 const STATEMENTS =
@@ -8,9 +12,24 @@ const STATEMENTS =
 const INSTRUCTIONS =
   "An instruction is `MOV [x],$1` or `MOV [x],EAX` (a store), `MOV EAX,[x]` (a load), `MOV EAX,$1`, `ADD EAX,$1`, `CMP EAX,$1`, `JE L`, `JNE L`, " +
   "`JMP L`, `MFENCE`, `XCHG [x],EAX` or `LOCK XADD [x],EAX`.";
-const MNEMONIC = /^(?:MOV|ADD|CMP|JE|JNE|JMP|MFENCE|XCHG|LOCK|XADD)$/i;
+const MNEMONICS = ["MOV", "ADD", "CMP", "JE", "JNE", "JMP", "MFENCE", "XCHG", "LOCK", "XADD"];
+const MNEMONIC = new RegExp(`^(?:${MNEMONICS.join("|")})$`, "i");
+const REGISTERS = { X86: ["EAX", "EBX", "ECX", "EDX", "ESI", "EDI"], SRC: ["r0", "r1", "r2", "r3", "r4", "r5"] };
+const QUESTIONS = ["exists", "forall"];
+const HEADS = ["SRC", "X86"];
+// How other notations write what connects the parts of a question, and how lw does.
+const CONNECTIVES = {
+  "&&": "/\\", "&": "/\\", and: "/\\", "||": "\\/", "|": "\\/", or: "\\/", "!": "~",
+};
+// What is before an instruction in its cell: its labels.
+const LABELS = /^(?:\w+\s*:\s*)*$/;
 
-/** Returns the token at an index of a text; it is empty at the end of the text. */
+/**
+ * Returns the token at an index of a text; it is empty at the end of the text.
+ * @param {string} text
+ * @param {number} index
+ * @returns {string}
+ */
 export function tokenAt(text, index) {
   TOKEN.lastIndex = index;
   return TOKEN.exec(text)?.[0] ?? "";
@@ -23,20 +42,87 @@ function named(token) {
   return `\`${token}\``;
 }
 
+/** The place of a fault: its token, what is before it in its cell and after it, and the change of the text that is proposed there. */
+class Place {
+  constructor(text, index) {
+    const token = tokenAt(text, index);
+    Object.assign(this, { text, index, token, it: named(token), change: null, isX86: /^\s*X86\b/.test(text) });
+    Object.assign(this, { before: cellBefore(text, index), after: text.slice(index + token.length) });
+  }
+
+  /**
+   * Proposes a text in place of the token, or of another part.
+   * @param {string} text
+   * @param {number} [begin]
+   * @param {number} [end]
+   */
+  put(text, begin = this.index, end = this.index + this.token.length) {
+    this.change = { begin, end, text };
+  }
+
+  /** Proposes the same, and returns a question that does. */
+  propose(text, ...part) {
+    this.put(text, ...part);
+    return ` Did you mean \`${text}\`?`;
+  }
+
+  /**
+   * Returns a question that proposes the nearest of some names to a word, by default the token, if one is near.
+   * @param {string[]} names
+   * @param {string} [word]
+   * @param {number} [begin]
+   * @returns {string}
+   */
+  meant(names, word = this.token, begin = this.index) {
+    const name = nearest(word, names);
+    return name === null ? "" : this.propose(name, begin, begin + word.length);
+  }
+
+  /**
+   * Returns a question that proposes a register of the test's language for the token: for one of the other language that of its number.
+   * @returns {string}
+   */
+  meantRegister() {
+    const other = otherRegister(this.token, this.isX86);
+    return other === null ? this.meant(REGISTERS[this.isX86 ? "X86" : "SRC"]) : this.propose(other);
+  }
+}
+
 /** Returns the cell that a fault is in, as far as its place. */
 function cellBefore(text, index) {
   return text.slice(Math.max(...["|", ";"].map((it) => text.lastIndexOf(it, index - 1))) + 1, index).trim();
 }
 
-/** Returns what follows `exists` or `forall` in the question at the end of a text, without comments; or null if there is none. */
+/**
+ * Returns what follows `exists` or `forall` in the question at the end of a text, without comments; or null if there is none.
+ * @param {string} text
+ * @returns {string | null}
+ */
 export function questionIn(text) {
   const code = text.replace(/\(\*[^]*?\*\)/g, " ");
   const end = code.slice(code.lastIndexOf(";") + 1);
   return /^(?:\s*locations\s*\[[^\]]*\]|[^\][]*\])?\s*~?\s*(?:exists|forall)\b([^]*)$/.exec(end)?.[1] ?? null;
 }
 
-/** Returns what the question lacks if a text ends in it; or "" if nothing is known. */
-function missingInQuestion(text) {
+/**
+ * Returns the word at the start of the question at the end of a text, if it is nearly `exists` or `forall`; or null.
+ * @param {string} text
+ * @returns {string | null}
+ */
+export function misspeltQuestion(text) {
+  const begin = /;\s*~?\s*([A-Za-z]+)\s*\([^;]*$/.exec(text)?.[1];
+  return begin && nearest(begin, QUESTIONS) ? begin : null;
+}
+
+/**
+ * Returns what the question lacks if a text ends in it; or "" if nothing is known.
+ * @param {Place} place
+ * @returns {string}
+ */
+function missingInQuestion(place) {
+  const { text } = place;
+  const misspelt = misspeltQuestion(text);
+  if (misspelt) return `lw has no question of the name \`${misspelt}\`.${place.meant(QUESTIONS, misspelt, text.lastIndexOf(misspelt))}`;
   const question = questionIn(text);
   if (question === null || question.includes("(*")) return "";
   const missing = question.split("(").length - question.split(")").length;
@@ -53,65 +139,140 @@ function missingThread({ token, after, text }) {
   return `There is no thread ${token}: the test has ${names.length === 1 ? "only " : ""}${all}.`;
 }
 
-/** Returns what is wrong with the form of a statement of a source test. */
-function formOfSource({ token, before }) {
+/**
+ * Returns that a question is written as in another notation, if that is so; or "".
+ * @param {Place} place
+ * @returns {string}
+ */
+function otherNotation(place) {
+  const { token, text, index } = place;
+  const front = text.slice(0, index);
+  if (questionIn(`${front} `) === null && !/\{[^}]*$/.test(front)) return "";
+  const thread = /\bP(\d)\s*$/i.exec(front);
+  const register = /^:\s*([A-Za-z]\w*)(?=\s*[=;])/.exec(text.slice(index));
+  if (thread && register) {
+    const site = place.propose(`${thread[1]}:${register[1]}`, thread.index, index + register[0].length);
+    return `The thread of a register is a number, without \`P\`.${site}`;
+  }
+  const negated = token === "!=" && /(?:\d\s*:\s*)?\[?\w+\]?\s*$/.exec(front);
+  if (negated) return `Another word is asked for with \`~\` (not).${place.propose(`~${negated[0].trim()}=`, negated.index, index + token.length)}`;
+  if (token === "=" && front.endsWith("=")) return `A question compares with one \`=\`.${place.propose("=", index - 1)}`;
+  const connective = Object.hasOwn(CONNECTIVES, token.toLowerCase()) && CONNECTIVES[token.toLowerCase()];
+  if (!connective) return "";
+  return `In a question, and is \`/\\\`, or is \`\\/\`, not is \`~\`.${place.propose(connective)}`;
+}
+
+/**
+ * Returns what is wrong with the first word of a text, if that is at the place; or "".
+ * @param {Place} place
+ * @returns {string}
+ */
+function firstWord(place) {
+  if (place.text.slice(0, place.index).trim()) return "";
+  if (place.token === "C") return "lw reads tests that begin with `SRC` or `X86`. This one begins as a test in C does.";
+  const meant = /86/.test(place.token) ? place.propose(HEADS[1]) : place.meant(HEADS);
+  return meant && `A test begins with \`SRC\` or \`X86\`.${meant}`;
+}
+
+/** Returns that a text is empty, and proposes a small test in its place, if that is so; or "". */
+function emptyText(place) {
+  if (place.text.trim()) return "";
+  place.put(TEMPLATE, 0, place.text.length);
+  place.change.title = "Begin with a small test";
+  return "There is no text.";
+}
+
+/**
+ * Returns what is wrong with the form of a statement of a source test.
+ * @param {Place} place
+ * @returns {string}
+ */
+function formOfSource(place) {
+  const { token, before, index, text } = place;
   const isEnd = token === ";" || token === "|";
   if (token === "=" || token === "==") {
-    return /^if\b/.test(before) ? "A branch compares with one `=`: `if r0 = 1 goto L`." : "Write `:=` in place of it.";
+    const isBranch = /^if\b/.test(before);
+    place.put(isBranch ? "=" : ":=");
+    return isBranch ? "A branch compares with one `=`: `if r0 = 1 goto L`." : "Write `:=` in place of it.";
+  }
+  const other = token === ":=" ? otherRegister(before, false) : null;
+  if (other !== null) {
+    const begin = text.lastIndexOf(before, index);
+    return `\`${before}\` is a register of x86.${place.propose(other, begin, begin + before.length)}`;
   }
   if (isEnd && /^mfence$/i.test(before)) return "A source test has no fences: the compiler adds them.";
   if (isEnd) return `The statement before it is not complete. ${STATEMENTS}`;
   return token === "+" ? "A sum goes into a register first: `r0 := r1 + 1`, then `x := r0`." : STATEMENTS;
 }
 
-/** Returns what is wrong with the form of an instruction. */
-function formOfX86({ token, before }) {
+/**
+ * Returns what is wrong with the form of an instruction.
+ * @param {Place} place
+ * @returns {string}
+ */
+function formOfX86(place) {
+  const { token, before } = place;
   if (/^xadd$/i.test(token) && before === "") return "Write `LOCK XADD`.";
   if (token === "=" || token === ":=") return "The operands of an instruction have a comma between them: `MOV [x],$1`.";
   if (token === "[" && before.includes("[")) return "An instruction has one location at most: load it into a register first.";
   if (token === "[") return "Only `MOV`, `XCHG` and `LOCK XADD` take a location.";
   if (token === "$") return "What is written comes first: `MOV [x],$1`.";
   if (token === ";" || token === "|") return `The instruction before it is not complete. ${INSTRUCTIONS}`;
-  return before === "" && !MNEMONIC.test(token) ? `lw has no instruction of this name. ${INSTRUCTIONS}` : INSTRUCTIONS;
+  if (/\block$/i.test(before)) return `\`LOCK\` comes before \`XADD\` or \`XCHG\`.${place.meant(["XADD", "XCHG"])}`;
+  if (!LABELS.test(before) || MNEMONIC.test(token)) return INSTRUCTIONS;
+  return `lw has no instruction of this name.${place.meant(MNEMONICS)} ${INSTRUCTIONS}`;
 }
 
 // Of each fault, by its kind and name, what is wrong and what is expected. `it` is the token in words.
 const SENTENCES = {
   "text NotUtf8": () => "The text is not UTF-8 from here on.",
   "text TooLong": () => "The text is too long: it may have 65,536 bytes.",
-  "text Unterminated": ({ text }) =>
-    missingInQuestion(text) ||
+  "text Unterminated": (place) =>
+    emptyText(place) ||
+    missingInQuestion(place) ||
     "The text ends too early. The last row may lack its `;`, a comment its `*)`, or the test its question, as `exists (x=1)`.",
-  "text Unexpected": ({ it }) =>
-    `${it} is not expected here. A test is \`SRC\` or \`X86\` and a name, the initial values in \`{ }\`, the row \`P0 | P1 ;\`, ` +
+  "text Unexpected": (place) =>
+    otherNotation(place) ||
+    firstWord(place) ||
+    `${place.it} is not expected here. A test is \`SRC\` or \`X86\` and a name, the initial values in \`{ }\`, the row \`P0 | P1 ;\`, ` +
     "the rows of code, and a question.",
   "text Number": ({ it }) => `${it} is no number that lw takes: one up to 4294967295, also as \`0x10\`, with no letter after it.`,
-  "text Name": ({ it, isX86, ...place }) =>
+  "text Name": (place) =>
     missingThread(place) ||
-    `${it} can't be a name here. A question names a location, as \`x=1\`, or a register with its thread, as ` +
-    `\`${isX86 ? "0:EAX=1" : "0:r0=1"}\`.`,
+    (otherRegister(place.token, place.isX86) !== null && otherHead(place)) ||
+    `${place.it} can't be a name here. A question names a location, as \`x=1\`, or a register with its thread, as ` +
+    `\`${place.isX86 ? "0:EAX=1" : "0:r0=1"}\`.${place.meantRegister()}`,
   "text Ragged": () => "This row has too few or too many cells: it needs one for each thread, with `|` between them. A cell may be empty.",
   "text TooManyThreads": () => "A test has four threads at most.",
   "text TooManyRows": () => "A test has 64 rows at most.",
   "text TooManyLocations": () => "A test has eight locations at most.",
-  "text Condition": ({ it }) =>
-    `${it} does not fit into the question. It is \`exists\`, \`~exists\` or \`forall\`, and then for instance \`(x=1 /\\ 0:r0=0)\`, ` +
+  "text Condition": (place) =>
+    otherNotation(place) ||
+    `${place.it} does not fit into the question. It is \`exists\`, \`~exists\` or \`forall\`, and then for instance \`(x=1 /\\ 0:r0=0)\`, ` +
     "with `/\\` (and), `\\/` (or) and `~` (not).",
-  "cell Form": (place) => `${place.it} does not fit here. ${place.isX86 ? formOfX86(place) : formOfSource(place)}`,
-  "cell Register": ({ it, isX86 }) =>
-    `${it} is no register, and one is needed here: ${isX86 ? "`EAX`, `EBX`, `ECX`, `EDX`, `ESI` or `EDI`" : "`r0` to `r5`"}. ` +
-    (isX86 ? "A location has brackets: `[x]`." : "A location is loaded into a register first: `r0 := y`."),
-  "cell LabelMissing": ({ it }) => `The thread has no label ${it} to jump to.`,
+  "cell Form": (place) => `${place.it} does not fit here. ${otherCode(place) || (place.isX86 ? formOfX86(place) : formOfSource(place))}`,
+  "cell Register": (place) =>
+    otherCode(place) ||
+    `${place.it} is no register, and one is needed here: ${place.isX86 ? "`EAX`, `EBX`, `ECX`, `EDX`, `ESI` or `EDI`" : "`r0` to `r5`"}.` +
+    `${place.meantRegister()} ` +
+    (place.isX86 ? "A location has brackets: `[x]`." : "A location is loaded into a register first: `r0 := y`."),
+  "cell LabelMissing": (place) =>
+    `The thread has no label ${place.it} to jump to.${place.meant([...place.text.matchAll(/([A-Za-z_]\w*)\s*:(?!=)/g)].map(([, label]) => label))}`,
   "cell LabelTwice": ({ it }) => `The thread has the label ${it} already.`,
   "cell Backward": ({ it }) => `The jump to ${it} goes back. Jumps go forward only: a loop is written out as often as it is tried.`,
   "cell TooMany": ({ isX86 }) =>
     `A thread has ${isX86 ? "32 instructions" : "16 statements"} at most, and a test eight locations.`,
 };
 
-/** Returns what is wrong with a text in a sentence, in which code is between backquotes; or null if the fault is not known. */
-export function faultWords({ kind, name, index }, text) {
-  const token = tokenAt(text, index);
-  const [before, after] = [cellBefore(text, index), text.slice(index + token.length)];
-  const place = { text, token, it: named(token), before, after, isX86: /^\s*X86\b/.test(text) };
-  return SENTENCES[`${kind} ${name}`]?.(place) ?? null;
+/**
+ * Returns what is wrong with a text: `words`, a sentence in which code is between backquotes, or null if the fault is not known; and the `change`
+ * that is proposed, a text with the `begin` and the `end` of what it replaces, and a `title` if the text is long, or null.
+ * @param {Fault} fault
+ * @param {string} text
+ * @returns {{words: string | null, change: {begin: number, end: number, text: string, title?: string} | null}}
+ */
+export function hintOn({ kind, name, index }, text) {
+  const place = new Place(text, index);
+  const words = SENTENCES[`${kind} ${name}`]?.(place) ?? null;
+  return { words, change: place.change };
 }

@@ -3,13 +3,15 @@
 
 import { ask } from "./ask.js";
 import { button, el, plainMark, sentence } from "./dom.js";
+import { textWithFences } from "./fence_edit.js";
 import { Film, watchButton } from "./film.js";
 import * as guess from "./guess.js";
 import { mappedNames } from "./register_names.js";
 import { isTooLong, searchOffer } from "./search.js";
-import { tell, tellNothing } from "./told.js";
+import { showError, clearFault } from "./errors.js";
 
 const MOST_SHOWN = 4;
+const BY_CLICK = "In Watch and By hand “+ fence” puts a fence between two instructions, where the pointer is, and “✕ fence” takes it out.";
 
 export class Fences {
   /** Fills the panel. It calls `take` with a text for the editor. */
@@ -23,6 +25,7 @@ export class Fences {
     panel.append(this.place, this.more, el("p", { class: "row" }, choice), this.film.place);
   }
 
+  /** Removes what is shown. */
   clear() {
     this.askedOf = null;
     this.place.replaceChildren();
@@ -35,14 +38,15 @@ export class Fences {
     return this.askedOf === this.editor.text ? null : this.ask(most);
   }
 
+  /** Asks which fences matter, once the guess is made. The answer takes `most` milliseconds at most, or any time if that is null. */
   ask(most = null) {
     this.clear();
     this.askedOf = this.editor.text;
-    tellNothing(this.editor);
-    return guess.unlock("fences", this.editor, this.place, () => this.show(most));
+    clearFault(this.editor);
+    return guess.unlock(this.editor, this.place, () => this.show(most));
   }
 
-  /** Shows the table; with `search` its lists are made by a search. */
+  /** Shows the table, if it is there within `most` milliseconds (null: no limit). With `search` its lists are made by a search. */
   async show(most, search = false) {
     const fields = { text: this.editor.text, everything: this.everything.checked, search };
     const answer = await ask(this.editor, "fences", fields, { place: this.place, most });
@@ -68,7 +72,7 @@ export class Fences {
     const answer = await ask(this.editor, "more fences", fields, { place: this.more });
     if (!answer) return;
     this.more.replaceChildren();
-    if (!answer.fenced) return tell(answer, this.more, this.editor);
+    if (!answer.fenced) return showError(answer, this.more, this.editor);
     this.more.append(...this.partsOfMore(answer.fenced, isForall));
   }
 
@@ -79,7 +83,8 @@ export class Fences {
     const rows = sets.map(({ places, text, states }) => {
       const put = places.map((it) => it.replace(/^(P\d) at \d+, before (.*)$/, "in $1 before `$2`")).join(" and ");
       const result = isForall ? `it holds in all ${statesOf(states)}` : `it holds in none of ${statesOf(states)}`;
-      return el("li", {}, `An MFENCE `, sentence(put), `: ${result}. `, button("Try it", () => this.take(text), { class: "take" }));
+      const taken = () => this.take(textWithFences(this.editor.text, places.map(placeIn)) ?? text);
+      return el("li", {}, `An MFENCE `, sentence(put), `: ${result}. `, button("Try it", taken, { class: "take" }));
     });
     const others = more ? [el("p", { class: "small" }, `And ${more} other sets of as many fences.`)] : [];
     const head = el("p", { class: "next-step" }, el("b", {}, `The fewest fences that ${wanted}:`));
@@ -89,7 +94,7 @@ export class Fences {
 
   /** Says why there is no table, and offers a search if it would take too long. */
   fail(answer) {
-    tell(answer, this.place, this.editor);
+    showError(answer, this.place, this.editor);
     if (isTooLong(answer)) this.place.append(this.offer());
   }
 
@@ -97,12 +102,13 @@ export class Fences {
     return searchOffer(() => this.show(null, true), this.editor.id("search-fences"));
   }
 
+  /** Returns the parts of an answer: the table of fences, and what follows from it. */
   parts(answer) {
     const { table, condition, texts } = answer;
     const by = this.everything.checked ? "by all registers and locations?" : ["by the question ", el("code", {}, condition), "?"];
     const head = el("tr", {}, ["Fence", "If only it is left out", "States that are new then"].map((it) => el("th", { scope: "col" }, it)));
     const names = namesOf(table);
-    const rows = table.rows.map((it, at) => this.rowOf(names[at], it, texts[at]));
+    const rows = table.rows.map((it, index) => this.rowOf(names[index], it, texts[index]));
     const shown = el("table", {}, el("thead", {}, head), el("tbody", {}, rows));
     const isSource = answer.language === "SRC";
     const isPlain = table.answered_by.includes("plain");
@@ -113,7 +119,8 @@ export class Fences {
         isSource ? [" ", sentence(mappedNames(JSON.stringify([condition, table])))] : ""),
       table.rows.length ? el("div", { class: "wide" }, shown) : "",
       el("p", { class: "verdict", role: "status" }, el("strong", {}, verdictOf(answer, names))),
-      el("p", { class: "small" }, table.rows.length ? ["The page itself leaves the fences out of the text ", plainMark(), ". "] : "", ...lists),
+      el("p", { class: "small" }, table.rows.length ? ["The page's own code takes the fences out of the text, which is ", plainMark(), ". "] : "", ...lists),
+      isSource ? "" : el("p", { class: "small by-click" }, BY_CLICK),
       isPlain ? this.offer() : "",
     ];
   }
@@ -127,6 +134,12 @@ export class Fences {
   }
 }
 
+/** Returns a place for a fence, a thread and the number of an instruction, by its words. */
+function placeIn(words) {
+  const [, thread, at] = /^P(\d) at (\d+)/.exec(words);
+  return [Number(thread), Number(at)];
+}
+
 function statesOf(number) {
   return number === 1 ? "1 state" : `${number} states`;
 }
@@ -134,9 +147,9 @@ function statesOf(number) {
 /** Returns what the page calls the fences: by the instruction after each, since their numbers count instructions from 0. */
 function namesOf({ rows }) {
   const names = rows.map(({ place }) => place.replace(/^(P\d) at \d+$/, "$1, at its end").replace(/ at \d+/, ""));
-  return names.map((name, at) => {
+  return names.map((name, index) => {
     const alike = names.filter((it) => it === name).length;
-    return alike === 1 ? name : `${name} (${names.slice(0, at + 1).filter((it) => it === name).length} of ${alike})`;
+    return alike === 1 ? name : `${name} (${names.slice(0, index + 1).filter((it) => it === name).length} of ${alike})`;
   });
 }
 
@@ -152,7 +165,7 @@ function verdictOf({ table, language }, names) {
     return [`${fences} nothing: with ${all} ${what} ends in the same ${statesOf(states)}, and${holding}${states === 1 ? "it." : "them."}`];
   }
   if (enough.length < rows.length) {
-    const kept = names.filter((_, at) => enough.some((it) => `${rows[at].place},`.startsWith(`${it},`)));
+    const kept = names.filter((_, index) => enough.some((it) => `${rows[index].place},`.startsWith(`${it},`)));
     const needed = `These are enough for the same ${statesOf(states)}, and none of them can be left out: ${kept.join("; ")}.`;
     return [`${needed} With them${holding}these states.`];
   }

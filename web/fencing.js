@@ -1,5 +1,7 @@
 // Where an MFENCE more would answer a test's question: the smallest sets of places, as tools/fencing/places.py and sets.py find them. A fence only
 // removes outcomes, which cuts the search. The texts with fences are made here, which is not proved; their lists are lw's.
+//
+// A `Place` is a pair of a thread and a position: that of a fence, or of the instruction before which one is put.
 
 import { canonicalText, instructionText } from "./canonical.js";
 import { NoAnswer } from "./program.js";
@@ -9,60 +11,97 @@ const WAITS = ["mfence", "xchg", "xadd"];
 const MOST_LISTS = 200;
 const MOST_SETS = 6;
 
-/** Returns the positions that may follow an instruction. */
-function followers({ kind, target }, at) {
-  if (target === undefined) return [at + 1];
-  return kind === "jmp" ? [target] : [at + 1, target];
+/**
+ * Returns the positions that may follow an instruction.
+ * @param {Statement} instruction
+ * @param {number} position
+ * @returns {number[]}
+ */
+function followers({ kind, target }, position) {
+  if (target === undefined) return [position + 1];
+  return kind === "jmp" ? [target] : [position + 1, target];
 }
 
-/** Returns the positions that some way reaches from a store, with nothing between that waits for it. */
-function behindStores(code) {
+/**
+ * Returns the positions that some way reaches from a store, with nothing between that waits for it.
+ * @param {Statement[]} code
+ * @returns {number[]}
+ */
+function positionsAfterStores(code) {
   const seen = new Set();
-  const waiting = code.flatMap((it, at) => (it.kind === "store" ? followers(it, at) : []));
+  const waiting = code.flatMap((it, index) => (it.kind === "store" ? followers(it, index) : []));
   while (waiting.length) {
-    const at = waiting.pop();
-    if (at >= code.length || seen.has(at)) continue;
-    seen.add(at);
-    if (!WAITS.includes(code[at].kind)) waiting.push(...followers(code[at], at));
+    const position = waiting.pop();
+    if (position >= code.length || seen.has(position)) continue;
+    seen.add(position);
+    if (!WAITS.includes(code[position].kind)) waiting.push(...followers(code[position], position));
   }
   return [...seen].sort((a, b) => a - b);
 }
 
-/** Returns the loads that are the first from a position on, on some way with nothing before them that waits. */
-function nextLoads(code, at) {
-  if (at === code.length || WAITS.includes(code[at].kind)) return [];
-  if (code[at].kind === "load") return [at];
-  return [...new Set(followers(code[at], at).flatMap((after) => nextLoads(code, after)))];
+/**
+ * Returns the loads that are the first from a position on, on some way with nothing before them that waits.
+ * @param {Statement[]} code
+ * @param {number} position
+ * @returns {number[]}
+ */
+function nextLoads(code, position) {
+  if (position === code.length || WAITS.includes(code[position].kind)) return [];
+  if (code[position].kind === "load") return [position];
+  return [...new Set(followers(code[position], position).flatMap((after) => nextLoads(code, after)))];
 }
 
-/** Returns all places where a fence may help: a thread, and the number of the instruction after the fence. */
+/**
+ * Returns all places where a fence may help: a thread, and the number of the instruction after the fence.
+ * @param {Test} test
+ * @returns {Place[]}
+ */
 export function placesOf(test) {
-  const isPlace = (code, at) => code[at].kind === "load" || (["je", "jne"].includes(code[at].kind) && nextLoads(code, at).length > 1);
-  return test.threads.flatMap((code, thread) => behindStores(code).filter((at) => isPlace(code, at)).map((at) => [thread, at]));
+  const isBranch = (code, position) => ["je", "jne"].includes(code[position].kind) && nextLoads(code, position).length > 1;
+  const isPlace = (code, position) => code[position].kind === "load" || isBranch(code, position);
+  return test.threads.flatMap((code, thread) => positionsAfterStores(code)
+    .filter((position) => isPlace(code, position))
+    .map((position) => [thread, position]));
 }
 
-/** Returns a test with a fence before each of some instructions. A jump to one of them targets its fence. */
+/**
+ * Returns a test with a fence before each of some instructions. A jump to one of them targets its fence.
+ * @param {Test} test
+ * @param {Place[]} places
+ * @returns {Test}
+ */
 export function withFences(test, places) {
   const threads = test.threads.map((code, thread) => {
-    const added = places.filter(([of]) => of === thread).map(([, at]) => at);
-    const moved = (target) => target + added.filter((at) => at < target).length;
-    return code.flatMap((it, at) => {
+    const added = places.filter(([otherThread]) => otherThread === thread).map(([, position]) => position);
+    const moved = (target) => target + added.filter((position) => position < target).length;
+    return code.flatMap((it, index) => {
       const kept = it.target === undefined ? it : { ...it, target: moved(it.target) };
-      return added.includes(at) ? [{ kind: "mfence" }, kept] : [kept];
+      return added.includes(index) ? [{ kind: "mfence" }, kept] : [kept];
     });
   });
   return { ...test, threads };
 }
 
-/** Yields the ways to choose so many of some items, in their order. */
+/**
+ * Yields the ways to choose so many of some items, in their order.
+ * @param {Place[]} items
+ * @param {number} size
+ * @param {number} [begin]
+ * @returns {Generator<Place[]>}
+ */
 function* combinations(items, size, begin = 0) {
   if (size === 0) yield [];
-  for (let at = begin; size > 0 && at + size <= items.length; at += 1) {
-    for (const others of combinations(items, size - 1, at + 1)) yield [items[at], ...others];
+  for (let index = begin; size > 0 && index + size <= items.length; index += 1) {
+    for (const others of combinations(items, size - 1, index + 1)) yield [items[index], ...others];
   }
 }
 
-/** Returns all smallest sufficient sets of fences, each in their order; none if all fences together are not sufficient. */
+/**
+ * Returns all smallest sufficient sets of fences, each in their order; none if all fences together are not sufficient.
+ * @param {Place[]} fences
+ * @param {function(Place[]): boolean} isEnough
+ * @returns {Place[][]}
+ */
 export function smallestSets(fences, isEnough) {
   const inOrder = (chosen) => fences.filter((it) => chosen.includes(it));
   if (!isEnough(inOrder(fences))) return [];
@@ -97,6 +136,9 @@ function grown(tried, others, inOrder, isEnough) {
  * Returns the smallest sets of places at which fences answer a test's question: its condition holds in no state, or of `forall` in all. Each has
  * its `places` in words, its `text`, and the number of its `states`. `listOf` gives the number of states of a text and of those in which the
  * condition holds, or null if there is no list.
+ * @param {Test} test
+ * @param {function(string): ({lines: string[], positive: number} | null)} listOf
+ * @returns {{number: number, isAnswered: boolean, sets: {places: string[], text: string, states: number}[], more: number}}
  */
 export function setsOfFences(test, listOf) {
   const known = new Map();
@@ -111,7 +153,7 @@ export function setsOfFences(test, listOf) {
     return { text, states: list.lines.length, positive: list.positive };
   };
   const isAnswered = ({ states, positive }) => positive === (test.quantifier === "forall" ? states : 0);
-  const named = ([thread, at]) => `P${thread} at ${at}, before ${instructionText(test, test.threads[thread][at])}`;
+  const named = ([thread, position]) => `P${thread} at ${position}, before ${instructionText(test, test.threads[thread][position])}`;
   const all = placesOf(test);
   const sets = isAnswered(listed([])) ? [] : smallestSets(all, (places) => isAnswered(listed(places)));
   const shown = sets.slice(0, MOST_SETS).map((places) => ({ places: places.map(named), text: listed(places).text, states: listed(places).states }));

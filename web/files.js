@@ -7,14 +7,18 @@ const MARKS = [
 ];
 const LATIN = "The file is not in UTF-8, and lw refuses it. It is read as Latin-1 here; save it anew for lw.";
 
-/** Returns the text of a file's bytes, and what is to be said of it. */
+/**
+ * Returns the text of a file's bytes, and a note on its encoding, or an empty text.
+ * @param {Uint8Array} bytes
+ * @returns {{text: string, note: string}}
+ */
 export function textOfFile(bytes) {
-  for (const [mark, encoding, told] of MARKS) {
-    if (mark.every((it, at) => bytes[at] === it)) return { text: new TextDecoder(encoding).decode(bytes), told };
+  for (const [mark, encoding, note] of MARKS) {
+    if (mark.every((it, index) => bytes[index] === it)) return { text: new TextDecoder(encoding).decode(bytes), note };
   }
   try {
-    return { text: new TextDecoder("utf-8", { fatal: true }).decode(bytes), told: "" };
+    return { text: new TextDecoder("utf-8", { fatal: true }).decode(bytes), note: "" };
   } catch {
-    return { text: new TextDecoder("latin1").decode(bytes), told: LATIN };
+    return { text: new TextDecoder("latin1").decode(bytes), note: LATIN };
   }
 }

@@ -1,6 +1,9 @@
 // Films: the code, the states behind each number of events of a schedule, each of them a replay by lw, and what each event does. Where an
 // event is refused, the film ends before it, and `refused` says which and why. The schedule of a source run is found here and not proved;
 // the run is shown only if its replay ends in the state.
+//
+// A `Film` has the `language` and the `text`, the `cells` of each thread, the `events` with their `effects`, the `states`, one more than the events,
+// the `protocol`, and `refused`, the event that ends it with its cause, or null.
 
 import { sourceCells, x86Cells } from "./canonical.js";
 import { beginsOf } from "./compiling.js";
@@ -12,13 +15,27 @@ import { readTest } from "./tests.js";
 import { NoTest } from "./tokens.js";
 
 const MOST_STEPS = 1000;
+// Of how many events at most a run is that is brought to its end.
+const MOST_ADDED = 200;
 
-/** Returns of each thread the code that the page shows: of an x86 test that of its canonical text. */
+/**
+ * Returns of each thread the code that the page shows: of an x86 test that of its canonical text.
+ * @param {Program} program
+ * @param {Uint8Array} text
+ * @returns {Cell[][]}
+ */
 export function cellsOf(program, text) {
   return languageOf(text) === "X86" ? x86Cells(program.ask(["compile"], text)) : sourceCells(readTest(textOf(text)));
 }
 
-/** Returns the film of a schedule. */
+/**
+ * Returns the film of a schedule.
+ * @param {Program} program
+ * @param {Uint8Array} text
+ * @param {string} schedule
+ * @param {string} protocol
+ * @returns {Film}
+ */
 export function filmOf(program, text, schedule, protocol) {
   const given = eventsIn(schedule);
   if (given.length > MOST_STEPS) {
@@ -29,11 +46,62 @@ export function filmOf(program, text, schedule, protocol) {
   const events = given.slice(0, refused?.at);
   const states = program.statesAlong(text, events, protocol);
   const cells = cellsOf(program, text);
-  const effects = events.map((event, at) => effectOf(event, cells, states[at], states[at + 1]));
+  const effects = events.map((event, index) => effectOf(event, cells, states[index], states[index + 1]));
   return { language: languageOf(text), text: textOf(text), cells, events, effects, states, refused, protocol };
 }
 
-/** Returns the schedule of the source run that a compiled program's run represents: a step for each instruction that begins a statement. */
+/**
+ * Returns a schedule of an x86 test that goes on to the end of the run: each thread to its end, and what waits in its store buffer drains.
+ * @param {Program} program
+ * @param {Uint8Array} text
+ * @param {string} schedule
+ * @returns {string}
+ */
+export function toTheEnd(program, text, schedule) {
+  const events = eventsIn(schedule);
+  let { end, threads } = program.replayed(text, schedule, "mesi");
+  while (end.kind === "NotFinal" && events.length < MOST_ADDED) {
+    const options = threads.flatMap(({ buffer }, thread) => [`P${thread}`, ...(buffer.length ? [`D${thread}`] : [])]);
+    const next = options.find((it) => program.replayed(text, [...events, it].join(" "), "mesi").end.kind !== "Stopped");
+    if (next === undefined) break;
+    events.push(next);
+    ({ end, threads } = program.replayed(text, events.join(" "), "mesi"));
+  }
+  return events.join(" ");
+}
+
+/**
+ * Returns the schedule of a compiled program that follows a source run: the instructions of each statement, and then its store drains.
+ * @param {Program} program
+ * @param {Uint8Array} compiled
+ * @param {Test} test
+ * @param {string} schedule
+ * @returns {string | null}
+ */
+export function compiledSchedule(program, compiled, test, schedule) {
+  const begins = test.threads.map((statements) => new Set(beginsOf(statements)));
+  const lengths = cellsOf(program, compiled).map((cells) => cells.filter(({ text }) => !text.endsWith(":")).length);
+  const events = [];
+  for (const event of eventsIn(schedule)) {
+    const thread = Number(event[1]);
+    let place;
+    do {
+      events.push(event);
+      const { end, threads } = program.replayed(compiled, events.join(" "), "mesi");
+      if (end.kind === "Stopped") return null;
+      place = threads[thread];
+    } while (!begins[thread].has(place.at) && place.at < lengths[thread]);
+    events.push(...place.buffer.map(() => `D${thread}`));
+  }
+  return events.join(" ");
+}
+
+/**
+ * Returns the schedule of the source run that a compiled program's run represents: a step for each instruction that begins a statement.
+ * @param {Test} test
+ * @param {Film} film
+ * @returns {string}
+ */
 function sourceSchedule(test, film) {
   const begins = test.threads.map((statements) => new Set(beginsOf(statements)));
   const isBegin = (event, at) => {
@@ -43,7 +111,14 @@ function sourceSchedule(test, film) {
   return film.events.filter(isBegin).join(" ");
 }
 
-/** Returns the film of the source run to a state, or null if that run is not known to end there. */
+/**
+ * Returns the film of the source run to a state, or null if that run is not known to end there.
+ * @param {Program} program
+ * @param {Uint8Array} text
+ * @param {Film} compiledFilm
+ * @param {string} state
+ * @returns {Film | null}
+ */
 export function sourceFilm(program, text, compiledFilm, state) {
   try {
     const film = filmOf(program, text, sourceSchedule(readTest(textOf(text)), compiledFilm), "mesi");

@@ -1,6 +1,7 @@
 // All examples: eight to begin with, and all of them by family, with a field that looks for them.
 
 import { button, byId, el, sentence } from "./dom.js";
+import { findTests, isNameOf, notesOn } from "./finding.js";
 
 // What a lesson may begin with, and why.
 const PICKS = [
@@ -29,15 +30,18 @@ export class Gallery {
       keydown: (event) => event.key === "Enter" && this.enter(event),
     });
     this.body = el("div", { class: "gallery-body" });
+    this.place.addEventListener("keydown", (event) => this.move(event));
     this.count = el("p", { class: "small", role: "status" });
+    const random = button("Surprise me", () => null, { class: "surprise", title: "Predict a short test, chosen at random" });
     const own = button("A test of my own", () => this.take(""), { id: "own-test" });
     const close = button("Close", () => this.place.close(), { class: "close" });
     const title = el("h2", { id: "gallery-title" }, "Examples");
-    this.place.append(el("div", { class: "gallery-head" }, title, this.search, this.count, own, close), this.body);
+    this.place.append(el("div", { class: "gallery-head" }, title, this.search, this.count, random, own, close), this.body);
     this.place.addEventListener("click", (event) => event.target === this.place && this.place.close());
     byId("open-gallery").addEventListener("click", () => this.open());
   }
 
+  /** Opens the gallery. */
   open() {
     this.search.value = "";
     this.family = null;
@@ -46,15 +50,34 @@ export class Gallery {
     this.search.focus();
   }
 
-  /** Opens the example whose name is written, or the only one that is found; of several the first gets the focus. */
+  /**
+   * Opens the example whose name is written, of the source test and the x86 test of a name that in the language of the test that is shown; or the only
+   * example that is found. Of several the first gets the focus.
+   */
   enter(event) {
     event.preventDefault();
     const written = this.search.value.trim().toLowerCase();
-    const exact = [...this.examples.tests.keys()].find((it) => it.toLowerCase() === written);
     const found = [...this.body.querySelectorAll(".example")];
-    const only = written && found.length === 1 ? found[0].dataset.name : undefined;
-    if (exact ?? only) this.take(exact ?? only);
+    const names = found.map((it) => it.dataset.name);
+    const named = names.find((it) => isNameOf(it.toLowerCase(), written));
+    const only = names.length === 1 ? names[0] : undefined;
+    if (written && (named ?? only)) this.take(named ?? only);
     else if (written) found[0]?.focus();
+  }
+
+  /** Goes by arrows from the field to the first example and through the examples, and from the first back to the field. */
+  move(event) {
+    const to = { ArrowDown: 1, ArrowUp: -1 }[event.key];
+    const places = [this.search, ...this.body.querySelectorAll(".card, .example")];
+    const at = places.indexOf(event.target);
+    if (to === undefined || at < 0 || !places[at + to]) return;
+    event.preventDefault();
+    places[at + to].focus();
+  }
+
+  /** Returns whether the test that is shown is an x86 test. */
+  get isX86() {
+    return !this.examples.textOf(this.examples.name)?.startsWith("SRC");
   }
 
   take(name) {
@@ -67,23 +90,24 @@ export class Gallery {
     return byId("predict").checked;
   }
 
+  /** Draws the tests that are found, or all. */
   draw() {
-    const words = this.search.value.toLowerCase().split(/\s+/).filter(Boolean);
-    if (words.length) this.drawFound(words);
+    const text = this.search.value.trim();
+    if (text) this.drawFound(text);
     else this.drawAll();
   }
 
-  /** Shows what is found by all words: in the names, and unless the reader predicts also in what is said of the tests. */
-  drawFound(words) {
-    const textOf = (it, family) => `${it.name} ${this.isPredicting ? "" : `${it.shows} ${it.about} ${family.name}`}`.toLowerCase();
-    const fits = (it, family) => words.every((word) => textOf(it, family).includes(word));
-    const families = this.examples.families.map((family) => ({ ...family, tests: family.tests.filter((it) => fits(it, family)) }));
-    const found = families.filter((it) => it.tests.length);
-    const number = found.reduce((sum, it) => sum + it.tests.length, 0);
-    this.count.textContent = `${number} found`;
-    this.body.replaceChildren(...found.map((it) => this.familyOf(it)), number ? "" : el("p", {}, "Nothing is found."));
+  /** Shows what is found by all words of a text, the best first: by names, and unless the reader predicts also by what is said of the tests. */
+  drawFound(text) {
+    const found = findTests(this.examples.families, text, this.isPredicting, this.isX86);
+    this.count.textContent = `${found.length} found`;
+    const named = { class: "found-tests", "aria-label": "Examples that are found, the best first" };
+    const list = el("ul", named, found.map((it) => el("li", {}, this.exampleOf(it))));
+    const notes = notesOn(text).map((it) => el("p", { class: "search-note" }, sentence(it)));
+    this.body.replaceChildren(...notes, found.length ? list : el("p", {}, "Nothing is found. Look through the families: clear the field."));
   }
 
+  /** Draws eight tests to begin with, and all by family. */
   drawAll() {
     const { families, name: shown } = this.examples;
     this.count.textContent = "";
@@ -95,6 +119,7 @@ export class Gallery {
     this.body.replaceChildren(picks, el("h3", {}, "All, by family"), all);
   }
 
+  /** Returns the button that chooses a family. */
   choiceOf(family) {
     const choose = () => {
       this.family = family;
@@ -104,6 +129,7 @@ export class Gallery {
     return button(family.name, choose, { class: "family-name", "aria-pressed": String(family === this.family) });
   }
 
+  /** Returns the cards of the tests to begin with. */
   picks() {
     return PICKS.filter(([name]) => this.examples.tests.has(name)).map(([name, words]) => {
       const language = this.examples.textOf(name).startsWith("SRC") ? "source" : "x86";
@@ -112,12 +138,14 @@ export class Gallery {
     });
   }
 
+  /** Returns the tests of a family. */
   familyOf({ name, about, tests }) {
     const head = el("h3", {}, name, el("span", { class: "small" }, ` ${tests.length}`));
     const words = about && !this.isPredicting ? el("p", { class: "small" }, about.replaceAll("*", "")) : null;
     return el("section", { class: "family" }, head, words, el("ul", {}, tests.map((it) => el("li", {}, this.exampleOf(it)))));
   }
 
+  /** Returns the button that takes an example. */
   exampleOf({ name, shows }) {
     const kind = name === this.examples.name ? "example here" : "example";
     const inner = [el("b", {}, name), el("span", {}, this.isPredicting ? "" : sentence(shows))];

@@ -8,19 +8,25 @@
 import { threadOf } from "./executions.js";
 import { EDGE, LETTER, LINE } from "./pictures.js";
 
-const BOX = 28; // the height of an event's box
+const BOX = 24; // the height of an event's box
+export const BASE = 16; // from the top of a box to the base of its text
 const LANE = 11; // from one lane to the next, where there is room
-const STUB = 26; // the length of an arrow from the initial word
+const STUB = 24; // the length of an arrow from the initial word
 const [OUTER, MORE] = [16, 12]; // at the edge, and for each end more
-const UPRIGHT = { side: 50, gutter: 84, gap: 38 }; // at a side with ends, between threads, and between events
-const TURNED = { side: 40, gutter: 40, gap: 46 };
+const UPRIGHT = { side: 48, gutter: 84, gap: 28, end: 14 }; // at a side with ends, between threads, between events, and after the last
+const TURNED = { side: 32, gutter: 34, gap: 42, end: 26 };
 const FREE_ENDS = 4; // so many ends find room in a gutter
 const MOST_ENDS = 8;
-const LABEL = 15; // the height of a label
+const LABEL = 16; // the height of a label
+const APART = 8; // from one label to the next beside it
+const HEAD = 5; // how far the head of an arrow reaches from its end
+const CLEAR = 1; // from a label to an arrow of another edge
+const PARTS = 24; // the number of parts of a curve at whose ends it is looked at
 const NARROWER = 0.85; // a picture is turned if it is so much narrower then
-// Where along its way the label of an edge may be, and how far above or below it: the first place that is free.
+// Where along its way the label of an edge may be, and how far beside it, in widths of the label and in pixels below: the best first.
 const PLACES = [0.24, 0.34, 0.16, 0.46, 0.58, 0.7, 0.8, 0.88, 0.1, 0.94, 0.05];
-const OFFSETS = [0, -12, 12];
+const [ON, BESIDE] = [[[0, 0], [0, -12], [0, 12]], [[0.7, 0], [-0.7, 0]]];
+const SHORT = 50; // the label of an arrow that is shorter is beside it
 
 /** Returns a point of a cubic curve. */
 function onCurve([a, b, c, d], part) {
@@ -54,10 +60,13 @@ export class GraphLayout {
     }
     this.sortEnds();
     this.taken = [...events.map((it) => [...this.corner(it), ...this.box]), ...this.threads.map((_, thread) => this.titleBox(thread))];
+    // Of each route points along its arrow.
+    this.passed = new Map([...this.routes, ...this.starts].map((it) => [it.number, this.pointsOf(it)]));
   }
 
   // Which way an edge goes.
 
+  /** Returns the route of an edge. */
   routeOf(edge, number) {
     const { kind, source, target } = edge;
     const [from, to] = [threadOf(source), threadOf(target)];
@@ -108,11 +117,12 @@ export class GraphLayout {
 
   // Where the threads are.
 
+  /** Places the threads, and finds the size of the picture. */
   place() {
     const [wide, deep] = this.isTurned ? [this.box[1], this.box[0]] : this.box;
     this.room = this.isTurned ? TURNED : UPRIGHT;
     Object.assign(this, { wide, deep, pitch: deep + this.room.gap });
-    this.begin = this.isTurned ? EDGE + 3 * LETTER + OUTER : EDGE + LINE + 12;
+    this.begin = this.isTurned ? EDGE + 3 * LETTER + OUTER : EDGE + LINE + 6;
     const counts = this.threads.map(() => 0).concat(0);
     for (const [key, ends] of this.ends) {
       const [event, side] = key.split(" ").map(Number);
@@ -128,7 +138,7 @@ export class GraphLayout {
       across += wide + (isLast ? (number ? this.room.side : OUTER) : gutter);
     }
     const behind = (this.lanes.get(this.most)?.length ?? 0) * LANE;
-    const along = this.begin + (this.most - 1) * this.pitch + deep + (behind ? behind + 14 : 16);
+    const along = this.begin + (this.most - 1) * this.pitch + deep + (behind ? behind + 14 : this.room.end);
     this.size = this.turned([across, along]);
   }
 
@@ -147,7 +157,7 @@ export class GraphLayout {
 
   /** Returns where the name of a thread begins, at its base. */
   titleAt(thread) {
-    return this.isTurned ? [EDGE, this.lefts[thread] + 18] : [this.lefts[thread], EDGE + LINE - 4];
+    return this.isTurned ? [EDGE, this.lefts[thread] + BASE] : [this.lefts[thread], EDGE + LINE - 4];
   }
 
   titleBox(thread) {
@@ -155,6 +165,7 @@ export class GraphLayout {
     return [x, y - LABEL, 3 * LETTER, LABEL + 4];
   }
 
+  /** Returns where along program order the lane of a route is. */
   laneOf(route) {
     const all = this.lanes.get(route.gap);
     const middle = this.begin + route.gap * this.pitch - (this.pitch - this.deep) / 2;
@@ -189,6 +200,7 @@ export class GraphLayout {
     return this.waysOf(route).map((curve) => curve.map((point) => this.turned(point)));
   }
 
+  /** Returns the curves of a route, along the two axes. */
   waysOf(route) {
     const { edge, way } = route;
     const [across, along] = this.spot(edge.source);
@@ -202,6 +214,7 @@ export class GraphLayout {
     return way === "across" ? [swing(begin, end)] : this.alongLane(begin, end, this.laneOf(route));
   }
 
+  /** Returns the way into a lane, along it, and out of it. */
   alongLane(begin, end, lane) {
     const reach = 0.8 * this.room.gutter * (begin[0] < end[0] ? 1 : -1);
     const [enter, leave] = [[begin[0] + reach, lane], [end[0] - reach, lane]];
@@ -210,15 +223,40 @@ export class GraphLayout {
 
   // The labels.
 
-  /** Returns the middle of a label of so many letters near an edge: inside the picture, over no box and no other label. */
+  /**
+   * Returns the middle of a label of so many letters near an edge: inside the picture, over no box and no other label, and over no arrow of
+   * another edge, if there is such a place.
+   */
   placeLabel(route, letters) {
-    const width = letters * LETTER + 4;
+    const width = letters * LETTER + APART;
     const spots = this.spotsOf(route, width);
-    const isInside = ([x]) => x - width / 2 >= 0 && x + width / 2 <= this.size[0];
-    const isFree = ([x, y]) => !this.taken.some((it) => overlap([x - width / 2, y - LABEL / 2, width, LABEL], it));
-    const found = spots.find((it) => isInside(it) && isFree(it)) ?? spots[0];
-    this.taken.push([found[0] - width / 2, found[1] - LABEL / 2, width, LABEL]);
-    return found;
+    const box = ([x, y]) => [x - width / 2, y - LABEL / 2, width, LABEL];
+    const free = spots.filter((it) => this.isFree(box(it)));
+    const crossed = (free.length ? free : spots.slice(0, 1)).map((it) => ({ spot: it, number: this.crossedBy(box(it), route) }));
+    const { spot } = crossed.reduce((best, it) => (it.number < best.number ? it : best));
+    this.taken.push(box(spot));
+    return spot;
+  }
+
+  /** Returns whether a box is inside the picture, and over no event's box, no thread's name and no label. */
+  isFree(box) {
+    const [x, y, width, height] = box;
+    const isInside = x >= 0 && x + width <= this.size[0] && y >= 0 && y + height <= this.size[1];
+    return isInside && !this.taken.some((it) => overlap(box, it));
+  }
+
+  /** Returns how many arrows pass below a label of a route: those of other routes, and its own if that has its head there. */
+  crossedBy(box, route) {
+    const [x, y, width, height] = box;
+    const isIn = ([left, top]) => x - CLEAR < left && left < x + width + CLEAR && y - CLEAR < top && top < y + height + CLEAR;
+    const others = [...this.passed].filter(([number, points]) => number !== route.number && points.some(isIn)).length;
+    const end = this.passed.get(route.number).at(-1);
+    return others + (overlap(box, [end[0] - HEAD, end[1] - HEAD, 2 * HEAD, 2 * HEAD]) ? 1 : 0);
+  }
+
+  /** Returns points along the arrow of a route, its end last. */
+  pointsOf(route) {
+    return this.curvesOf(route).flatMap((curve) => Array.from({ length: PARTS + 1 }, (_, part) => onCurve(curve, part / PARTS)));
   }
 
   /** Returns the spots for a label: at parts of its edge, or beside a straight arrow. */
@@ -226,9 +264,12 @@ export class GraphLayout {
     const curves = this.curvesOf(route);
     const [[x, y]] = curves[0];
     if (route.way === "start") return this.spotsOfStart(route, [x, y], width);
-    const beside = route.way !== "next" ? [0, 0] : this.isTurned ? [0, -10] : [width / 2 + 4, 0];
+    const beside = route.way !== "next" ? [0, 0] : this.isTurned ? [0, -LABEL / 2 - HEAD] : [width / 2 + HEAD, 0];
     const points = curves.flatMap((curve) => PLACES.map((part) => onCurve(curve, part)));
-    return OFFSETS.flatMap((offset) => points.map(([left, top]) => [left + beside[0], top + beside[1] + offset]));
+    const [end] = curves.at(-1).slice(-1);
+    const isShort = Math.hypot(end[0] - x, end[1] - y) < SHORT && route.way !== "next";
+    const offsets = isShort ? [...BESIDE, ...ON] : [...ON, ...BESIDE];
+    return offsets.flatMap(([right, below]) => points.map(([left, top]) => [left + beside[0] + right * width, top + beside[1] + below]));
   }
 
   /** Returns the spots for the label of an arrow from an initial word: first on the side of it on which no other arrow ends. */

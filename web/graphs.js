@@ -1,13 +1,13 @@
 // Draws the execution of a run, and says it in words: as tools/graph.py does. Not proved.
 
 import { positionOf, threadOf } from "./executions.js";
-import { GraphLayout } from "./graph_layout.js";
+import { BASE, GraphLayout } from "./graph_layout.js";
 import { Drawing, EDGE, LETTER, LINE, digits } from "./pictures.js";
 
 const MOST_NAMED = 4; // so many reads of the initial word have a name at their arrow
 const LETTERS = "abcdefghijklmnopqrstuvwxyz";
 const NAMES = { po: "program order", rf: "reads-from", co: "coherence order", fr: "from-reads" };
-// Relations are told apart by their names and by how their lines are broken: colours are those of threads and locations.
+// Relations differ by their names and by how their lines are broken: colours are those of threads and locations.
 const STYLE = `
 path { fill: none; stroke: #1b1b1b; stroke-width: 1.4 } path.po { stroke: #8a8a8a } path.co { stroke-dasharray: 8 4 } path.fr { stroke-dasharray: 3 3 }
 path.marked { stroke: #1b1b1b; stroke-width: 3.2 } path.co.marked { stroke-dasharray: 11 6 } path.fr.marked { stroke-dasharray: 4 5 }
@@ -27,10 +27,14 @@ export class Names {
   constructor(execution) {
     this.execution = execution;
     const letterAt = (at) => (at < 26 ? LETTERS[at] : `${LETTERS[at % 26]}${Math.floor(at / 26)}`);
-    this.letters = new Map(execution.events().map((it, at) => [it, letterAt(at)]));
+    this.letters = new Map(execution.events().map((it, index) => [it, letterAt(index)]));
   }
 
-  /** Returns what an event does: R, W or U (a locked instruction) with a location and its words, or MFENCE. */
+  /**
+   * Returns what an event does: R, W or U (a locked instruction) with a location and its words, or MFENCE.
+   * @param {number} event
+   * @returns {string}
+   */
   deed(event) {
     const { kind, location } = this.execution.instruction(event);
     if (kind === "mfence") return "MFENCE";
@@ -40,17 +44,30 @@ export class Names {
     return kind === "store" ? `W ${name}=${written}` : `U ${name}=${read}→${written}`;
   }
 
+  /**
+   * Returns an event with its letter, its thread and what it does.
+   * @param {number} event
+   * @returns {string}
+   */
   line(event) {
     return `${this.letters.get(event)}: P${threadOf(event)} ${this.deed(event)}`;
   }
 
-  /** Returns a cycle in letters: a -fr-> b -po-> a. */
+  /**
+   * Returns a cycle in letters: a -fr-> b -po-> a.
+   * @param {Edge[]} edges
+   * @returns {string}
+   */
   cycle(edges) {
     return this.letters.get(edges[0].source) + edges.map((it) => ` -${it.kind}-> ${this.letters.get(it.target)}`).join("");
   }
 }
 
-/** Returns the edges that do not follow from the others: those without an event between. */
+/**
+ * Returns the edges that do not follow from the others: those without an event between.
+ * @param {Edge[]} edges
+ * @returns {Edge[]}
+ */
 function near(edges) {
   const leads = (a, b) => edges.some((it) => it.source === a && it.target === b);
   return edges.filter(({ source, target }) => !edges.some(({ target: mid }) => leads(source, mid) && leads(mid, target)));
@@ -70,12 +87,21 @@ function unpreserved(execution, cycle) {
   return (cycle ?? []).filter((it) => it.kind === "po" && !execution.isPreserved(it));
 }
 
-/** Returns the pairs of program order in a cycle that x86-TSO may turn round: nothing that waits is between the store and the load. */
+/**
+ * Returns the pairs of program order in a cycle that x86-TSO may turn round: nothing that waits is between the store and the load.
+ * @param {Execution} execution
+ * @param {Edge[]} cycle
+ * @returns {Edge[]}
+ */
 function missingFences(execution, cycle) {
   return unpreserved(execution, cycle).filter((it) => !execution.hasFenceBetween(it));
 }
 
-/** Returns the lines of an execution in words, with what the axioms say of it. */
+/**
+ * Returns the lines of an execution in words, with what the axioms say of it.
+ * @param {Execution} execution
+ * @returns {string[]}
+ */
 export function wordsOf(execution) {
   const [names, cycle] = [new Names(execution), execution.cycle()];
   const letter = (event) => names.letters.get(event);
@@ -93,6 +119,12 @@ export function wordsOf(execution) {
   return [...lines, ...missingFences(execution, cycle).map(advice)];
 }
 
+/**
+ * Returns the line that says whether x86-TSO allows an execution.
+ * @param {Execution} execution
+ * @param {Names} names
+ * @returns {string}
+ */
 function verdictOf(execution, names) {
   const broken = execution.broken();
   if (!broken) return "x86-TSO allows it: coherence and global happens-before have no cycle.";
@@ -153,7 +185,7 @@ function drawEvents(drawing, layout, execution, texts, inCycle) {
       const kind = execution.instruction(event).kind === "store" ? "entry" : "box";
       drawing.elements.push(`<g data-at="${placeOf(event)}">`);
       drawing.box(x, y, ...layout.box, inCycle.has(event) ? `${kind} marked` : kind);
-      drawing.text(x + 9, y + 18, texts.get(event));
+      drawing.text(x + 9, y + BASE, texts.get(event));
       drawing.elements.push("</g>");
     }
   }
@@ -173,7 +205,13 @@ function linesBelow(names, cycle, broken, missing) {
   return [said, ...missing.map(noFence)];
 }
 
-/** Returns the picture of an execution, with the cycle of the axiom that it breaks if x86-TSO forbids it, or else one of interleaving. */
+/**
+ * Returns the picture of an execution, with the cycle of the axiom that it breaks if x86-TSO forbids it, or else one of interleaving.
+ * @param {Execution} execution
+ * @param {string} title
+ * @param {{axiom: string, cycle: Edge[]} | null} [broken]
+ * @returns {string}
+ */
 export function graphOf(execution, title, broken = null) {
   const [names, cycle] = [new Names(execution), broken?.cycle ?? execution.cycle() ?? []];
   const missing = broken ? [] : missingFences(execution, cycle);

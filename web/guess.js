@@ -1,55 +1,111 @@
 // Whether the reader still has to say what to expect of a test: who has asked to predict first is shown no answer before that. What is
-// asked for meanwhile waits, and comes when the guess is made, in whichever panel, or when the reader does not want to predict any more.
+// asked for meanwhile waits, and comes when the guess is made and answered, or when the reader does not want to predict any more.
 
-import { ask } from "./ask.js";
 import { conditionWords } from "./condition_words.js";
 import { button, byId, el } from "./dom.js";
 import { propositionOf } from "./reports.js";
 import { codeNodes, testName, tintedSentence, tintsOf } from "./tint.js";
-import { tell } from "./told.js";
 
 const KEY = "guesses";
 const KEY_OF_ANSWERED = "answered";
+const FIRST = "First say above what you expect.";
+const OPEN = "Your prediction is still open: find the states by hand, or show the answer above.";
 
 // Of each text what the reader has said of it: yes, no, null for nothing, or undefined if there was nothing to say, since lw refuses it. What
 // was said is kept in the tab, so that it is not asked again.
 const guesses = new Map(stored(KEY));
-// The texts of which the answer was told after a guess: it is not kept back any more.
+// The texts of which the answer was shown after a guess: it is not kept back any more.
 const answered = new Set(stored(KEY_OF_ANSWERED));
 // What the reader has made by hand of a text on which there was a guess: it is not asked about again.
 let edited = null;
-// What waits for guesses: each with its text, what is shown meanwhile, and what is done then.
+// What waits for guesses, or until their answers are shown: each with its text, what is shown meanwhile, and what is done then.
 let waiting = [];
 
-/** Returns whether a guess on a text is awaited. */
+/**
+ * Returns whether a guess on a text is awaited.
+ * @param {string} text
+ * @returns {boolean}
+ */
 export function isAwaited(text) {
   return byId("predict").checked && !guesses.has(text) && text !== edited;
 }
 
-/** Returns what the reader, who wants to predict, has said of a text, or null. */
+/**
+ * Returns what the reader, who wants to predict, has said of a text, or null.
+ * @param {string} text
+ * @returns {boolean | null}
+ */
 export function guessOn(text) {
   return byId("predict").checked ? (guesses.get(text) ?? null) : null;
 }
 
-/** Keeps what the reader expects of a text, or that nothing can be expected of it. */
+/**
+ * Keeps what the reader expects of a text, or that nothing can be expected of it.
+ * @param {string} text
+ * @param {boolean | null} said
+ */
 export function settle(text, said) {
   guesses.set(text, said);
   store();
   follow();
 }
 
-/** Returns whether the answer to the guess on a text was told. */
+/**
+ * Returns whether the reader, who wants to predict, was asked about a text before.
+ * @param {string} text
+ * @returns {boolean}
+ */
+export function wasAsked(text) {
+  return byId("predict").checked && guesses.get(text) !== undefined;
+}
+
+/**
+ * Forgets what was said of a text, or of all texts: it is asked again.
+ * @param {string | null} [text]
+ */
+export function forgetGuess(text = null) {
+  for (const it of text === null ? [...guesses.keys()] : [text]) {
+    guesses.delete(it);
+    answered.delete(it);
+  }
+  edited = null;
+  store();
+}
+
+/**
+ * Returns whether the answer to the guess on a text was shown.
+ * @param {string} text
+ * @returns {boolean}
+ */
 export function isAnswered(text) {
   return guessOn(text) !== null && answered.has(text);
 }
 
-/** Notes that the answer on a text is told: it counts if there was a guess. */
+/**
+ * Returns whether there is a guess on a text whose answer was not shown.
+ * @param {string} text
+ * @returns {boolean}
+ */
+export function isOpen(text) {
+  return guessOn(text) !== null && !answered.has(text);
+}
+
+/**
+ * Records that the answer on a text is shown: it counts if there was a guess.
+ * @param {string} text
+ */
 export function noteAnswer(text) {
   if (guessOn(text) === null) return;
   answered.add(text);
   store();
+  follow();
 }
 
+/**
+ * Returns the list that is stored under a key; an empty one if there is none.
+ * @param {string} key
+ * @returns {object[]}
+ */
 function stored(key) {
   try {
     return JSON.parse(sessionStorage.getItem(key)) ?? [];
@@ -58,6 +114,7 @@ function stored(key) {
   }
 }
 
+/** Stores the guesses, for when the page is loaded anew. */
 function store() {
   try {
     sessionStorage.setItem(KEY, JSON.stringify([...guesses].filter(([, said]) => said !== undefined)));
@@ -67,31 +124,43 @@ function store() {
   }
 }
 
-/** Takes note that the reader has changed a text by hand. */
+/**
+ * Takes note that the reader has changed a text by hand.
+ * @param {string} before
+ * @param {string} after
+ */
 export function change(before, after) {
   edited = guesses.get(before) !== undefined || before === edited ? after : null;
 }
 
-/** Does what has waited for a guess, once none is waited for. What is not shown any more is forgotten. */
+/** Does what has waited for a guess or its answer, once none is waited for. What is not shown any more is forgotten. */
 export function follow() {
   const left = waiting.filter((it) => it.shown.isConnected);
-  waiting = left.filter((it) => isAwaited(it.text));
+  waiting = left.filter((it) => isAwaited(it.text) || (it.isUntilAnswered && isOpen(it.text)));
+  for (const it of waiting) if (it.isUntilAnswered) it.shown.textContent = isOpen(it.text) ? OPEN : FIRST;
   for (const it of left) if (!waiting.includes(it)) it.show();
 }
 
-/** Shows something in a place till there is a guess on a text, and does then what waits for it. */
-export function wait(text, place, shown, show) {
+/**
+ * Shows something in a place till there is a guess on a text, or till its answer is shown, and does then what waits for it.
+ * @param {string} text
+ * @param {Element} place
+ * @param {Element} shown
+ * @param {function(): void} show
+ * @param {boolean} [isUntilAnswered]
+ */
+export function wait(text, place, shown, show, isUntilAnswered = false) {
   place.replaceChildren(shown);
-  waiting.push({ text, shown, show });
+  waiting.push({ text, shown, show, isUntilAnswered });
 }
 
 /** Asks in a place what the reader expects of a text, given the answer that has its list; `id` makes the ids of the choices. */
 export function question(text, place, { report, words }, id, show) {
-  const told = (said) => () => {
+  const settled = (said) => () => {
     settle(text, said);
     if (document.activeElement === document.body) place.focus();
   };
-  const choice = (title, said, name) => button(title, told(said), { id: id(name) });
+  const choice = (title, said, name) => button(title, settled(said), { id: id(name) });
   const yes = choice("Yes", true, "yes");
   const asked = el("p", { class: "verdict" }, el("span", { class: "sign", "aria-hidden": "true" }, "?"), el("strong", {}, words.question));
   const tints = tintsOf(text);
@@ -104,15 +173,17 @@ export function question(text, place, { report, words }, id, show) {
   yes.focus();
 }
 
-/** Shows in a panel's place what is asked for, once the reader has said what to expect of the test; nothing of its list is shown there. */
-export async function unlock(panel, editor, place, show) {
-  const { text } = editor;
-  if (!isAwaited(text)) return show();
-  const answer = await ask(editor, "states", { text }, { place, name: `the list that ${panel} asks about` });
-  if (!answer) return null;
-  place.replaceChildren();
-  if (answer.fault) settle(text);
-  if (!isAwaited(text)) return show();
-  if (!answer.report) return tell(answer, place, editor);
-  return question(text, place, answer, (name) => `${panel}-${name}`, show);
+/**
+ * Returns whether nothing may be shown of a text yet: a guess is awaited, or its answer was not shown.
+ * @param {string} text
+ * @returns {boolean}
+ */
+export function isLocked(text) {
+  return isAwaited(text) || isOpen(text);
+}
+
+/** Shows in a panel's place what is asked for, once the reader has said what to expect of the test and was shown the answer. */
+export function unlock({ text }, place, show) {
+  if (!isLocked(text)) return show();
+  return wait(text, place, el("p", {}, isOpen(text) ? OPEN : FIRST), show, true);
 }

@@ -1,6 +1,10 @@
 // The report of a test in parts, with the marks of the states in which its condition holds; the schedule that lw lists to a state; and in
 // which state a run has ended. Marks are proved if the report says that none or all hold, or if the module makes them. The program lw makes
 // none, and of a long list making them would take as long again as the list did; there the page finds them, which is not proved.
+//
+// A `Report` has the first two lines (`head`), the `number` of states and the first of these, each with its `index`, its `line` and whether the
+// condition `holds` (null unless `is_marked`), how many are `left_out`, what is `asked`, the `verdict`, the number of states in which the proposition
+// is true (`positive`), the `condition`, and the last lines (`tail`).
 
 import { Fault, NoAnswer } from "./program.js";
 import { conditionText, holds, observed, siteName, wordAt } from "./propositions.js";
@@ -11,7 +15,11 @@ const MOST_STATES = 200000;
 // The most states that the module is asked to mark.
 const MOST_MARKED = 4096;
 
-/** Returns whether an error says that a test is nested too deeply for this browser's stack. */
+/**
+ * Returns whether an error says that a test is nested too deeply for this browser's stack.
+ * @param {unknown} error
+ * @returns {boolean}
+ */
 export function isTooDeep(error) {
   return error instanceof RangeError || error?.name === "InternalError";
 }
@@ -23,6 +31,11 @@ function testOf(text) {
 /**
  * Returns the marks of so many states, of which the proposition holds in some: of a state's line and index whether it holds there, or null if that
  * is not known; and whether that is proved.
+ * @param {Program} program
+ * @param {Uint8Array} text
+ * @param {How} how
+ * @param {{number: number, positive: number}} counts
+ * @returns {{isProved: boolean, holds: function(string, number): (boolean | null)}}
  */
 function marksOf(program, text, how, { number, positive }) {
   if (positive === 0 || positive === number) return { isProved: true, holds: () => positive > 0 };
@@ -31,12 +44,21 @@ function marksOf(program, text, how, { number, positive }) {
   return { isProved: true, holds: (line, index) => holdsBy(marked[index], line) };
 }
 
-/** Returns whether the proposition holds in a state by its line in the marked list, or null if that is another state's. */
+/**
+ * Returns whether the proposition holds in a state by its line in the marked list, or null if that is another state's.
+ * @param {string | undefined} marked
+ * @param {string} line
+ * @returns {boolean | null}
+ */
 function holdsBy(marked, line) {
   return marked?.slice(2) === line ? marked[0] === "+" : null;
 }
 
-/** Returns the same marks as the page finds them by reading the test. */
+/**
+ * Returns the same marks as the page finds them by reading the test.
+ * @param {Uint8Array} text
+ * @returns {function(string): (boolean | null)}
+ */
 function foundHere(text) {
   try {
     const test = testOf(text);
@@ -58,6 +80,10 @@ function put(outcome, site, word) {
 
 /**
  * Returns the report of a test; `how` says by which way it is listed. It has the first states, as many with a true proposition, and the last lines.
+ * @param {Program} program
+ * @param {Uint8Array} text
+ * @param {How} how
+ * @returns {Report}
  */
 export function reportOf(program, text, how) {
   const lines = program.list("states", text, how).split("\n").slice(0, -1);
@@ -97,6 +123,10 @@ function partsOf(head, number, states, tail, isWhole) {
 /**
  * Returns the lines of the states of a text, and in how many of them its condition holds; or null if it is refused, or needs more memory than
  * there is. `how` says by which way it is listed.
+ * @param {Program} program
+ * @param {Uint8Array} text
+ * @param {How} how
+ * @returns {{lines: string[], positive: number} | null}
  */
 export function listOrNull(program, text, how) {
   try {
@@ -109,14 +139,26 @@ export function listOrNull(program, text, how) {
   }
 }
 
-/** Returns the schedule that is listed to a state. */
+/**
+ * Returns the schedule that is listed to a state.
+ * @param {Program} program
+ * @param {Uint8Array} text
+ * @param {string} wanted
+ * @param {How} how
+ * @returns {string}
+ */
 export function scheduleTo(program, text, wanted, how) {
   const lines = program.list("schedules", text, how).split("\n").slice(2);
   for (let at = 0; at + 1 < lines.length; at += 2) if (lines[at] === wanted) return lines[at + 1].trim();
   throw new NoAnswer("The test does not end in that state.");
 }
 
-/** Returns of a final run its state's line, the condition, and whether the proposition is found true there; null if that is not known. */
+/**
+ * Returns of a final run its state's line, the condition, and whether the proposition is found true there; null if that is not known.
+ * @param {Uint8Array} text
+ * @param {State} state
+ * @returns {{line: string, condition: string, holds: boolean} | null}
+ */
 export function endingOf(text, state) {
   if (state.end.kind !== "Final") return null;
   try {

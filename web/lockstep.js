@@ -64,6 +64,7 @@ export class Lockstep {
     this.count.textContent = `${this.at} / ${this.pairs.length - 1}`;
   }
 
+  /** Goes to a pair of steps of both runs. */
   async jump(wanted) {
     if (!this.isReady) return;
     this.used();

@@ -8,6 +8,7 @@ import { Compile } from "./compile.js";
 import { byId, el } from "./dom.js";
 import { Editor } from "./editor.js";
 import { Examples } from "./examples.js";
+import { textWithFences, textWithoutFence } from "./fence_edit.js";
 import { Fences } from "./fences.js";
 import { textOfFile } from "./files.js";
 import { Gallery } from "./gallery.js";
@@ -19,36 +20,41 @@ import { Own } from "./own.js";
 import { fold, isFolded, placeParts } from "./placing.js";
 import { bindTheme, caches, largeType } from "./preferences.js";
 import { Present } from "./present.js";
+import { randomTest, showScore } from "./score.js";
 import { States } from "./states.js";
 import { hasServer, keep, table } from "./supplies.js";
 import { Tabs, VIEWS } from "./tabs.js";
-import { loadSentences, tellNothing } from "./told.js";
+import { loadSentences, clearFault } from "./errors.js";
 import { showNextStep } from "./next.js";
+import { slipNotes } from "./slips.js";
 import { listenToPrint } from "./paper.js";
+import { TEMPLATE } from "./template.js";
 import { nameOf } from "./tokens.js";
 import { hasModule } from "./ways.js";
 import { Why } from "./why.js";
 
 const FIRST = "SB-x86";
-// What the reader's own test begins as.
-const TEMPLATE = "X86 Mine\n{ x=0; }\n P0         | P1          ;\n MOV [x],$1 | MOV EAX,[x] ;\nexists (1:EAX=0)\n";
 // After how many milliseconds without a letter what is written is run, and how long what runs by itself may take.
 const TYPING = 600;
 const MOST_BY_ITSELF = 10000;
+const CHANGED = "Changed: Ctrl+Enter lists its states.";
 // What the address says of a test, and of where in it the reader is.
-const NOWHERE = { text: null, example: null, state: null, step: null, run: null, protocol: null, schedule: null, view: null };
+const NOWHERE = { text: null, example: null, state: null, own: null, step: null, run: null, protocol: null, schedule: null, view: null };
 
 const editor = new Editor(byId("editor"), changed);
 const own = new Own(editor, (text) => take(text, { text }, true));
 const present = new Present();
-const why = new Why(editor, watchState);
+const why = new Why(editor, watchState, (line) => states.strip.explain(line));
 const states = new States(byId("outcome"), editor, () => revealed(), {
   why: askWhy,
+  watched: watchState,
   runPanel: byId("watching"),
   drawn: fitLater,
   graphPlace: byId("graph-place"),
   next: byId("next"),
   veiled: keepBack,
+  ownOf: (text) => examples.scheduleOf(text),
+  fenced: changeFence,
 });
 const panels = {
   compile: new Compile(byId("compile"), editor, (text) => take(text, { text })),
@@ -73,20 +79,32 @@ function revealed() {
   if (report && tabs.view === "why") why.askOnce();
   // A run by hand keeps the verdict back right after this.
   if (report) queueMicrotask(showAnswered);
-  byId("printed-place").hidden = report === null;
+  byId("slips").replaceChildren(...(report && examples.nameOf(editor.text) === undefined ? slipNotes(editor.text, mend) : []));
+  byId("printed-place").hidden = report === null || states.isVeiled;
   byId("printed-place").open = false;
   byId("printed").replaceChildren();
 }
 
-/** Keeps back what is known of a test while the reader looks for its states, and notes of a guess that its answer is told. */
+/** Puts a text that the page proposes in place of the reader's. */
+function mend(text) {
+  editor.replace({ begin: 0, end: editor.text.length, text });
+}
+
+/** Keeps back what is known of a test while the reader looks for its states, and records that the answer to a guess is shown. */
 function keepBack(isVeiled) {
   byId("about").classList.toggle("kept-back", isVeiled);
+  byId("printed-place").hidden = isVeiled || !states.report;
   if (!isVeiled && states.report) guess.noteAnswer(editor.text);
 }
 
-/** Shows the verdict by hand, too, if the reader has guessed and the answer was told before. */
+/**
+ * Shows the verdict that is kept back by hand, if the reader has guessed and was shown the answer before; and with all states, if another tab shows the
+ * answer below it.
+ */
 function showAnswered() {
-  if (states.report && guess.isAnswered(editor.text)) states.unveil();
+  if (!states.report) return;
+  if (!tabs.isOfRun && !guess.isLocked(editor.text)) states.showAll();
+  else if (guess.isAnswered(editor.text)) states.unveil();
 }
 
 /** Pales what was answered on the text before the reader changed it, and lists the new one after a pause. */
@@ -96,6 +114,7 @@ function changed(before) {
   address.put({ ...NOWHERE, text: editor.text });
   show("", true);
   pale(true);
+  byId("said").textContent = CHANGED;
   typing = setTimeout(() => list({ isKept: true, most: MOST_BY_ITSELF }), TYPING);
 }
 
@@ -104,11 +123,12 @@ function forgetAnswers() {
   clearTimeout(typing);
   forget(editor);
   byId("said").textContent = "";
-  byId("unknown").replaceChildren();
-  tellNothing(editor);
+  for (const name of ["unknown", "slips"]) byId(name).replaceChildren();
+  clearFault(editor);
   for (const panel of Object.values(panels)) panel.clear();
 }
 
+/** Removes all answers. */
 function clear() {
   forgetAnswers();
   states.clear();
@@ -126,6 +146,7 @@ async function list({ link = null, isKept = false, most = null } = {}) {
   clearTimeout(typing);
   if (beside?.isOpen) return;
   if (await states.ask(link, { isKept, most })) pale(false);
+  if (byId("said").textContent === CHANGED) byId("said").textContent = "";
   present.fit();
 }
 
@@ -138,6 +159,12 @@ async function listAsked() {
 function scrollToAnswers() {
   const { top } = byId("answers").getBoundingClientRect();
   if (top > 0.6 * innerHeight) byId("answers").scrollIntoView({ block: "start", behavior: isStill() ? "auto" : "smooth" });
+}
+
+/** Unfolds the text of the test and brings it into sight, or folds it. */
+function unfold() {
+  fold(!isFolded());
+  if (!isFolded()) byId("unfold").scrollIntoView({ block: "start", behavior: isStill() ? "auto" : "smooth" });
 }
 
 /** Asks why no run ends in a state that is missing. */
@@ -157,12 +184,14 @@ function watchState(line) {
 /** Asks for what a tab shows, after it was chosen. */
 function opened(view) {
   address.put({ view: view === VIEWS[0] ? null : view });
+  if (view !== "why") states.strip.explain(null);
   if (view === "hand") {
     states.beginByHand();
     showAnswered();
   } else if (view === "states") states.endByHand();
   else if (view === "why") why.askOnce(states.strip.line);
   else panels[view]?.askOnce();
+  if (!tabs.isOfRun) showAnswered();
 }
 
 // Which test it is.
@@ -190,6 +219,27 @@ function show(example, isOwn) {
   beside?.follow();
 }
 
+/** Puts a fence into the text before an instruction of a thread, or takes the fence there out, and lists the states anew. */
+async function changeFence(thread, at, isPut) {
+  const before = editor.text;
+  const text = isPut ? textWithFences(before, [[thread, at]]) : textWithoutFence(before, [thread, at]);
+  if (text === null) {
+    byId("said").textContent = "The page can't change this text.";
+    return;
+  }
+  const name = examples.nameOf(text);
+  own.keep();
+  editor.text = text;
+  guess.change(before, text);
+  forgetAnswers();
+  address.put({ ...NOWHERE, view: tabs.view === "hand" ? "hand" : null, ...(name ? { example: name } : { text }) }, true);
+  show(name ?? "", !name);
+  pale(true);
+  byId("said").textContent = isPut ? "MFENCE put in." : "MFENCE taken out.";
+  await list({ isKept: true });
+  document.querySelector(`#watching [data-fence="${thread}:${at}"]`)?.focus({ preventScroll: true });
+}
+
 /** Shows what the address says. */
 function follow() {
   const link = address.read();
@@ -198,7 +248,7 @@ function follow() {
   editor.text = examples.textOf(example) ?? link.text ?? examples.textOf(FIRST);
   clear();
   byId("predict").checked = link.predict === "1";
-  tellUnknown([link.text === undefined && link.example, link.beside].filter((it) => it && examples.textOf(it) === undefined));
+  showUnknown([link.text === undefined && link.example, link.beside].filter((it) => it && examples.textOf(it) === undefined));
   const isOwn = !example && link.text !== undefined;
   show(example || (isOwn ? "" : FIRST), isOwn);
   states.isByHand = link.view === "hand";
@@ -208,7 +258,7 @@ function follow() {
 }
 
 /** Says that a link names examples that do not exist. */
-function tellUnknown(names) {
+function showUnknown(names) {
   const words = `There is no example named ${names[0]}. The button at the top opens all examples.`;
   byId("unknown").replaceChildren(...(names[0] ? [el("p", { class: "notice" }, words)] : []));
 }
@@ -230,13 +280,23 @@ async function choose(name) {
   return editor.area.focus();
 }
 
+/** Asks what the reader expects of an example at random. */
+function surprise() {
+  byId("predict").checked = true;
+  address.put({ predict: "1" });
+  byId("gallery").close();
+  const name = randomTest([...examples.tests.values()], examples.name);
+  guess.forgetGuess(examples.textOf(name));
+  choose(name);
+}
+
 /** Opens a file of a test. */
 async function openFile({ target }) {
   const [file] = target.files;
   if (!file) return;
-  const { text, told } = textOfFile(new Uint8Array(await file.arrayBuffer()));
+  const { text, note } = textOfFile(new Uint8Array(await file.arrayBuffer()));
   take(text, { text }, true);
-  byId("said").textContent = told;
+  byId("said").textContent = note;
   target.value = "";
 }
 
@@ -247,8 +307,9 @@ async function copyLink(said) {
 
 // What is listened to.
 
+/** Connects the buttons of the editor. */
 function listenToTools() {
-  byId("unfold").addEventListener("click", () => fold(!isFolded()));
+  byId("unfold").addEventListener("click", unfold);
   byId("file").addEventListener("change", openFile);
   byId("save").addEventListener("click", () => save(fileName(nameOf(editor.text), "litmus"), "text/plain", editor.text));
   byId("link").addEventListener("click", () => copyLink(byId("said")));
@@ -265,16 +326,16 @@ function listenToTools() {
 function listenToChoices() {
   byId("predict").addEventListener("change", ({ target }) => {
     address.put({ predict: target.checked ? "1" : null });
+    if (target.checked) guess.forgetGuess();
     show(examples.name, own.isHere);
     guess.follow();
     if (guess.isAwaited(editor.text)) list();
   });
+  document.addEventListener("click", ({ target }) => target.closest(".surprise") && surprise());
+  showScore();
   bindTheme(byId("theme"));
   caches.bindTo(byId("caches"));
   largeType.bindTo(byId("large"));
-  const scale = () => document.documentElement.classList.toggle("large", largeType.isOn);
-  largeType.onChange(scale);
-  scale();
 }
 
 /** Skips to the answers without following the link, since the address says where the reader is. */
@@ -286,11 +347,12 @@ function listenToSkip() {
 }
 
 /** Says where the proved workbench runs. */
-async function tellWhere() {
+async function showWhere() {
   const isHere = await hasModule();
   if (isHere || hasServer) byId("where").textContent = isHere ? ", in this browser as a WebAssembly module" : ", on this machine";
 }
 
+/** Starts the page. */
 async function begin() {
   byId("why").append(why.place);
   placeParts(present);
@@ -301,13 +363,13 @@ async function begin() {
   listenToPrint(() => (beside?.isOpen ? beside.sides.map((it) => it.states) : [states]));
   about(byId("about-dialog"));
   const [families] = await Promise.all([table("examples"), loadSentences()]);
-  examples = new Examples(families);
+  examples = new Examples(families, choose);
   new Gallery(examples, choose);
   beside = new Beside(editor, examples, own, { choose, copyLink, drawn: fitLater });
   follow();
   document.body.dataset.ready = "true";
   address.onLink(followFrom);
-  await Promise.all([tellWhere(), keep()]);
+  await Promise.all([showWhere(), keep()]);
 }
 
 begin();

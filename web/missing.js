@@ -9,9 +9,9 @@ const MOST_TRIED = 20000;
 /** Returns the words of each site: first those that the question names, then those that it has in the states of a report. */
 function columnsOf({ states }, named) {
   const lines = states.map(({ line }) => wordsOf(line));
-  return (lines[0] ?? []).map(([name], at) => {
+  return (lines[0] ?? []).map(([name], index) => {
     const asked = named.get(name) ?? [];
-    const others = [...new Set(lines.map((it) => it[at][1]))].sort((a, b) => b - a);
+    const others = [...new Set(lines.map((it) => it[index][1]))].sort((a, b) => b - a);
     return { name, words: [...new Set([...asked, ...others])] };
   });
 }
@@ -19,6 +19,9 @@ function columnsOf({ states }, named) {
 /**
  * Returns a state that a report lacks and that the question asks about, or, with no question, any of words that its states have; null if none is
  * found, or not all states are known.
+ * @param {Report} report
+ * @param {{isAsked: function(string): boolean, words: Map<string, number[]>}} [question]
+ * @returns {string | null}
  */
 export function missingState(report, { isAsked, words } = { isAsked: () => true, words: new Map() }) {
   if (report.left_out || !report.states.length || report.states.length > MOST_LOOKED_AT) return null;

@@ -1,7 +1,7 @@
 // The proved workbench as a WebAssembly module: loads it, lays its memory out, and calls it. All that this page knows of the module's
 // calls stands here, and nothing else does.
 //
-// The module has no imports. A call is given memory behind __heap_base: the text, the schedule, what is told, the room for the answer,
+// The module has no imports. A call is given memory behind __heap_base: the text, the schedule, the result, the room for the answer,
 // and behind them all that it may allocate from. A call leaves nothing behind, so the instance for calls that need little answers one
 // after another; one that has trapped answers nothing more, and another takes its place. Addresses have 64 bits; a module that was
 // lowered to memories of 32 bits is called in the same way.
@@ -21,7 +21,7 @@ const MOST_BUDGET = 2n ** 64n - 1n;
 const LISTS = ["states", "schedules", "marks"];
 // The calls that take a schedule.
 const REPLAYS = ["replay", "film"];
-// What the bytes are that a call tells, where they are no answer.
+// What the bytes of a result are if they are no answer.
 const FAULT = 1;
 const ROOM_TOO_SMALL = 2;
 
@@ -40,7 +40,7 @@ export class Workbench {
 
   /**
    * Returns the answer to words as on the command line of `lw`, or `--budget N states`, `--budget N schedules` and `--budget N marks` as on that of
-   * `beyond`: the status, whether a fault is told, and the bytes of the answer or of the fault. `film` takes what `replay` takes, and answers
+   * `beyond`: the status, whether it is a fault, and the bytes of the answer or of the fault. `film` takes what `replay` takes, and answers
    * the pages of all prefixes of the schedule. A text that is no bytes, and words that are no command, throw
    * TypeError, and nothing is called.
    */
@@ -97,7 +97,11 @@ function isShort({ isFault, isTooLong, out }) {
   return isTooLong || (isFault && new TextDecoder().decode(out) === SHORT_OF_MEMORY);
 }
 
-/** Returns the compiled module, or null if the browser takes none of this kind. */
+/**
+ * Returns the compiled module, or null if the browser takes none of this kind.
+ * @param {Uint8Array} bytes
+ * @returns {Promise<WebAssembly.Module | null>}
+ */
 export async function compiled(bytes) {
   try {
     return bytes.length ? await WebAssembly.compile(bytes) : null;
@@ -124,7 +128,7 @@ class Call {
     const schedule = REPLAYS.includes(words[0]) ? words[1] : "";
     this.given = { text, schedule: new TextEncoder().encode(schedule) };
     const heap = size * MEGABYTE;
-    this.sizes = { memory: GRAIN, told: GRAIN, text: text.length, schedule: this.given.schedule.length, room: heap / 8, heap };
+    this.sizes = { memory: GRAIN, result: GRAIN, text: text.length, schedule: this.given.schedule.length, room: heap / 8, heap };
     this.at = {};
     let at = Number(this.exports.__heap_base.value);
     for (const [name, size] of Object.entries(this.sizes)) {
@@ -160,22 +164,22 @@ class Call {
     const view = new DataView(this.exports.memory.buffer);
     for (const [number, value] of this.placeOf("heap").entries()) view.setBigUint64(this.at.memory + 8 * number, value, true);
     const front = [BigInt(this.at.memory), ...this.put("text")];
-    const behind = [...this.placeOf("room"), BigInt(this.at.told)];
+    const behind = [...this.placeOf("room"), BigInt(this.at.result)];
     const [task, argument, output] = this.words;
     if (REPLAYS.includes(task)) this.exports[`lw_${task}`](...front, ...this.put("schedule"), this.words[3] === "moesi" ? 1 : 0, ...behind);
     else if (task === BUDGET) this.exports[`lw_reach_${output}`](...front, BigInt(argument), ...behind);
     else this.exports[`lw_${task}`](...front, ...behind);
-    return this.told();
+    return this.result();
   }
 
-  /** Returns what the call has answered, copied out of the module's memory. */
-  told() {
+  /** Returns the result of the call, copied out of the module's memory. */
+  result() {
     const { buffer } = this.exports.memory;
     const view = new DataView(buffer);
-    const status = view.getUint32(this.at.told, true);
-    const kind = view.getUint32(this.at.told + 4, true);
+    const status = view.getUint32(this.at.result, true);
+    const kind = view.getUint32(this.at.result + 4, true);
     if (kind === ROOM_TOO_SMALL) return { status, isFault: false, isTooLong: true, out: new Uint8Array() };
-    const length = Number(view.getBigUint64(this.at.told + 8, true));
+    const length = Number(view.getBigUint64(this.at.result + 8, true));
     return { status, isFault: kind === FAULT, isTooLong: false, out: new Uint8Array(buffer, this.at.room, length).slice() };
   }
 }

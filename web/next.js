@@ -3,10 +3,12 @@
 import { button, byId, el } from "./dom.js";
 import { documents } from "./supplies.js";
 
+const TUTORIAL = "tutorial.html";
+
 /** Returns what is said of the example to which the next step leads. */
 function wordsOf(examples, name, partner) {
   if (examples.fencedOf(name) === partner) return `the same test with ${/\+.*(?:xchg|xadd)/.test(partner) ? "locked instructions" : "fences"}: `;
-  if (partner === `${name}-x86`) return "the same for x86, without the compiler's fences: ";
+  if (partner === `${name}-x86`) return "the same test on x86, without the compiler's fences: ";
   return "the same test without what was added: ";
 }
 
@@ -18,6 +20,6 @@ export function showNextStep(examples, name, { choose, compare, browse }) {
     "Next: ", wordsOf(examples, name, partner), button(partner, () => choose(partner), { class: "link", id: "next-test" }), ", or ",
     button("compare both", () => compare(partner), { class: "link", id: "next-compare" }), ". ",
   ];
-  const tutorial = documents.includes("tutorial.html") && [el("a", { href: "tutorial.html", target: "_blank" }, "Tutorial"), " "];
+  const tutorial = documents.some(([file]) => file === TUTORIAL) && [el("a", { href: TUTORIAL, target: "reading" }, "Tutorial"), " "];
   byId("next").replaceChildren(...[step, tutorial].filter(Boolean).flat());
 }

@@ -2,14 +2,24 @@
 
 import { el } from "./dom.js";
 
-/** Saves a file. */
+/**
+ * Saves a file.
+ * @param {string} name
+ * @param {string} kind
+ * @param {string} content
+ */
 export function save(name, kind, content) {
   const address = URL.createObjectURL(new Blob([content], { type: kind }));
   el("a", { href: address, download: name }).click();
   setTimeout(() => URL.revokeObjectURL(address), 10000);
 }
 
-/** Returns a name as the name of a file: characters that a file's name can't have become `_`. */
+/**
+ * Returns a name as the name of a file: characters that a file's name can't have become `_`.
+ * @param {string} name
+ * @param {string} ending
+ * @returns {string}
+ */
 export function fileName(name, ending) {
   return `${name.replace(/[^\w+.-]/g, "_")}.${ending}`;
 }
@@ -17,6 +27,10 @@ export function fileName(name, ending) {
 /**
  * Copies a text: by an older way if the page may not use the new one, as on an address that is no secure context. Returns whether it is
  * copied, and says so; otherwise it shows the text selected.
+ * @param {string} text
+ * @param {Element} said
+ * @param {string} [note]
+ * @returns {Promise<boolean>}
  */
 export async function copy(text, said, note = "") {
   const isCopied = (await isWritten(text)) || isCopiedFromField(text, said);
@@ -34,7 +48,12 @@ async function isWritten(text) {
   }
 }
 
-/** Copies a text out of a field that is there for a moment. It lies in the dialog that is open, since nothing else can be selected then. */
+/**
+ * Copies a text out of a field that is there for a moment. It lies in the dialog that is open, since nothing else can be selected then.
+ * @param {string} text
+ * @param {Element} said
+ * @returns {boolean}
+ */
 function isCopiedFromField(text, said) {
   const field = el("textarea", { class: "copied", "aria-label": "To copy", readonly: true }, text);
   const focused = document.activeElement;

@@ -40,6 +40,7 @@ export class Own {
   }
 }
 
+/** Returns the reader's own test, as it is stored, or null. */
 function stored() {
   try {
     return sessionStorage.getItem(KEY);
@@ -48,6 +49,7 @@ function stored() {
   }
 }
 
+/** Stores the reader's own test. */
 function store(text) {
   try {
     sessionStorage.setItem(KEY, text);

@@ -72,7 +72,7 @@ export class Drawing {
 function usedRegisters(film, thread) {
   const named = new Set(film.cells[thread].flatMap((it) => it.text.match(/\w+/g) ?? []));
   const rows = film.states.map((state) => state.threads[thread].registers);
-  return rows[0].map(([name]) => name).filter((name, at) => named.has(name) || rows.some((row) => row[at][1]));
+  return rows[0].map(([name]) => name).filter((name, index) => named.has(name) || rows.some((row) => row[index][1]));
 }
 
 /** Returns the title of a step of a strip: its event, with its code. */
@@ -206,7 +206,7 @@ export function pictureOf(film, step) {
   return drawing.svg(width + 2 * EDGE, height, title);
 }
 
-/** Tells of the event that a film ends before. Returns the height that this takes. */
+/** Draws why the event that a film ends before is refused. Returns the height that this takes. */
 function drawRefusal(drawing, refusal, y) {
   if (!refusal) return 0;
   drawing.text(EDGE, y + 14, refusal, "changed");

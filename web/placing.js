@@ -17,7 +17,7 @@ export function placeParts(present) {
     const needed = drawn ? parseFloat(getComputedStyle(drawn).minWidth) : 0;
     const isBelow = narrow.matches || present.isOpen || needed > byId("test").clientWidth - 4;
     const place = isBelow ? byId("answers") : byId("test");
-    if (graph.parentElement !== place) place.append(graph);
+    if (graph.parentElement !== place) place.insertBefore(graph, place.querySelector(":scope > .folded"));
   };
   const place = () => {
     byId(narrow.matches ? "beside" : "answers").before(byId("test"));
@@ -29,14 +29,14 @@ export function placeParts(present) {
     placeGraph();
     present.fit();
   });
-  const measured = new ResizeObserver(tellRoom);
+  const measured = new ResizeObserver(setRoom);
   for (const name of ["answers", "outcome"]) measured.observe(byId(name));
   present.onChange(placeGraph);
   place();
 }
 
-/** Says how high the machine may be so that it is in sight, with the graph below it. */
-function tellRoom() {
+/** Sets how high the machine may be so that it is in sight, with the graph below it. */
+function setRoom() {
   const [answers, watching] = ["answers", "watching"].map((name) => byId(name));
   if (watching.hidden) return;
   const above = watching.getBoundingClientRect().top - answers.getBoundingClientRect().top + answers.scrollTop;

@@ -10,15 +10,15 @@ export class Player {
   constructor(id, { go, isSeen, more }) {
     Object.assign(this, { go, isSeen, step: 0, events: [], timer: null, isFresh: false });
     const to = (text, step, attributes) => button(text, () => this.jump(step()), attributes);
-    const first = to("|◀", () => 0, { "aria-label": "To the start", title: "To the start (Home)" });
-    const last = to("▶|", () => this.events.length, { "aria-label": "To the end", title: "To the end (End)" });
+    this.first = to("|◀", () => 0, { "aria-label": "To the start", title: "To the start (Home)" });
+    this.last = to("▶|", () => this.events.length, { "aria-label": "To the end", title: "To the end (End)" });
     this.back = to("◀", () => this.step - 1, { id: id("back"), "aria-label": "Back", title: "Back (←)" });
     this.forward = to("Step ▶", () => this.step + 1, { id: id("forward"), class: "main", title: "Forward (→)" });
     this.playing = button("▶ Play", () => (this.timer ? this.stop() : this.play()), { id: id("play"), class: "play" });
     const scrub = (event) => this.scrub(event);
     this.schedule = el("ol", { class: "events", id: id("schedule"), "aria-label": "The schedule", pointerdown: scrub, pointermove: scrub });
     this.count = el("span", { class: "count" });
-    this.place = el("div", { class: "transport" }, first, this.back, this.forward, last, this.playing, this.schedule, this.count, more);
+    this.place = el("div", { class: "transport" }, this.first, this.back, this.forward, this.last, this.playing, this.schedule, this.count, more);
   }
 
   /**
@@ -29,6 +29,7 @@ export class Player {
     Object.assign(this, { events, step, places });
     this.back.disabled = step === 0;
     this.forward.disabled = step === events.length;
+    for (const it of [this.first, this.last, this.playing]) it.disabled = events.length === 0;
     this.count.textContent = isOpen && step === events.length ? "" : `${step} / ${events.length}`;
     this.drawSchedule();
     if (step === events.length) this.stop();
@@ -36,7 +37,7 @@ export class Player {
 
   drawSchedule() {
     const hadFocus = this.schedule.contains(document.activeElement);
-    this.schedule.replaceChildren(...this.events.map((event, at) => el("li", {}, this.buttonOf(event, at))));
+    this.schedule.replaceChildren(...this.events.map((event, index) => el("li", {}, this.buttonOf(event, index))));
     const now = this.schedule.querySelector("[tabindex='0']");
     if (hadFocus) now?.focus({ preventScroll: true });
     if (now) this.schedule.scrollLeft = Math.max(0, now.offsetLeft - this.schedule.offsetLeft - this.schedule.clientWidth / 2);

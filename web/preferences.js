@@ -24,7 +24,11 @@ class Preference {
   }
 }
 
-/** Returns what the browser keeps under a name, or null. */
+/**
+ * Returns what the browser keeps under a name, or null.
+ * @param {string} name
+ * @returns {string | null}
+ */
 function stored(name) {
   try {
     return localStorage.getItem(name);
@@ -33,6 +37,7 @@ function stored(name) {
   }
 }
 
+/** Stores a preference. */
 function store(name, value) {
   try {
     localStorage.setItem(name, value);
@@ -63,3 +68,11 @@ export const caches = new Preference("caches");
 
 /** Whether the type is large. */
 export const largeType = new Preference("large");
+
+/** Gives the page the size of its type. It is called first: what depends on the size is laid out after it. */
+function scale() {
+  document.documentElement.classList.toggle("large", largeType.isOn);
+}
+
+largeType.onChange(scale);
+scale();

@@ -1,6 +1,6 @@
 // The view for a projector: only the question, the verdict, the list, the machine and the graph, in the largest type in which all of it fits,
-// and never in less than a least size; if it takes that, the graph goes. If not all fits in that, long code is scrolled inside its box, and
-// the next instruction stays in sight.
+// and never in less than a least size, nor in less than the page itself has; if it takes that, the graph goes. If not all fits in that, long code
+// is scrolled inside its box, and the next instruction stays in sight.
 
 import { showNext } from "./code_window.js";
 import { byId } from "./dom.js";
@@ -10,8 +10,20 @@ const LEAST = 18;
 const LEAST_OF_TWO = 13;
 const LEAST_OF_HEIGHT = 0.024;
 const MOST = 44;
+// How much larger the machine may be than the rest, where that leaves room: of at most two threads, and of more.
+const [MOST_OF_MACHINE, MOST_OF_TIGHT_MACHINE] = [1.5, 1.2];
 // Where the graph may be, the best first: beside the machine, beside all, or nowhere.
 const GRAPH_PLACES = ["machine", "all", "none"];
+// What is no smaller than on the page itself, by the property of the style sheet that has its size there.
+const USUAL = {
+  "--usual-verdict": "#outcome .verdict",
+  "--usual-strong": "#outcome .verdict strong",
+  "--usual-list": "#outcome table.strip",
+  "--usual-code": "#watching .code",
+  "--usual-word": "#watching .word",
+};
+// Of how many lines the verdict is at most if it can be, with a part of a line to spare, since its first word is larger.
+const LINES_OF_VERDICT = 2.7;
 // The least number of lines of code that are shown, and how often their room is made smaller at most.
 const LEAST_LINES = 3;
 const MOST_TRIES = 4;
@@ -52,7 +64,7 @@ export class Present {
     this.wasFull = false;
     document.documentElement.classList.remove("present");
     document.documentElement.style.fontSize = "";
-    document.documentElement.style.removeProperty("--code-room");
+    for (const name of ["--code-room", "--of-machine", ...Object.keys(USUAL)]) document.documentElement.style.removeProperty(name);
     byId("end-present").hidden = true;
     this.changed();
     if (document.fullscreenElement) document.exitFullscreen().catch(() => null);
@@ -64,20 +76,30 @@ export class Present {
     if (!this.isOpen) return;
     const isOne = !document.body.classList.contains("two");
     const least = isOne ? Math.max(LEAST, LEAST_OF_HEIGHT * innerHeight) : LEAST_OF_TWO;
-    let [small, large] = [least, Math.max(MOST, least * 2)];
+    const most = Math.max(MOST, least * 2);
     const { dataset, style } = document.documentElement;
     style.removeProperty("--code-room");
+    this.keepUsual();
     for (const place of GRAPH_PLACES) {
       dataset.graph = place;
-      if (this.fits(small)) break;
+      if (this.fits(least)) break;
     }
-    if (!this.fits(small)) return this.foldCode();
-    while (large - small > 0.5) {
-      const middle = (small + large) / 2;
-      if (this.fits(middle)) small = middle;
-      else large = middle;
-    }
-    this.fits(small);
+    if (!this.fits(least)) return this.foldCode();
+    const isShort = hasShortVerdict();
+    const size = largest([least, most, 0.5], (it) => this.fits(it) && (!isShort || hasShortVerdict()));
+    const ofMachine = document.querySelector("#watching .machine.tight") ? MOST_OF_TIGHT_MACHINE : MOST_OF_MACHINE;
+    this.fits(size, isOne ? largest([1, ofMachine, 0.05], (it) => this.fits(size, it)) : 1);
+  }
+
+  /** Keeps the sizes of type that the page itself has in this window. */
+  keepUsual() {
+    const { classList, style } = document.documentElement;
+    classList.remove("present");
+    style.fontSize = "";
+    const shown = Object.entries(USUAL).map(([name, css]) => [name, document.querySelector(css)]).filter(([, it]) => it);
+    const sizes = shown.map(([name, it]) => [name, getComputedStyle(it).fontSize]);
+    classList.add("present");
+    for (const [name, size] of sizes) style.setProperty(name, size);
   }
 
   /** Shows as many lines of the code as leave room for the rest of the machine, and the next instruction among them. */
@@ -92,12 +114,30 @@ export class Present {
     for (const it of document.querySelectorAll(".machine")) showNext(it);
   }
 
-  /** Returns whether all fits in a size of type, and leaves the page in that size. */
-  fits(size) {
+  /** Returns whether all fits in a size of type, with the machine larger by a factor, and leaves the page in that size. */
+  fits(size, ofMachine = 1) {
     const root = document.documentElement;
     root.style.fontSize = `${size}px`;
+    root.style.setProperty("--of-machine", ofMachine);
     const isWhole = (it) => it.scrollWidth <= it.clientWidth + 1 && it.scrollHeight <= it.clientHeight + 1;
     const scrolled = [...document.querySelectorAll(".code, .wide")].filter((it) => it.offsetParent !== null);
     return scrolled.every(isWhole) && root.scrollHeight <= innerHeight && root.scrollWidth <= innerWidth;
   }
+}
+
+/** Returns about the largest number between two, to within a step, that a test accepts; it accepts the smallest. */
+function largest([small, large, step], accepts) {
+  let [best, above] = [small, large];
+  while (above - best > step) {
+    const middle = (best + above) / 2;
+    if (accepts(middle)) best = middle;
+    else above = middle;
+  }
+  return best;
+}
+
+/** Returns whether the verdict of one test has few lines. */
+function hasShortVerdict() {
+  const verdict = document.querySelector("#outcome .verdict");
+  return !verdict || verdict.offsetHeight <= LINES_OF_VERDICT * parseFloat(getComputedStyle(verdict).lineHeight);
 }

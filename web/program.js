@@ -1,4 +1,7 @@
 // Asks the workbench, and says of a refusal where in the text it is. What comes back are lw's own bytes.
+//
+// A `Fault` has lw's own `line` and the `status`; its `kind` is text, cell, schedule, limit or budget, with the `number` and the `name` of the cause.
+// One in a text or a schedule has its `place`, a byte, and the same as a `row`, a `column` and an `index` in a string.
 
 import { Trap } from "./module.js";
 import { readState } from "./replays.js";
@@ -33,15 +36,29 @@ export class NoAnswer extends Error {
   }
 }
 
+/**
+ * Returns a text in UTF-8.
+ * @param {string} text
+ * @returns {Uint8Array}
+ */
 export function bytesOf(text) {
   return new TextEncoder().encode(text);
 }
 
+/**
+ * Returns the text of bytes in UTF-8.
+ * @param {Uint8Array} bytes
+ * @returns {string}
+ */
 export function textOf(bytes) {
   return new TextDecoder("utf-8", { ignoreBOM: true }).decode(bytes);
 }
 
-/** Returns the language of a test that the workbench has taken. */
+/**
+ * Returns the language of a test that the workbench has taken.
+ * @param {Uint8Array} text
+ * @returns {"SRC" | "X86"}
+ */
 export function languageOf(text) {
   return headingOf(textOf(text)).language;
 }
@@ -58,12 +75,24 @@ export class Program {
     this.textOfKept = null;
   }
 
-  /** Returns what is printed of a list, `states` or `schedules`; of one by a search `passed` is called with words on how far that is. */
+  /**
+   * Returns what is printed of a list, `states` or `schedules`; of one by a search `passed` is called with words on how far that is.
+   * @param {string} output
+   * @param {Uint8Array} text
+   * @param {{search?: boolean, passed?: function(string): void}} [options]
+   * @returns {string}
+   */
   list(output, text, { search = false, passed = () => null } = {}) {
     return search ? this.search(output, text, passed) : this.ask([output], text);
   }
 
-  /** Returns a list by a search, which is kept whatever its length as long as the same text is asked about. */
+  /**
+   * Returns a list by a search, which is kept whatever its length as long as the same text is asked about.
+   * @param {string} output
+   * @param {Uint8Array} text
+   * @param {function(string): void} passed
+   * @returns {string}
+   */
   search(output, text, passed) {
     this.keptOf(text);
     if (!this.searched.has(output)) this.searched.set(output, this.searchAnew(output, text, passed));
@@ -83,7 +112,12 @@ export class Program {
     throw new NoAnswer(`The search found more than ${most} states of the machine, and was ended. \`./beyond --budget N\` takes more.`);
   }
 
-  /** Returns what is printed. Short answers are kept as long as the same text is asked about: films and runs by hand ask for many again. */
+  /**
+   * Returns what is printed. Short answers are kept as long as the same text is asked about: films and runs by hand ask for many again.
+   * @param {string[]} words
+   * @param {Uint8Array} text
+   * @returns {string}
+   */
   ask(words, text) {
     const kept = this.keptOf(text);
     const key = words.join(" ");
@@ -102,10 +136,10 @@ export class Program {
 
   askAnew(words, text) {
     const { status, isFault, out } = this.run(words, text);
-    const told = textOf(out);
-    if (!isFault) return told;
-    if (told === SHORT_OF_MEMORY) throw new NoAnswer(`The run needed more memory than ${this.workbench.room}.`, { isBeyond: true });
-    throw new Fault(faultOf(told.trim(), status, text, words[0] === "replay" ? words[1] : ""));
+    const printed = textOf(out);
+    if (!isFault) return printed;
+    if (printed === SHORT_OF_MEMORY) throw new NoAnswer(`The run needed more memory than ${this.workbench.room}.`, { isBeyond: true });
+    throw new Fault(faultOf(printed.trim(), status, text, words[0] === "replay" ? words[1] : ""));
   }
 
   run(words, text) {
@@ -117,12 +151,24 @@ export class Program {
     }
   }
 
-  /** Returns the state that a schedule leads to. */
+  /**
+   * Returns the state that a schedule leads to.
+   * @param {Uint8Array} text
+   * @param {string} schedule
+   * @param {string} protocol
+   * @returns {State}
+   */
   replayed(text, schedule, protocol) {
     return readState(this.ask(["replay", schedule, "--protocol", protocol], text));
   }
 
-  /** Returns the states to which all prefixes of a schedule lead, the shortest first: one call, if the workbench has films. */
+  /**
+   * Returns the states to which all prefixes of a schedule lead, the shortest first: one call, if the workbench has films.
+   * @param {Uint8Array} text
+   * @param {string[]} events
+   * @param {string} protocol
+   * @returns {State[]}
+   */
   statesAlong(text, events, protocol) {
     if (!this.workbench.hasFilmsAndMarks) {
       return Array.from({ length: events.length + 1 }, (_, count) => this.replayed(text, events.slice(0, count).join(" "), protocol));
@@ -131,7 +177,12 @@ export class Program {
     return pages.slice(0, -1).map((page) => readState(`${page}\n`));
   }
 
-  /** Returns the list of states with a mark on each, as `list` makes it, or null if the workbench has no marks. */
+  /**
+   * Returns the list of states with a mark on each, as `list` makes it, or null if the workbench has no marks.
+   * @param {Uint8Array} text
+   * @param {{search?: boolean, passed?: function(string): void}} [options]
+   * @returns {string[] | null}
+   */
   marked(text, { search = false, passed = () => null } = {}) {
     if (!this.workbench.hasFilmsAndMarks) return null;
     const printed = search ? this.search("marks", text, passed) : this.ask(["--budget", "0", "marks"], text);
@@ -139,7 +190,14 @@ export class Program {
   }
 }
 
-/** Returns a fault with its place: the row and the column, which counts characters, and the index in a string. */
+/**
+ * Returns a fault with its place: the row and the column, which counts characters, and the index in a string.
+ * @param {string} line
+ * @param {number} status
+ * @param {Uint8Array} text
+ * @param {string} schedule
+ * @returns {Fault}
+ */
 function faultOf(line, status, text, schedule) {
   const [, kind, number, name, at] = FAULT.exec(line) ?? [];
   if (kind) {

@@ -8,7 +8,7 @@
 import { canonicalText, sourceCells, x86Cells } from "./canonical.js";
 import { effectOf, refusal } from "./effects.js";
 import { executionOf } from "./executions.js";
-import { cellsOf, filmOf, sourceFilm } from "./films.js";
+import { cellsOf, compiledSchedule, filmOf, sourceFilm, toTheEnd } from "./films.js";
 import { setsOfFences } from "./fencing.js";
 import { graphOf, wordsOf } from "./graphs.js";
 import { endingOf, isTooDeep, listOrNull, reportOf, scheduleTo } from "./lists.js";
@@ -35,8 +35,47 @@ function answerStates(program, text, { search = false }, passed) {
   return { report, language, words: verdictOf(language, report) };
 }
 
+/**
+ * Returns a film. It is that of `own`, a schedule of the test's language, if that run ends in the state, or if `state` is null; and otherwise
+ * that to the state, or to `otherwise`.
+ */
+function answerFilm(program, text, { own = null, state, otherwise = null, ...how }, passed) {
+  const film = own === null ? null : ownFilmOrNull(program, text, own, how);
+  return film && (state ?? film.state) === film.state ? film : listedFilm(program, text, { state: state ?? otherwise, ...how }, passed);
+}
+
+/**
+ * Returns the film of a schedule that a test has of its own; null also if the schedule is none of the test.
+ * @param {Program} program
+ * @param {Uint8Array} text
+ * @param {string} own
+ * @param {{protocol: string}} how
+ * @returns {object | null}
+ */
+function ownFilmOrNull(program, text, own, how) {
+  try {
+    return ownFilm(program, text, own, how);
+  } catch (error) {
+    if (error instanceof Fault || error instanceof NoAnswer || error instanceof NoTest) return null;
+    throw error;
+  }
+}
+
+/** Returns the film of a schedule that a test has of its own; of a source test also that of the compiled program, which follows it. Or null. */
+function ownFilm(program, text, own, { protocol }) {
+  const isSource = languageOf(text) === "SRC";
+  const film = filmOf(program, text, isSource ? own : toTheEnd(program, text, own), isSource ? "mesi" : protocol);
+  const state = endingOf(text, film.states.at(-1))?.line;
+  if (film.refused || state === undefined) return null;
+  if (!isSource) return { state, schedule: film.events.join(" "), films: { x86: film }, isOwn: true };
+  const compiled = bytesOf(program.ask(["compile"], text));
+  const schedule = compiledSchedule(program, compiled, readTest(textOf(text)), own);
+  const x86 = schedule === null ? null : filmOf(program, compiled, schedule, protocol);
+  return x86 && endsIn(x86.states.at(-1), state) ? { state, schedule, films: { x86, source: film }, isOwn: true } : null;
+}
+
 /** Returns the film to a state; of a source test that of its compiled program, and that of the source run. */
-function answerFilm(program, text, { state, protocol, search = false }, passed) {
+function listedFilm(program, text, { state, protocol, search = false }, passed) {
   const schedule = scheduleTo(program, text, state, { search, passed });
   const isSource = languageOf(text) === "SRC";
   const compiled = isSource ? bytesOf(program.ask(["compile"], text)) : text;
@@ -66,7 +105,14 @@ function answerMoves(program, text, { schedule, protocol, whole = false }) {
   return { state, ...lastOf(program, text, { schedule, protocol }, cells, state), put, ending, moves, cells, language };
 }
 
-/** Returns of each thread the registers that the events of a schedule have put words into, or null if there are too many events to look at. */
+/**
+ * Returns of each thread the registers that the events of a schedule have put words into, or null if there are too many events to look at.
+ * @param {Program} program
+ * @param {Uint8Array} text
+ * @param {{schedule: string, protocol: string}} run
+ * @param {Cell[][]} cells
+ * @returns {string[][] | null}
+ */
 function registersPut(program, text, { schedule, protocol }, cells) {
   const events = eventsIn(schedule);
   if (events.length > MOST_LOOKED_AT) return null;
@@ -79,13 +125,26 @@ function registersPut(program, text, { schedule, protocol }, cells) {
   return put;
 }
 
-/** Returns that an event of a schedule is refused: which, and why. */
+/**
+ * Returns that an event of a schedule is refused: which, and why.
+ * @param {{at: number, number: number, cause: string}} end
+ * @param {string[]} events
+ * @returns {NoAnswer}
+ */
 function refusalOf({ at, number, cause }, events) {
   const refused = { event: events[at], at, number, cause };
   return new NoAnswer(`Event ${at + 1} of the schedule, ${events[at]}, is refused: ${refusal(number)}.`, { refused });
 }
 
-/** Returns the state before the last event of a schedule, and what that event does; without an event the state itself, and null. */
+/**
+ * Returns the state before the last event of a schedule, and what that event does; without an event the state itself, and null.
+ * @param {Program} program
+ * @param {Uint8Array} text
+ * @param {{schedule: string, protocol: string}} run
+ * @param {Cell[][]} cells
+ * @param {State} state
+ * @returns {{before: State, effect: Effect | null}}
+ */
 function lastOf(program, text, { schedule, protocol }, cells, state) {
   const events = eventsIn(schedule);
   const last = events.pop();
@@ -94,7 +153,12 @@ function lastOf(program, text, { schedule, protocol }, cells, state) {
   return { before, effect: effectOf(last, cells, before, state) };
 }
 
-/** Returns the events of a thread; of an x86 test, which has a content, drains and evictions too. */
+/**
+ * Returns the events of a thread; of an x86 test, which has a content, drains and evictions too.
+ * @param {number} thread
+ * @param {[string, number][] | null} content
+ * @returns {string[]}
+ */
 function eventsOf(thread, content) {
   return content ? [`P${thread}`, `D${thread}`, ...content.map(([name]) => `E${thread}:${name}`)] : [`P${thread}`];
 }
@@ -139,7 +203,7 @@ function answerGraph(program, text, { schedule }) {
   const last = film.states.at(-1);
   if (last.end.kind !== "Final") throw new NoAnswer("The schedule is no run to the end.", { isUnended: true });
   const test = readTest(canonical);
-  const steps = film.events.map((word, at) => [word, film.states[at + 1].threads[Number(word[1])].at]);
+  const steps = film.events.map((word, index) => [word, film.states[index + 1].threads[Number(word[1])].at]);
   const execution = executionOf(test, steps);
   const graph = graphOf(execution, `${test.name}, the execution of ${schedule}`);
   return { graph, words: wordsOf(execution), hasCycle: Boolean(execution.cycle()) };
@@ -161,7 +225,13 @@ function answerWhyNot(program, text, { state }) {
 
 const inSource = (words) => renamed(words, REGISTERS.X86, REGISTERS.SRC);
 
-/** Returns words in which registers have their names of another language, by their numbers. */
+/**
+ * Returns words in which registers have their names of another language, by their numbers.
+ * @param {string} words
+ * @param {string[]} from
+ * @param {string[]} to
+ * @returns {string}
+ */
 function renamed(words, from, to) {
   return words.replace(/\b([0-3]):([A-Za-z]\w*)\b/g, (name, thread, register) => {
     const number = from.indexOf(register);
@@ -181,7 +251,14 @@ const QUESTIONS = {
   "why not": answerWhyNot,
 };
 
-/** Returns the answer of a program to a question. What takes long calls `passed` with words on how far it is. */
+/**
+ * Returns the answer of a program to a question. What takes long calls `passed` with words on how far it is.
+ * @param {Program} program
+ * @param {string} question
+ * @param {{text: string}} fields
+ * @param {function(string): void} [passed]
+ * @returns {object}
+ */
 export function answerTo(program, question, { text, ...more }, passed = () => null) {
   try {
     return QUESTIONS[question](program, bytesOf(text).subarray(0, MOST_TEXT), more, passed);

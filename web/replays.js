@@ -1,4 +1,4 @@
-// Reads what `lw replay` prints of a run into the state that it tells of.
+// Reads what `lw replay` prints of a run into the state that it describes.
 //
 // A state has `name`, `steps` and `end`: its `kind` is Final, NotFinal or Stopped, and of a run that stopped `at`, `number` and `cause`.
 // It has `threads`: of each `at`, the number of its next statement, and `registers`, pairs of a name and a word; of an x86 test also
@@ -34,7 +34,11 @@ class Page {
     this.line = "";
   }
 
-  /** Returns what the groups of a pattern match in the next line. Refuses a line that does not match. */
+  /**
+   * Returns what the groups of a pattern match in the next line. Refuses a line that does not match.
+   * @param {string} pattern
+   * @returns {string[]}
+   */
   take(pattern) {
     if (!this.lines.length) throw new NoReplay(this.rest ? "the last line has no end" : "the text ends, and a replay prints more");
     this.line = this.lines.shift();
@@ -43,7 +47,11 @@ class Page {
     return found.slice(1);
   }
 
-  /** Returns the pairs of a name and a word in the line that was read last. */
+  /**
+   * Returns the pairs of a name and a word in the line that was read last.
+   * @param {string} text
+   * @returns {[string, number][]}
+   */
   words(text) {
     const found = pairs(text).map(([name, word]) => [name, Number(word)]);
     this.require(found.every(([, word]) => word < 2 ** 32));
@@ -66,7 +74,13 @@ function endOf([kind, at, number, cause]) {
   return kind ? { kind } : { kind: "Stopped", at: Number(at), number: Number(number), cause };
 }
 
-/** Returns the state of the thread with a number, whose registers are those of one of some languages. */
+/**
+ * Returns the state of the thread with a number, whose registers are those of one of some languages.
+ * @param {Page} page
+ * @param {number} number
+ * @param {string[][]} languages
+ * @returns {ThreadState}
+ */
 function readThread(page, number, languages) {
   const [at, text] = page.take(`P${number} at ${NUMBER}${WORDS}`);
   const thread = { at: Number(at), registers: page.words(text) };
@@ -76,7 +90,11 @@ function readThread(page, number, languages) {
   return { ...thread, buffer, lines: pairs(page.take(`P${number} lines${LETTERS}`)[0]) };
 }
 
-/** Returns the states of all threads, which are of one language. */
+/**
+ * Returns the states of all threads, which are of one language.
+ * @param {Page} page
+ * @returns {ThreadState[]}
+ */
 function readThreads(page) {
   const threads = [readThread(page, 0, [REGISTERS, SOURCE])];
   const language = threads[0].registers.map(([name]) => name);
@@ -84,7 +102,11 @@ function readThreads(page) {
   return threads;
 }
 
-/** Returns the state that a replay's text says. */
+/**
+ * Returns the state that a replay's text says.
+ * @param {string} text
+ * @returns {State}
+ */
 export function readState(text) {
   const page = new Page(text);
   const [name] = page.take("Test ([!-~]{1,128})");
@@ -101,17 +123,30 @@ export function readState(text) {
   return { name, steps, end, threads, memory, content };
 }
 
-/** Returns the number of a register of either language, by its name. */
+/**
+ * Returns the number of a register of either language, by its name.
+ * @param {string} name
+ * @returns {number}
+ */
 export function registerNumber(name) {
   return name.startsWith("r") ? Number(name.slice(1)) : REGISTERS.indexOf(name);
 }
 
-/** Returns what a line of a report says: pairs of an observed name and a word. */
+/**
+ * Returns what a line of a report says: pairs of an observed name and a word.
+ * @param {string} line
+ * @returns {[string, number][]}
+ */
 export function wordsOf(line) {
   return [...line.matchAll(/(\S+)=(\d+);/g)].map(([, name, word]) => [name, Number(word)]);
 }
 
-/** Returns whether a run is final, in the state of a report's line. A register is named in either language. */
+/**
+ * Returns whether a run is final, in the state of a report's line. A register is named in either language.
+ * @param {State} state
+ * @param {string} line
+ * @returns {boolean}
+ */
 export function endsIn(state, line) {
   const content = new Map(state.content);
   const wordIn = (name) => {
@@ -121,7 +156,11 @@ export function endsIn(state, line) {
   return state.end.kind === "Final" && wordsOf(line).every(([name, word]) => wordIn(name) === word);
 }
 
-/** Returns the events of a schedule. */
+/**
+ * Returns the events of a schedule.
+ * @param {string} schedule
+ * @returns {string[]}
+ */
 export function eventsIn(schedule) {
   return schedule.split(/\s+/).filter(Boolean);
 }

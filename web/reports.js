@@ -4,17 +4,29 @@ import { el } from "./dom.js";
 import { fileName, save } from "./output.js";
 import { wordsOf } from "./replays.js";
 
-/** Returns the names of what a report shows. */
+/**
+ * Returns the names of what a report shows.
+ * @param {Report} report
+ * @returns {string[]}
+ */
 export function namesOf({ states }) {
   return states.length ? wordsOf(states[0].line).map(([name]) => name) : [];
 }
 
-/** Returns the proposition of a report's condition, without its quantifier. */
+/**
+ * Returns the proposition of a report's condition, without its quantifier.
+ * @param {Report} report
+ * @returns {string}
+ */
 export function propositionOf({ condition }) {
   return condition.slice(condition.indexOf(" ") + 1);
 }
 
-/** Says how many states are left out, if some are. */
+/**
+ * Says how many states are left out, if some are.
+ * @param {Report} report
+ * @returns {Element | null}
+ */
 export function leftOut(report) {
   if (!report.left_out) return null;
   const [number, out, kept] = [report.number, report.left_out, report.most].map((it) => it.toLocaleString("en"));
@@ -22,12 +34,19 @@ export function leftOut(report) {
   return el("p", { class: "notice" }, words);
 }
 
-/** Returns a report as lw prints it. */
+/**
+ * Returns a report as lw prints it.
+ * @param {Report} report
+ * @returns {string}
+ */
 export function asPrinted(report) {
   return [...report.head, ...report.states.map((it) => it.line), ...report.tail].join("\n");
 }
 
-/** Saves a report as lw prints it. */
+/**
+ * Saves a report as lw prints it.
+ * @param {Report} report
+ */
 export function saveReport(report) {
   save(fileName(report.head[0].split(" ")[1] ?? "test", "states.txt"), "text/plain", `${asPrinted(report)}\n`);
 }

@@ -2,13 +2,15 @@
 // keys go through it.
 
 import { button, el } from "./dom.js";
+import { largeType } from "./preferences.js";
 import { wordsOf } from "./replays.js";
 import { saveReport } from "./reports.js";
 import { siteNode } from "./tint.js";
 
-// The height of a row in letters of the page's size, how many rows are in sight, and how many if the window is low or narrow.
+// The height of a row in letters of the page's size, how many rows are in sight, how many if the window is low or narrow, and how many if two tests
+// are beside each other in it, or if the type is large.
 const HEIGHT = 1.6;
-const [ROWS_IN_SIGHT, FEW_ROWS, LOW, NARROW] = [6, 3, 800, 700];
+const [ROWS_IN_SIGHT, FEW_ROWS, LEAST_ROWS, LOW, NARROW] = [6, 3, 2, 800, 700];
 // How many rows are made above those in sight, and below.
 const [ABOVE, BELOW] = [2, 6];
 // By how many states the widths of the columns are found.
@@ -19,6 +21,7 @@ export class Rows {
     const { report } = strip;
     Object.assign(this, { strip, report, shown: report.states, at: 0 });
     this.columns = this.widths();
+    this.never = this.neverButton();
     this.head = this.headRow();
     this.spacer = el("div", { class: "spacer" });
     this.body = el("div", {
@@ -37,7 +40,7 @@ export class Rows {
   widths() {
     const { names } = this.strip;
     const measured = this.report.states.slice(0, MEASURED).map(({ line }) => wordsOf(line).map(([, word]) => String(word).length));
-    const longest = names.map((name, at) => Math.max(name.length, ...measured.map((it) => it[at])));
+    const longest = names.map((name, index) => Math.max(name.length, ...measured.map((it) => it[index])));
     return `5.5ch ${longest.map((it) => `${it + 2}ch`).join(" ")} ${this.report.is_marked ? "3ch" : ""} minmax(0, 1fr)`;
   }
 
@@ -53,29 +56,40 @@ export class Rows {
   /** Returns what is beside the list: the number of states, the choice of those in which the condition holds, and the list as a file. */
   tools() {
     const { report } = this;
-    const shown = (number) => number.toLocaleString("en");
+    const withCommas = (number) => number.toLocaleString("en");
     const box = el("input", { type: "checkbox", change: (event) => this.filter(event.target.checked) });
     const hasChoice = report.is_marked && report.positive && report.positive < report.number;
-    const only = hasChoice ? el("label", {}, box, ` only the ${shown(report.positive)} where the condition holds`) : null;
+    const only = hasChoice ? el("label", {}, box, ` only the ${withCommas(report.positive)} where the condition holds`) : null;
     const file = button("Save the list as a file", () => saveReport(report), { class: "save-list" });
-    return el("div", { class: "rows-tools" }, el("span", { class: "small" }, `${shown(report.number)} states`), only, file);
+    return el("div", { class: "rows-tools" }, el("span", { class: "small" }, `${withCommas(report.number)} states`), this.never, only, file);
+  }
+
+  /** Returns the button of a state that the condition asks about and that no run ends in, with its words in the order of the columns. */
+  neverButton() {
+    const { missing, why } = this.strip;
+    if (!missing || !why) return el("span", { hidden: true });
+    const attributes = { class: "never", "aria-label": `No run ends in ${missing} Why not?`, title: "No run ends this way. Why?" };
+    return button(`never ${wordsOf(missing).map(([, word]) => word).join(" ")}`, () => why(missing), attributes);
   }
 
   /** Shows the rows, once the list has its place. */
   begin() {
     this.height = Math.round(HEIGHT * parseFloat(getComputedStyle(document.documentElement).fontSize));
     const isSmall = innerHeight < LOW || innerWidth < NARROW;
-    const number = Math.min(isSmall ? FEW_ROWS : ROWS_IN_SIGHT, this.shown.length);
+    const isCrowded = innerHeight < LOW && (!this.strip.editor.isAlone || largeType.isOn);
+    const number = Math.min(isCrowded ? LEAST_ROWS : isSmall ? FEW_ROWS : ROWS_IN_SIGHT, this.shown.length);
     this.body.style.height = `${this.height * number + 2}px`;
     this.follow();
   }
 
   /** Shows anew what is chosen, found and marked. */
   follow() {
-    const at = this.shown.findIndex((it) => it.line === this.strip.line);
-    if (at >= 0 && this.strip.line !== this.chosen) this.bring(at);
+    const at = this.shown.findIndex((it) => it.line === this.strip.chosen);
+    if (at >= 0 && this.strip.chosen !== this.chosen) this.bring(at);
     else this.draw(true);
-    this.chosen = this.strip.line;
+    this.chosen = this.strip.chosen;
+    this.never.hidden = this.strip.ghost === null;
+    this.never.classList.toggle("chosen", this.strip.ghost !== null && this.chosen === this.strip.ghost);
   }
 
   filter(isOnly) {
@@ -101,7 +115,7 @@ export class Rows {
     this.first = first;
     const last = Math.min(this.shown.length, first + Math.ceil((this.body.clientHeight || 200) / this.height) + BELOW);
     this.spacer.style.height = `${this.shown.length * this.height}px`;
-    this.spacer.replaceChildren(...this.shown.slice(first, last).map((state, at) => this.rowOf(state, first + at)));
+    this.spacer.replaceChildren(...this.shown.slice(first, last).map((state, index) => this.rowOf(state, first + index)));
     this.body.setAttribute("aria-activedescendant", this.idOf(this.at));
   }
 
@@ -119,7 +133,7 @@ export class Rows {
       class: `row-line ${strip.kindOf(state)}${at === this.at ? " at" : ""}`,
       role: "option",
       id: this.idOf(at),
-      "aria-selected": String(state.line === strip.line),
+      "aria-selected": String(state.line === strip.chosen),
       "aria-setsize": String(this.shown.length),
       "aria-posinset": String(at + 1),
       "data-at": String(at),

@@ -6,18 +6,19 @@ import * as address from "./address.js";
 import { ask } from "./ask.js";
 import { labelled } from "./labels.js";
 import { isStill } from "./motion.js";
-import { caches } from "./preferences.js";
+import { caches, largeType } from "./preferences.js";
 import { eventsIn } from "./replays.js";
 import { PROTOCOLS, RunView } from "./run_view.js";
 import { tintsOf } from "./tint.js";
-import { tell } from "./told.js";
+import { showError } from "./errors.js";
 
 const PROGRAMS = ["test", "compiled", "bare"];
 // How long a step is shown before it is asked what can be done there, and how many answers are kept.
 const LEARN = 150;
 const MOST_KEPT = 1000;
-// Where keys mean something else.
-const WRITTEN_IN = "textarea, select, input:not([type=checkbox], [type=range]), [role=tab], [role=listbox], dialog";
+// Where keys mean something else, and where arrows do.
+const WRITTEN_IN = "textarea, select, input:not([type=checkbox], [type=range]), dialog";
+const HAS_ARROWS = "[role=tab], [role=listbox]";
 const PRESSED = "button, input, summary, a, label";
 
 // Of each editor the run that is shown.
@@ -40,17 +41,18 @@ const protocolOf = (name) => (PROTOCOLS.includes(name) ? name : "mesi");
 export class Run {
   /**
    * Makes a place for a run. `reached` is called with the line of a state in which a run by hand has ended, `drawn` when another run is shown,
-   * `moved` when it is at another step. `truthOf` says of the line of a state whether the condition holds there, or null if the list does not say.
+   * `moved` when it is at another step, `fenced` when a fence is put into the test or taken out. `truthOf` says of the line of a state whether the
+   * condition holds there, or null if the list does not say.
    */
   constructor(editor, { isLinked = true, graphPlace = null, ...called } = {}) {
     const nothing = () => null;
-    Object.assign(this, { editor, reached: nothing, drawn: nothing, moved: nothing, truthOf: nothing, ...called });
+    Object.assign(this, { editor, reached: nothing, drawn: nothing, moved: nothing, fenced: nothing, truthOf: nothing, ...called });
     Object.assign(this, { isLinked: isLinked && editor.isAlone, isOpen: false, isLocked: false, protocol: "mesi" });
     Object.assign(this, { kept: new Map(), queue: Promise.resolve(), ticket: 0 });
     this.view = new RunView(this, graphPlace);
     this.place = this.view.place;
     document.addEventListener("keydown", (event) => this.key(event));
-    caches.onChange(() => this.isOpen && this.redraw());
+    for (const it of [caches, largeType]) it.onChange(() => this.isOpen && this.redraw());
   }
 
   clear() {
@@ -65,24 +67,27 @@ export class Run {
   // Which run it is.
 
   /**
-   * Shows the run that is listed to a state. `step` is a number or "telling"; `of` says of which text the run is, if it is not that in the
-   * editor; `search` says that the list was made by a search.
+   * Shows the run that is listed to a state; of a source test that of the source, unless `run` is "x86" or it is not known. `step` is a number or
+   * "telling"; `of` says of which text the run is, if it is not that in the editor; `search` says that the list was made by a search. `own` is a
+   * schedule that the test has of its own, or null: that run is shown if it ends in the state, or if `state` is null, and otherwise the run that is
+   * listed to the state, or to `otherwise`.
    */
-  async show(state, { step = 0, run = null, protocol = this.protocol, text = this.editor.text, of = [], play = false, search = false } = {}) {
+  async show(state, { step = 0, run = null, protocol = this.protocol, text = this.editor.text, of = [], play = false, ...how } = {}) {
+    const { search = false, own = null, otherwise = null } = how;
     const ticket = this.prepare(protocol, false);
-    const fields = { text, state, protocol: this.protocol, search };
+    const fields = { text, state, own, otherwise, protocol: this.protocol, search };
     const answer = await ask(this.editor, "film", fields, { place: this.isOpen ? null : this.place });
     if (!answer || ticket !== this.ticket) return;
     if (!answer.films) return this.fail(answer);
-    Object.assign(this, { listed: answer, of, asked: text, goal: state, isSearched: search });
-    this.openListed(run === "source" && answer.films.source ? "source" : "x86");
+    Object.assign(this, { listed: answer, of, asked: text, goal: answer.state, isSearched: search, own });
+    this.openListed(run === "x86" || !answer.films.source ? "x86" : "source");
     await this.go(step);
     if (play && !isStill()) this.view.player.play();
   }
 
   openListed(program) {
     const film = this.listed.films[program];
-    const frames = film.states.map((state, at) => ({ state, before: film.states[Math.max(at - 1, 0)], effect: film.effects[at - 1] ?? null }));
+    const frames = film.states.map((state, index) => ({ state, before: film.states[Math.max(index - 1, 0)], effect: film.effects[index - 1] ?? null }));
     for (const [at, it] of frames.entries()) it.put = putAfter(frames[at - 1]?.put ?? film.cells.map(() => []), it.effect);
     Object.assign(this, { isByHand: false, program, isX86: program === "x86", isSource: "source" in this.listed.films });
     this.open(film.text, film.cells, film.events, frames);
@@ -124,7 +129,7 @@ export class Run {
   fail(answer) {
     this.isOpen = false;
     this.view.clear();
-    tell(answer, this.place, this.editor);
+    showError(answer, this.place, this.editor);
   }
 
   open(text, cells, events, frames) {
@@ -146,11 +151,27 @@ export class Run {
     return this.go(program === "x86" ? "telling" : 0);
   }
 
+  /** Returns whether the run is of the test in an editor that can be changed. */
+  get isOfEditor() {
+    return this.isLinked && !this.of.length && this.asked === this.editor.text;
+  }
+
+  /** Returns whether the run is one that the example has of its own. */
+  get isOwn() {
+    return !this.isByHand && Boolean(this.listed?.isOwn);
+  }
+
+  /** Shows from its start the run that lw lists to the same state. */
+  chooseListed() {
+    const { program, protocol, asked: text, of, isSearched: search } = this;
+    return this.show(this.goal, { run: program, protocol, text, of, search });
+  }
+
   /** Runs the same over caches of another protocol. */
   chooseProtocol(protocol) {
-    const { step, program, asked: text, of, isSearched: search } = this;
+    const { step, program, asked: text, of, isSearched: search, own } = this;
     if (this.isByHand) return this.begin({ schedule: this.scheduleTo(step), run: program, protocol }, { text, of });
-    return this.show(this.goal, { step, run: program, protocol, text, of, search });
+    return this.show(this.goal, { step, run: program, protocol, text, of, search, own });
   }
 
   /** Goes to where a schedule leads. Returns the answer that says why it leads nowhere, or null. */
@@ -193,7 +214,7 @@ export class Run {
       this.frames[step] = { ...answer, put: answer.put ?? this.putAt(step, answer.effect) };
     }
     const direction = this.step === null || Math.abs(step - this.step) !== 1 ? 0 : step - this.step;
-    Object.assign(this, { step, ending: null });
+    Object.assign(this, { step, ending: null, isOpening: wanted === "telling" && step > 0 });
     this.view.draw(direction);
     this.moved();
     this.putAddress();
@@ -251,7 +272,7 @@ export class Run {
     this.view.stage.allow(answer.moves);
     if (answer.state.end.kind !== "Final") return;
     this.ending = answer.ending;
-    this.view.tellStep();
+    this.view.showStep();
     if (this.isByHand && this.view.hasGraph) this.view.drawGraph();
     if (answer.ending && this.isByHand) this.reached(answer.ending.line, this.program);
   }
@@ -259,7 +280,7 @@ export class Run {
   /** Carries out an event, if it can be done when its turn comes. Events that are clicked fast are carried out in sequence. */
   take(event) {
     if (this.isLocked) {
-      this.view.tellLocked();
+      this.view.showLocked();
       return null;
     }
     this.view.player.stop();
@@ -296,9 +317,10 @@ export class Run {
   putAddress() {
     if (!this.isLinked || this.isLocked || !this.isSeen()) return;
     const protocol = this.protocol === "mesi" ? null : this.protocol;
-    const run = this.program === "test" || this.program === "x86" ? null : this.program;
-    const byHand = { view: "hand", schedule: this.scheduleTo(this.step), state: null, step: null };
-    const listed = { view: "states", state: this.goal, step: this.step, schedule: null };
+    const usual = this.isByHand ? "test" : this.isSource ? "source" : "x86";
+    const run = this.program === usual ? null : this.program;
+    const byHand = { view: "hand", schedule: this.scheduleTo(this.step), state: null, own: null, step: null };
+    const listed = { view: "states", state: this.goal, own: this.isOwn ? "1" : null, step: this.step, schedule: null };
     address.put({ ...(this.isByHand ? byHand : listed), run, protocol });
   }
 
@@ -310,11 +332,12 @@ export class Run {
   key(event) {
     if (!this.isOpen || !this.isSeen() || !this.editor.hasKeys || event.altKey || event.ctrlKey || event.metaKey) return;
     const { key, target } = event;
-    if (target.closest(WRITTEN_IN) || (key === " " && target.closest(PRESSED))) return;
+    if (target.closest(WRITTEN_IN)) return;
     const [last, forward, back] = [this.events.length, this.step + 1, this.step - 1];
     const steps = { ArrowRight: forward, PageDown: forward, " ": forward, ArrowLeft: back, PageUp: back, Home: 0, End: last };
     const digit = /^Digit([0-3])$/.exec(event.code)?.[1];
     if (digit !== undefined && Number(digit) < this.cells.length) this.take(`${event.shiftKey ? "D" : "P"}${digit}`);
+    else if (target.closest(HAS_ARROWS) || (key === " " && target.closest(PRESSED))) return;
     else if (key in steps) this.view.player.jump(steps[key]);
     else return;
     event.preventDefault();

@@ -1,9 +1,10 @@
-// What else can be done with a run: its schedule is copied, its pictures are saved, and a schedule that is written is followed.
+// What else can be done with a run: another to the same state is shown, its schedule is copied, its pictures are saved, and a schedule that is
+// written is followed.
 
 import { ask } from "./ask.js";
 import { button, el } from "./dom.js";
 import { copy, save } from "./output.js";
-import { tell } from "./told.js";
+import { showError } from "./errors.js";
 
 export class RunMenu {
   constructor(run) {
@@ -13,7 +14,9 @@ export class RunMenu {
     this.wrong = el("div", { role: "status", class: "small" });
     const enter = (event) => event.key === "Enter" && this.follow();
     this.written = el("input", { type: "text", size: "22", id: id("written"), placeholder: "P0 P0 P1 P1 D0 D1", keydown: enter });
+    this.listed = button("Watch the run that lw lists", () => this.run.chooseListed(), { class: "listed-run" });
     this.place = el("details", { class: "menu" }, el("summary", { "aria-label": "More on this run" }, "⋯"), el("div", { class: "sheet-menu" },
+      this.listed,
       button("Copy the schedule", () => copy(run.events.join(" "), this.said)),
       button("Save this picture", () => this.savePicture(false), { id: id("save-picture") }),
       button("Save all steps as a strip", () => this.savePicture(true), { id: id("save-strip") }),
@@ -23,9 +26,10 @@ export class RunMenu {
       this.wrong));
   }
 
-  /** Closes it: another run is shown. */
+  /** Closes it: another run is shown. If that is one that the example has of its own, the run that lw lists is offered. */
   reset() {
     this.place.open = false;
+    this.listed.hidden = !this.run.isOwn;
     this.said.replaceChildren();
     this.wrong.replaceChildren();
     this.written.value = "";
@@ -38,13 +42,13 @@ export class RunMenu {
     const answer = await ask(editor, "picture", { text, schedule, protocol, strip: isStrip });
     if (answer?.picture) save(isStrip ? "strip.svg" : "machine.svg", "image/svg+xml", answer.picture);
     this.said.textContent = answer?.picture ? "Saved." : "";
-    if (answer && !answer.picture) tell(answer, this.wrong, editor);
+    if (answer && !answer.picture) showError(answer, this.wrong, editor);
   }
 
   /** Follows the schedule that is written, or says what is wrong with it. */
   async follow() {
     const answer = await this.run.follow(this.written.value.trim());
     this.wrong.replaceChildren();
-    if (answer) tell(answer, this.wrong, this.run.editor);
+    if (answer) showError(answer, this.wrong, this.run.editor);
   }
 }

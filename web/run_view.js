@@ -1,41 +1,58 @@
 // What is seen of a run: the row that plays it, the sentence on its step, the machine, and the graph of its events.
 
-import { button, el, plainMark } from "./dom.js";
+import { hiddenHeight, spareHeight } from "./code_window.js";
+import { button, byId, el, plainMark } from "./dom.js";
 import { graphOf } from "./execution_graph.js";
+import { leastHeight, usedRegisters } from "./machine_size.js";
+import { isStill } from "./motion.js";
 import { Player } from "./player.js";
 import { caches } from "./preferences.js";
 import { registerNumber } from "./replays.js";
 import { RunMenu } from "./run_menu.js";
 import { hintOn, stepWords } from "./run_words.js";
-import { Stage, leastHeight, usedRegisters } from "./stage.js";
+import { Stage } from "./stage.js";
 import { threadClass, tintedSentence } from "./tint.js";
-import { refusalOf } from "./told.js";
+import { refusalOf } from "./errors.js";
 
 export const PROTOCOLS = ["mesi", "moesi"];
-// What of a source test can be run by hand, and what of one is listed.
+// What of a source test can be run by hand, and what of one is listed, with what each is.
 const BY_HAND = [["test", "the source, by interleaving"], ["compiled", "the compiled program"], ["bare", "that without its fences"]];
-const LISTED = [["x86", "the compiled program, on x86-TSO"], ["source", "the source, by interleaving"]];
+const LISTED = [
+  ["source", "Source", "The source by interleaving: the threads take turns on one memory"],
+  ["x86", "Compiled to x86", "The compiled program, with its fences, on the x86-TSO machine"],
+];
+// What part of a graph is in sight at least if it counts as seen, or what part of the window it fills; and how often that is looked at.
+const SEEN = 0.9;
+const LOOKS = 20;
 const LOCKED = "First say what you expect: then the machine runs.";
+const OF_COMPILED = "This is the compiled run: ";
+const NO_GRAPH = "Only a run of an x86 program has a graph. ";
 
 export class RunView {
   /** Makes the parts. `graphPlace` is where the graph is drawn, if it is apart from the machine; then it is drawn from the beginning. */
   constructor(run, graphPlace) {
     Object.assign(this, { run, hasGraph: graphPlace !== null, isGraphAside: graphPlace !== null });
     const id = (name) => run.editor.id(name);
-    this.stage = new Stage((event) => run.take(event), (event, refused) => this.refuse(event, refused));
+    this.stage = new Stage((event) => run.take(event), (event, refused) => this.refuse(event, refused), (...fence) => run.fenced(...fence));
     this.graph = graphPlace ?? el("div", { class: "graph-place", role: "status" });
-    this.graphSwitch = button("Graph", () => this.setGraph(!this.hasGraph), {
-      class: "draw-execution", "aria-pressed": String(this.hasGraph), id: id("graph-switch"), title: "The run as a graph of events",
+    this.graphSwitch = button("Graph", () => this.chooseGraph(), {
+      class: "draw-execution", "aria-pressed": "false", id: id("graph-switch"), title: "The run as a graph of events",
     });
+    this.isGraphSeen = false;
+    const threshold = Array.from({ length: LOOKS + 1 }, (_, look) => look / LOOKS);
+    new IntersectionObserver((all) => this.seeGraph(isInSight(all.at(-1))), { threshold }).observe(this.graph);
     this.menu = new RunMenu(run);
     const more = el("span", { class: "more" }, this.graphSwitch, this.menu.place);
     this.player = new Player(id, { go: (step) => run.go(step), isSeen: () => run.isSeen(), more });
     this.words = el("p", { class: "step", role: "status" });
     this.choice = el("div", { class: "choice" });
     this.hint = el("p", { class: "hint" });
+    // A hint that has no room is not shown at all.
+    new ResizeObserver(() => this.hint.classList.toggle("cut", this.hint.scrollHeight > this.hint.clientHeight + 2)).observe(this.hint);
     this.place = el("section", { class: "run", "aria-label": "A run, step by step", tabindex: "-1" });
   }
 
+  /** Removes the machine and the graph. */
   clear() {
     this.player.stop();
     this.graph.replaceChildren();
@@ -62,14 +79,29 @@ export class RunView {
   programChoice() {
     const { run } = this;
     if (!run.isSource) return null;
-    if (!run.isByHand && !run.listed.films.source) return el("span", { class: "small" }, "The run is that of the compiled program.");
-    const options = (run.isByHand ? BY_HAND : LISTED).map(([value, text]) => el("option", { value, selected: value === run.program }, text));
-    const chosen = (event) => run.chooseProgram(event.target.value);
     const isPlain = run.program === "bare" || run.program === "source";
-    const select = el("select", { id: run.editor.id(run.isByHand ? "hand-runs" : "film-run"), change: chosen }, options);
-    return el("label", {}, "What runs ", select, isPlain ? [" ", plainMark()] : null);
+    const mark = isPlain ? [" ", plainMark()] : null;
+    if (!run.isByHand) return el("span", { class: "row", role: "group", "aria-label": "What runs" }, this.listedChoice(), mark);
+    const options = BY_HAND.map(([value, text]) => el("option", { value, selected: value === run.program }, text));
+    const select = el("select", { id: run.editor.id("hand-runs"), change: (event) => run.chooseProgram(event.target.value) }, options);
+    return el("label", {}, el("span", { class: "what-runs" }, "What runs "), select, mark);
   }
 
+  /** Returns buttons that choose which of the two listed runs is shown: of the source and of its compiled program. */
+  listedChoice() {
+    const { run } = this;
+    if (!run.listed.films.source) return el("span", { class: "small" }, "The run is that of the compiled program.");
+    return LISTED.map(([program, text, title]) => {
+      const id = run.editor.id(`run-${program}`);
+      const choose = () => {
+        run.chooseProgram(program);
+        byId(id)?.focus({ preventScroll: true });
+      };
+      return button(text, choose, { id, title, "aria-pressed": String(program === run.program) });
+    });
+  }
+
+  /** Returns the choice of the protocol of caches; null if there are none. */
   protocolChoice() {
     const { run } = this;
     if (!caches.isOn || !run.isX86) return null;
@@ -82,15 +114,38 @@ export class RunView {
   draw(direction) {
     const { run } = this;
     const shown = { ...shownOf(run), direction };
-    for (const it of [this.place, this.place.parentElement]) it?.style.setProperty("--least", String(leastHeight(shown)));
+    if (!direction) this.spare = 0;
+    this.setLeast(leastHeight(shown) - this.spare);
     this.stage.forgetMoves();
     this.stage.draw(shown);
     this.player.show(run.events, run.step, { isOpen: run.isByHand, places: placesOf(run) });
-    this.tellStep();
+    this.showStep();
+    if (!direction) this.fit(leastHeight(shown));
+  }
+
+  /** Says how high the threads' boxes are at least, in letters of the page's size. */
+  setLeast(height) {
+    for (const it of [this.place, this.place.parentElement]) it?.style.setProperty("--least", String(height));
+  }
+
+  /**
+   * Fits the machine into its room: if it would be out of sight otherwise, its boxes become lower by what they have to spare; and if that is too little,
+   * what is in them becomes lower, too.
+   */
+  fit(least) {
+    const { place } = this.stage;
+    const letter = parseFloat(getComputedStyle(document.documentElement).fontSize);
+    for (const isCramped of [false, true]) {
+      place.classList.toggle("cramped", isCramped);
+      this.spare += spareHeight(place) / letter;
+      this.setLeast(least - this.spare);
+      if (hiddenHeight(place) < 2) break;
+    }
+    this.stage.fit();
   }
 
   /** Says what the step has done. */
-  tellStep() {
+  showStep() {
     const { effect } = this.run.frame;
     this.words.className = effect ? `step ${threadClass(effect.thread)}` : "step";
     this.words.replaceChildren(...stepWords(this.run));
@@ -102,36 +157,61 @@ export class RunView {
     this.words.replaceChildren(...tintedSentence(refusalOf(event, refused), this.run.tints));
   }
 
-  tellLocked() {
+  showLocked() {
     this.words.replaceChildren(LOCKED);
   }
 
+  /** Takes note that the graph is in sight, or not any more: its button is lit if it is. */
+  seeGraph(isSeen) {
+    this.isGraphSeen = isSeen && this.hasGraph && this.graph.childElementCount > 0;
+    this.graphSwitch.setAttribute("aria-pressed", String(this.isGraphSeen));
+  }
+
+  /** Shows the graph; one that is drawn out of sight comes into sight, and one in sight goes. */
+  async chooseGraph() {
+    if (this.hasGraph && this.isGraphSeen) return this.setGraph(false);
+    if (!this.hasGraph) await this.setGraph(true);
+    return this.graph.scrollIntoView({ block: "nearest", behavior: isStill() ? "auto" : "smooth" });
+  }
+
+  /** Shows or hides the graph of the run. */
   async setGraph(isOn) {
     this.hasGraph = isOn;
-    this.graphSwitch.setAttribute("aria-pressed", String(isOn));
+    if (!isOn) this.seeGraph(false);
     this.place.classList.toggle("with-graph", isOn && !this.isGraphAside);
     this.graph.replaceChildren();
     if (isOn) await this.drawGraph();
     this.run.drawn();
   }
 
+  /** Draws the graph of the run; of a listed source run that of the compiled program's. Of one by hand it says that there is none. */
   async drawGraph() {
     const { run } = this;
-    if (run.isX86) return graphOf(run.editor, run.text, run.events.join(" "), this.graph, run.tints);
-    return this.graph.replaceChildren(el("p", { class: "small" }, "Only a run of an x86 program has a graph."));
+    const { isX86, isByHand, editor, tints } = run;
+    this.graph.classList.toggle("of-compiled", !isX86);
+    if (isX86) return graphOf(editor, run.text, run.events.join(" "), this.graph, tints);
+    const lead = (words, text, program) => [words, button(text, () => run.chooseProgram(program), { class: "link to-compiled" }), ". "];
+    if (isByHand) return this.graph.replaceChildren(el("p", { class: "small" }, lead(NO_GRAPH, "Run the compiled program by hand", "compiled")));
+    const { films, schedule } = run.listed;
+    return graphOf(editor, films.x86.text, schedule, this.graph, tints, lead(OF_COMPILED, "watch it", "x86"));
   }
+}
+
+/** Returns whether an element is in sight, given what its observer reports: nearly all of it, or as much as the window has room for. */
+function isInSight({ intersectionRect, intersectionRatio }) {
+  return intersectionRatio >= SEEN || intersectionRect.height >= (SEEN - 0.1) * innerHeight;
 }
 
 /** Returns of each event of a run the place of its instruction, as far as it is known; a drain has that of its store. */
 function placesOf({ events, frames, cells }) {
   const stores = cells.map(() => []);
-  return events.map((event, at) => {
+  return events.map((event, index) => {
     const thread = Number(event[1]);
     if (event[0] === "D") return stores[thread].shift() ?? null;
-    const before = frames[at]?.state ?? frames[at + 1]?.before;
+    const before = frames[index]?.state ?? frames[index + 1]?.before;
     if (event[0] !== "P" || !before) return null;
     const place = `${thread}:${before.threads[thread].at}`;
-    if ((frames[at + 1]?.state.threads[thread].buffer?.length ?? 0) > (before.threads[thread].buffer?.length ?? 0)) stores[thread].push(place);
+    if ((frames[index + 1]?.state.threads[thread].buffer?.length ?? 0) > (before.threads[thread].buffer?.length ?? 0)) stores[thread].push(place);
     return place;
   });
 }
@@ -145,5 +225,6 @@ function shownOf(run) {
   // A compiled program's registers have the numbers of the source's.
   const inSource = run.isSource && run.isX86 ? (name) => `r${registerNumber(name)}` : null;
   const isPut = (thread, name) => !frame.put || frame.put[thread].includes(name);
-  return { ...frame, cells, tints, slots, used, drained, inSource, isPut, event: step ? events[step - 1] : null };
+  const hasFences = run.isX86 && !run.isSource && !run.isLocked && run.isOfEditor;
+  return { ...frame, cells, tints, slots, used, drained, inSource, isPut, hasFences, event: step ? events[step - 1] : null };
 }

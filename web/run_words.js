@@ -11,10 +11,23 @@ const BEGIN_OF_SOURCE = "Click a statement to carry it out: the threads take tur
 const HINT_OF_X86 =
   "Click a framed instruction to carry it out, or the lowest entry of a store buffer to let it go to memory: from any step, in any order.";
 const HINT_OF_SOURCE = "Click a framed statement to carry it out: from any step, in any order.";
+const LETTERS_OF_MESI =
+  "Cache lines: M modified (memory's own word is old), E exclusive, S shared, I invalid (not held). Click one to give it up.";
+const LETTERS_OF_MOESI =
+  "Cache lines: M modified, O owned (both: memory's own word is old), E exclusive, S shared, I invalid (not held). Click one to give it up.";
+const KEYS_OF_X86 =
+  "By keys: 0 to 3 carry out the next instruction of that thread, with Shift its oldest entry drains; ← and → go back and forward.";
+const KEYS_OF_SOURCE = "By keys: 0 to 3 carry out the next statement of that thread; ← and → go back and forward.";
 
-/** Returns a sentence that says what can be clicked. */
-export function hintOn({ slots }) {
-  return slots.some(Boolean) ? HINT_OF_X86 : HINT_OF_SOURCE;
+/**
+ * Returns a sentence that says what can be clicked; of a run by hand, where the sentence on its start says that, which keys do the same. If cache
+ * lines are shown, it says what their letters mean.
+ */
+export function hintOn({ slots, isByHand, isX86: hasCaches, protocol }) {
+  if (caches.isOn && hasCaches) return protocol === "moesi" ? LETTERS_OF_MOESI : LETTERS_OF_MESI;
+  const isX86 = slots.some(Boolean);
+  if (isByHand) return isX86 ? KEYS_OF_X86 : KEYS_OF_SOURCE;
+  return isX86 ? HINT_OF_X86 : HINT_OF_SOURCE;
 }
 
 /** Returns the sentence on the step that a run is at. */
@@ -23,7 +36,13 @@ export function stepWords(run) {
   const number = numberWords(run);
   const step = number && el("span", { class: "number-of-step" }, number, " ");
   const done = effect ? tintedSentence(`${run.names(doneWords(effect), effect.thread)}.`, run.tints) : [beginWords(run)];
-  return [step, ...done, ...endWords(run)];
+  return [step, ...done, ...endWords(run), run.isOpening ? openingWords(run.frame.state) : null].filter(Boolean);
+}
+
+/** Returns why a run opens at a step in its middle. */
+function openingWords({ threads }) {
+  const waiting = threads.reduce((sum, it) => sum + (it.buffer?.length ?? 0), 0);
+  return el("span", { class: "opening" }, ` This step is shown first: ${waiting === 1 ? "a store waits" : `${waiting} stores wait`}.`);
 }
 
 /** Returns the number of the step; of a run by hand its length only if events follow, and nothing before the first event. */
@@ -32,6 +51,7 @@ function numberWords({ isLocked, isByHand, step, events }) {
   return isByHand && step === events.length ? `Step ${step}:` : `Step ${step} of ${events.length}:`;
 }
 
+/** Returns the words at the start of a run. */
 function beginWords({ isLocked, isByHand, events, frame }) {
   if (isLocked) return LOCKED;
   if (!isByHand || events.length) return BEGIN;
@@ -54,6 +74,6 @@ function endWords({ frame, isByHand, ending, goal, isLinked, editor, truthOf }) 
   const line = isByHand ? ending?.line : goal;
   const state = line && !isLinked && editor.isAlone ? [" in ", el("code", {}, line)] : [];
   const holds = (line && truthOf(line)) ?? ending?.holds ?? null;
-  const told = holds === null ? ["."] : [holds ? ". The condition holds." : ". The condition does not hold."];
-  return [" ", el("strong", {}, "The run has ended"), ...state, ...told];
+  const verdict = holds === null ? ["."] : [holds ? ". The condition holds." : ". The condition does not hold."];
+  return [" ", el("strong", {}, "The run has ended"), ...state, ...verdict];
 }

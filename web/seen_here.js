@@ -63,6 +63,7 @@ export function sentenceOn({ runs, seconds, processors, listed, seen, list }) {
   return `${many}: seen here ${found} of ${listed} listed states (the list by ${list}).`;
 }
 
+/** Returns the table of what was seen on this machine. */
 function shown(answer) {
   const rows = rowsOf(answer).map(([state, said]) => el("tr", {}, el("th", { scope: "row" }, el("code", {}, state)), el("td", {}, said)));
   const head = el("tr", {}, el("th", { scope: "col" }, "State"), el("th", { scope: "col" }, "Seen on this machine"));

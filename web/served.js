@@ -8,7 +8,12 @@ export const NO_SERVER = "The server does not answer. Start ./page again.";
 export class Served {
   room = "it may have (1 GiB)";
 
-  /** Returns the answer to words as on the command line: the status, whether a fault is told, and the bytes of the answer or of the fault. */
+  /**
+   * Returns the answer to words as on the command line: the status, whether it is a fault, and the bytes of the answer or of the fault.
+   * @param {string[]} words
+   * @param {Uint8Array} text
+   * @returns {{status: number, isFault: boolean, out: Uint8Array}}
+   */
   run(words, text) {
     const { status, printed, fault, error } = asked("run", { words, text: textOf(text) });
     if (error) throw new NoAnswer(error);

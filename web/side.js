@@ -3,9 +3,16 @@
 import { aligned } from "./aligned.js";
 import { forget } from "./ask.js";
 import { el } from "./dom.js";
+import { largeType } from "./preferences.js";
 import { States } from "./states.js";
 import { textNodes, tintsOf } from "./tint.js";
 import { nameOf } from "./tokens.js";
+
+// A text is broad if one of its lines has more letters; of how many letters it has no room beside what is said of the test, in a window of less
+// than a width, and in a wider one.
+const BROAD = 36;
+const MOST_BESIDE = 50;
+const WIDE = matchMedia("(min-width: 100rem)");
 
 /** Holds the text of a test in place of the editor: it is shown, and neither changed nor marked. */
 class Sheet {
@@ -14,6 +21,8 @@ class Sheet {
     this.place = el("pre", { class: "program", role: "group", "aria-label": "The text of the test", tabindex: "0" });
     this.isAlone = false;
     this.hasKeys = false;
+    WIDE.addEventListener("change", () => this.fit());
+    largeType.onChange(() => this.fit());
   }
 
   id(name) {
@@ -26,7 +35,15 @@ class Sheet {
 
   set text(text) {
     this.shown = text;
-    this.place.replaceChildren(...textNodes(aligned(text), tintsOf(text)));
+    this.place.replaceChildren(...textNodes(aligned(text).trimEnd(), tintsOf(text)));
+    this.fit();
+  }
+
+  /** Makes the type of a broad text smaller, and if it has no room beside what is said of the test, puts it above that. */
+  fit() {
+    const letters = Math.max(...this.place.textContent.split("\n").map((it) => it.length));
+    this.place.classList.toggle("broad", letters > BROAD);
+    this.place.classList.toggle("stacked", letters > (WIDE.matches ? BROAD : MOST_BESIDE) && !largeType.isOn);
   }
 }
 

@@ -5,23 +5,36 @@ import { canonicalText, instructionText } from "./canonical.js";
 import { sortedSites } from "./propositions.js";
 import { listOfStates } from "./walk.js";
 
-/** Returns the places of all fences: a thread, and the number of the instruction. */
+/**
+ * Returns the places of all fences: a thread, and the number of the instruction.
+ * @param {Test} test
+ * @returns {Place[]}
+ */
 export function fencesOf(test) {
-  return test.threads.flatMap((code, thread) => code.flatMap((it, at) => (it.kind === "mfence" ? [[thread, at]] : [])));
+  return test.threads.flatMap((code, thread) => code.flatMap((it, index) => (it.kind === "mfence" ? [[thread, index]] : [])));
 }
 
-/** Returns a test without some of its fences. A jump to one of them targets the instruction after it. */
+/**
+ * Returns a test without some of its fences. A jump to one of them targets the instruction after it.
+ * @param {Test} test
+ * @param {Place[]} leftOut
+ * @returns {Test}
+ */
 export function without(test, leftOut) {
   const threads = test.threads.map((code, thread) => {
     const gone = leftOut.filter(([of]) => of === thread).map(([, at]) => at);
     const moved = (target) => target - gone.filter((at) => at < target).length;
-    const kept = code.filter((_, at) => !gone.includes(at));
+    const kept = code.filter((_, index) => !gone.includes(index));
     return kept.map((it) => (it.target === undefined ? it : { ...it, target: moved(it.target) }));
   });
   return { ...test, threads };
 }
 
-/** Returns a test that shows all registers that it uses, and all locations. */
+/**
+ * Returns a test that shows all registers that it uses, and all locations.
+ * @param {Test} test
+ * @returns {Test}
+ */
 export function showingEverything(test) {
   const used = test.threads.flatMap((code, thread) =>
     code.flatMap((it) => [it.register, it.value?.register].filter((at) => at !== undefined).map((register) => ({ thread, register }))),
@@ -29,7 +42,12 @@ export function showingEverything(test) {
   return { ...test, listed: sortedSites([...test.listed, ...used, ...test.locations.map((_, location) => ({ location }))]) };
 }
 
-/** Returns the place of a fence in words. */
+/**
+ * Returns the place of a fence in words.
+ * @param {Test} test
+ * @param {Place} place
+ * @returns {string}
+ */
 function placeOf(test, [thread, at]) {
   const behind = test.threads[thread][at + 1];
   return `P${thread} at ${at}${behind ? `, before ${instructionText(test, behind)}` : ""}`;
@@ -42,6 +60,7 @@ class Lists {
     this.answeredBy = new Set();
   }
 
+  /** Returns the list of a test's states by the program, or by the page's own walk. */
   whole(test) {
     const list = this.listOf(canonicalText(test));
     this.answeredBy.add(list ? "program" : "plain");
@@ -56,6 +75,9 @@ class Lists {
 /**
  * Returns of each fence its place, and the states that are new if only it is left out; the fences that are enough; the number of states, and of those
  * in which the proposition is true. `listOf` gives the lines of the states of a text, and that number; or null where lw refuses it.
+ * @param {Test} test
+ * @param {function(string): ({lines: string[], positive: number} | null)} listOf
+ * @returns {{rows: {place: string, added: string[]}[], enough: string[], states: number, positive: number, answered_by: string[]}}
  */
 export function tableOfFences(test, listOf) {
   const lists = new Lists(listOf);

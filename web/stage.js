@@ -2,87 +2,38 @@
 // memory, below all. The next instruction and the oldest entry are buttons: what is clicked happens. One state is drawn at a time; from one
 // to the next a word moves from where it was to where it is.
 
-import { showNext, watchCodes } from "./code_window.js";
+import { fitCodes, showNext, watchCodes } from "./code_window.js";
 import { el } from "./dom.js";
+import { fenceButton, goToFence } from "./fence_buttons.js";
 import { flightsOf } from "./flights.js";
+import { MOST_SLOTS, hasLongStores, isDense, isFew, isRoomy, isStacked, isTall, isTight } from "./machine_size.js";
 import { fly, glow, isStill, placesIn, settle } from "./motion.js";
 import { caches } from "./preferences.js";
 import { codeNodes, threadClass } from "./tint.js";
 
-const MOST_SLOTS = 4;
-// How many letters the text of a store has at least whose entry needs the width of its box.
-const LONG_STORE = 18;
 // Causes that need no words: there is nothing to be done.
 const NOTHING_LEFT = ["Ended", "BufferEmpty", "NotHeld"];
-// Of how many threads, slots and lines at most the machine is shown large.
-const ROOMY = { threads: 2, slots: 2, lines: 5 };
-
-/** Returns the registers that a thread's code names, or that have a word other than 0 in one of some states. */
-export function usedRegisters(cells, states, thread) {
-  const named = new Set(cells[thread].flatMap((it) => it.text.match(/\w+/g) ?? []));
-  for (const state of states) for (const [name, word] of state.threads[thread].registers) if (word) named.add(name);
-  return named;
-}
-
-/** Returns whether registers are shown above the store buffer: in a narrow box, if there are many of them or if entries are long. */
-function isStacked({ cells }, number) {
-  return cells.length > 2 && (number > 2 || hasLongStores(cells));
-}
-
-function hasLongStores(cells) {
-  return cells.flat().some(({ text }) => /\bMOV \[/.test(text) && text.length > LONG_STORE);
-}
-
-function isTight({ cells, slots }) {
-  return cells.length > ROOMY.threads || slots.some((it) => it > ROOMY.slots);
-}
-
-/** Returns whether the threads have so many registers that only a dense machine has room. */
-function isDense({ cells, state, used }) {
-  const registers = state.threads.map((it, thread) => it.registers.filter(([name]) => used[thread].has(name)).length);
-  return cells.length > 3 ? Math.max(...registers) > 2 : cells.length > 2 && Math.max(...registers) > 4;
-}
-
-/** Returns whether a store buffer has so many slots that its entries are low. */
-function isTall({ slots }) {
-  return slots.some((it) => it >= MOST_SLOTS);
-}
-
-function isRoomy(shown) {
-  return !isTight(shown) && shown.cells.every((it) => it.length <= ROOMY.lines);
-}
-
-/** Returns how high the threads' boxes are at least, in letters of the page's size. If there is less room, the page is scrolled. */
-export function leastHeight(shown) {
-  const { cells, slots, used, state } = shown;
-  const [threads, dense] = [cells.length, isDense(shown)];
-  const heights = cells.map((lines, thread) => {
-    const registers = state.threads[thread].registers.filter(([name]) => used[thread].has(name)).length;
-    const stacked = isStacked(shown, registers);
-    const inRow = stacked ? 3 : threads > 3 && !dense ? 1 : threads > 2 ? 2 : 4;
-    const rows = Math.ceil(registers / inRow) * (dense ? 1.4 : threads > 2 ? 1.9 : 2.2);
-    const entry = dense ? 1.75 : isTall(shown) ? 1.7 : threads > 2 || slots[thread] > ROOMY.slots ? 2.05 : 2.4;
-    const buffer = 1.4 + Math.max(1, Math.min(slots[thread], MOST_SLOTS)) * entry;
-    return 2.8 + Math.min(lines.length + 1, 3) * (dense ? 1.4 : 1.6) + (stacked ? rows + buffer : Math.max(rows, buffer));
-  });
-  return Math.max(...heights);
-}
+// What the letters of cache lines mean.
+const LETTERS = { M: "modified", O: "owned", E: "exclusive", S: "shared", I: "invalid, not held" };
 
 export class Stage {
-  /** Makes an empty machine. It calls `act` with the event that is clicked, and `refuse` with an event that can't be carried out, and why. */
-  constructor(act, refuse) {
-    Object.assign(this, { act, refuse, moves: new Map() });
-    this.place = el("div", { class: "machine" });
+  /**
+   * Makes an empty machine. It calls `act` with the event that is clicked, `refuse` with an event that can't be carried out, and why, and `fence`
+   * with a thread, the number of its instruction before which a fence is put, or of the fence that is taken out, and whether it is put.
+   */
+  constructor(act, refuse, fence) {
+    Object.assign(this, { act, refuse, fence, moves: new Map() });
+    this.place = el("div", { class: "machine", keydown: (event) => goToFence(event) });
     watchCodes(this.place);
   }
 
   /**
    * Draws a state. `shown` has the `cells`, the `state` and that `before` it, the `event` between them with its `effect`, which registers
    * are `used`, the `tints`, how many entries have left each buffer (`drained`), and `direction`: 1 for a step forward, -1 back, 0 for a jump.
-   * `isPut` says of a thread and the name of a register whether an event has put a word into it.
+   * `isPut` says of a thread and the name of a register whether an event has put a word into it, and `hasFences` whether fences can be put.
    */
   draw(shown) {
-    const focused = this.place.contains(document.activeElement) ? document.activeElement.dataset.event : null;
+    const { event: focused = null, fence = null } = this.place.contains(document.activeElement) ? document.activeElement.dataset : {};
     const was = placesIn(this.place);
     const before = this.shown;
     this.shown = shown;
@@ -90,13 +41,21 @@ export class Stage {
     this.place.style.setProperty("--threads", String(threads.length));
     this.place.classList.toggle("tight", isTight(shown));
     this.place.classList.toggle("roomy", isRoomy(shown));
+    this.place.classList.toggle("few", isFew(shown));
     this.place.classList.toggle("dense", isDense(shown));
     this.place.classList.toggle("tall", isTall(shown));
     this.place.replaceChildren(el("div", { class: "threads" }, threads), this.memory());
     this.mark();
     showNext(this.place);
     if (focused) (this.find(`[data-event="${CSS.escape(focused)}"]`) ?? this.find("[data-event]"))?.focus();
+    if (fence) this.find(`[data-fence="${fence}"]`)?.focus({ preventScroll: true });
     if (shown.direction && before && !isStill()) this.move(was, shown.direction > 0 ? shown : before, shown.direction);
+  }
+
+  /** Fits the code into the room that there is, once all that is above the machine is shown. */
+  fit() {
+    fitCodes(this.place);
+    showNext(this.place);
   }
 
   find(css) {
@@ -109,6 +68,7 @@ export class Stage {
   allow(moves) {
     this.moves = new Map(moves.map((it) => [it.event, it]));
     this.mark();
+    showNext(this.place);
   }
 
   /** Forgets what can be done: until the machine has answered nothing is refused, and a click waits for its answer. */
@@ -116,6 +76,7 @@ export class Stage {
     this.moves = new Map();
   }
 
+  /** Marks the events that are refused now. */
   mark() {
     const refusedOf = (event) => this.moves.get(event)?.refused ?? null;
     const hasWords = (refused) => refused !== null && !NOTHING_LEFT.includes(refused.cause);
@@ -129,6 +90,7 @@ export class Stage {
     }
   }
 
+  /** Returns the button of an event, which says why the event is refused if it is. */
   buttonOf(event, label, attributes, ...inner) {
     const clicked = () => {
       const refused = this.moves.get(event)?.refused;
@@ -140,6 +102,7 @@ export class Stage {
 
   // A thread.
 
+  /** Returns a thread: its code, its registers and its store buffer. */
   threadOf(place, thread) {
     const registers = this.registersOf(place, thread);
     const stacked = isStacked(this.shown, registers.length) ? ` stacked${hasLongStores(this.shown.cells) ? " long" : ""}` : "";
@@ -155,15 +118,19 @@ export class Stage {
     );
   }
 
+  /** Returns the code of a thread, in which the next instruction is marked. */
   code(place, thread) {
     const cells = this.shown.cells[thread];
     const isEnd = cells.every((it) => it.at < place.at || it.text.endsWith(":"));
     const end = el("li", { class: isEnd ? "end reached" : "end" }, el("span", { class: "line" }, isEnd ? "at its end" : "end"));
-    return el("ol", { class: "code", "aria-label": "code" }, cells.map((it) => this.lineOf(it, place, thread)), end);
+    const fences = this.shown.hasFences ? cells.map((it) => fenceButton(it, cells, thread, this.fence)) : [];
+    const first = fences.find(Boolean);
+    if (first) first.tabIndex = 0;
+    return el("ol", { class: "code", "aria-label": "code" }, cells.map((it, index) => this.lineOf(it, place, thread, fences[index])), end);
   }
 
   /** Returns a line of code; the next instruction is a button. */
-  lineOf(cell, place, thread) {
+  lineOf(cell, place, thread, fence = null) {
     const { tints, effect, event, before } = this.shown;
     const isLabel = cell.text.endsWith(":");
     const isNext = cell.at === place.at && !isLabel;
@@ -174,13 +141,14 @@ export class Stage {
     const text = codeNodes(cell.text, tints, thread);
     const label = `P${thread}: carry out ${cell.text}`;
     const line = isNext ? this.buttonOf(`P${thread}`, label, attributes, text) : el("span", attributes, text);
-    return el("li", { class: kinds.filter(Boolean).join(" "), "aria-current": isNext ? "step" : null }, line);
+    return el("li", { class: kinds.filter(Boolean).join(" "), "aria-current": isNext ? "step" : null }, line, fence);
   }
 
   registersOf(place, thread) {
     return place.registers.filter(([name]) => this.shown.used[thread].has(name));
   }
 
+  /** Returns the registers of a thread, in which changes are marked. */
   registerList(registers, thread) {
     const { before, effect } = this.shown;
     const old = new Map(before.threads[thread].registers);
@@ -200,7 +168,7 @@ export class Stage {
   buffer(entries, thread) {
     const room = Math.max(Math.min(this.shown.slots[thread], MOST_SLOTS), entries.length, 1);
     const empty = Array.from({ length: room - entries.length }, () => el("li", { class: "slot", "aria-hidden": "true" }));
-    const full = entries.map((_, at) => el("li", {}, this.entryOf(entries, at, thread))).reverse();
+    const full = entries.map((_, index) => el("li", {}, this.entryOf(entries, index, thread))).reverse();
     const label = entries.length ? "store buffer, the oldest entry last" : "store buffer: empty";
     const caption = el("span", { class: "caption" }, el("span", { class: "long-word" }, "store "), "buffer");
     const kind = this.shown.slots[thread] ? "buffer" : "buffer without-stores";
@@ -227,15 +195,17 @@ export class Stage {
     const old = new Map(this.shown.before.threads[thread].lines);
     const rows = now.map(([name, letter]) => {
       const kind = `cacheline ${this.shown.tints.of(name)}${old.get(name) !== letter ? " changed" : ""}${letter === "I" ? " invalid" : ""}`;
-      const label = `P${thread}: the cache gives up its line of ${name}, which is ${letter}`;
+      const label = `P${thread}: the cache gives up its line of ${name}, which is ${letter}, ${LETTERS[letter]}`;
       const inner = [el("span", { class: "name" }, name), valueOf(letter)];
-      return el("li", {}, this.buttonOf(`E${thread}:${name}`, label, { class: kind, title: "give up this line" }, inner));
+      const attributes = { class: kind, title: `${letter}: ${LETTERS[letter]}. Click to give it up.` };
+      return el("li", {}, this.buttonOf(`E${thread}:${name}`, label, attributes, inner));
     });
     return el("div", { class: "cache" }, el("span", { class: "caption" }, "cache lines"), el("ul", {}, rows));
   }
 
   // Memory.
 
+  /** Returns the words of memory. */
   memory() {
     const { state } = this.shown;
     const hasLines = caches.isOn && state.threads.some((it) => it.lines);
@@ -244,6 +214,7 @@ export class Stage {
     return el("section", { class: "memory", "aria-label": title }, el("h3", {}, hasLines ? "memory with caches" : "memory"), el("ul", {}, words));
   }
 
+  /** Returns a word of memory, in which changes are marked. */
   wordOf(name, word, hasLines) {
     const { state, before, effect, tints } = this.shown;
     const wordIn = (pairs) => new Map(pairs).get(name);

@@ -8,7 +8,11 @@ import { NoTest } from "./tokens.js";
 
 const MOST_STATEMENTS = { SRC: 16, X86: 32 };
 
-/** Reads a number, in an x86 test with a `$` before it or without, or a register. */
+/**
+ * Reads a number, in an x86 test with a `$` before it or without, or a register.
+ * @param {TokenReader} reader
+ * @returns {Value}
+ */
 function value(reader) {
   if (reader.test.language === "X86" && reader.next === "$") {
     reader.take("$");
@@ -17,7 +21,11 @@ function value(reader) {
   return reader.kind === "number" ? { number: reader.number() } : { register: reader.register() };
 }
 
-/** Reads a statement of a source test. */
+/**
+ * Reads a statement of a source test.
+ * @param {TokenReader} reader
+ * @returns {Statement}
+ */
 function sourceStatement(reader) {
   if (reader.next === "if") return conditionalJump(reader);
   if (reader.next === "goto") {
@@ -35,6 +43,11 @@ function sourceStatement(reader) {
   return assignment(reader, register);
 }
 
+/**
+ * Reads `if r = n goto L`, or one with `!=`.
+ * @param {TokenReader} reader
+ * @returns {Statement}
+ */
 function conditionalJump(reader) {
   reader.take("if");
   const register = reader.register();
@@ -45,7 +58,12 @@ function conditionalJump(reader) {
   return { kind: sign === "=" ? "if equal" : "if unequal", register, value: { number }, target: reader.name() };
 }
 
-/** Reads what follows `d :=` for a register d. */
+/**
+ * Reads what follows `d :=` for a register d.
+ * @param {TokenReader} reader
+ * @param {number} register
+ * @returns {Statement}
+ */
 function assignment(reader, register) {
   if (reader.next === "swap" || reader.next === "fetchadd") {
     const kind = reader.take();
@@ -62,7 +80,11 @@ function assignment(reader, register) {
   return { kind: "sum", register, value: value(reader), left };
 }
 
-/** Reads an instruction of an x86 test. */
+/**
+ * Reads an instruction of an x86 test.
+ * @param {TokenReader} reader
+ * @returns {Statement}
+ */
 function instruction(reader) {
   const mnemonic = reader.name().toUpperCase();
   if (mnemonic === "MFENCE") return { kind: "mfence" };
@@ -79,6 +101,11 @@ function instruction(reader) {
   throw new NoTest(`${locked} is not read`);
 }
 
+/**
+ * Reads the operands of MOV.
+ * @param {TokenReader} reader
+ * @returns {Statement}
+ */
 function move(reader) {
   if (reader.next === "[") {
     const location = reader.inBrackets();
@@ -91,7 +118,12 @@ function move(reader) {
   return { kind: "set", register, value: value(reader) };
 }
 
-/** Reads the operands of XCHG, in both orders, or of XADD, with the location first. */
+/**
+ * Reads the operands of XCHG, in both orders, or of XADD, with the location first.
+ * @param {TokenReader} reader
+ * @param {string} kind
+ * @returns {Statement}
+ */
 function exchange(reader, kind) {
   if (reader.next === "[" || kind === "xadd") {
     const location = reader.inBrackets();
@@ -103,7 +135,12 @@ function exchange(reader, kind) {
   return { kind, register, location: reader.inBrackets() };
 }
 
-/** Reads the statements of a thread, and resolves its jumps. */
+/**
+ * Reads the statements of a thread, and resolves its jumps.
+ * @param {Test} test
+ * @param {Token[][]} cells
+ * @returns {Statement[]}
+ */
 export function threadOf(test, cells) {
   const statements = [];
   const labels = new Map();
@@ -111,23 +148,35 @@ export function threadOf(test, cells) {
     const reader = new TokenReader(test, cell);
     while (reader.isBefore(":")) takeLabel(reader, labels, statements.length);
     if (reader.next !== null) statements.push(test.language === "SRC" ? sourceStatement(reader) : instruction(reader));
-    if (reader.next !== null) throw new NoTest(`${reader.next} stands behind a statement`);
+    if (reader.next !== null) throw new NoTest(`${reader.next} comes after a statement`);
   }
   if (statements.length > MOST_STATEMENTS[test.language]) throw new NoTest("a thread has too many statements");
-  return statements.map((it, at) => resolved(it, at, labels));
+  return statements.map((it, position) => resolved(it, position, labels));
 }
 
-function takeLabel(reader, labels, at) {
+/**
+ * Reads a label, and records its target: a statement's position.
+ * @param {TokenReader} reader
+ * @param {Map<string, number>} labels
+ * @param {number} position
+ */
+function takeLabel(reader, labels, position) {
   const label = reader.name();
   if (labels.has(label) || isReserved(label)) throw new NoTest(`${label} can't be a label here`);
-  labels.set(label, at);
+  labels.set(label, position);
   reader.take(":");
 }
 
-/** Returns a statement with its jump's label resolved. */
-function resolved(statement, at, labels) {
+/**
+ * Returns a statement with the position that its jump targets in place of the label.
+ * @param {Statement} statement
+ * @param {number} position
+ * @param {Map<string, number>} labels
+ * @returns {Statement}
+ */
+function resolved(statement, position, labels) {
   if (statement.target === undefined) return statement;
   const target = labels.get(statement.target) ?? 0;
-  if (target <= at) throw new NoTest(`a jump to ${statement.target} leads nowhere, or not forward`);
+  if (target <= position) throw new NoTest(`a jump to ${statement.target} leads nowhere, or not forward`);
   return { ...statement, target };
 }

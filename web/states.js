@@ -7,42 +7,51 @@ import { keyOf } from "./differences.js";
 import { button, el, plainMark, sentence } from "./dom.js";
 import * as guess from "./guess.js";
 import { missingState } from "./missing.js";
+import { largeType } from "./preferences.js";
 import { asPrinted, leftOut, propositionOf, saveReport } from "./reports.js";
 import { Run } from "./run.js";
+import { countPrediction } from "./score.js";
 import { isTooLong, searchOffer } from "./search.js";
 import { SeenHere } from "./seen_here.js";
 import { Strip } from "./strip.js";
 import { codeNodes, testName, tintedSentence, tintsOf } from "./tint.js";
-import { tell, tellNothing } from "./told.js";
+import { showError, clearFault } from "./errors.js";
 import { countWords, headlineOf } from "./verdicts.js";
 
 // Of how many states at most the list is shown as lw prints it.
 const MOST_PRINTED = 500;
 // The two ways in which a list is made, in words.
 const BY = {
-  enumerated: ["complete (proved)", "The orders of what conflicts were enumerated. That lists all final states and no others, which is proved."],
-  searched: ["complete (proved), by a search", "The machine's states were searched. That lists all final states and no others, which is proved."],
+  enumerated: ["complete (proved)", "lw went through all orders of accesses that conflict. That lists all final states and no others, which is proved."],
+  searched: ["complete (proved), by a search", "lw searched the states of the machine. That lists all final states and no others, which is proved."],
 };
 const SIGNS = { can: "○", yes: "✓", no: "⊘", wrong: "!" };
-const VEILED = "The answer comes when you have found all states by hand, or in Watch.";
+const VEILED = "The answer comes when a run of yours decides it, when you have found all states, or in Watch.";
 const unmarked = () => [
   "States are not marked, since the page's own reader ", plainMark(), " does not find as many in which the condition holds as lw counts.",
 ];
 
-/** Returns what is said of the reader's guess. */
-function guessedWords(isRight) {
-  return el("p", { class: `said ${isRight ? "right" : "wrong"}` }, isRight ? "✓ As you said." : "✗ Not as you said.");
+/** Returns what is said of the reader's guess, if there is one, with the `reason` if it was wrong, and buttons that ask again and on another test. */
+function guessedWords(said, isSo, again, reason) {
+  const words = said === null ? "" : said === isSo ? "✓ As you said." : "✗ Not as you said.";
+  const kind = said === null ? "" : said === isSo ? " right" : " wrong";
+  const why = kind === " wrong" && reason.length ? el("span", { class: "reason" }, reason, " ") : null;
+  const more = [button("Predict again", again, { class: "link again" }), " ", button("Surprise me", () => null, { class: "link again surprise" })];
+  return el("p", { class: `said${kind}` }, words, " ", why, more);
 }
 
 export class States {
   /**
    * Makes the places for a verdict, a list and a run. `revealed` is called when a list is shown, and when it is gone: `report` is that list, or null.
-   * `why` is called with a missing state, `drawn` when another run is shown, `moved` when it is at another step. Runs are shown in `runPanel`, and
-   * their graph in `graphPlace`. `firstStep` is the step at which the first run is shown: "telling", or a number. `next` is shown below the run.
+   * `why` is called with a missing state, `watched` with one whose run the reader wants to see, `drawn` when another run is shown, `moved` when it is at another step. Runs are shown in `runPanel`, and
+   * their graph in `graphPlace`. `firstStep` is the step at which the first run is shown: "telling", or a number. `ownOf` returns the schedule that
+   * a text has of its own, or null. `fenced` is called if a fence is put into the test or taken out. `next` is shown below the run.
    */
   constructor(panel, editor, revealed = () => null, more = {}) {
-    const { why = null, runPanel = panel, graphPlace = null, firstStep = "telling", next = null, veiled = () => null, ...called } = more;
-    Object.assign(this, { editor, revealed, veiled, firstStep, report: null, isByHand: false, isSearched: false, isVeiled: false, found: new Set() });
+    const { why = null, runPanel = panel, graphPlace = null, firstStep = "telling", next = null, ...others } = more;
+    const { veiled = () => null, ownOf = () => null, watched = null, ...called } = others;
+    Object.assign(this, { editor, revealed, veiled, ownOf, firstStep, why, watched });
+    Object.assign(this, { report: null, isByHand: false, isSearched: false, isVeiled: false, found: new Set(), answered: null });
     this.verdict = el("div", { role: "status", tabindex: "-1", class: "verdicts" });
     this.list = el("div", { class: "list-place" });
     this.strip = new Strip(editor, { choose: (line) => this.choose(line), why });
@@ -50,16 +59,18 @@ export class States {
     this.run = new Run(editor, { reached, truthOf: (line) => this.truthOf(line), graphPlace, ...called });
     panel.append(this.verdict, this.list, this.strip.place);
     this.here = new SeenHere(editor);
+    largeType.onChange(() => this.strip.layOut());
     runPanel.append(this.run.place, el("div", { class: "row after-run" }, this.here.place, next));
   }
 
+  /** Removes the list, the verdict and the run. */
   clear() {
     this.verdict.replaceChildren();
     this.list.replaceChildren();
     this.strip.clear();
     this.run.clear();
     this.here.offer(null);
-    Object.assign(this, { report: null, isVeiled: false, found: new Set() });
+    Object.assign(this, { report: null, isVeiled: false, found: new Set(), answered: null });
     this.veiled(false);
     this.revealed();
   }
@@ -72,7 +83,7 @@ export class States {
    */
   async ask(link = null, { isKept = false, search = false, most = null } = {}) {
     if (!isKept) this.clear();
-    tellNothing(this.editor);
+    clearFault(this.editor);
     const { text } = this.editor;
     const answer = await ask(this.editor, "states", { text, search }, { place: this.list, most });
     if (!answer) return false;
@@ -87,7 +98,7 @@ export class States {
   /** Says why there is no list. If it would take too long, a search is offered, and single runs can be made by hand. */
   fail(answer, text, link, isSearched) {
     if (answer.fault) guess.settle(text);
-    tell(answer, this.list, this.editor);
+    showError(answer, this.list, this.editor);
     if (answer.fault) this.verdict.replaceChildren();
     const search = () => this.ask(link, { search: true });
     if (isSearched || isTooLong(answer)) this.list.append(searchOffer(search, this.editor.id("search-instead")));
@@ -106,6 +117,12 @@ export class States {
     this.run.begin({}, { isLocked: true });
   }
 
+  /** Has the reader predict once more. */
+  askAgain() {
+    guess.forgetGuess(this.editor.text);
+    this.ask();
+  }
+
   /** Shows the list after the guess. The verdict is kept back if the reader looks for the states by hand. */
   revealGuessed(answer, link) {
     const isHere = this.list.contains(document.activeElement);
@@ -114,31 +131,43 @@ export class States {
     if (isHere) this.verdict.focus({ preventScroll: true });
   }
 
+  /** Shows a report, or asks for a guess first. */
   reveal({ report, language, words }, link) {
-    Object.assign(this, { report, language, words, isVeiled: this.isByHand || link?.view === "hand" });
-    this.tellVerdict();
-    this.list.replaceChildren(leftOut(report) ?? "", report.is_marked ? "" : el("p", { class: "small" }, unmarked()));
+    // What was found of another text is not found of this one.
+    if (this.foundIn !== this.editor.text) Object.assign(this, { foundIn: this.editor.text, found: new Set() });
+    Object.assign(this, { report, language, words, isVeiled: this.isKeptBack(this.isByHand || link?.view === "hand") });
+    this.showVerdict();
+    this.showNotes();
     this.here.offer(this.isByHand ? null : this.editor.text);
     this.strip.show(report, tintsOf(this.editor.text), missingState(report, questionOf(this.editor.text)));
     this.revealed();
     if (this.isByHand) return this.beginByHand(link?.view === "hand" ? link : {});
     if (link?.view === "hand" && link.schedule !== undefined) return this.run.begin(link);
-    const state = link?.state ?? this.telling?.line;
-    if (!state) return this.run.clear();
-    this.strip.select(state);
-    const { protocol = "mesi", run = null } = link ?? {};
-    const step = link?.state ? Number(link.step) || 0 : this.firstStep;
-    return this.run.show(state, { step, run, protocol, search: this.isSearched });
+    const { state = null, protocol = "mesi", run = null } = link ?? {};
+    const step = state ? Number(link.step) || 0 : this.firstStep;
+    return this.watch(state, { step, run, protocol, isOwn: !state || link.own === "1" });
   }
 
-  tellVerdict() {
+  /** Says what the list leaves out, and that its states are not marked, if that is so. */
+  showNotes() {
+    const { report } = this;
+    this.list.replaceChildren(leftOut(report) ?? "", report.is_marked ? "" : el("p", { class: "small" }, unmarked()));
+  }
+
+  /** Returns whether the verdict is kept back from a reader who looks for the states: one who was shown it on this text knows it. */
+  isKeptBack(isByHand) {
+    return isByHand && this.answered !== this.editor.text;
+  }
+
+  /** Shows the verdict, or the question before it. */
+  showVerdict() {
     this.veiled(this.isVeiled);
-    if (this.isVeiled) this.tellQuestion();
-    else this.tellAnswer();
+    if (this.isVeiled) this.showQuestion();
+    else this.showAnswer();
   }
 
   /** Says what the reader looks for by hand, and nothing of the answer. */
-  tellQuestion() {
+  showQuestion() {
     const { report, words } = this;
     const { text } = this.editor;
     const tints = tintsOf(text);
@@ -156,26 +185,29 @@ export class States {
   /** Keeps the verdict back: the reader looks for the states. */
   veil() {
     this.isVeiled = true;
-    this.tellVerdict();
+    this.showVerdict();
   }
 
   /** Shows the verdict that was kept back. */
   unveil() {
     if (!this.isVeiled) return;
     this.isVeiled = false;
-    this.tellVerdict();
+    this.showVerdict();
   }
 
-  tellAnswer() {
+  /** Shows the verdict, and how good the guess was. */
+  showAnswer() {
     const { report, words } = this;
     const { text } = this.editor;
+    this.answered = text;
     const tints = tintsOf(text);
     const said = guess.guessOn(text);
+    if (said !== null) countPrediction(text, said === words.is_so);
     const [kind, word, sentence] = headlineOf(this.language, report, conditionWords(text));
     const [by, way] = BY[this.isSearched ? "searched" : "enumerated"];
     this.verdict.className = `verdicts ${kind}`;
     this.verdict.replaceChildren(
-      said === null ? "" : guessedWords(said === words.is_so),
+      guess.wasAsked(text) ? guessedWords(said, words.is_so, () => this.askAgain(), this.reason()) : "",
       el("p", { class: "verdict" }, el("span", { class: "sign", "aria-hidden": "true" }, SIGNS[kind]),
         el("span", {}, el("strong", {}, word), " ", el("span", { class: "in-words", title: words.bounds }, tintedSentence(sentence, tints)))),
       el("p", { class: "asked" }, testName(text), el("code", {}, codeNodes(report.condition, tints, null)),
@@ -183,6 +215,17 @@ export class States {
         el("span", { class: "by", title: way }, el("span", { class: "long-by" }, "The list is "), `${by}.`),
         report.is_proved ? "" : [" ", el("span", { class: "by" }, "Its ticks are "), plainMark(), "."]),
     );
+  }
+
+  /** Returns in a sentence which state shows the answer, with its run, or which is missing, with why; nothing if no state alone shows it. */
+  reason() {
+    const missing = this.why && this.asked === null ? missingState(this.report, questionOf(this.editor.text)) : null;
+    const linked = (words, line, text, act) => {
+      const link = el("span", { class: "unbroken" }, "(", button(text, () => act(line), { class: "link" }), ").");
+      return [words, el("code", {}, line.replace(/;$/, "")), " ", link];
+    };
+    if (missing !== null) return linked("No run ends in ", missing, "why not", this.why);
+    return this.asked !== null && this.watched ? linked("A run ends in ", this.asked, "watch it", this.watched) : [];
   }
 
   /** Returns the state whose run shows what the verdict says, or else the first; undefined if there is none. */
@@ -197,8 +240,21 @@ export class States {
   }
 
   choose(line) {
-    this.strip.select(line);
-    return this.run.show(line, { play: true, search: this.isSearched });
+    return this.watch(line, { play: true });
+  }
+
+  /**
+   * Shows a run to a state: the one that the test has of its own if that ends there, unless `isOwn` is false. With no state it is the own run, or
+   * else that to the state which shows what the verdict says.
+   */
+  async watch(state, { isOwn = true, ...how }) {
+    const own = isOwn ? this.ownOf(this.editor.text) : null;
+    const otherwise = this.telling?.line ?? null;
+    if (!state && !otherwise) return this.run.clear();
+    if (state || own === null) this.strip.select(state ?? otherwise);
+    await this.run.show(own === null ? (state ?? otherwise) : state, { own, otherwise, search: this.isSearched, ...how });
+    if (this.run.isOpen && !this.run.isByHand && this.report) this.strip.select(this.run.goal);
+    return null;
   }
 
   /** Marks the states of the list that another list has not, given their lines; or none, if the two are not compared. */
@@ -211,7 +267,8 @@ export class States {
     const { report, words } = this;
     if (!report) return [];
     const shown = report.states.length > MOST_PRINTED ? [] : [el("pre", {}, asPrinted(report))];
-    return [el("p", { class: "small" }, sentence(words.bounds)), ...shown, button("Save the list as a file", () => saveReport(report))];
+    const asked = "The first line says what the test asks (`Allowed` for `exists`, `Forbidden` for `~exists`, `Required` for `forall`), and the last line the answer.";
+    return [el("p", { class: "small" }, sentence(asked)), el("p", { class: "small" }, sentence(words.bounds)), ...shown, button("Save the list as a file", () => saveReport(report))];
   }
 
   // By hand.
@@ -220,10 +277,10 @@ export class States {
   beginByHand(link = {}) {
     this.isByHand = true;
     if (!this.report) return null;
-    if (this.found.size < this.report.number) this.veil();
+    if (this.found.size < this.report.number && this.isKeptBack(true)) this.veil();
     this.strip.hide(this.found);
     this.strip.select(null);
-    this.tellFound();
+    this.showFound();
     return this.run.begin(link);
   }
 
@@ -232,12 +289,15 @@ export class States {
     if (!this.isByHand) return;
     this.isByHand = false;
     if (!this.report) return;
+    this.showAll();
+    this.watch(null, { step: "telling" });
+  }
+
+  /** Shows the verdict and all states. */
+  showAll() {
     this.unveil();
-    this.list.replaceChildren();
+    this.showNotes();
     this.strip.hide(null);
-    if (!this.telling) return;
-    this.strip.select(this.telling.line);
-    this.run.show(this.telling.line, { step: "telling", search: this.isSearched });
   }
 
   /** Takes note of the state in which a run by hand has ended. */
@@ -245,13 +305,19 @@ export class States {
     if (!this.report) return;
     const key = keyOf(line);
     const state = this.stateOf(key);
-    if (!state) return this.tellOther(line, program);
+    if (!state) return this.showOther(line, program);
     const isNew = !this.found.has(key);
     this.found.add(key);
     this.strip.select(state.line);
     if (!this.isByHand) return;
     this.strip.hide(this.found);
-    this.tellFound(isNew);
+    this.showFound(isNew, isNew && this.decides(state));
+  }
+
+  /** Returns whether one run to a state decides what the condition asks: it ends in one that shows the verdict. */
+  decides({ holds }) {
+    const { report, words } = this;
+    return words.telling !== null && holds === report.states.find((it) => it.index === words.telling).holds;
   }
 
   /** Returns whether the condition holds in a state of the list, or null if the list has no such state or no marks. */
@@ -269,18 +335,20 @@ export class States {
   }
 
   /** Says that a run has ended in a state that is not in the list, as a run of a program without its fences may. */
-  tellOther(line, program) {
+  showOther(line, program) {
     if (this.report.left_out) return;
     const why = program === "bare" ? " Without its fences the program ends in it too." : "";
     this.list.replaceChildren(el("p", { class: "found" }, el("b", {}, "Not in the list: "), el("code", {}, line), why));
   }
 
-  tellFound(isNew = false) {
+  /** Shows the number of states that are found by hand; and the verdict after all of them, or after a run that `decides` it. */
+  showFound(isNew = false, decides = false) {
     const { number } = this.report;
     const isAll = this.found.size === number;
-    if (isAll) this.unveil();
+    if (isAll || decides) this.unveil();
+    const decided = decides ? " This run decides the question." : "";
     const more = isAll ? " These are all: no run ends otherwise." : isNew ? " Start again with |◀ and look for another." : "";
     const words = el("b", {}, `Found ${this.found.size} of ${number} states.`);
-    this.list.replaceChildren(el("p", { class: `found${isNew ? " new" : ""}`, role: "status" }, words, more));
+    this.list.replaceChildren(el("p", { class: `found${isNew ? " new" : ""}`, role: "status" }, words, decided, more));
   }
 }

@@ -3,6 +3,7 @@
 
 import { keyOf } from "./differences.js";
 import { button, el } from "./dom.js";
+import { largeType } from "./preferences.js";
 import { wordsOf } from "./replays.js";
 import { namesOf } from "./reports.js";
 import { Rows } from "./rows.js";
@@ -11,12 +12,21 @@ import { siteNode } from "./tint.js";
 // Of how many states and names at most the list has columns; of how many states these are wide.
 const MOST_COLUMNS = 20;
 const MOST_NAMES = 5;
+// Of how many names at most columns are no higher than rows.
+const FEW_NAMES = 2;
 const FEW_COLUMNS = 6;
-// Widths in letters of the page's size: what the verdict needs beside the list, a letter of a name, the titles of rows, and what is around.
-const VERDICT = 29;
+const FEW_IN_LARGE_TYPE = 4;
+// In a window that is narrower the columns are scrolled sideways, as long as this part of them is in sight.
+const PHONE = "(max-width: 40rem)";
+const PART_IN_SIGHT = 0.5;
+// The least height of a window in which columns fit below the verdict in large type.
+const HIGH = 860;
+// Widths in letters of the page's size: what the verdict needs beside the list, also in large type, a letter of a name, the titles of rows, and what is
+// around.
+const [VERDICT, LARGE_VERDICT] = [28, 18];
 const LETTER = 0.57;
 const TITLES = 6.4;
-const [WIDE_COLUMN, NARROW_COLUMN, NEVER_COLUMN] = [3, 2, 4.2];
+const [WIDE_COLUMN, NARROW_COLUMN, NEVER_COLUMN] = [3, 1.85, 4.2];
 const AROUND_ROWS = 18;
 
 const MARKED = "in which states the condition holds";
@@ -28,18 +38,20 @@ export class Strip {
    * what a state is that another list has not is said by `aloneWords`.
    */
   constructor(editor, { choose, why = null, name = "row", wide = null, aloneWords = "only here" }) {
-    Object.assign(this, { editor, choose, why, name, wide, aloneWords, report: null, alone: null, found: null, line: null });
+    Object.assign(this, { editor, choose, why, name, wide, aloneWords, report: null, alone: null, found: null, line: null, explained: null });
     this.place = el("div", { class: "states-place" });
+    this.measured = new ResizeObserver(() => requestAnimationFrame(() => this.fit()));
   }
 
   clear() {
-    Object.assign(this, { report: null, alone: null, found: null, line: null, rows: null });
+    Object.assign(this, { report: null, alone: null, found: null, line: null, explained: null, rows: null });
     this.place.replaceChildren();
   }
 
   /** Shows a report; `missing` is a state that is not in it, or null. */
   show(report, tints, missing) {
     Object.assign(this, { report, tints, names: namesOf(report), missing, rows: null });
+    this.measured.observe(this.wide ?? this.place.parentElement ?? this.place);
     this.draw();
   }
 
@@ -49,9 +61,33 @@ export class Strip {
     this.draw();
   }
 
+  /** Lays the list out anew, after the size of the type has changed. */
+  layOut() {
+    this.rows = null;
+    this.draw();
+  }
+
+  /** Draws the list anew if it is in sight and has another width now. On a projector the list stays as it is, and the type is fitted to it. */
+  fit() {
+    const isIdle = !this.report || !this.place.getClientRects().length || document.documentElement.classList.contains("present");
+    if (!isIdle && this.room() !== this.drawnIn) this.draw();
+  }
+
   select(line) {
     this.line = line;
     this.draw();
+  }
+
+  /** Marks the state that is explained in place of the one whose run is shown, or if there is null, that one again. */
+  explain(line) {
+    if (this.explained === line) return;
+    this.explained = line;
+    this.draw();
+  }
+
+  /** Returns the line of the state that is marked as chosen. */
+  get chosen() {
+    return this.explained ?? this.line;
   }
 
   /** Marks the states that are not in another list. */
@@ -75,27 +111,40 @@ export class Strip {
   widths() {
     const { length } = this.report.states;
     const names = Math.max(TITLES, ...this.names.map((it) => it.length * LETTER)) + 1;
-    const columns = names + length * (length > FEW_COLUMNS ? NARROW_COLUMN : WIDE_COLUMN) + (this.ghost ? NEVER_COLUMN : 0);
+    const columns = names + length * (this.isNarrow(length) ? NARROW_COLUMN : WIDE_COLUMN) + (this.ghost ? NEVER_COLUMN : 0);
     const rows = AROUND_ROWS + this.names.reduce((sum, it) => sum + it.length + 2, 0) * LETTER;
     return { columns, rows };
   }
 
+  /** Returns whether so many columns are narrow. */
+  isNarrow(length) {
+    return length > (largeType.isOn ? FEW_IN_LARGE_TYPE : FEW_COLUMNS);
+  }
+
+  /** Returns how wide the place of the list is, in letters of the page's size. */
   room() {
     const width = (this.wide ?? this.place.parentElement)?.clientWidth || 600;
     return width / parseFloat(getComputedStyle(document.documentElement).fontSize);
   }
 
+  /** Draws the list: as columns, or as rows if these do not fit. */
   draw() {
     if (!this.report) return;
     const { states } = this.report;
     if (!states.length) return this.place.replaceChildren(el("p", { class: "small" }, "No run ends."));
     const [room, { columns, rows }] = [this.room(), this.widths()];
-    const isLong = states.length > MOST_COLUMNS || this.names.length > MOST_NAMES || columns > room;
-    this.place.classList.toggle("aside", (isLong ? rows : columns) < room - VERDICT);
+    this.drawnIn = room;
+    const beside = room - (largeType.isOn ? LARGE_VERDICT : VERDICT);
+    const isHigher = this.editor.isAlone || this.names.length > FEW_NAMES;
+    const isLow = largeType.isOn && innerHeight < HIGH && this.name === "row" && columns >= beside && isHigher;
+    const isWide = columns > room && !(matchMedia(PHONE).matches && columns * PART_IN_SIGHT < room);
+    const isLong = states.length > MOST_COLUMNS || this.names.length > MOST_NAMES || isWide || isLow;
+    this.place.classList.toggle("aside", (isLong ? rows : columns) < beside);
     if (isLong) this.drawRows();
     else this.drawColumns();
   }
 
+  /** Draws the list as rows. */
   drawRows() {
     if (this.rows) return this.rows.follow();
     this.rows = new Rows(this);
@@ -103,20 +152,37 @@ export class Strip {
     this.rows.begin();
   }
 
+  /** Draws the list as columns. */
   drawColumns() {
     this.rows = null;
     const focused = this.place.contains(document.activeElement) ? document.activeElement.dataset.line : null;
-    this.place.replaceChildren(el("div", { class: "wide" }, this.columns()));
+    const scrolled = this.place.querySelector(".wide")?.scrollLeft ?? 0;
+    const showEdge = () => wide.classList.toggle("more-right", wide.scrollLeft + wide.clientWidth < wide.scrollWidth - 2);
+    const wide = el("div", { class: "wide", scroll: showEdge }, this.columns());
+    this.place.replaceChildren(wide);
+    wide.scrollLeft = scrolled;
+    this.bringChosen(wide);
+    showEdge();
     if (focused) this.place.querySelector(`[data-line="${CSS.escape(focused)}"]`)?.focus({ preventScroll: true });
   }
 
+  /** Scrolls the chosen column into sight, beside the titles of the rows. */
+  bringChosen(wide) {
+    const column = wide.querySelector("th.chosen");
+    if (!column || wide.scrollWidth <= wide.clientWidth) return;
+    const titles = wide.querySelector("th").offsetWidth;
+    const [left, right] = [column.offsetLeft - titles, column.offsetLeft + column.offsetWidth - wide.clientWidth];
+    wide.scrollLeft = Math.max(right, Math.min(wide.scrollLeft, left));
+  }
+
+  /** Returns the table with a column for each state. */
   columns() {
     const { report, names } = this;
     const { states } = report;
     const head = el("tr", {}, el("th", { scope: "row", class: "corner" }, "state"), states.map((it) => this.headOf(it)), this.headOfGhost());
     const hasMarks = report.is_marked && report.positive > 0;
-    const body = [...names.map((name, at) => this.rowOf(name, at)), hasMarks ? this.marks() : null, this.alone?.size ? this.alones() : null];
-    const kind = states.length > FEW_COLUMNS ? "strip many" : "strip";
+    const body = [...names.map((name, index) => this.rowOf(name, index)), hasMarks ? this.marks() : null, this.alone?.size ? this.alones() : null];
+    const kind = this.isNarrow(states.length) ? "strip many" : "strip";
     const clicked = (event) => {
       const column = event.target.closest("td")?.dataset.column;
       if (column !== undefined && this.isShown(states[column])) this.choose(states[column].line);
@@ -125,12 +191,14 @@ export class Strip {
     return el("table", attributes, el("thead", {}, head), el("tbody", {}, body));
   }
 
+  /** Returns the classes of a column. */
   kindOf(state) {
     if (!this.isShown(state)) return "unfound";
-    const kinds = [state.holds && "holds", state.line === this.line && "chosen", this.alone?.has(state.line) && "alone"];
+    const kinds = [state.holds && "holds", state.line === this.chosen && "chosen", this.alone?.has(state.line) && "alone"];
     return kinds.filter(Boolean).join(" ");
   }
 
+  /** Returns the head of a column, which starts a run to its state. */
   headOf(state) {
     const isShown = this.isShown(state);
     const truth = state.holds ? " The condition holds there." : "";
@@ -138,22 +206,29 @@ export class Strip {
     const choose = button(String(state.index + 1), () => isShown && this.choose(state.line), {
       class: "watch",
       "aria-label": label,
-      "aria-pressed": String(state.line === this.line),
+      "aria-pressed": String(state.line === this.chosen),
       "aria-disabled": isShown ? null : "true",
       "data-line": state.line,
     });
     return el("th", { scope: "col", class: this.kindOf(state) }, choose);
   }
 
+  /** Returns the classes of the column of a state that no run ends in. */
+  get kindOfGhost() {
+    return this.ghost === this.chosen ? "never chosen" : "never";
+  }
+
+  /** Returns the head of the column of a state that no run ends in; null if there is none. */
   headOfGhost() {
     const { ghost } = this;
     if (!ghost) return null;
-    const attributes = { class: "watch", "aria-label": `No run ends in ${ghost} Why not?`, title: "No run ends this way. Why?" };
-    return el("th", { scope: "col", class: "never" }, button("never", () => this.why(ghost), attributes));
+    const pressed = { "aria-pressed": String(ghost === this.chosen) };
+    const attributes = { class: "watch", "aria-label": `No run ends in ${ghost} Why not?`, title: "No run ends this way. Why?", ...pressed };
+    return el("th", { scope: "col", class: this.kindOfGhost }, button("never", () => this.why(ghost), attributes));
   }
 
   cellsOf(textOf, kind = "") {
-    return this.report.states.map((state, at) => el("td", { class: `${kind} ${this.kindOf(state)}`, "data-column": String(at) }, textOf(state)));
+    return this.report.states.map((state, index) => el("td", { class: `${kind} ${this.kindOf(state)}`, "data-column": String(index) }, textOf(state)));
   }
 
   /** Returns the row of a name: its word in each state. */
@@ -161,7 +236,7 @@ export class Strip {
     const { ghost } = this;
     const word = (line) => String(wordsOf(line)[at][1]);
     const cells = this.cellsOf((state) => (this.isShown(state) ? word(state.line) : "·"));
-    return el("tr", {}, el("th", { scope: "row" }, siteNode(name, this.tints)), cells, ghost ? el("td", { class: "never" }, word(ghost)) : null);
+    return el("tr", {}, el("th", { scope: "row" }, siteNode(name, this.tints)), cells, ghost ? el("td", { class: this.kindOfGhost }, word(ghost)) : null);
   }
 
   /** Returns the row that says in which states the condition holds. */
@@ -169,7 +244,7 @@ export class Strip {
     const mark = (state) => (state.holds ? "✓" : el("span", { class: "hidden" }, "false"));
     const cells = this.cellsOf((state) => (this.isShown(state) ? mark(state) : ""), "mark");
     const title = el("th", { scope: "row", class: "small", title: this.report.is_proved ? MARKED : NOT_PROVED }, "condition holds");
-    return el("tr", { class: "marks-row" }, title, cells, this.ghost ? el("td", { class: "never" }) : null);
+    return el("tr", { class: "marks-row" }, title, cells, this.ghost ? el("td", { class: this.kindOfGhost }) : null);
   }
 
   /** Returns the row that says which states are not in another list. */

@@ -6,24 +6,37 @@ const site = globalThis.site ?? null;
 /** Says whether the page has a server, which can be asked too. */
 export const hasServer = site === null;
 
-/** Names the documents that a made site carries, by their files. */
+/** Lists the documents that a made site carries, each with its file and its title. */
 export const documents = site?.documents ?? [];
+
+/** Says where a made site comes from; null where the page has a server. */
+export const origin = site?.origin ?? null;
 
 const tables = site && unpacked(site.tables).then((bytes) => JSON.parse(new TextDecoder().decode(bytes)));
 
-/** Returns the bytes of a packed text: gzip in base64. */
+/**
+ * Returns the bytes of a packed text: gzip in letters, of which the site returns the bytes.
+ * @param {string} text
+ * @returns {Promise<Uint8Array>}
+ */
 async function unpacked(text) {
-  const bytes = Uint8Array.from(atob(text), (letter) => letter.charCodeAt(0));
-  const stream = new Blob([bytes]).stream().pipeThrough(new DecompressionStream("gzip"));
+  const stream = new Blob([site.bytesOf(text)]).stream().pipeThrough(new DecompressionStream("gzip"));
   return new Uint8Array(await new Response(stream).arrayBuffer());
 }
 
-/** Returns a table of the documents: of the examples, or of the sentences on faults. */
+/**
+ * Returns a table of the documents: of the examples, or of the sentences on faults.
+ * @param {string} name
+ * @returns {Promise<object>}
+ */
 export async function table(name) {
   return site ? (await tables)[name] : (await fetch(`${name}.json`)).json();
 }
 
-/** Yields the bytes of each module, the preferred one first. */
+/**
+ * Yields the bytes of each module, the preferred one first.
+ * @returns {AsyncGenerator<Uint8Array>}
+ */
 export async function* modules() {
   // The modules are large: the first comes while the page begins, and another is asked for only if the browser does not take the first.
   for (let at = 0; at < (site?.numberOfModules ?? 0); at += 1) {
@@ -35,7 +48,11 @@ export async function* modules() {
   if (!site) yield new Uint8Array(await (await fetch("lw.wasm")).arrayBuffer());
 }
 
-/** Has the browser run a script of the site. */
+/**
+ * Has the browser run a script of the site.
+ * @param {string} name
+ * @returns {Promise<void>}
+ */
 function fetchScript(name) {
   return new Promise((resolve, reject) => {
     const script = document.createElement("script");
@@ -46,7 +63,10 @@ function fetchScript(name) {
   });
 }
 
-/** Returns a worker that runs worker.js. A page that was opened as a file may start one only from its own memory. */
+/**
+ * Returns a worker that runs worker.js. A page that was opened as a file may start one only from its own memory.
+ * @returns {Promise<Worker>}
+ */
 export async function newWorker() {
   if (!site) return new Worker("worker.js", { type: "module" });
   const address = URL.createObjectURL(new Blob([(await tables).worker], { type: "text/javascript" }));
@@ -55,7 +75,10 @@ export async function newWorker() {
   return worker;
 }
 
-/** Has the browser keep the site, where it came by a network, so that it opens without one. */
+/**
+ * Has the browser keep the site, where it came by a network, so that it opens without one.
+ * @returns {Promise<void>}
+ */
 export async function keep() {
   if (!site?.isKept || !/^https?:$/.test(location.protocol) || !navigator.serviceWorker) return;
   try {

@@ -14,6 +14,11 @@ export class Tabs {
     byId("tabs").addEventListener("keydown", (event) => this.key(event));
   }
 
+  /** Returns whether the tab is one of a run. */
+  get isOfRun() {
+    return IN_RUN.includes(this.view);
+  }
+
   /** Shows a tab with its panel. */
   show(view) {
     this.view = view;
@@ -24,10 +29,11 @@ export class Tabs {
       tab.tabIndex = it === view ? 0 : -1;
       if (!IN_RUN.includes(it)) byId(it).hidden = it !== view;
     }
-    byId("watching").hidden = !IN_RUN.includes(view);
-    byId("watching").setAttribute("aria-labelledby", `tab-${IN_RUN.includes(view) ? view : IN_RUN[0]}`);
+    byId("watching").hidden = !this.isOfRun;
+    byId("watching").setAttribute("aria-labelledby", `tab-${this.isOfRun ? view : IN_RUN[0]}`);
   }
 
+  /** Chooses a view as a click on its tab does. */
   choose(view) {
     this.show(view);
     byId(`tab-${view}`).focus({ preventScroll: true });

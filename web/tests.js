@@ -16,7 +16,11 @@ const MOST_NODES = 256;
 const NUMBER_OF_REGISTERS = 6;
 const ENDS_OF_ROWS = ["locations", "exists", "forall", "filter", "~"];
 
-/** Reads a test. */
+/**
+ * Reads a test. Throws NoTest if the text is none.
+ * @param {string} text
+ * @returns {Test}
+ */
 export function readTest(text) {
   if (new TextEncoder().encode(text).length > MOST_BYTES) throw new NoTest("the text is too long");
   const { language, name, end } = headingOf(text);
@@ -37,7 +41,11 @@ export function readTest(text) {
   return test;
 }
 
-/** Reads the header. Returns the number of threads. */
+/**
+ * Reads the header. Returns the number of threads.
+ * @param {TokenReader} reader
+ * @returns {number}
+ */
 function header(reader) {
   for (let threads = 1; ; threads += 1) {
     reader.take(`P${threads - 1}`);
@@ -50,14 +58,19 @@ function header(reader) {
   }
 }
 
-/** Reads the rows. Returns of each thread its cells, each a list of tokens. */
+/**
+ * Reads the rows. Returns of each thread its cells, each a list of tokens.
+ * @param {TokenReader} reader
+ * @param {number} threads
+ * @returns {Token[][][]}
+ */
 function rows(reader, threads) {
   const columns = Array.from({ length: threads }, () => []);
   while (!ENDS_OF_ROWS.includes(reader.next)) {
     for (const [thread, column] of columns.entries()) {
-      const begin = reader.at;
+      const begin = reader.index;
       while (reader.next !== "|" && reader.next !== ";") reader.take();
-      column.push(reader.tokens.slice(begin, reader.at));
+      column.push(reader.tokens.slice(begin, reader.index));
       reader.take(thread < threads - 1 ? "|" : ";");
     }
   }
@@ -65,20 +78,34 @@ function rows(reader, threads) {
   return columns;
 }
 
+/**
+ * Reads the list of sites after `locations`.
+ * @param {TokenReader} reader
+ * @returns {Site[]}
+ */
 function listedSites(reader) {
   reader.take("locations");
   reader.take("[");
   return reader.entries(() => reader.site(), "]");
 }
 
+/**
+ * Reads the condition, after which nothing may follow.
+ * @param {TokenReader} reader
+ */
 function readCondition(reader) {
   const { test } = reader;
   test.quantifier = quantifier(reader);
   test.proposition = either(reader);
   if (nodesIn(test.proposition) > MOST_NODES) throw new NoTest(`the condition has more than ${MOST_NODES} nodes`);
-  if (reader.next !== null) throw new NoTest(`${reader.next} stands behind the condition`);
+  if (reader.next !== null) throw new NoTest(`${reader.next} comes after the condition`);
 }
 
+/**
+ * Reads `exists`, `~exists` or `forall`.
+ * @param {TokenReader} reader
+ * @returns {string}
+ */
 function quantifier(reader) {
   if (reader.next === "~") {
     reader.take("~");
@@ -88,11 +115,15 @@ function quantifier(reader) {
   return reader.take();
 }
 
-/** Reads an atom, a proposition in parentheses, or a negation. */
+/**
+ * Reads an atom, a proposition in parentheses, or a negation.
+ * @param {TokenReader} reader
+ * @returns {Proposition}
+ */
 function atom(reader) {
   if (reader.next === "~" || reader.next === "not") {
     reader.take();
-    return { kind: "not", parts: [atom(reader)] };
+    return { kind: "Not", parts: [atom(reader)] };
   }
   if (reader.next === "(") {
     reader.take("(");
@@ -100,28 +131,43 @@ function atom(reader) {
     reader.take(")");
     return inner;
   }
-  if (reader.next === "true" || reader.next === "false") return { kind: reader.take(), parts: [] };
-  return { kind: "is", ...reader.equation(), parts: [] };
+  if (reader.next === "true" || reader.next === "false") return { kind: reader.take() === "true" ? "True" : "False", parts: [] };
+  return { kind: "Eq", ...reader.equation(), parts: [] };
 }
 
+/**
+ * Reads atoms between which there is `/\\`.
+ * @param {TokenReader} reader
+ * @returns {Proposition}
+ */
 function both(reader) {
   let left = atom(reader);
   while (reader.next === "/\\") {
     reader.take();
-    left = { kind: "and", parts: [left, atom(reader)] };
+    left = { kind: "And", parts: [left, atom(reader)] };
   }
   return left;
 }
 
+/**
+ * Reads conjunctions between which there is `\\/`.
+ * @param {TokenReader} reader
+ * @returns {Proposition}
+ */
 function either(reader) {
   let left = both(reader);
   while (reader.next === "\\/") {
     reader.take();
-    left = { kind: "or", parts: [left, both(reader)] };
+    left = { kind: "Or", parts: [left, both(reader)] };
   }
   return left;
 }
 
+/**
+ * Refuses a site of a thread that does not exist.
+ * @param {Site[]} sites
+ * @param {number} threads
+ */
 function checkThreads(sites, threads) {
   for (const { thread } of sites) if (thread >= threads) throw new NoTest(`there is no thread ${thread}`);
 }

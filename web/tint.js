@@ -20,19 +20,32 @@ class Tints {
     this.numbers = new Map(sorted.map((name) => [name, FIXED.includes(name) ? FIXED.indexOf(name) : (free.shift() ?? COLOURS - 1)]));
   }
 
-  /** Returns the class of a location, or an empty text if no location has the name. */
+  /**
+   * Returns the class of a location, or an empty text if no location has the name.
+   * @param {string} name
+   * @returns {string}
+   */
   of(name) {
     return this.numbers.has(name) ? `loc loc-${this.numbers.get(name)}` : "";
   }
 }
 
+/**
+ * Returns the class of a thread.
+ * @param {number | string} thread
+ * @returns {string}
+ */
 export function threadClass(thread) {
   return `thr thr-${thread}`;
 }
 
 let last = { text: null, tints: new Tints([]) };
 
-/** Returns the colours of a text's locations; of a text that is no test those of the last one. */
+/**
+ * Returns the colours of a text's locations; of a text that is no test those of the last one.
+ * @param {string} text
+ * @returns {Tints}
+ */
 export function tintsOf(text) {
   if (text === last.text) return last.tints;
   try {
@@ -43,22 +56,38 @@ export function tintsOf(text) {
   return last.tints;
 }
 
-/** Returns a site of a state, `0:EAX` or `x`, in its colour. */
+/**
+ * Returns a site of a state, `0:EAX` or `x`, in its colour.
+ * @param {string} name
+ * @param {Tints} tints
+ * @returns {Element}
+ */
 export function siteNode(name, tints) {
   const thread = /^(\d):/.exec(name)?.[1];
   return el("span", { class: thread === undefined ? tints.of(name) : threadClass(thread) }, name);
 }
 
-/** Returns the name of a test, for views that show it nowhere else. */
+/**
+ * Returns the name of a test, for views that show it nowhere else.
+ * @param {string} text
+ * @returns {Element}
+ */
 export function testName(text) {
   return el("b", { class: "test-name" }, `${nameOf(text)} `);
 }
 
-/** Returns a piece of code of a thread, in colours. */
+/**
+ * Returns a piece of code of a thread, in colours.
+ * @param {string} text
+ * @param {Tints} tints
+ * @param {number | string | null} thread
+ * @returns {(Node | string)[]}
+ */
 export function codeNodes(text, tints, thread) {
   return [...text.matchAll(TOKEN)].map(([it]) => nodeOf(it, tints, thread));
 }
 
+/** Returns a token in the colour of its thread or location. */
 function nodeOf(token, tints, thread) {
   const observed = /^(\d):([A-Za-z]\w*)$/.exec(token);
   if (observed) return el("span", { class: threadClass(observed[1]) }, token);
@@ -72,7 +101,12 @@ function nodeOf(token, tints, thread) {
   return /^\$?\d/.test(token) ? el("span", { class: "number" }, token) : token;
 }
 
-/** Returns a whole text in colours: the bars between the cells say what each thread has. */
+/**
+ * Returns a whole text in colours: the bars between the cells say what each thread has.
+ * @param {string} text
+ * @param {Tints} tints
+ * @returns {(Node | string)[]}
+ */
 export function textNodes(text, tints) {
   if (text.length > MOST_COLOURED) return [text];
   const nodes = [];
@@ -97,11 +131,16 @@ export function textNodes(text, tints) {
   return nodes;
 }
 
-/** Returns a sentence whose code, between backquotes, is in colours. */
+/**
+ * Returns a sentence whose code, between backquotes, is in colours.
+ * @param {string} text
+ * @param {Tints} tints
+ * @returns {(Node | string)[]}
+ */
 export function tintedSentence(text, tints) {
   const thread = /^P(\d)/.exec(text)?.[1] ?? null;
-  return text.split("`").flatMap((part, at) => {
-    if (at % 2) return [el("code", {}, codeNodes(part, tints, thread))];
+  return text.split("`").flatMap((part, index) => {
+    if (index % 2) return [el("code", {}, codeNodes(part, tints, thread))];
     return part.split(/\b(P\d)\b/).map((it, odd) => (odd % 2 ? el("b", { class: threadClass(it[1]) }, it) : it));
   });
 }

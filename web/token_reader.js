@@ -12,41 +12,62 @@ const X86_RESERVED = /^(?:EAX|EBX|ECX|EDX|ESI|EDI|EBP|ESP)$/i;
 const MOST_LOCATIONS = 8;
 const MOST_LETTERS = 32;
 
+/**
+ * Returns whether a name is reserved, and so is no location and no label.
+ * @param {string} name
+ * @returns {boolean}
+ */
 export function isReserved(name) {
   return RESERVED.test(name) || X86_RESERVED.test(name);
 }
 
 /** Reads tokens for a test, whose table of locations grows by what is read. */
 export class TokenReader {
+  /**
+   * @param {Test} test
+   * @param {Token[]} tokens
+   */
   constructor(test, tokens) {
     this.test = test;
     this.tokens = tokens;
-    this.at = 0;
+    this.index = 0;
   }
 
   /** Returns the text of the next token, or null. */
   get next() {
-    return this.tokens[this.at]?.text ?? null;
+    return this.tokens[this.index]?.text ?? null;
   }
 
   /** Returns the kind of the next token, or null. */
   get kind() {
-    return this.tokens[this.at]?.kind ?? null;
+    return this.tokens[this.index]?.kind ?? null;
   }
 
-  /** Returns whether the tokens after the next one begin with a symbol. */
+  /**
+   * Returns whether the tokens after the next one begin with a symbol.
+   * @param {string} symbol
+   * @returns {boolean}
+   */
   isBefore(symbol) {
-    return this.tokens[this.at + 1]?.text === symbol;
+    return this.tokens[this.index + 1]?.text === symbol;
   }
 
-  /** Takes the next token, which has to be the one that is wanted, if one is. */
+  /**
+   * Takes the next token, which has to be the one that is wanted, if one is.
+   * @param {string | null} [wanted]
+   * @returns {string}
+   */
   take(wanted = null) {
     const text = this.next;
     if (text === null || (wanted !== null && text !== wanted)) throw new NoTest(`${text} stands where ${wanted ?? "more"} should`);
-    this.at += 1;
+    this.index += 1;
     return text;
   }
 
+  /**
+   * Reads a number, which is a word.
+   * @returns {number}
+   */
   number() {
     if (this.kind !== "number") throw new NoTest(`${this.next} is no number`);
     const value = Number(this.take());
@@ -54,17 +75,29 @@ export class TokenReader {
     return value;
   }
 
+  /**
+   * Reads a name.
+   * @returns {string}
+   */
   name() {
     if (this.kind !== "name" || this.next.length > MOST_LETTERS) throw new NoTest(`${this.next} is no name`);
     return this.take();
   }
 
-  /** Returns the number of a register, or null. */
+  /**
+   * Returns the index of a register, or null.
+   * @param {string} text
+   * @returns {number | null}
+   */
   registerOf(text) {
-    const at = REGISTERS[this.test.language].indexOf(this.test.language === "X86" ? text.toUpperCase() : text);
-    return at < 0 ? null : at;
+    const index = REGISTERS[this.test.language].indexOf(this.test.language === "X86" ? text.toUpperCase() : text);
+    return index < 0 ? null : index;
   }
 
+  /**
+   * Reads a register. Returns its index.
+   * @returns {number}
+   */
   register() {
     const name = this.name();
     const register = this.registerOf(name);
@@ -72,7 +105,10 @@ export class TokenReader {
     return register;
   }
 
-  /** Returns the number of a location; a new one is appended to the table. */
+  /**
+   * Returns the index of a location; a new one is appended to the table.
+   * @returns {number}
+   */
   location() {
     const name = this.name();
     if (isReserved(name)) throw new NoTest(`${name} is reserved`);
@@ -82,6 +118,10 @@ export class TokenReader {
     return locations.indexOf(name);
   }
 
+  /**
+   * Reads a location in brackets. Returns its index.
+   * @returns {number}
+   */
   inBrackets() {
     this.take("[");
     const location = this.location();
@@ -89,7 +129,10 @@ export class TokenReader {
     return location;
   }
 
-  /** Reads a location or a thread's register, as the block, the list and the condition name it. */
+  /**
+   * Reads a location or a thread's register, as the block, the list and the condition name it.
+   * @returns {Site}
+   */
   site() {
     if (this.next === "[") return { location: this.inBrackets() };
     if (this.kind !== "number") return { location: this.location() };
@@ -98,18 +141,26 @@ export class TokenReader {
     return { thread, register: this.register() };
   }
 
-  /** Reads the entries up to the closing bracket, each ended by `;`, which the last may lack. */
-  entries(readOne, end) {
+  /**
+   * Reads the entries up to the closing bracket, each ended by `;`, which the last may lack.
+   * @param {function(): Entry} readEntry
+   * @param {string} end
+   * @returns {Entry[]}
+   */
+  entries(readEntry, end) {
     const read = [];
     while (this.next !== end) {
-      read.push(readOne());
+      read.push(readEntry());
       if (this.next !== end) this.take(";");
     }
     this.take(end);
     return read;
   }
 
-  /** Reads a site with its word, as the block and atoms have it. */
+  /**
+   * Reads a site with its word, as the block and atoms have it.
+   * @returns {{site: Site, word: number}}
+   */
   equation() {
     const site = this.site();
     this.take("=");

@@ -1,4 +1,4 @@
-// The text of a test as tokens, by docs/FORMAT.md: its heading, its notes, and what stands behind them. Not proved.
+// The text of a test as tokens, by docs/FORMAT.md: its heading, its notes, and what follows them. Not proved.
 
 const TOKEN = new RegExp(
   "(?<blank>[ \\t\\r\\n]+)|(?<number>0x[0-9a-fA-F]+|[0-9]+)(?![A-Za-z_])|(?<name>[A-Za-z_][A-Za-z0-9_]*)" +
@@ -12,66 +12,91 @@ const BLANKS = " \t\r\n";
 /** The text is no test, or none that is read here. */
 export class NoTest extends Error {}
 
-/** Returns what a pattern matches at a place, or null. */
-function found(pattern, text, at) {
-  pattern.lastIndex = at;
+/**
+ * Returns the match of a pattern at an offset, or null.
+ * @param {RegExp} pattern
+ * @param {string} text
+ * @param {number} offset
+ * @returns {RegExpExecArray | null}
+ */
+function matchAt(pattern, text, offset) {
+  pattern.lastIndex = offset;
   return pattern.exec(text);
 }
 
-/** Returns where the comment that begins at a place ends; comments nest. */
-function skipComment(text, at) {
+/**
+ * Returns the offset of the end of the comment that starts at an offset; comments nest.
+ * @param {string} text
+ * @param {number} offset
+ * @returns {number}
+ */
+function skipComment(text, offset) {
   let depth = 0;
   do {
-    const opens = text.indexOf("(*", at);
-    const closes = text.indexOf("*)", at);
+    const opens = text.indexOf("(*", offset);
+    const closes = text.indexOf("*)", offset);
     if (closes < 0) throw new NoTest("a comment is left open");
     const isOpened = opens >= 0 && opens < closes;
     depth += isOpened ? 1 : -1;
-    at = (isOpened ? opens : closes) + 2;
+    offset = (isOpened ? opens : closes) + 2;
   } while (depth > 0);
-  return at;
+  return offset;
 }
 
-/** Returns the tokens from a place on, each with its kind and its text. */
-export function tokensOf(text, at) {
+/**
+ * Returns the tokens from an offset on, each with its kind and its text.
+ * @param {string} text
+ * @param {number} offset
+ * @returns {Token[]}
+ */
+export function tokensOf(text, offset) {
   const tokens = [];
-  while (at < text.length) {
-    if (text.startsWith("(*", at)) {
-      at = skipComment(text, at);
+  while (offset < text.length) {
+    if (text.startsWith("(*", offset)) {
+      offset = skipComment(text, offset);
       continue;
     }
-    const token = found(TOKEN, text, at);
-    if (!token) throw new NoTest(`no token begins at ${at}`);
+    const token = matchAt(TOKEN, text, offset);
+    if (!token) throw new NoTest(`no token begins at ${offset}`);
     const kind = Object.keys(token.groups).find((it) => token.groups[it] !== undefined);
     if (kind !== "blank") tokens.push({ kind, text: token[0] });
-    at += token[0].length;
+    offset += token[0].length;
   }
   return tokens;
 }
 
-/** Returns where the initial block begins: after quoted texts, lines `Key=value`, blanks and comments. */
-export function skipNotes(text, at) {
-  while (at < text.length) {
-    const key = found(KEY, text, at);
-    if (BLANKS.includes(text[at])) at += 1;
-    else if (text.startsWith("(*", at)) at = skipComment(text, at);
-    else if (text[at] === '"' && text.includes('"', at + 1)) at = text.indexOf('"', at + 1) + 1;
-    else if (key) at += key[0].length;
-    else if (text[at] === "{") return at;
+/**
+ * Returns the offset of the initial block, which follows quoted texts, lines `Key=value`, blanks and comments.
+ * @param {string} text
+ * @param {number} offset
+ * @returns {number}
+ */
+export function skipNotes(text, offset) {
+  while (offset < text.length) {
+    const key = matchAt(KEY, text, offset);
+    if (BLANKS.includes(text[offset])) offset += 1;
+    else if (text.startsWith("(*", offset)) offset = skipComment(text, offset);
+    else if (text[offset] === '"' && text.includes('"', offset + 1)) offset = text.indexOf('"', offset + 1) + 1;
+    else if (key) offset += key[0].length;
+    else if (text[offset] === "{") return offset;
     else break;
   }
   throw new NoTest("there is no initial block");
 }
 
-/** Returns the language and the name of a test, and where its heading ends. */
+/**
+ * Returns the language and the name of a test, and the offset of its heading's end.
+ * @param {string} text
+ * @returns {{language: string, name: string, end: number}}
+ */
 export function headingOf(text) {
-  let at = 0;
-  while (at < text.length && (BLANKS.includes(text[at]) || text.startsWith("(*", at))) {
-    at = text.startsWith("(*", at) ? skipComment(text, at) : at + 1;
+  let offset = 0;
+  while (offset < text.length && (BLANKS.includes(text[offset]) || text.startsWith("(*", offset))) {
+    offset = text.startsWith("(*", offset) ? skipComment(text, offset) : offset + 1;
   }
-  const heading = found(HEADING, text, at);
+  const heading = matchAt(HEADING, text, offset);
   if (!heading) throw new NoTest("there is no heading");
-  return { language: heading[1], name: heading[2], end: at + heading[0].length };
+  return { language: heading[1], name: heading[2], end: offset + heading[0].length };
 }
 
 /** Returns the name of a test, as far as it has one. */

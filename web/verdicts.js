@@ -19,6 +19,9 @@ const SHOWING = { "Allowed Ok": true, "Forbidden No": true, "Required No": false
 /**
  * Returns the words on a report, and whether the answer to the question is yes; and which state shows what the verdict says, if one does and
  * states are marked.
+ * @param {string} language
+ * @param {Report} report
+ * @returns {{question: string, is_so: boolean, bounds: string, telling: number | null}}
  */
 export function verdictOf(language, report) {
   const { asked, verdict } = report;
@@ -33,8 +36,12 @@ export function verdictOf(language, report) {
 }
 
 /**
- * Returns the verdict: its kind (`can`, `yes`, `no`, or `wrong` if it is against the test), the word for it, and the sentence on what runs do.
+ * Returns the verdict: its kind (`can`, `yes`, `no`, or `wrong` if the test forbids what is allowed), the word for it, and the sentence on what runs do.
  * The condition may be put into words.
+ * @param {string} language
+ * @param {Report} report
+ * @param {string | null} [condition]
+ * @returns {[string, string, string]}
  */
 export function headlineOf(language, { asked, verdict }, condition = null) {
   const isOk = verdict === "Ok";
@@ -44,11 +51,15 @@ export function headlineOf(language, { asked, verdict }, condition = null) {
   const none = `There is no run${runs} in which ${what}.`;
   if (asked === "Required" && isOk) return ["yes", "Always.", `In every run${runs} ${what}.`];
   if (asked === "Required") return ["no", "Not always.", `Not in every run${runs} ${what}.`];
-  if (asked === "Forbidden") return isOk ? ["no", "Forbidden.", none] : ["wrong", "Allowed, against the test.", some];
+  if (asked === "Forbidden") return isOk ? ["no", "Forbidden.", none] : ["wrong", "Allowed.", `${some.slice(0, -1)}; the test forbids that.`];
   return isOk ? ["can", "Allowed.", some] : ["no", "Forbidden.", none];
 }
 
-/** Returns a sentence that says in how many states the condition holds. */
+/**
+ * Returns a sentence that says in how many states the condition holds.
+ * @param {Report} report
+ * @returns {string}
+ */
 export function countWords({ positive, number }) {
   const shown = (it) => it.toLocaleString("en");
   const states = `${shown(number)} final state${number === 1 ? "" : "s"}`;

@@ -1,85 +1,130 @@
 // All final states of an x86 test by a walk through all states that it can be in, with store buffers before one memory. Not proved:
 // for lists that lw refuses for its limits. There is no limit here but patience.
 //
-// A state has `processors`, each with its position `at`, its `registers`, its `zero` flag and its `buffer`, pairs of a location and a
+// A `MachineState` has `processors`, each with its `position`, its `registers`, its `zero` flag and its `buffer`, pairs of a location and a
 // word, the oldest first; and the `words` of memory.
 
 import { holds, observed, siteName, wordAt } from "./propositions.js";
 import { WORD } from "./token_reader.js";
 
-/** Returns a list with one item replaced. */
-function put(list, at, item) {
-  return list.with ? list.with(at, item) : list.map((it, number) => (number === at ? item : it));
+/**
+ * Returns a list with one item replaced.
+ * @param {Item[]} list
+ * @param {number} index
+ * @param {Item} item
+ * @returns {Item[]}
+ */
+function put(list, index, item) {
+  return list.with ? list.with(index, item) : list.map((it, number) => (number === index ? item : it));
 }
 
+/**
+ * Returns the word of a statement's value, by its thread's registers.
+ * @param {Value} value
+ * @param {number[]} registers
+ * @returns {number}
+ */
 function wordOf(value, registers) {
   return value.number === undefined ? registers[value.register] : value.number;
 }
 
-/** Returns a state with a processor that has advanced, and perhaps another memory. */
+/**
+ * Returns a state with a processor that has advanced, and perhaps another memory.
+ * @param {MachineState} state
+ * @param {number} cpu
+ * @param {object} changes
+ * @param {number[]} [words]
+ * @returns {MachineState}
+ */
 function after(state, cpu, changes, words = state.words) {
   const processor = state.processors[cpu];
-  return { processors: put(state.processors, cpu, { ...processor, at: processor.at + 1, ...changes }), words };
+  return { processors: put(state.processors, cpu, { ...processor, position: processor.position + 1, ...changes }), words };
 }
 
-/** Returns the state after the next instruction of a processor, or null if it has ended or waits. */
+/**
+ * Returns the state after the next instruction of a processor, or null if it has ended or waits.
+ * @param {Test} test
+ * @param {MachineState} state
+ * @param {number} cpu
+ * @returns {MachineState | null}
+ */
 function step(test, state, cpu) {
-  const { at, registers, zero, buffer } = state.processors[cpu];
-  const it = test.threads[cpu][at];
-  if (!it) return null;
-  if (it.kind === "mfence") return buffer.length ? null : after(state, cpu, {});
-  if (it.kind === "xchg" || it.kind === "xadd") return buffer.length ? null : lockedStep(state, cpu, it);
-  if (it.target !== undefined) {
-    const jumps = it.kind === "jmp" || zero === (it.kind === "je");
-    return after(state, cpu, jumps ? { at: it.target } : {});
+  const { position, registers, zero, buffer } = state.processors[cpu];
+  const instruction = test.threads[cpu][position];
+  if (!instruction) return null;
+  if (instruction.kind === "mfence") return buffer.length ? null : after(state, cpu, {});
+  if (instruction.kind === "xchg" || instruction.kind === "xadd") return buffer.length ? null : lockedStep(state, cpu, instruction);
+  if (instruction.target !== undefined) {
+    const jumps = instruction.kind === "jmp" || zero === (instruction.kind === "je");
+    return after(state, cpu, jumps ? { position: instruction.target } : {});
   }
-  if (it.kind === "load") {
-    const own = buffer.findLast(([location]) => location === it.location);
-    return after(state, cpu, { registers: put(registers, it.register, own ? own[1] : state.words[it.location]) });
+  if (instruction.kind === "load") {
+    const own = buffer.findLast(([location]) => location === instruction.location);
+    return after(state, cpu, { registers: put(registers, instruction.register, own ? own[1] : state.words[instruction.location]) });
   }
-  const word = wordOf(it.value, registers);
-  if (it.kind === "store") return after(state, cpu, { buffer: [...buffer, [it.location, word]] });
-  if (it.kind === "set") return after(state, cpu, { registers: put(registers, it.register, word) });
-  if (it.kind === "cmp") return after(state, cpu, { zero: registers[it.register] === word });
-  const total = (registers[it.register] + word) % WORD;
-  return after(state, cpu, { registers: put(registers, it.register, total), zero: total === 0 });
+  const word = wordOf(instruction.value, registers);
+  if (instruction.kind === "store") return after(state, cpu, { buffer: [...buffer, [instruction.location, word]] });
+  if (instruction.kind === "set") return after(state, cpu, { registers: put(registers, instruction.register, word) });
+  if (instruction.kind === "cmp") return after(state, cpu, { zero: registers[instruction.register] === word });
+  const total = (registers[instruction.register] + word) % WORD;
+  return after(state, cpu, { registers: put(registers, instruction.register, total), zero: total === 0 });
 }
 
-/** Returns the state after XCHG or LOCK XADD with a location. */
-function lockedStep(state, cpu, it) {
+/**
+ * Returns the state after XCHG or LOCK XADD with a location.
+ * @param {MachineState} state
+ * @param {number} cpu
+ * @param {Statement} instruction
+ * @returns {MachineState}
+ */
+function lockedStep(state, cpu, instruction) {
   const { registers } = state.processors[cpu];
-  const old = state.words[it.location];
-  const operand = registers[it.register];
-  const changed = put(registers, it.register, old);
-  if (it.kind === "xchg") return after(state, cpu, { registers: changed }, put(state.words, it.location, operand));
+  const old = state.words[instruction.location];
+  const operand = registers[instruction.register];
+  const changed = put(registers, instruction.register, old);
+  if (instruction.kind === "xchg") return after(state, cpu, { registers: changed }, put(state.words, instruction.location, operand));
   const total = (old + operand) % WORD;
-  return after(state, cpu, { registers: changed, zero: total === 0 }, put(state.words, it.location, total));
+  return after(state, cpu, { registers: changed, zero: total === 0 }, put(state.words, instruction.location, total));
 }
 
-/** Returns the state after a drain of a processor's oldest entry, or null if there is none. */
+/**
+ * Returns the state after a drain of a processor's oldest entry, or null if there is none.
+ * @param {MachineState} state
+ * @param {number} cpu
+ * @returns {MachineState | null}
+ */
 function drain(state, cpu) {
-  const { at, buffer } = state.processors[cpu];
+  const { position, buffer } = state.processors[cpu];
   if (!buffer.length) return null;
   const [[location, word], ...others] = buffer;
-  return after(state, cpu, { at, buffer: others }, put(state.words, location, word));
+  return after(state, cpu, { position, buffer: others }, put(state.words, location, word));
 }
 
-/** Returns the successors of a state. */
+/**
+ * Returns the successors of a state.
+ * @param {Test} test
+ * @param {MachineState} state
+ * @returns {MachineState[]}
+ */
 function moves(test, state) {
   return state.processors.flatMap((_, cpu) => [step(test, state, cpu), drain(state, cpu)].filter(Boolean));
 }
 
-/** Returns all final states of a test. */
+/**
+ * Returns all final states of a test.
+ * @param {Test} test
+ * @returns {MachineState[]}
+ */
 function finalStates(test) {
-  const start = { processors: test.registers.map((registers) => ({ at: 0, registers, zero: false, buffer: [] })), words: test.words };
+  const start = { processors: test.registers.map((registers) => ({ position: 0, registers, zero: false, buffer: [] })), words: test.words };
   const seen = new Set([JSON.stringify(start)]);
   const waiting = [start];
   const finals = [];
   while (waiting.length) {
     const state = waiting.pop();
-    const behind = moves(test, state);
-    if (!behind.length) finals.push(state);
-    for (const next of behind) {
+    const successors = moves(test, state);
+    if (!successors.length) finals.push(state);
+    for (const next of successors) {
       const key = JSON.stringify(next);
       if (!seen.has(key)) waiting.push(next);
       seen.add(key);
@@ -88,17 +133,27 @@ function finalStates(test) {
   return finals;
 }
 
-/** Returns the lines of the states in which a test ends, as a report has them, and in how many of them its proposition is true. */
+/**
+ * Returns the lines of the states in which a test ends, as a report has them, and the number of those in which its proposition is true.
+ * @param {Test} test
+ * @returns {{lines: string[], positive: number}}
+ */
 export function listOfStates(test) {
   const sites = observed(test);
   const outcomes = finalStates(test).map(({ processors, words }) => ({ registers: processors.map((it) => it.registers), words }));
   const rows = outcomes.map((outcome) => ({ row: sites.map((site) => wordAt(site, outcome)), isTrue: holds(test.proposition, outcome) }));
-  const sorted = [...new Map(rows.map((it) => [String(it.row), it])).values()].sort((one, other) => compare(one.row, other.row));
-  const lines = sorted.map(({ row }) => row.map((word, at) => `${siteName(test, sites[at])}=${word};`).join(" "));
+  const sorted = [...new Map(rows.map((it) => [String(it.row), it])).values()].sort((first, second) => compare(first.row, second.row));
+  const lines = sorted.map(({ row }) => row.map((word, index) => `${siteName(test, sites[index])}=${word};`).join(" "));
   return { lines, positive: sorted.filter((it) => it.isTrue).length };
 }
 
+/**
+ * Compares two rows of words, as a sort does.
+ * @param {number[]} first
+ * @param {number[]} second
+ * @returns {number}
+ */
 function compare(first, second) {
-  const at = first.findIndex((word, number) => word !== second[number]);
-  return at < 0 ? 0 : first[at] - second[at];
+  const index = first.findIndex((word, number) => word !== second[number]);
+  return index < 0 ? 0 : first[index] - second[index];
 }

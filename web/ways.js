@@ -16,7 +16,7 @@ const RECENTLY = 2000;
 const idle = [];
 let currentAt = -Infinity;
 const loading = load();
-// One worker is made ready before it is needed. Where the browser starts none, that is told when one is needed.
+// One worker is made ready before it is needed. If the browser starts none, that is reported when one is needed.
 loading.then(async (module) => (module || hasServer) && idle.push(await workerOf())).catch(() => null);
 
 /** Returns the first module that the browser takes, compiled, or null. */
@@ -63,6 +63,7 @@ async function workerOf() {
   return worker;
 }
 
+/** Returns what a worker answers, or null once the signal is aborted. `passed` is called with how far it is. */
 function answerOf(worker, asked, signal, passed) {
   return new Promise((resolve) => {
     signal.addEventListener("abort", () => resolve(null), { once: true });
@@ -103,7 +104,7 @@ async function isStaleBy(signal) {
     currentAt = isStale ? -Infinity : performance.now();
     return isStale;
   } catch {
-    // The server does not answer; whoever asks it for more is told so.
+    // The server does not answer; whoever asks it for more gets this error.
     return false;
   }
 }

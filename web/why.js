@@ -3,31 +3,39 @@
 
 import { ask } from "./ask.js";
 import { questionOf } from "./condition_words.js";
-import { button, el, plainMark } from "./dom.js";
+import { button, byId, el, plainMark, sentence } from "./dom.js";
 import { graphParts, legend, shownGraph } from "./execution_graph.js";
 import * as guess from "./guess.js";
 import { missingState } from "./missing.js";
 import { wordsOf } from "./replays.js";
 import { namesOf } from "./reports.js";
 import { siteNode, tintsOf } from "./tint.js";
-import { tell } from "./told.js";
+import { showError } from "./errors.js";
 import { headingOf } from "./tokens.js";
 
 const CIRCLE = "Each arrow means “comes before”. The bold ones form a cycle, so no run can end this way.";
+const RULE =
+  "Program order counts here, but not from a store to a later load: that load may read while the store waits in its buffer. It counts again if " +
+  "an `MFENCE` or a locked instruction is between them.";
 
 export class Why {
-  /** Makes an empty panel. It calls `watch` with the line of a state whose run the reader wants to watch. */
-  constructor(editor, watch) {
-    Object.assign(this, { editor, watch, fields: [], report: null, askedOf: null });
+  /**
+   * Makes an empty panel. It calls `watch` with the line of a state whose run the reader wants to watch, and `explained` with that of a state that it
+   * answers on, or with null.
+   */
+  constructor(editor, watch, explained) {
+    Object.assign(this, { editor, watch, explained, fields: [], report: null, askedOf: null });
     this.form = el("div", { class: "why-form" });
     this.answers = el("div", { class: "why-answers", role: "status" });
     this.place = el("div", { class: "why" }, this.form, this.answers);
   }
 
+  /** Removes what is shown. */
   clear() {
     Object.assign(this, { report: null, askedOf: null, missing: null, chosen: null, fields: [] });
     this.answers.replaceChildren();
     this.form.replaceChildren();
+    this.form.hidden = false;
   }
 
   /**
@@ -59,16 +67,14 @@ export class Why {
    * state that is `chosen` in the list, if there is one.
    */
   askOnce(chosen = null) {
-    if (this.report === null) return this.tellAwaited();
+    this.form.hidden = guess.isLocked(this.editor.text);
+    if (this.form.hidden) return guess.unlock(this.editor, this.answers, () => this.askOnce(chosen));
+    if (this.report === null) return null;
     const isOther = this.missing === null && chosen !== null && chosen !== this.chosen;
     this.chosen = chosen;
     if (isOther) return this.set(chosen);
-    return this.askedOf === null ? this.ask() : null;
-  }
-
-  /** Says that the reader has to predict first. */
-  tellAwaited() {
-    if (guess.isAwaited(this.editor.text)) this.answers.replaceChildren(el("p", {}, "First say above what you expect."));
+    if (this.askedOf === null) return this.ask();
+    return this.markExplained();
   }
 
   /** Asks about a state. */
@@ -82,17 +88,30 @@ export class Why {
     return this.answer(this.fields.map(({ name, field }) => `${name}=${field.value.trim()};`).join(" "));
   }
 
+  /** Says which state the answer is on; if it is on all, none. */
+  markExplained() {
+    this.explained(this.askedOf === "all" ? null : this.askedOf);
+  }
+
   /** Answers on a state, or on `all`. What was answered before is gone meanwhile. */
   async answer(state) {
     this.askedOf = state;
     this.answers.replaceChildren();
+    this.markExplained();
     if (this.report.states.some(({ line }) => line === state)) return this.answerAllowed(state);
     const { text } = this.editor;
     const answer = await ask(this.editor, "why not", { text, state }, { place: this.answers });
     if (!answer) return null;
     this.answers.replaceChildren();
-    if (!answer.lines) return tell(answer, this.answers, this.editor);
-    return this.answers.append(...this.partsOf(answer, headingOf(text).language === "SRC"));
+    if (!answer.lines) return showError(answer, this.answers, this.editor);
+    this.answers.append(...this.partsOf(answer, headingOf(text).language === "SRC"));
+    return this.bringIntoSight();
+  }
+
+  /** Scrolls the column of the answers as far as the cycles need to be in sight, in a window in which the column is scrolled by itself. */
+  bringIntoSight() {
+    const drawn = this.answers.querySelector(".why-drawn, .why-run");
+    if (drawn && getComputedStyle(byId("answers")).overflowY === "auto") drawn.scrollIntoView({ block: "nearest" });
   }
 
   /** Says that a run ends in a state, and draws that run. */
@@ -106,15 +125,23 @@ export class Why {
     if (!film?.films || this.askedOf !== state) return;
     const answer = await ask(this.editor, "graph", { text, schedule: film.schedule }, { place: drawn, name: "the graph of that run" });
     if (!answer || this.askedOf !== state) return;
-    drawn.replaceChildren(...(answer.graph ? graphParts(answer, this.tints) : []));
+    drawn.replaceChildren(...(answer.graph ? [...graphParts(answer, this.tints), ruleNote()] : []));
+    this.bringIntoSight();
   }
 
+  /** Returns the parts of an answer: the sentence, the pictures of cycles, and all in words. */
   partsOf({ lines, cycles }, isSource) {
     const drawn = cycles.map(({ graph, words }) => el("figure", {}, shownGraph(graph, this.tints).graph, el("figcaption", {}, words)));
     const of = isSource ? "Of the compiled program, with the source's names: " : "";
     const head = el("p", { class: "why-head" }, of, el("b", {}, lines[0]), " ", plainMark());
-    const told = el("details", { open: !drawn.length && lines.length > 1 }, el("summary", {}, "In words"), el("pre", {}, lines.join("\n")));
-    if (!drawn.length) return [head, lines.length > 1 ? told : ""];
-    return [head, el("p", { class: "small" }, CIRCLE), el("div", { class: "figures" }, drawn), legend(...drawn), told];
+    const inWords = el("details", { open: !drawn.length && lines.length > 1 }, el("summary", {}, "In words"), el("pre", {}, lines.join("\n")));
+    if (!drawn.length) return [head, lines.length > 1 ? inWords : ""];
+    const notes = el("div", { class: "why-notes" }, el("p", { class: "small" }, CIRCLE), legend(...drawn), ruleNote());
+    return [head, el("div", { class: "why-drawn" }, el("div", { class: "figures" }, drawn), notes), inWords];
   }
+}
+
+/** Returns a note on which program order counts. */
+function ruleNote() {
+  return el("p", { class: "rule small" }, sentence(RULE));
 }

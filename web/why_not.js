@@ -11,7 +11,12 @@ const MOST_CYCLES = 6;
 const MOST_DRAWN = 3;
 const NONE_FORBIDDEN = "x86-TSO allows every state that some candidate execution has.";
 
-/** Returns the words in a report's line, by site. Throws NoAnswer unless the line names exactly what the test shows. */
+/**
+ * Returns the words in a report's line, by site. Throws NoAnswer unless the line names exactly what the test shows.
+ * @param {Test} test
+ * @param {string} line
+ * @returns {Map<string, number>}
+ */
 function stateOf(test, line) {
   const pairs = [...line.matchAll(/([^\s=;]+)=(\d+);/g)].map(([, name, word]) => [name, Number(word)]);
   const found = new Map(pairs);
@@ -21,37 +26,48 @@ function stateOf(test, line) {
   if (!isWhole || pairs.length !== names.length || !names.every((name) => found.has(name))) {
     throw new NoAnswer(`The test shows ${names.map((it) => `${it}=..;`).join(" ")}, and the state has to name these.`);
   }
-  return new Map(sites.map((site, at) => [siteKey(site), found.get(names[at])]));
+  return new Map(sites.map((site, index) => [siteKey(site), found.get(names[index])]));
 }
 
-/** Returns the states that the axioms allow; and of each that they allow in no candidate execution how many break which axiom by which cycle. */
+/**
+ * Returns the states that the axioms allow, and those that they forbid: each of these with the `ways` in which its candidate executions break an
+ * axiom. A way has the axiom, the cycle, its events, the number of such executions, and one of them with its violation.
+ * @param {Test} test
+ * @param {Map<string, number> | null} wanted
+ * @returns {{allowed: Set<string>, forbidden: {words: number[], ways: Map<string, Way>}[]}}
+ */
 function forbiddenStates(test, wanted) {
-  const [allowed, broken, sites] = [new Set(), new Map(), observed(test)];
+  const [allowed, forbidden, sites] = [new Set(), new Map(), observed(test)];
   for (const it of candidates(test, MOST)) {
     const outcome = it.outcome();
     const words = sites.map((site) => wordAt(site, outcome) ?? null);
     const isOther = (word, at) => word !== null && word !== wanted.get(siteKey(sites[at]));
     if (allowed.has(String(words)) || (wanted && words.some(isOther))) continue;
-    const found = it.broken();
-    if (!found) {
+    const violation = it.broken();
+    if (!violation) {
       allowed.add(String(words));
-      broken.delete(String(words));
+      forbidden.delete(String(words));
       continue;
     }
     const names = new Names(it);
-    const events = found.cycle.map((each) => names.line(each.source));
-    const way = { axiom: found.axiom, cycle: names.cycle(found.cycle), events, times: 0, execution: it, broken: found };
-    const { ways } = broken.get(String(words)) ?? broken.set(String(words), { words, ways: new Map() }).get(String(words));
+    const events = violation.cycle.map((each) => names.line(each.source));
+    const way = { axiom: violation.axiom, cycle: names.cycle(violation.cycle), events, times: 0, execution: it, violation };
+    const { ways } = forbidden.get(String(words)) ?? forbidden.set(String(words), { words, ways: new Map() }).get(String(words));
     const key = JSON.stringify([way.axiom, way.cycle, events]);
     if (!ways.has(key)) ways.set(key, way);
     ways.get(key).times += 1;
   }
-  return { allowed, broken: [...broken.values()] };
+  return { allowed, forbidden: [...forbidden.values()] };
 }
 
-/** Returns the lines on a state that the axioms forbid. */
+/**
+ * Returns the lines on a state that the axioms forbid.
+ * @param {Test} test
+ * @param {{words: number[], ways: Way[]}} state
+ * @returns {string[]}
+ */
 function sayWhy(test, { words, ways }) {
-  const line = observed(test).map((site, at) => `${siteName(test, site)}=${shown(words[at])};`).join(" ");
+  const line = observed(test).map((site, index) => `${siteName(test, site)}=${shown(words[index])};`).join(" ");
   const lines = [`x86-TSO forbids ${line}`];
   for (const { axiom, cycle, events, times } of ways.slice(0, MOST_CYCLES)) {
     const breaking = times === 1 ? "1 candidate execution breaks" : `${times} candidate executions break`;
@@ -60,20 +76,27 @@ function sayWhy(test, { words, ways }) {
   return ways.length > MOST_CYCLES ? [...lines, `  and ${ways.length - MOST_CYCLES} other cycles`] : lines;
 }
 
-/** Returns the forbidden states in their order, each with the ways in which it is forbidden, the shortest first. */
-function inOrder(broken) {
+/**
+ * Returns the forbidden states in their order, each with the ways in which it is forbidden, the shortest first.
+ * @param {{words: number[], ways: Map<string, Way>}[]} forbidden
+ * @returns {{words: number[], ways: Way[]}[]}
+ */
+function inOrder(forbidden) {
   const key = ({ words }) => words.map((word) => word ?? -1);
   const before = (a, b) => {
     const at = key(a).findIndex((word, number) => word !== key(b)[number]);
     return at < 0 ? 0 : key(a)[at] - key(b)[at];
   };
   const shorter = (a, b) => a.events.length - b.events.length || b.times - a.times;
-  return broken.sort(before).map(({ words, ways }) => ({ words, ways: [...ways.values()].sort(shorter) }));
+  return forbidden.sort(before).map(({ words, ways }) => ({ words, ways: [...ways.values()].sort(shorter) }));
 }
 
 /**
  * Returns the lines that say why a test does not end in a state, or in each that some candidate has (`all`); and the `cycles` that are named
  * first, each as a graph with its words.
+ * @param {Test} test
+ * @param {string} state
+ * @returns {{lines: string[], cycles: {graph: string, words: string}[]}}
  */
 export function whyNot(test, state) {
   const wanted = state === "all" ? null : stateOf(test, state);
@@ -87,13 +110,13 @@ export function whyNot(test, state) {
   if (wanted && found.allowed.has(String([...wanted.values()]))) {
     return { lines: ["x86-TSO allows this state: `lw schedules` lists it with a schedule."], cycles: [] };
   }
-  if (!found.broken.length) {
+  if (!found.forbidden.length) {
     return { lines: [wanted ? `No thread reads or writes such values: no candidate execution ends in ${state}` : NONE_FORBIDDEN], cycles: [] };
   }
-  const states = inOrder(found.broken);
+  const states = inOrder(found.forbidden);
   const drawn = states.flatMap(({ ways }) => ways.slice(0, MOST_DRAWN)).slice(0, MOST_DRAWN);
-  const cycles = drawn.map(({ execution, broken, cycle, axiom }) => {
-    return { graph: graphOf(execution, `${test.name}: ${cycle}`, broken), words: `${axiom}: ${cycle}` };
+  const cycles = drawn.map(({ execution, violation, cycle, axiom }) => {
+    return { graph: graphOf(execution, `${test.name}: ${cycle}`, violation), words: `${axiom}: ${cycle}` };
   });
   return { lines: states.flatMap((it) => sayWhy(test, it)), cycles };
 }

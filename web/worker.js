@@ -16,6 +16,7 @@ function programOf(module) {
   return byModule;
 }
 
+/** Returns the answer to a question, or an error if the module fails. */
 function answer({ module, question, fields }) {
   try {
     return answerTo(programOf(module), question, fields, (passed) => postMessage({ passed }));

@@ -5,7 +5,9 @@ one wrong symbol, or with two neighbours exchanged, is a code. The number holds 
 are, the seed, the student, and an answer for each test. A student's name in other letters than those of seeds is an empty name, and after it
 the bytes of its UTF-8. tools/lab/quiz.html writes the same codes.
 """
-from typing import List, NamedTuple, Tuple
+from __future__ import annotations
+
+from typing import NamedTuple
 
 SYMBOLS = "0123456789ABCDEFGHJKMNPQRSTVWXYZ"
 # What is often read for another symbol.
@@ -14,9 +16,9 @@ PRIME = 1048573
 LENGTH_OF_SUM = 4
 # The letters of a seed and of a student: each by its place from 1, and 0 ends.
 LETTERS = "0123456789abcdefghijklmnopqrstuvwxyz "
-MARKS, MOST_TESTS, MOST_LETTERS = 1024, 40, 16
+MARKS, MAX_TESTS, MAX_LETTERS = 1024, 40, 16
 # The base of a byte of UTF-8, counted from 1: 0 ends; and how many a name has at most.
-BYTES, MOST_BYTES = 257, 4 * MOST_LETTERS
+BYTES, MAX_BYTES = 257, 4 * MAX_LETTERS
 # What may stand between the symbols of a code.
 BETWEEN = " \t\r-\ufeff"
 
@@ -31,29 +33,29 @@ class HandedIn(NamedTuple):
     mark: int
     seed: str
     student: str
-    answers: List[int]
+    answers: list[int]
 
 
-def digits_of_text(text: str) -> List[Tuple[int, int]]:
-    """The digits of letters, each behind its base."""
+def encode_letters(text: str) -> list[tuple[int, int]]:
+    """Returns the digits of letters, each with its base."""
     return [(len(LETTERS) + 1, LETTERS.index(letter) + 1 if letter else 0) for letter in [*text, ""]]
 
 
-def digits_of_student(student: str) -> List[Tuple[int, int]]:
-    """The digits of a student's name."""
+def encode_student(student: str) -> list[tuple[int, int]]:
+    """Returns the digits of a student's name."""
     if all(it in LETTERS for it in student):
-        return digits_of_text(student)
-    return [*digits_of_text(""), *((BYTES, it + 1) for it in student.encode()), (BYTES, 0)]
+        return encode_letters(student)
+    return [*encode_letters(""), *((BYTES, it + 1) for it in student.encode()), (BYTES, 0)]
 
 
-def digits_of(it: HandedIn) -> List[Tuple[int, int]]:
-    """The digits of a code, each behind its base."""
-    front = [(MARKS, it.mark), (MOST_TESTS + 1, len(it.answers))]
-    return [*front, *digits_of_text(it.seed), *digits_of_student(it.student), *((4, answer) for answer in it.answers)]
+def encode_digits(handed_in: HandedIn) -> list[tuple[int, int]]:
+    """Returns the digits of a code, each with its base."""
+    front = [(MARKS, handed_in.mark), (MAX_TESTS + 1, len(handed_in.answers))]
+    return [*front, *encode_letters(handed_in.seed), *encode_student(handed_in.student), *((4, answer) for answer in handed_in.answers)]
 
 
-def written(number: int, least: int = 0) -> str:
-    """A number in the symbols of codes."""
+def format_number(number: int, least: int = 0) -> str:
+    """Returns a number in the symbols of codes."""
     text = ""
     while number or len(text) < least:
         number, digit = divmod(number, len(SYMBOLS))
@@ -61,23 +63,23 @@ def written(number: int, least: int = 0) -> str:
     return text
 
 
-def code_of(it: HandedIn) -> str:
-    """The code of what is handed in."""
+def make_code(handed_in: HandedIn) -> str:
+    """Returns the code of what is handed in."""
     number = 1
-    for base, digit in reversed(digits_of(it)):
+    for base, digit in reversed(encode_digits(handed_in)):
         number = number * base + digit
-    return written(number) + written(number % PRIME, LENGTH_OF_SUM)
+    return format_number(number) + format_number(number % PRIME, LENGTH_OF_SUM)
 
 
-def symbols_in(line: str) -> List[int]:
-    """The symbols of a line, each by its value."""
+def read_symbols(line: str) -> list[int]:
+    """Returns the symbols of a line, each by its value. Raises BadCode at another letter."""
     values = []
-    for at, letter in enumerate(line):
+    for index, letter in enumerate(line):
         symbol = MISREAD.get(letter.upper(), letter.upper())
         if letter in BETWEEN:
             continue
         if symbol not in SYMBOLS:
-            raise BadCode(f"no code has {letter!r}", at)
+            raise BadCode(f"no code has {letter!r}", index)
         values.append(SYMBOLS.index(symbol))
     return values
 
@@ -85,52 +87,52 @@ def symbols_in(line: str) -> List[int]:
 class Digits:
     """The digits of a number, one after another."""
 
-    def __init__(self, number: int):
+    def __init__(self, number: int) -> None:
         self.rest = number
 
-    def next(self, base: int) -> int:
-        """The next digit, of a base."""
+    def take_digit(self, base: int) -> int:
+        """Returns the next digit, of a base."""
         self.rest, digit = divmod(self.rest, base)
         return digit
 
-    def text(self, most: int) -> str:
-        """The letters up to the one that ends."""
+    def take_letters(self, max_letters: int) -> str:
+        """Returns the letters up to the one that ends."""
         text = ""
-        while (digit := self.next(len(LETTERS) + 1)) and len(text) < most:
+        while (digit := self.take_digit(len(LETTERS) + 1)) and len(text) < max_letters:
             text += LETTERS[digit - 1]
         return text
 
 
-def student_in(digits: Digits) -> str:
-    """The name of a student; empty where there is none."""
-    if name := digits.text(MOST_LETTERS):
+def take_student(digits: Digits) -> str:
+    """Returns the name of a student; empty where there is none."""
+    if name := digits.take_letters(MAX_LETTERS):
         return name
-    found = bytearray()
-    while (digit := digits.next(BYTES)) and len(found) < MOST_BYTES:
-        found.append(digit - 1)
+    student = bytearray()
+    while (digit := digits.take_digit(BYTES)) and len(student) < MAX_BYTES:
+        student.append(digit - 1)
     try:
-        return found.decode()
+        return student.decode()
     except UnicodeDecodeError:
         return ""
 
 
 def read_code(line: str) -> HandedIn:
-    """What the code of a line says."""
-    begin = next((at for at, letter in enumerate(line) if letter not in BETWEEN), 0)
-    values = symbols_in(line)
+    """Returns what the code of a line says. Raises BadCode if it is too long, mistyped, or of no quiz."""
+    begin = next((index for index, letter in enumerate(line) if letter not in BETWEEN), 0)
+    values = read_symbols(line)
     if len(values) <= LENGTH_OF_SUM:
         raise BadCode("a code is longer", begin)
     number = 0
-    for it in values[:-LENGTH_OF_SUM]:
-        number = number * len(SYMBOLS) + it
-    sum_told = 0
-    for it in values[-LENGTH_OF_SUM:]:
-        sum_told = sum_told * len(SYMBOLS) + it
-    if number % PRIME != sum_told:
+    for symbol in values[:-LENGTH_OF_SUM]:
+        number = number * len(SYMBOLS) + symbol
+    sum_in_code = 0
+    for symbol in values[-LENGTH_OF_SUM:]:
+        sum_in_code = sum_in_code * len(SYMBOLS) + symbol
+    if number % PRIME != sum_in_code:
         raise BadCode("the check sum is wrong: the code is mistyped, or a part of it is missing", begin)
     digits = Digits(number)
-    mark, count = digits.next(MARKS), digits.next(MOST_TESTS + 1)
-    it = HandedIn(mark, digits.text(MOST_LETTERS), student_in(digits), [digits.next(4) for _ in range(count)])
-    if digits.rest != 1 or not (count and it.seed and it.student) or values[0] == 0:
+    mark, count = digits.take_digit(MARKS), digits.take_digit(MAX_TESTS + 1)
+    handed_in = HandedIn(mark, digits.take_letters(MAX_LETTERS), take_student(digits), [digits.take_digit(4) for _ in range(count)])
+    if digits.rest != 1 or not (count and handed_in.seed and handed_in.student) or values[0] == 0:
         raise BadCode("the check sum is right, and yet this is no code of a quiz", begin)
-    return it
+    return handed_in

@@ -1,28 +1,35 @@
-"""The Markdown of documents as HTML: headings, paragraphs, items, tables, pictures, and text that is fenced or indented.
+"""Renders the Markdown of documents as HTML: headings, paragraphs, items, tables, pictures, and text that is fenced or indented.
 
-Of a link the words alone are taken, but for links to what is given out too. An item is a paragraph with its number: text in a fence may follow it.
+Of a link only the words remain, unless a renderer knows where it leads. An item is a paragraph with its number: text in a fence may follow it.
 """
+from __future__ import annotations
+
 import re
+from collections.abc import Iterator
 from html import escape
-from typing import Callable, Dict, Iterator, List, Tuple
+from typing import List, Tuple
 
 Block = Tuple[str, List[str]]
 FENCE = "```"
 INDENTED = "    "
 IMAGE = re.compile(r"!\[([^]]*)\]\((pictures/[\w-]+\.svg)\)")
 ITEM = re.compile(r"(\d+\.|-) ")
+# What is marked within a paragraph. Code comes first, since it has no other marks; a link's words and strong words may have code.
+MARKED = re.compile(
+    r"`(?P<code>[^`]*)`|\[(?P<words>(?:`[^`]*`|[^]`])*)\]\((?P<target>[^)]*)\)|\*\*(?P<strong>.+?)\*\*|\*(?P<em>[^*\s][^*]*)\*"
+)
 
 
-def section(text: str, heading: str) -> str:
-    """What stands below a heading of the second level, up to the next."""
-    found = re.search(rf"^## {re.escape(heading)}\n(.*?)(?=^## |\Z)", text, re.M | re.S)
-    if found is None:
+def find_section(text: str, heading: str) -> str:
+    """Returns what is below a heading of the second level, up to the next. Raises ValueError if there is no such heading."""
+    match = re.search(rf"^## {re.escape(heading)}\n(.*?)(?=^## |\Z)", text, re.M | re.S)
+    if match is None:
         raise ValueError(f"there is no heading {heading!r}")
-    return found[1]
+    return match[1]
 
 
-def kind_of(line: str) -> str:
-    """What a block is that begins with a line."""
+def find_block_kind(line: str) -> str:
+    """Returns what a block is that begins with a line."""
     if line.startswith("#"):
         return "heading"
     if line.startswith("|"):
@@ -32,14 +39,14 @@ def kind_of(line: str) -> str:
     return "item" if ITEM.match(line) else "paragraph"
 
 
-def blocks(text: str) -> Iterator[Block]:
-    """The blocks of a text, each with its kind and its lines."""
-    block: List[str] = []
+def split_blocks(text: str) -> Iterator[Block]:
+    """Yields the blocks of a text, each with its kind and its lines."""
+    block: list[str] = []
     lines = iter([*text.splitlines(), ""])
     for line in lines:
         begins = line.startswith("#") or bool(ITEM.match(line)) or line.startswith(FENCE)
         if block and (not line.strip() or begins):
-            yield kind_of(block[0]), block
+            yield find_block_kind(block[0]), block
             block = []
         if line.startswith(FENCE):
             yield "fence", list(iter(lambda: next(lines), FENCE))
@@ -47,52 +54,95 @@ def blocks(text: str) -> Iterator[Block]:
             block.append(line)
 
 
-def inline(text: str, links: Dict[str, str] = {}) -> str:
-    """Words with their marks: code, strong, emphasis, and links, of which `links` says where they lead."""
-    kept = lambda it: f"\0{links[it[2]]}\1{it[1]}\2" if it[2] in links else it[1]
-    parts = re.split(r"`([^`]*)`", re.sub(r"\[([^]]*)\]\(([^)]*)\)", kept, text))
-    made = "".join(f"<code>{escape(it)}</code>" if at % 2 else marked(it) for at, it in enumerate(parts))
-    return re.sub("\0(.*?)\1(.*?)\2", r'<a href="\1" target="_blank">\2</a>', made)
-
-
-def marked(text: str) -> str:
-    """Words without code."""
-    strong = re.sub(r"\*\*([^*]+)\*\*", r"<strong>\1</strong>", escape(text, quote=False))
-    return re.sub(r"\*([^*]+)\*", r"<em>\1</em>", strong)
-
-
-def cells(row: str) -> List[str]:
-    """The cells of a row of a table."""
+def split_cells(row: str) -> list[str]:
+    """Returns the cells of a row of a table."""
     return [it.strip().replace("\\|", "|") for it in re.split(r"(?<!\\)\|", row.strip())[1:-1]]
 
 
-def table(lines: List[str]) -> str:
-    """A table, of which the first row is a header."""
-    head, _, *rows = lines
-    tags = [("th", head), *(("td", row) for row in rows)]
-    made = ("".join(f"<{tag}>{inline(it)}</{tag}>" for it in cells(row)) for tag, row in tags)
-    return "<table>\n" + "".join(f"<tr>{it}</tr>\n" for it in made) + "</table>\n"
+def join_lines(lines: list[str]) -> str:
+    """Returns the lines of a paragraph as one."""
+    return " ".join(it.strip() for it in lines)
 
 
-def html_of_block(kind: str, lines: List[str], links: Dict[str, str] = {}) -> str:
-    """A block as HTML, with some of its links."""
-    if kind == "table":
-        return table(lines)
-    if kind in ("fence", "code"):
-        shown = [it[len(INDENTED) :] for it in lines] if kind == "code" else lines
-        return "<pre>" + escape("\n".join(shown), quote=False) + "</pre>\n"
-    words = " ".join(it.strip() for it in lines)
-    if kind == "heading":
-        level = len(words) - len(words.lstrip("#"))
-        return f"<h{level}>{inline(words.lstrip('# '))}</h{level}>\n"
-    if kind == "item":
-        number, _, rest = words.partition(" ")
-        return f'<p class="item"><b>{number.replace("-", "•")}</b> {inline(rest, links)}</p>\n'
-    if (image := IMAGE.fullmatch(words)):
-        return f'<figure data-picture="{image[2]}"><figcaption>{inline(image[1])}</figcaption></figure>\n'
-    return f"<p>{inline(words, links)}</p>\n"
+def count_heading_marks(heading: str) -> int:
+    """Returns the level of a heading by its marks."""
+    return len(heading) - len(heading.lstrip("#"))
 
 
-def html_of(text: str, made: Callable[[str, List[str]], str] = html_of_block) -> str:
-    """A text as HTML."""
-    return "".join(made(kind, lines) for kind, lines in blocks(text))
+class Renderer:
+    """Renders blocks as HTML. A link leads to what `links` has for its target, in a tab of its own."""
+
+    def __init__(self, links: dict[str, str] | None = None) -> None:
+        self.links = links or {}
+
+    def render_body(self, text: str) -> str:
+        """Returns a text as HTML."""
+        return "".join(self.render_block(kind, lines) for kind, lines in split_blocks(text))
+
+    def render_block(self, kind: str, lines: list[str]) -> str:
+        """Returns a block as HTML."""
+        if kind == "table":
+            return self.render_table(lines)
+        if kind in ("fence", "code"):
+            return self.render_listing([it[len(INDENTED) :] for it in lines] if kind == "code" else lines)
+        words = join_lines(lines)
+        if kind == "heading":
+            return self.render_heading(count_heading_marks(words), words.lstrip("# "))
+        if kind == "item":
+            number, _, rest = words.partition(" ")
+            return f'<p class="item"><b>{number.replace("-", "•")}</b> {self.render_inline(rest)}</p>\n'
+        if (image := IMAGE.fullmatch(words)):
+            return self.render_picture(image[1], image[2])
+        return f"<p>{self.render_inline(words)}</p>\n"
+
+    def render_heading(self, level: int, words: str) -> str:
+        """Returns a heading."""
+        return f"<h{level}>{self.render_inline(words)}</h{level}>\n"
+
+    def render_listing(self, lines: list[str]) -> str:
+        """Returns lines as they are, in a fixed pitch."""
+        return "<pre>" + escape("\n".join(lines), quote=False) + "</pre>\n"
+
+    def render_picture(self, words: str, path: str) -> str:
+        """Returns a place for a picture of docs/, with its caption."""
+        return f'<figure data-picture="{path}"><figcaption>{self.render_inline(words)}</figcaption></figure>\n'
+
+    def render_table(self, lines: list[str]) -> str:
+        """Returns a table, of which the first row is a header."""
+        head, _, *rows = lines
+        tags = [("th", head), *(("td", row) for row in rows)]
+        rows_of_cells = ("".join(f"<{tag}>{self.render_cell(it)}</{tag}>" for it in split_cells(row)) for tag, row in tags)
+        return "<table>\n" + "".join(f"<tr>{it}</tr>\n" for it in rows_of_cells) + "</table>\n"
+
+    def render_cell(self, text: str) -> str:
+        """Returns the content of a cell."""
+        return self.render_inline(text)
+
+    def render_inline(self, text: str) -> str:
+        """Returns words with their marks: code, strong, emphasis, and links."""
+        parts, end = [], 0
+        for match in MARKED.finditer(text):
+            parts += [self.render_plain(text[end : match.start()]), self.render_mark(match)]
+            end = match.end()
+        return "".join(parts) + self.render_plain(text[end:])
+
+    def render_plain(self, text: str) -> str:
+        """Returns words without marks."""
+        return escape(text, quote=False)
+
+    def render_mark(self, match: "re.Match[str]") -> str:
+        """Returns what one mark makes of its words."""
+        if match["code"] is not None:
+            return self.render_code(match["code"])
+        if match["target"] is not None:
+            return self.render_link(self.render_inline(match["words"]), match["target"])
+        tag = "em" if match["strong"] is None else "strong"
+        return f"<{tag}>{self.render_inline(match[tag])}</{tag}>"
+
+    def render_code(self, text: str) -> str:
+        """Returns code within words."""
+        return f"<code>{escape(text)}</code>"
+
+    def render_link(self, words: str, target: str) -> str:
+        """Returns a link if it is known where it leads, and otherwise its words."""
+        return f'<a href="{self.links[target]}" target="_blank">{words}</a>' if target in self.links else words

@@ -2,65 +2,80 @@
 
 Runs are those of tools/plain.py, and cycles those of tools/executions.py, so a quiz has the same bytes with the program and without.
 """
-from typing import Dict, List, Union
+from __future__ import annotations
+
+from collections.abc import Sequence
+from typing import Callable, Dict, Iterator, List, Optional, Union
 
 import executions
 import films
 import plain
-from effects import effect_of
+from effects import describe_event
 from graph import Names
+from interpreter.tests import State
+from interpreter.walks import Move
 from replay_state import read_state
 
-MOST_CANDIDATES = 400_000
+MAX_CANDIDATES = 400_000
+Moves = Callable[[plain.Test, State], Iterator[Move]]
 # A run has `steps`; a cycle has `events`, of which each comes before the next, and the last before the first.
 Reason = Dict[str, Union[str, List[str]]]
 
 
-def asked_finals(test: plain.Test, start, moves) -> List[str]:
-    """The schedules to the states in which a test's condition holds, the shortest first."""
-    finals, came_from = plain.walk(test, start(test), moves)
-    holding = [state for outcome, state in finals.items() if plain.holds(test.proposition, outcome)]
-    return sorted((plain.way_to(it, came_from) for it in holding), key=lambda it: (len(it), it))
+def list_asked_schedules(test: plain.Test, start: Callable[[plain.Test], State], moves: Moves) -> list[str]:
+    """Returns the schedules to the states in which a test's condition holds, the shortest first."""
+    finals, origins = plain.explore_states(test, start(test), moves)
+    holding = [state for outcome, state in finals.items() if plain.is_true(test.proposition, outcome)]
+    return sorted((plain.make_schedule(it, origins) for it in holding), key=lambda it: (len(it), it))
 
 
-def steps_of(test: plain.Test, schedule: str) -> List[str]:
-    """What each event of a run does, in words."""
+def describe_steps(test: plain.Test, schedule: str) -> list[str]:
+    """Returns what each event of a run does, in words."""
     events = schedule.split()
     states = [read_state(plain.replay(test, " ".join(events[:number]))[0]) for number in range(len(events) + 1)]
-    cells = films.x86_cells(plain.canonical_text(test)) if test.language == "X86" else films.source_cells(test)
-    return [effect_of(event, cells, *states[at : at + 2])["words"] for at, event in enumerate(events)]
+    cells = films.list_x86_cells(plain.format_canonical_text(test)) if test.language == "X86" else films.list_source_cells(test)
+    return [describe_event(event, cells, *states[index : index + 2])["words"] for index, event in enumerate(events)]
 
 
-def cycle_of(test: plain.Test, find) -> List[str]:
-    """The events of a shortest cycle that `find` gives, of the executions in which the condition holds."""
+def find_shortest_cycle(test: plain.Test, find: Callable[[executions.Execution], Optional[Sequence[executions.Edge]]]) -> list[str]:
+    """Returns the events of the shortest cycle that `find` returns of an execution in which the condition holds. It returns one of each such
+    execution, since no run ends this way.
+    """
     cycles = []
-    for it in executions.candidates(test, MOST_CANDIDATES):
-        if plain.holds(test.proposition, it.outcome()):
-            names = Names(it)
-            cycles.append([names.line(edge.source).partition(": ")[2] for edge in find(it)])
+    for execution in executions.list_candidates(test, MAX_CANDIDATES):
+        if plain.is_true(test.proposition, execution.make_outcome()):
+            names, cycle = Names(execution), find(execution)
+            assert cycle, f"no run of {test.name} ends this way, and an execution does"
+            cycles.append([names.format_event(edge.source).partition(": ")[2] for edge in cycle])
     return min(cycles, key=len) if cycles else []
 
 
-def on_x86(text: str) -> Reason:
-    """Why a test can end this way on x86-TSO, or can't."""
+def find_broken_cycle(execution: executions.Execution) -> Sequence[executions.Edge] | None:
+    """Returns the cycle by which an execution breaks an axiom of x86-TSO, or `None` if it breaks none."""
+    broken = execution.find_broken_axiom()
+    return broken[1] if broken else None
+
+
+def explain_on_x86(text: str) -> Reason:
+    """Returns why a test can end this way on x86-TSO, or can't."""
     test = plain.read_test(text)
-    found = asked_finals(test, plain.x86_start, plain.x86_moves)
-    if found:
-        return {"kind": "run", "steps": steps_of(test, found[0])}
-    return {"kind": "cycle", "events": cycle_of(test, lambda it: it.broken()[1])}
+    schedules = list_asked_schedules(test, plain.make_x86_start, plain.list_x86_moves)
+    if schedules:
+        return {"kind": "run", "steps": describe_steps(test, schedules[0])}
+    return {"kind": "cycle", "events": find_shortest_cycle(test, find_broken_cycle)}
 
 
-def by_interleaving(text: str, source: str) -> Reason:
-    """Why a test can end this way by interleaving, or can't; `source` is its source form."""
+def explain_by_interleaving(text: str, source: str) -> Reason:
+    """Returns why a test can end this way by interleaving, or can't; `source` is its source form."""
     test = plain.read_test(source)
-    found = asked_finals(test, plain.source_start, plain.source_moves)
-    if found:
-        return {"kind": "run", "steps": [in_x86(it) for it in steps_of(test, found[0])]}
-    return {"kind": "cycle", "events": cycle_of(plain.read_test(text), lambda it: it.cycle())}
+    schedules = list_asked_schedules(test, plain.make_source_start, plain.list_source_moves)
+    if schedules:
+        return {"kind": "run", "steps": [rename_to_x86(it) for it in describe_steps(test, schedules[0])]}
+    return {"kind": "cycle", "events": find_shortest_cycle(plain.read_test(text), executions.Execution.find_cycle)}
 
 
-def in_x86(words: str) -> str:
-    """Words in which registers have their names of x86."""
+def rename_to_x86(words: str) -> str:
+    """Returns words in which registers have their names of x86."""
     for name, of_source in zip(plain.REGISTERS["X86"], plain.REGISTERS["SRC"]):
         words = words.replace(f"`{of_source}`", f"`{name}`")
     return words

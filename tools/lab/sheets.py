@@ -1,11 +1,12 @@
 """The sheet of the lab for students, and the pages for their teacher: HTML that prints well and loads nothing."""
+from __future__ import annotations
+
 import re
 from html import escape
-from typing import Dict, List
 from urllib.parse import urlencode
 
 from lab import markdown
-from lab.tests import NoLab, read
+from lab.tests import NoLab, read_file
 
 STYLE = """
 body { font: 11pt/1.4 Georgia, "DejaVu Serif", serif; max-width: 48em; margin: 1em auto; padding: 0 1em; color: #111; background: #fff }
@@ -33,9 +34,18 @@ th, td { border: 1px solid #888; padding: .25em .6em; text-align: left; vertical
   h1 { margin: .3em 0; font-size: 1.5em } .sheet p { margin: .45em 0 } .tests { gap: .4em } .tests figure { padding: .15em .5em; font-size: .82em }
   .answer { height: 2.4em; margin-bottom: .5em } h3 { margin-top: 1em; padding-top: .4em } .sheet td:empty { height: 1.6em }
 }
+@media screen {
+  :root { color-scheme: light dark }
+  body { color: light-dark(#111, #e8eaee); background: light-dark(#fff, #181c23) } a { color: light-dark(#1849a9, #8ab4ff) }
+}
 @media (max-width: 40em) { body { padding: 0 .6em } table { display: block; overflow-x: auto } }
 @page { margin: 16mm } @page card { margin: 10mm }
 """
+TITLE = "What can this program do?"
+# What the sheet says of the tests' files, up to what it says of a link.
+FILES = "The tests are files in `tests`, and *open* "
+# Links from the sheet of a site to its other documents, on a screen.
+WAY_BACK = '<p class="screen"><a href="index.html" target="lw">lw</a> · <a href="tutorial.html">Tutorial</a> · <a href="card.html">Syntax</a></p>\n'
 WHO = '<p class="who"><span>Name:</span> <span>Group:</span> <span>Points:</span></p>\n'
 # The column in which reasons are written has to be wide.
 WHY = "<th>why</th>"
@@ -45,83 +55,94 @@ TESTS = re.compile(r"Tests( by hand)?: (.*)")
 GIVEN_OUT = {"CARD.md": "card.html"}
 # Where a picture of docs/ is shown, and how many letters a document has at most that is a card.
 PICTURE = re.compile(r'<figure data-picture="([^"]*)">')
-MOST_OF_CARD = 10000
+MAX_CARD_LETTERS = 10000
 # What begins on a new page of paper: what is given out when the first task is done, and the hints.
 ON_NEW_PAGES = ("### 2. ", "### Hints")
 
 
-def page(title: str, body: str, kind: str) -> str:
-    """A page."""
+def make_page(title: str, body: str, kind: str, head: str = "") -> str:
+    """Returns a page; `head` is what its head has besides the title and the style."""
     return (
         f'<!doctype html>\n<html lang="en">\n<head>\n<meta charset="utf-8">\n'
-        f'<meta name="viewport" content="width=device-width, initial-scale=1">\n<title>{title}</title>\n<style>{STYLE}</style>\n</head>\n'
+        f'<meta name="viewport" content="width=device-width, initial-scale=1">\n<title>{title}</title>\n<style>{STYLE}</style>\n{head}</head>\n'
         f'<body class="{kind}">\n<h1>{title}</h1>\n{body}</body>\n</html>\n'
     )
 
 
-def shown(name: str, text: str, has_site: bool, is_by_hand: bool) -> str:
-    """A test on the sheet, with a link that opens it in the site, in one tab for all of them; where it is played by hand, at that."""
+def render_test(name: str, text: str, site: str | None, is_by_hand: bool) -> str:
+    """Returns a test on the sheet, with a link that opens it in the site, in one tab for all of them; for a test by hand, at that view."""
     view = {"view": "hand"} if is_by_hand else {}
-    opened = f"site/index.html#{urlencode({'predict': '1', **view, 'text': text})}"
-    link = f' <a class="screen" target="lw" href="{escape(opened)}">open</a>' if has_site else ""
+    opened = f"{site}#{urlencode({'predict': '1', **view, 'text': text})}"
+    link = f' <a class="screen" target="lw" href="{escape(opened)}">open</a>' if site else ""
     return f"<figure><figcaption>{name}{link}</figcaption><pre>{escape(text, quote=False)}</pre></figure>\n"
 
 
-class Sheet:
-    """The blocks of the sheet, one after another: after each item there is room for an answer, where no table has it."""
+class Sheet(markdown.Renderer):
+    """Renders the sheet: the tests in place of a line that names them, and room for an answer after each item that no table follows."""
 
-    def __init__(self, tests: Dict[str, str], has_site: bool):
-        self.tests, self.has_site = tests, has_site
+    def __init__(self, tests: dict[str, str], site: str | None) -> None:
+        super().__init__(GIVEN_OUT)
+        self.tests, self.site = tests, site
 
-    def block(self, kind: str, lines: List[str]) -> str:
-        """A block; of a line that names tests the tests."""
-        if kind == "paragraph" and (found := TESTS.fullmatch(lines[0])):
-            names = found[2].split()
+    def render_block(self, kind: str, lines: list[str]) -> str:
+        """Returns a block; of a line that names tests the tests. Raises NoLab if it names one that the lab lacks."""
+        if kind == "paragraph" and (match := TESTS.fullmatch(lines[0])):
+            names = match[2].split()
             if missing := [it for it in names if it not in self.tests]:
                 raise NoLab(f"docs/LAB.md shows {missing[0]}, and does not say which test that is")
             return '<div class="tests">\n' + "".join(
-                shown(it, self.tests[it], self.has_site, bool(found[1])) for it in names
+                render_test(it, self.tests[it], self.site, bool(match[1])) for it in names
             ) + "</div>\n"
-        made = markdown.html_of_block(kind, lines, GIVEN_OUT).replace(WHY, WHY.replace("<th>", '<th class="wide">'))
+        html = super().render_block(kind, lines).replace(WHY, WHY.replace("<th>", '<th class="wide">'))
         if kind == "heading" and any(it in lines[0] for it in ON_NEW_PAGES):
-            return made.replace("<h3>", '<h3 class="new-page">')
-        return made
+            return html.replace("<h3>", '<h3 class="new-page">')
+        return html
 
-    def body(self, text: str) -> str:
-        """The sheet's text as HTML."""
-        made, found = [], list(markdown.blocks(text))
-        for at, (kind, lines) in enumerate(found):
-            made.append(self.block(kind, lines))
-            has_table = found[at + 1 : at + 2] and found[at + 1][0] == "table"
+    def render_body(self, text: str) -> str:
+        """Returns the sheet's text as HTML."""
+        parts, blocks = [], list(markdown.split_blocks(text))
+        for index, (kind, lines) in enumerate(blocks):
+            parts.append(self.render_block(kind, lines))
+            has_table = blocks[index + 1 : index + 2] and blocks[index + 1][0] == "table"
             if kind == "item" and lines[0][0].isdigit() and not has_table:
-                made.append('<div class="answer"></div>\n')
-        return WHO + "".join(made)
+                parts.append('<div class="answer"></div>\n')
+        return WHO + "".join(parts)
 
 
-def sheet(lab: str, tests: Dict[str, str], has_site: bool) -> str:
-    """The sheet for students."""
-    return page("What can this program do?", Sheet(tests, has_site).body(markdown.section(lab, "The sheet")), "sheet")
+def make_sheet(lab: str, tests: dict[str, str], site: str | None, is_of_site: bool = False) -> str:
+    """Returns the sheet for students; its links lead to the page at `site`, if there is one. As a document of a made site it has the site's icon and
+    links to its other documents, and does not name the files of the tests, which the site lacks. Raises NoLab if docs/LAB.md lacks the sentence on
+    the files.
+    """
+    text = markdown.find_section(lab, "The sheet")
+    if not is_of_site:
+        return make_page(TITLE, Sheet(tests, site).render_body(text), "sheet")
+    if FILES not in text:
+        raise NoLab(f"docs/LAB.md does not say of the sheet: {FILES}")
+    return make_page(TITLE, WAY_BACK + Sheet(tests, site).render_body(text.replace(FILES, "*Open* ")), "sheet", '<link rel="icon" href="icon.svg">\n')
 
 
-def index(has_site: bool) -> str:
-    """The page on which a folder or a server opens: where the sheet is, the card, and the workbench."""
+def make_index(has_site: bool) -> str:
+    """Returns the page on which a folder or a server opens: where the sheet is, the card, and the workbench."""
     site = [("site/index.html", "The page: all examples")] if has_site else []
     links = [("sheet.html", "The sheet"), ("card.html", "The syntax, on one card"), *site]
-    return page("A lab", "<ul>\n" + "".join(f'<li><a href="{where}">{what}</a></li>\n' for where, what in links) + "</ul>\n", "index")
+    return make_page("A lab", "<ul>\n" + "".join(f'<li><a href="{where}">{what}</a></li>\n' for where, what in links) + "</ul>\n", "index")
 
 
-def timetable(lab: str) -> str:
-    """What the teacher prepares, the time and the tests."""
-    return page("A lab of 90 minutes", markdown.html_of(markdown.section(lab, "For the teacher")), "teacher")
+def make_timetable(lab: str) -> str:
+    """Returns what the teacher prepares, the time and the tests."""
+    return make_page("A lab of 90 minutes", markdown.Renderer().render_body(markdown.find_section(lab, "For the teacher")), "teacher")
 
 
-def document(name: str) -> str:
-    """A document of docs/ as a page: one that fits a sheet of paper as a card."""
-    heading, _, text = read(f"docs/{name}.md").partition("\n")
-    shown = PICTURE.sub(lambda it: f"<figure>\n{read(f'docs/{it[1]}')}", markdown.html_of(text))
-    return page(heading.lstrip("# "), shown, "card" if len(text) < MOST_OF_CARD else "reading")
+def render_document(name: str) -> str:
+    """Returns a document of docs/ as a page: one that fits a sheet of paper as a card."""
+    heading, _, text = read_file(f"docs/{name}.md").partition("\n")
+    shown = PICTURE.sub(lambda it: f"<figure>\n{read_file(f'docs/{it[1]}')}", markdown.Renderer().render_body(text))
+    return make_page(heading.lstrip("# "), shown, "card" if len(text) < MAX_CARD_LETTERS else "reading")
 
 
-def solutions() -> str:
-    """The answers."""
-    return page("The lab: solutions", markdown.html_of(markdown.section(read("docs/SOLUTIONS.md"), "The lab")), "teacher")
+def render_solutions() -> str:
+    """Returns the answers."""
+    return make_page(
+        "The lab: solutions", markdown.Renderer().render_body(markdown.find_section(read_file("docs/SOLUTIONS.md"), "The lab")), "teacher"
+    )

@@ -3,16 +3,18 @@
 A test goes by its name on the sheet of docs/LAB.md; one more test has its name here. Each picture and each list says in the page of which
 test it is, and by which schedule, so that a check can ask the program again.
 """
+from __future__ import annotations
+
 import re
 from html import escape
-from typing import Dict, List, NamedTuple, Tuple, Union
+from typing import List, NamedTuple, Tuple, Union
 
 import executions
 import films
 import graph
 import picture
 import plain
-from lab.tests import examples_of, neutral, read
+from lab.tests import list_examples, neutralize, read_file
 
 MORE_TESTS = {"A1-turns": "SB"}
 # Tests that are no examples. The machine is shown on one that no task is about.
@@ -62,7 +64,7 @@ Part = Union[Words, Code, States, Film, Graph, Note]
 Slide = Tuple[str, List[Part]]
 
 # Up to the prediction, up to the tasks by hand, and after the tasks: so docs/LAB.md has them.
-SLIDES: List[Slide] = [
+SLIDES: list[Slide] = [
     ("Two threads, two flags", [
         Code("A1"),
         Words("Each thread raises its own flag, and then looks at the other's. Can both miss the other's flag?"),
@@ -130,50 +132,52 @@ SLIDES: List[Slide] = [
 ]
 
 
-def texts() -> Dict[str, bytes]:
-    """The text of each test, by its name."""
-    found = {**examples_of(read("docs/LAB.md")), **MORE_TESTS}
-    return {name: text.encode() for name, text in {**{name: neutral(name, it) for name, it in found.items()}, **TYPED}.items()}
+def read_texts() -> dict[str, bytes]:
+    """Returns the text of each test, by its name."""
+    examples = {**list_examples(read_file("docs/LAB.md")), **MORE_TESTS}
+    return {name: text.encode() for name, text in {**{name: neutralize(name, it) for name, it in examples.items()}, **TYPED}.items()}
 
 
-def light(style: str) -> str:
+def keep_light_styles(style: str) -> str:
     """Styles for paper and projectors alone."""
     return DARK.sub("", style)
 
 
-STYLE_OF_PICTURES = light(picture.STYLE) + light(graph.STYLE)
+STYLE_OF_PICTURES = keep_light_styles(picture.STYLE) + keep_light_styles(graph.STYLE)
 
 
-def in_place(svg: str) -> str:
-    """A picture as a page has it: by the styles of the page, as large as fits."""
+def embed_picture(svg: str) -> str:
+    """Returns a picture as a page has it: by the styles of the page, as large as fits."""
     bare = re.sub(r"<style>.*?</style>", "", svg, flags=re.S)
     return re.sub(r'<svg xmlns="[^"]*" width="[^"]*" height="[^"]*"', "<svg", bare, count=1)
 
 
-def figure(part: Union[Film, Graph], kind: str, svg: str) -> str:
-    """A picture that says of what it is."""
-    return f'<figure data-kind="{kind}" data-test="{part.test}" data-schedule="{part.schedule}">{in_place(svg)}</figure>\n'
+def make_figure(part: Film | Graph, kind: str, svg: str) -> str:
+    """Returns a picture that says of what it is."""
+    return f'<figure data-kind="{kind}" data-test="{part.test}" data-schedule="{part.schedule}">{embed_picture(svg)}</figure>\n'
 
 
-def film(part: Film, text: bytes) -> str:
-    """A picture of a film's end, without caches: what memory answers is all that is said of memory."""
-    found = films.film_of(text, part.schedule, "mesi")
-    for state in found["states"]:
+def draw_film(part: Film, text: bytes) -> str:
+    """Returns a picture of a film's end, without caches: what memory answers is all that is said of memory."""
+    film = films.make_film(text, part.schedule, "mesi")
+    for state in film["states"]:
         state["memory"] = state["content"]
-        for it in state["threads"]:
-            if "lines" in it:
-                it["lines"] = []
-    return figure(part, "state", picture.picture_of(found, len(found["events"])))
+        for thread in state["threads"]:
+            if "lines" in thread:
+                thread["lines"] = []
+    return make_figure(part, "state", picture.draw_film_state(film, len(film["events"])))
 
 
-def drawn_graph(part: Graph, text: bytes) -> str:
-    """A picture of an execution."""
-    test = plain.compiled(plain.read_test(text.decode()))
-    return figure(part, "graph", graph.picture_of(executions.execution_of(test, part.schedule), f"{part.test}, the execution of {part.schedule}"))
+def draw_graph(part: Graph, text: bytes) -> str:
+    """Returns a picture of an execution."""
+    test = plain.compile_test(plain.read_test(text.decode()))
+    return make_figure(
+        part, "graph", graph.draw_execution(executions.make_execution(test, part.schedule), f"{part.test}, the execution of {part.schedule}")
+    )
 
 
-def html_of(part: Part, tests: Dict[str, bytes]) -> str:
-    """A part of a slide."""
+def render_part(part: Part, tests: dict[str, bytes]) -> str:
+    """Returns a part of a slide."""
     if isinstance(part, Words):
         return f"<p>{escape(part.text, quote=False)}</p>\n"
     if isinstance(part, Note):
@@ -182,12 +186,12 @@ def html_of(part: Part, tests: Dict[str, bytes]) -> str:
     if isinstance(part, Code):
         return f'<pre data-kind="code" data-test="{part.test}">{escape(text.decode(), quote=False)}</pre>\n'
     if isinstance(part, States):
-        told = films.ask(["states"], text)
-        return f'<pre data-kind="states" data-test="{part.test}">{escape(told, quote=False)}</pre>\n'
-    return film(part, text) if isinstance(part, Film) else drawn_graph(part, text)
+        report = films.ask_program(["states"], text)
+        return f'<pre data-kind="states" data-test="{part.test}">{escape(report, quote=False)}</pre>\n'
+    return draw_film(part, text) if isinstance(part, Film) else draw_graph(part, text)
 
 
-def slides() -> List[Tuple[str, str]]:
-    """Of each slide its title and its HTML."""
-    tests = texts()
-    return [(title, "".join(html_of(part, tests) for part in parts)) for title, parts in SLIDES]
+def render_slides() -> list[tuple[str, str]]:
+    """Returns of each slide its title and its HTML."""
+    tests = read_texts()
+    return [(title, "".join(render_part(part, tests) for part in parts)) for title, parts in SLIDES]

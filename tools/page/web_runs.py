@@ -4,6 +4,8 @@ At most four run at once, and one on this processor; others wait for their turn.
 when the client goes away, and when the server ends. A server that is killed ends nothing: then the system ends its runs at once where it can
 (by setpriv of util-linux), and else when they have had their processor time. A run that crashes is told of, and ends nothing else.
 """
+from __future__ import annotations
+
 import contextlib
 import json
 import os
@@ -11,24 +13,34 @@ import resource
 import selectors
 import shutil
 import signal
+import socket
 import subprocess
 import sys
 import threading
 import time
+from typing import Any, NamedTuple
 
 from shared.home import BEYOND, HOME, PROGRAM
 
 IS_CURRENT = ["sh", "-c", 'home=$1; . "$home/tools/program/program.sh"; use_program "$2"; is_current', "sh", HOME]
 ON_MACHINE = os.path.join(HOME, "tools", "on_machine.py")
-MOST_RUNS = 4
-MOST_SECONDS = 20
-MOST_MEMORY = 1 << 30
-MOST_ANSWER = 64 << 20
+MAX_RUNS = 4
+MAX_SECONDS = 20
+MAX_MEMORY_BYTES = 1 << 30
+MAX_ANSWER_BYTES = 64 << 20
 # What each run may take, at most. The clock ends it first, as long as the server lives.
-LIMITS = {resource.RLIMIT_AS: MOST_MEMORY, resource.RLIMIT_CPU: MOST_SECONDS + 1, resource.RLIMIT_CORE: 0}
+LIMITS = {resource.RLIMIT_AS: MAX_MEMORY_BYTES, resource.RLIMIT_CPU: MAX_SECONDS + 1, resource.RLIMIT_CORE: 0}
 # Words that have the system end a process when its server ends.
 WITH_SERVER = ["setpriv", "--pdeathsig", "KILL"]
 PAUSE = 0.1
+
+
+class Ran(NamedTuple):
+    """A process that has ended: its status, which is negative if a signal ended it, and what it printed on both streams."""
+
+    status: int
+    printed: bytes
+    complaint: bytes
 
 
 class NoRun(Exception):
@@ -42,31 +54,34 @@ class Gone(Exception):
 class Runs:
     """All runs that are going on."""
 
-    def __init__(self):
-        self.places = threading.BoundedSemaphore(MOST_RUNS)
+    def __init__(self) -> None:
+        """Starts with no run."""
+        self.places = threading.BoundedSemaphore(MAX_RUNS)
         # Whether the program is current is asked with each question, and waits for no run.
         self.place_of_current = threading.BoundedSemaphore(1)
         # Runs on this processor disturb each other.
         self.place_of_machine = threading.BoundedSemaphore(1)
         self.lock = threading.Lock()
-        self.running = set()
+        self.running: set[subprocess.Popen] = set()
         self.is_over = False
-        self.front = with_server()
+        self.front = list_wrapper_words()
 
-    def is_current(self, connection, name="lw"):
-        """Whether a program is that of the sources as they are."""
-        return self.run([*IS_CURRENT, name], b"", connection, self.place_of_current)[0] == 0
+    def is_current(self, connection: socket.socket, name: str = "lw") -> bool:
+        """Returns whether a program is that of the sources as they are."""
+        return self.run_process([*IS_CURRENT, name], b"", connection, self.place_of_current).status == 0
 
-    def answer(self, words, text, connection):
-        """What the program answers to the words of a command and a text: its exit status, what it prints, and the line of a fault."""
+    def run_command(self, arguments: list[str], text: bytes, connection: socket.socket) -> dict[str, object]:
+        """Returns what the program answers to the words of a command and a text: its exit status, what it prints, and the line of a fault. Raises
+        NoRun if the program fails or is ended.
+        """
         program = PROGRAM
-        if words[0] == "--budget":
+        if arguments[0] == "--budget":
             program = BEYOND
             if not self.is_current(connection, "beyond"):
                 raise NoRun(500, "The program for tests of any size is not built of the sources as they are: run ./beyond once.")
         elif not os.access(PROGRAM, os.X_OK):
             raise NoRun(500, "The program is gone: start ./page again.")
-        status, printed, complaint = self.run([program, *words], text, connection, self.places)
+        status, printed, complaint = self.run_process([program, *arguments], text, connection, self.places)
         if status < 0:
             raise NoRun(500, "The program was ended by the system.")
         if complaint and not complaint.startswith((b"lw: ", b"beyond: ")):
@@ -74,50 +89,52 @@ class Runs:
         fault = complaint.decode("utf-8", "replace").rstrip("\n") or None
         return {"status": status, "printed": printed.decode("utf-8", "replace"), "fault": fault}
 
-    def on_machine(self, text, seconds, connection):
-        """What tools/on_machine.py says of a text's test after some seconds, or why it runs nothing."""
+    def run_on_machine(self, text: bytes, seconds: int, connection: socket.socket) -> dict[str, Any]:
+        """Returns what tools/on_machine.py says of a text's test after some seconds, or why it runs nothing. Raises NoRun if the tool fails."""
         words = [sys.executable, ON_MACHINE, "--seconds", str(seconds), "--json", "-"]
-        status, printed, complaint = self.run(words, text, connection, self.place_of_machine)
+        status, printed, complaint = self.run_process(words, text, connection, self.place_of_machine)
         try:
             return json.loads(printed.decode("utf-8"))
         except ValueError:
             why = complaint.decode("utf-8", "replace").rstrip("\n").rpartition("\n")[2] or f"it ended with status {status}"
             raise NoRun(500, f"The test was not run on this machine: {why}") from None
 
-    def run(self, words, given, connection, places):
-        """Runs a command: its status, and what it prints on both streams. Gone is raised where the connection is closed meanwhile."""
-        wait_for_turn(places, connection)
+    def run_process(self, arguments: list[str], text: bytes, connection: socket.socket, places: threading.BoundedSemaphore) -> Ran:
+        """Runs a command on a text, once there is a place for it. Gone is raised if the connection is closed meanwhile."""
+        wait_for_place(places, connection)
         try:
-            process = self.start(words)
+            process = self.start_process(arguments)
             try:
-                limit(process)
-                return Talk(process, connection).told(given)
+                limit_process(process)
+                return Communication(process, connection).communicate(text)
             finally:
-                self.end(process)
+                self.end_process(process)
         finally:
             places.release()
 
-    def start(self, words):
+    def start_process(self, arguments: list[str]) -> subprocess.Popen:
+        """Starts a command in a process group of its own. Raises Gone once the server ends."""
         pipe = subprocess.PIPE
-        how = {"stdin": pipe, "stdout": pipe, "stderr": pipe, "start_new_session": True, "cwd": "/"}
+        how: dict[str, Any] = {"stdin": pipe, "stdout": pipe, "stderr": pipe, "start_new_session": True, "cwd": "/"}
         with self.lock:
             if self.is_over:
                 raise Gone
-            process = subprocess.Popen([*self.front, *words], env={"PATH": os.environ.get("PATH", os.defpath)}, **how)
+            process = subprocess.Popen([*self.front, *arguments], env={"PATH": os.environ.get("PATH", os.defpath)}, **how)
             self.running.add(process)
         return process
 
-    def end(self, process):
+    def end_process(self, process: subprocess.Popen) -> None:
         """Ends all that a run has started."""
         with contextlib.suppress(ProcessLookupError):
             os.killpg(process.pid, signal.SIGKILL)
-        for it in (process.stdin, process.stdout, process.stderr):
-            it.close()
+        for stream in filter(None, (process.stdin, process.stdout, process.stderr)):
+            stream.close()
         process.wait()
         with self.lock:
             self.running.discard(process)
 
-    def end_all(self):
+    def end_all(self) -> None:
+        """Ends all runs, and allows no further ones."""
         with self.lock:
             self.is_over = True
             for process in self.running:
@@ -125,31 +142,32 @@ class Runs:
                     os.killpg(process.pid, signal.SIGKILL)
 
 
-def wait_for_turn(places, connection):
-    until = time.monotonic() + MOST_SECONDS
+def wait_for_place(places: threading.BoundedSemaphore, connection: socket.socket) -> None:
+    """Waits for a place, while the client is there. Raises NoRun if that takes too long."""
+    until = time.monotonic() + MAX_SECONDS
     while not places.acquire(timeout=PAUSE):
         if time.monotonic() > until:
             raise NoRun(503, "Four runs are going on, which is as many as may. Try again in a while.")
-        look_at(connection)
+        check_connection(connection)
 
 
-def with_server():
-    """WITH_SERVER where the system has them, else no words."""
+def list_wrapper_words() -> list[str]:
+    """Returns WITH_SERVER if the system has that command, and otherwise no words."""
     if not shutil.which(WITH_SERVER[0]):
         return []
     tried = subprocess.run([*WITH_SERVER, "true"], stdin=subprocess.DEVNULL, capture_output=True, check=False)
     return WITH_SERVER if tried.returncode == 0 else []
 
 
-def limit(process):
+def limit_process(process: subprocess.Popen) -> None:
     """Limits a process that has begun, and still waits for its text."""
-    for kind, most in LIMITS.items():
+    for kind, maximum in LIMITS.items():
         allowed = resource.prlimit(process.pid, kind)[1]
-        most = most if allowed == resource.RLIM_INFINITY else min(most, allowed)
-        resource.prlimit(process.pid, kind, (most, most))
+        maximum = maximum if allowed == resource.RLIM_INFINITY else min(maximum, allowed)
+        resource.prlimit(process.pid, kind, (maximum, maximum))
 
 
-def look_at(connection):
+def check_connection(connection: socket.socket) -> None:
     """Raises Gone where the client has gone away, or says more than its one request."""
     with selectors.DefaultSelector() as ready:
         ready.register(connection, selectors.EVENT_READ)
@@ -157,69 +175,77 @@ def look_at(connection):
             raise Gone
 
 
-class Talk:
+class Communication:
     """What goes to a run and comes from it, with an eye on the client and on the clock."""
 
-    def __init__(self, process, connection):
-        self.process, self.until = process, time.monotonic() + MOST_SECONDS
+    def __init__(self, process: subprocess.Popen, connection: socket.socket) -> None:
+        """Prepares to wait for the process and for the client at the same time."""
+        self.process, self.until = process, time.monotonic() + MAX_SECONDS
+        assert process.stdin and process.stdout and process.stderr  # `Runs.start` makes pipes of all three
+        self.input = process.stdin
         self.heard = {process.stdout: bytearray(), process.stderr: bytearray()}
         self.ready = selectors.DefaultSelector()
         self.ready.register(connection, selectors.EVENT_READ)
-        self.ready.register(process.stdin, selectors.EVENT_WRITE)
-        for it in self.heard:
-            self.ready.register(it, selectors.EVENT_READ)
-        os.set_blocking(process.stdin.fileno(), False)
+        self.ready.register(self.input, selectors.EVENT_WRITE)
+        for stream in self.heard:
+            self.ready.register(stream, selectors.EVENT_READ)
+        os.set_blocking(self.input.fileno(), False)
 
-    def told(self, given):
-        """The status of the process, and what it prints on both streams, to the end of both."""
-        left = len(self.heard)
+    def communicate(self, text: bytes) -> Ran:
+        """Gives the text to the process, and returns its status and what it prints, to the end of both streams. Raises Gone if the client has gone or
+        says more, and NoRun if the time is over or the answer too long.
+        """
+        open_streams = len(self.heard)
         with self.ready:
-            while left:
-                for key, _ in self.wait():
-                    if key.fileobj is self.process.stdin:
-                        given = self.give(given)
+            while open_streams:
+                for key, _ in self.wait_for_streams():
+                    if key.fileobj is self.input:
+                        text = self.write_part(text)
                     elif key.fileobj not in self.heard:
                         raise Gone
-                    elif not self.hear(key.fileobj):
-                        left -= 1
-        return (self.status(), *map(bytes, self.heard.values()))
+                    elif not self.read_part(key.fileobj):
+                        open_streams -= 1
+        return Ran(self.wait_for_status(), *map(bytes, self.heard.values()))
 
-    def wait(self):
-        left = self.until - time.monotonic()
-        found = self.ready.select(left) if left > 0 else []
-        if not found and time.monotonic() >= self.until:
-            raise too_long()
-        return found
+    def wait_for_streams(self) -> list[tuple[selectors.SelectorKey, int]]:
+        """Returns which streams are ready. Raises NoRun if the time is over."""
+        remaining_seconds = self.until - time.monotonic()
+        ready_streams = self.ready.select(remaining_seconds) if remaining_seconds > 0 else []
+        if not ready_streams and time.monotonic() >= self.until:
+            raise make_too_long()
+        return ready_streams
 
-    def give(self, given):
+    def write_part(self, text: bytes) -> bytes:
+        """Writes a part of a text to the process. Returns the rest."""
         try:
-            given = given[os.write(self.process.stdin.fileno(), given) :]
+            text = text[os.write(self.input.fileno(), text) :]
         except BlockingIOError:
-            return given
+            return text
         except BrokenPipeError:
-            given = b""
-        if not given:
-            self.ready.unregister(self.process.stdin)
-            self.process.stdin.close()
-        return given
+            text = b""
+        if not text:
+            self.ready.unregister(self.input)
+            self.input.close()
+        return text
 
-    def hear(self, stream):
-        """Reads what a stream has. Returns whether there may be more."""
+    def read_part(self, stream: Any) -> bool:
+        """Reads what a stream has. Returns whether there may be more. Raises NoRun if it has printed too much."""
         more = os.read(stream.fileno(), 1 << 16)
         self.heard[stream] += more
-        if len(self.heard[stream]) > MOST_ANSWER:
+        if len(self.heard[stream]) > MAX_ANSWER_BYTES:
             raise NoRun(500, "The run's answer is too long.")
         if not more:
             self.ready.unregister(stream)
         return bool(more)
 
-    def status(self):
-        """The exit status of a process that prints nothing more."""
+    def wait_for_status(self) -> int:
+        """Returns the exit status of a process that prints nothing more. Raises NoRun if it does not end in time."""
         try:
             return self.process.wait(max(self.until - time.monotonic(), 0))
         except subprocess.TimeoutExpired:
-            raise too_long() from None
+            raise make_too_long() from None
 
 
-def too_long():
-    return NoRun(504, f"The run took longer than {MOST_SECONDS} seconds, and was ended.")
+def make_too_long() -> NoRun:
+    """Returns the fault of a run that took too long."""
+    return NoRun(504, f"The run took longer than {MAX_SECONDS} seconds, and was ended.")

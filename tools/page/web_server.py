@@ -8,24 +8,30 @@ three are for the page itself alone: Origin says so, which a browser sets and no
 on a connection, of known size, in known time. Where there are too many connections, those that have been idle longest are cut, and some
 places are never taken by runs. Nothing that is asked or answered is read here, nothing is kept, and nothing is logged.
 """
+from __future__ import annotations
+
 import json
 import re
 import socket
 import threading
 import time
+from collections.abc import Mapping
+from typing import Any, NoReturn
 
-from page.web_runs import Gone, NoRun
+from c.source import is_herd_form
+from page.web_files import Files
+from page.web_runs import Gone, NoRun, Runs
 
-MOST_CONNECTIONS = 96
-MOST_POSTS = 32
-MOST_SECONDS = 5
-MOST_SECONDS_OF_ANSWER = 20
+MAX_CONNECTIONS = 96
+MAX_POSTS = 32
+MAX_SECONDS = 5
+MAX_ANSWER_SECONDS = 20
 # A browser sends the cookies of all applications at this address, whatever their port.
-MOST_HEAD = 1 << 20
-MOST_BODY = 512 << 10
-MOST_SCHEDULE = 16 << 10
+MAX_HEAD_BYTES = 1 << 20
+MAX_BODY_BYTES = 512 << 10
+MAX_SCHEDULE_BYTES = 16 << 10
 # What is read and thrown away behind a refusal, so that it reaches a client that is still sending.
-MOST_LEFT = 4 << 20
+MAX_DISCARDED = 4 << 20
 REASONS = {
     200: "OK",
     400: "Bad Request",
@@ -60,12 +66,12 @@ COMMANDS = (["states"], ["schedules"], ["compile"])
 # What the program beyond lists, behind a budget of so many states at most.
 LISTS = ("states", "schedules")
 BUDGET = "--budget"
-MOST_BUDGET = 10_000_000
+MAX_BUDGET = 10_000_000
 PROTOCOLS = ("mesi", "moesi")
 # What a body has: of each key the type.
 SHAPE = {"words": list, "text": str}
 SHAPE_ON_MACHINE = {"text": str, "seconds": int}
-MOST_SECONDS_ON_MACHINE = 10
+MAX_MACHINE_SECONDS = 10
 
 
 class Refusal(Exception):
@@ -78,86 +84,93 @@ class Refusal(Exception):
 class Head:
     """The first lines of a request: the method, the path, and the fields that are used. Of others the values are not looked at."""
 
-    def __init__(self, text):
+    def __init__(self, text: str) -> None:
+        """Reads the head of a request, or refuses it."""
         first, *lines = text.split("\r\n")
         words = re.fullmatch(r"([A-Z]+) ([!-~]+) HTTP/1\.[01]", first)
-        named = [re.match(r"([!#$%&'*+.^_`|~0-9A-Za-z-]+):", line) for line in lines]
-        if not words or not all(named):
+        matches = [re.match(r"([!#$%&'*+.^_`|~0-9A-Za-z-]+):", line) for line in lines]
+        named = [it for it in matches if it]
+        if not words or len(named) < len(lines):
             raise Refusal(400, "This is no request of HTTP/1.1.")
         self.method, self.path = words.groups()
         self.fields = [(it[1].lower(), line[it.end() :].strip(" \t")) for it, line in zip(named, lines) if it[1].lower() in USED]
         if not all(re.fullmatch(r"[\t -~]*", value) for _, value in self.fields):
             raise Refusal(400, "A field of the request has what it can't have.")
 
-    def only(self, name):
-        """The value of a field that stands there once, else None."""
+    def find_single_field(self, name: str) -> str | None:
+        """Returns the value of a field that appears once, else None."""
         values = [value for it, value in self.fields if it == name]
         return values[0] if len(values) == 1 else None
 
-    def has(self, name):
+    def has_field(self, name: str) -> bool:
+        """Returns whether a field appears."""
         return any(it == name for it, _ in self.fields)
 
 
-def check_head(head, port):
+def check_head(head: Head, port: int) -> None:
     """Refuses what is not for this server, and what has a body of unknown size."""
     # Of the port of HTTP a browser says nothing.
-    if head.only("host") not in (f"127.0.0.1:{port}", *(["127.0.0.1"] if port == 80 else [])):
+    if head.find_single_field("host") not in (f"127.0.0.1:{port}", *(["127.0.0.1"] if port == 80 else [])):
         raise Refusal(403, f"The page is at http://127.0.0.1:{port}/ alone.")
     if head.method not in ("GET", "POST"):
         raise Refusal(405, "There is GET and POST alone.")
-    if head.has("transfer-encoding"):
+    if head.has_field("transfer-encoding"):
         raise Refusal(400, "A body has to come with its length.")
-    if head.method == "GET" and head.has("content-length") and head.only("content-length") != "0":
+    if head.method == "GET" and head.has_field("content-length") and head.find_single_field("content-length") != "0":
         raise Refusal(400, "GET has no body.")
 
 
-def check_post(head):
+def check_post(head: Head) -> int:
     """Refuses what the page itself has not asked for. Returns the length of its body."""
-    if head.only("origin") != f"http://{head.only('host')}":
+    if head.find_single_field("origin") != f"http://{head.find_single_field('host')}":
         raise Refusal(403, "Only the page itself may ask for runs.")
     if head.path not in ("/run", "/machine", "/current"):
         raise Refusal(404, "There is no such question.")
-    if not re.fullmatch(r"application/json(; ?charset=utf-8)?", head.only("content-type") or "", re.I):
+    if not re.fullmatch(r"application/json(; ?charset=utf-8)?", head.find_single_field("content-type") or "", re.I):
         raise Refusal(415, "The body has to be JSON.")
-    if not head.has("content-length"):
+    if not head.has_field("content-length"):
         raise Refusal(411, "The length of the body is missing.")
-    length = head.only("content-length")
+    length = head.find_single_field("content-length")
     if not length or not re.fullmatch(r"[0-9]{1,9}", length):
         raise Refusal(400, "The length of the body is not one number.")
-    if int(length) > MOST_BODY:
-        raise Refusal(413, f"The body has more than {MOST_BODY} bytes.")
+    if int(length) > MAX_BODY_BYTES:
+        raise Refusal(413, f"The body has more than {MAX_BODY_BYTES} bytes.")
     return int(length)
 
 
-def read_object(body, shape):
-    """The object that a body says, with these keys, each of its type."""
+def parse_object(body: bytes, shape: Mapping[str, type]) -> dict[str, Any]:
+    """Returns the object that a body says, with these keys, each of its type. Raises Refusal if it is another."""
     try:
-        said = json.loads(body.decode(), object_pairs_hook=each_once, parse_constant=no_number)
+        value = json.loads(body.decode(), object_pairs_hook=make_object, parse_constant=refuse_number)
     except (ValueError, RecursionError):
         raise Refusal(400, "The body is no JSON of the kind that is wanted.") from None
-    if not isinstance(said, dict) or {key: type(value) for key, value in said.items()} != shape:
+    if not isinstance(value, dict) or {key: type(kind) for key, kind in value.items()} != shape:
         raise Refusal(400, f"The body has not exactly the keys {list(shape)}, each of its type.")
-    return said
+    return value
 
 
-def read_run(body):
-    """The words of a command and the bytes of a text that a body says."""
-    said = read_object(body, SHAPE)
-    if not are_words(said["words"]):
+def parse_run(body: bytes) -> tuple[list[str], bytes]:
+    """Returns the words of a command and the bytes of a text that a body says. Raises Refusal if they are no command."""
+    fields = parse_object(body, SHAPE)
+    if not are_words(fields["words"]):
         raise Refusal(400, "The words are no command of lw, or the schedule is too long.")
-    return said["words"], bytes_of(said["text"])
+    return fields["words"], encode_text(fields["text"])
 
 
-def read_run_on_machine(body):
-    """The bytes of a text, and for how many seconds its test is run on this machine, that a body says."""
-    said = read_object(body, SHAPE_ON_MACHINE)
-    if not 1 <= said["seconds"] <= MOST_SECONDS_ON_MACHINE:
-        raise Refusal(400, f"A run on this machine takes from 1 to {MOST_SECONDS_ON_MACHINE} seconds.")
-    return bytes_of(said["text"]), said["seconds"]
+def parse_machine_run(body: bytes) -> tuple[bytes, int]:
+    """Returns the bytes of a text, and for how many seconds its test is run on this machine, that a body says. Refuses a test in herd's form of C,
+    which would be compiled.
+    """
+    fields = parse_object(body, SHAPE_ON_MACHINE)
+    if not 1 <= fields["seconds"] <= MAX_MACHINE_SECONDS:
+        raise Refusal(400, f"A run on this machine takes from 1 to {MAX_MACHINE_SECONDS} seconds.")
+    if is_herd_form(fields["text"]):
+        raise Refusal(400, "A test in C is run by tools/on_machine.py only: a compiler would read the files that the test includes.")
+    return encode_text(fields["text"]), fields["seconds"]
 
 
-def are_words(words):
-    """Whether words are a command of lw, or a list of beyond within a budget."""
+def are_words(words: list[Any]) -> bool:
+    """Returns whether words are a command of lw, or a list of beyond within a budget."""
     if words in COMMANDS:
         return True
     if len(words) == 3 and words[0] == BUDGET:
@@ -167,30 +180,33 @@ def are_words(words):
     return len(words) == 2 and words[0] == "replay" and type(words[1]) is str and is_schedule(words[1])
 
 
-def is_budget(word):
-    """Whether a word is a budget that a run may have."""
-    return type(word) is str and re.fullmatch(r"[0-9]{1,8}", word) is not None and int(word) <= MOST_BUDGET
+def is_budget(word: Any) -> bool:
+    """Returns whether a word is a budget that a run may have."""
+    return type(word) is str and re.fullmatch(r"[0-9]{1,8}", word) is not None and int(word) <= MAX_BUDGET
 
 
-def is_schedule(word):
-    """Whether a word can be handed to a program as a schedule."""
-    return "\0" not in word and len(bytes_of(word)) <= MOST_SCHEDULE
+def is_schedule(word: str) -> bool:
+    """Returns whether a word can be handed to a program as a schedule."""
+    return "\0" not in word and len(encode_text(word)) <= MAX_SCHEDULE_BYTES
 
 
-def bytes_of(text):
+def encode_text(text: str) -> bytes:
+    """Returns the bytes of a text, or refuses half of a pair of surrogates."""
     try:
         return text.encode()
     except UnicodeEncodeError:
         raise Refusal(400, "The body has half of a pair of surrogates.") from None
 
 
-def each_once(pairs):
+def make_object(pairs: list[tuple[str, Any]]) -> dict[str, Any]:
+    """Returns an object of JSON, whose keys must differ. Raises ValueError if they do not."""
     if len(dict(pairs)) != len(pairs):
         raise ValueError("a key stands twice")
     return dict(pairs)
 
 
-def no_number(word):
+def refuse_number(word: str) -> NoReturn:
+    """Refuses `NaN` and the like, which Python takes for numbers."""
     raise ValueError(word)
 
 
@@ -200,33 +216,36 @@ def no_number(word):
 class Reader:
     """Reads from a connection, up to a point in time."""
 
-    def __init__(self, connection):
-        self.connection, self.until, self.read = connection, time.monotonic() + MOST_SECONDS, b""
+    def __init__(self, connection: socket.socket) -> None:
+        self.connection, self.until, self.read = connection, time.monotonic() + MAX_SECONDS, b""
 
-    def more(self):
-        left = self.until - time.monotonic()
-        if left <= 0:
-            raise Refusal(408, f"The request took longer than {MOST_SECONDS} seconds.")
-        self.connection.settimeout(left)
+    def read_more(self) -> None:
+        """Reads some bytes more. Refuses a request that takes too long or ends too early."""
+        remaining_seconds = self.until - time.monotonic()
+        if remaining_seconds <= 0:
+            raise Refusal(408, f"The request took longer than {MAX_SECONDS} seconds.")
+        self.connection.settimeout(remaining_seconds)
         try:
             more = self.connection.recv(1 << 16)
         except socket.timeout:
-            raise Refusal(408, f"The request took longer than {MOST_SECONDS} seconds.") from None
+            raise Refusal(408, f"The request took longer than {MAX_SECONDS} seconds.") from None
         if not more:
-            raise Refusal(400, "The request ends too early.") if self.read else Gone
+            raise Refusal(400, "The request ends too early.") if self.read else Gone()
         self.read += more
 
-    def head(self):
-        while b"\r\n\r\n" not in self.read[: MOST_HEAD + 4]:
-            if len(self.read) > MOST_HEAD:
-                raise Refusal(431, f"The head of the request has more than {MOST_HEAD} bytes.")
-            self.more()
+    def read_head(self) -> Head:
+        """Reads the head of the request. Raises Refusal if it is too long."""
+        while b"\r\n\r\n" not in self.read[: MAX_HEAD_BYTES + 4]:
+            if len(self.read) > MAX_HEAD_BYTES:
+                raise Refusal(431, f"The head of the request has more than {MAX_HEAD_BYTES} bytes.")
+            self.read_more()
         head, _, self.read = self.read.partition(b"\r\n\r\n")
         return Head(head.decode("latin-1"))
 
-    def body(self, length):
+    def read_body(self, length: int) -> bytes:
+        """Reads the body, of a known length, after which nothing may follow. Raises Refusal if something does."""
         while len(self.read) < length:
-            self.more()
+            self.read_more()
         if len(self.read) > length:
             raise Refusal(400, "There is one request on a connection.")
         return self.read
@@ -235,44 +254,51 @@ class Reader:
 class Places:
     """Who is attended to: who still asks, to whom a run is promised, and to whom is sent, the oldest first."""
 
-    def __init__(self):
+    def __init__(self) -> None:
+        """Starts with no connection."""
         self.lock = threading.Lock()
-        self.asking, self.running, self.sending = {}, {}, {}
+        self.asking: dict[socket.socket, None] = {}
+        self.running: dict[socket.socket, None] = {}
+        self.sending: dict[socket.socket, None] = {}
 
-    def enter(self, connection):
+    def add_connection(self, connection: socket.socket) -> None:
         """Attends to one more. Where that is too many, who asks for longest is cut off, or else to whom is sent for longest."""
         with self.lock:
-            while len(self.asking) + len(self.running) + len(self.sending) >= MOST_CONNECTIONS:
+            while len(self.asking) + len(self.running) + len(self.sending) >= MAX_CONNECTIONS:
                 among = self.asking or self.sending
                 oldest = next(iter(among))
                 del among[oldest]
-                cut(oldest)
+                cut_connection(oldest)
             self.asking[connection] = None
 
-    def promise_run(self, connection):
+    def promise_run(self, connection: socket.socket) -> None:
+        """Promises a run to a connection, unless too many are promised. Raises NoRun then."""
         with self.lock:
-            if len(self.running) >= MOST_POSTS:
+            if len(self.running) >= MAX_POSTS:
                 raise NoRun(503, "Too many runs are asked for. Try again in a while.")
-            self.move(connection, self.running)
+            self.move_connection(connection, self.running)
 
-    def promise_answer(self, connection):
+    def promise_answer(self, connection: socket.socket) -> None:
+        """Notes that an answer is sent to a connection."""
         with self.lock:
-            self.move(connection, self.sending)
+            self.move_connection(connection, self.sending)
 
-    def move(self, connection, to):
+    def move_connection(self, connection: socket.socket, group: dict[socket.socket, None]) -> None:
+        """Moves a connection to another group. Gone is raised if it was cut off."""
         if connection not in self.asking and connection not in self.running:
             raise Gone
         self.asking.pop(connection, None)
         self.running.pop(connection, None)
-        to[connection] = None
+        group[connection] = None
 
-    def leave(self, connection):
+    def remove_connection(self, connection: socket.socket) -> None:
+        """Forgets a connection."""
         with self.lock:
             for among in (self.asking, self.running, self.sending):
                 among.pop(connection, None)
 
 
-def cut(connection):
+def cut_connection(connection: socket.socket) -> None:
     """Ends a connection, which its thread then finds ended."""
     try:
         connection.shutdown(socket.SHUT_RDWR)
@@ -283,12 +309,14 @@ def cut(connection):
 class Server:
     """Answers each connection in a thread of its own."""
 
-    def __init__(self, listening, files, runs):
+    def __init__(self, listening: socket.socket, files: Files, runs: Runs) -> None:
+        """Makes a server of a socket that listens. `files` are what it sends, by path."""
         self.listening, self.files, self.runs = listening, files, runs
         self.port = listening.getsockname()[1]
         self.places = Places()
 
-    def serve(self):
+    def serve(self) -> NoReturn:
+        """Accepts connections for ever."""
         while True:
             try:
                 connection = self.listening.accept()[0]
@@ -296,70 +324,73 @@ class Server:
                 # No connection, or no more files for a while.
                 time.sleep(0.05)
                 continue
-            self.places.enter(connection)
+            self.places.add_connection(connection)
             try:
-                threading.Thread(target=self.attend, args=(connection,), daemon=True).start()
+                threading.Thread(target=self.answer_connection, args=(connection,), daemon=True).start()
             except RuntimeError:
                 # No more threads for a while.
-                self.places.leave(connection)
+                self.places.remove_connection(connection)
                 connection.close()
 
-    def attend(self, connection):
+    def answer_connection(self, connection: socket.socket) -> None:
+        """Answers the request of a connection, and ends it."""
         try:
             with connection:
-                answer = self.answer(connection)
+                answer = self.make_answer(connection)
                 self.places.promise_answer(connection)
-                send(connection, *answer)
-                let_go(connection)
+                send_answer(connection, *answer)
+                close_connection(connection)
         except (OSError, Gone):
             pass
         finally:
-            self.places.leave(connection)
+            self.places.remove_connection(connection)
 
-    def answer(self, connection):
-        """The status, the kind of what is sent, and its bytes."""
+    def make_answer(self, connection: socket.socket) -> tuple[int, str, bytes]:
+        """Returns the status, the kind of what is sent, and its bytes."""
         try:
             reader = Reader(connection)
-            head = reader.head()
+            head = reader.read_head()
             check_head(head, self.port)
             if head.method == "GET":
-                return self.file(head.path)
-            body = reader.body(check_post(head))
+                return self.find_file(head.path)
+            body = reader.read_body(check_post(head))
             self.places.promise_run(connection)
-            return 200, "application/json", json.dumps(self.posted(head.path, body, connection)).encode()
+            return 200, "application/json", json.dumps(self.answer_post(head.path, body, connection)).encode()
         except (Refusal, NoRun) as why:
             return why.args[0], "application/json", json.dumps({"error": why.args[1]}).encode()
 
-    def posted(self, path, body, connection):
-        """The answer to a question of the page, as an object."""
+    def answer_post(self, path: str, body: bytes, connection: socket.socket) -> dict[str, Any]:
+        """Returns the answer to a question of the page, as an object."""
         if path == "/current":
-            read_object(body, {})
+            parse_object(body, {})
             return {"is_current": self.runs.is_current(connection)}
         if path == "/machine":
-            return self.runs.on_machine(*read_run_on_machine(body), connection)
-        return self.runs.answer(*read_run(body), connection)
+            return self.runs.run_on_machine(*parse_machine_run(body), connection)
+        return self.runs.run_command(*parse_run(body), connection)
 
-    def file(self, path):
+    def find_file(self, path: str) -> tuple[int, str, bytes]:
+        """Returns a file by the path of a request, which may have a query. Raises Refusal if there is none."""
         name = path.partition("?")[0]
         if name not in self.files:
             raise Refusal(404, "There is no such file.")
         return (200, *self.files[name])
 
 
-def send(connection, status, kind, content):
+def send_answer(connection: socket.socket, status: int, kind: str, content: bytes) -> None:
+    """Sends an answer."""
     fields = {**HEADERS, "Content-Type": kind, "Content-Length": len(content)}
     head = f"HTTP/1.1 {status} {REASONS[status]}\r\n" + "".join(f"{it}: {value}\r\n" for it, value in fields.items())
-    connection.settimeout(MOST_SECONDS_OF_ANSWER)
+    connection.settimeout(MAX_ANSWER_SECONDS)
     connection.sendall(head.encode() + b"\r\n" + content)
 
 
-def let_go(connection):
+def close_connection(connection: socket.socket) -> None:
     """Ends a connection so that the answer arrives, also at a client that is still sending."""
     connection.shutdown(socket.SHUT_WR)
-    until, left = time.monotonic() + 1, MOST_LEFT
-    while left > 0 and time.monotonic() < until:
+    until, remaining_bytes = time.monotonic() + 1, MAX_DISCARDED
+    while remaining_bytes > 0 and time.monotonic() < until:
         connection.settimeout(max(until - time.monotonic(), 0.01))
         more = connection.recv(1 << 16)
         if not more:
             return
-        left -= len(more)
+        remaining_bytes -= len(more)

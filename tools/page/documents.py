@@ -1,0 +1,243 @@
+"""The documents that a made site carries beside the page: those of docs/, with links to each other, to the tests that they show, and back.
+
+A test that a document shows has a link that opens it on the page. So have the commands that ask about a test (commands.py): a reader of a site
+needs no program. A document of docs/ that the site does not carry is named, without a link.
+"""
+from __future__ import annotations
+
+import re
+from html import escape
+from typing import NamedTuple
+from urllib.parse import urlencode
+
+from lab import markdown, sheets
+from lab.tests import make_tests, read_file
+from page.commands import EXAMPLE, is_example, list_views
+from page.origin import describe_origin, read_origin
+
+
+class Document(NamedTuple):
+    """A document of a site: its name in docs/, its name in lists of documents, and what it is."""
+
+    source: str
+    title: str
+    about: str
+
+
+# Of each file of a site its document. Those up to `LAST_LISTED` are in the list at the top of each.
+DOCUMENTS = {
+    "tutorial.html": Document("TUTORIAL", "Tutorial", "an hour's walk"),
+    "page.html": Document("PAGE", "The page", "all that it shows"),
+    "lab.html": Document("LAB", "Lab", "90 minutes for a class"),
+    "families.html": Document("FAMILIES", "Classic shapes", "by litmus tests, on one page"),
+    "fences.html": Document("FENCES", "Fences", "which are needed, and why"),
+    "algorithms.html": Document("ALGORITHMS", "Algorithms", "as litmus tests"),
+    "limits.html": Document("LIMITS", "Limits", "a list that is too large"),
+    "terms.html": Document("GLOSSARY", "Terms", "beside those of textbooks"),
+    "card.html": Document("CARD", "Syntax", "on one page"),
+    "format.html": Document("FORMAT", "Format", "all that is read and printed, faults and limits"),
+    "axioms.html": Document("AXIOMS", "Axioms", "x86-TSO by relations"),
+    "theorems.html": Document("THEOREMS", "What is proved", "in plain words, with the contracts"),
+    "proof.html": Document("PROOF", "The proof", "explained for graduate students"),
+    "believe.html": Document("BELIEVE", "What to read to believe it", "the definitions, in order"),
+    "trusted.html": Document("TRUSTED", "What is trusted", "assumptions on one page"),
+    "solutions.html": Document("SOLUTIONS", "Solutions", "to the tutorial and the lab"),
+}
+LAST_LISTED = "theorems.html"
+SHAPES = "families.html"
+# The documents that are printed on few pages, in small type.
+CARDS = ("card.html", "terms.html", SHAPES)
+SHEET, SLIDES = "sheet.html", "slides.html"
+STYLE, SCRIPT = "reading.css", "reading.js"
+# What the site says of the links above commands at the start of a document, and of the commands themselves at its end.
+OPEN_NOTE = "You need nothing installed: a link with ▸ does on this site's page what the command below it does, with the same test or run."
+COMMAND_NOTE = "The commands themselves are for readers who have lw's repository."
+# The tags of links, of which none may be within another.
+WITHIN = re.compile(r"</?a\b[^>]*>")
+NAMED = re.compile(r"(?:docs/)?\b([A-Z][A-Z-]+\.md)\b")
+FIRST_LINE = re.compile(r"(?:SRC|X86) \S+")
+# What a picture changes if the system is dark. Here it is on white, whatever the reader has chosen.
+BY_DARK = re.compile(r"@media \(prefers-color-scheme: dark\) \{(?:[^{}]*\{[^{}]*\})*\s*\}")
+QUESTION = re.compile(r"(?:~?exists|forall)\b")
+# A command in a listing, as HTML: what it prints stands out beside it.
+COMMAND = re.compile(r"(?:(?<=>)|^)\$ [^\n<]*", re.M)
+
+
+def make_page_link(words: str, **view: str) -> str:
+    """Returns a link to the page with a view of a test, in one tab for all of them."""
+    return f'<a target="lw" href="index.html#{escape(urlencode(view))}">{words}</a>'
+
+
+def make_links(links: list[str]) -> str:
+    """Returns a line of links, or nothing if there are none."""
+    return f'<p class="open">{" ".join(links)}</p>\n' if links else ""
+
+
+def is_test(lines: list[str]) -> bool:
+    """Returns whether lines are a whole test."""
+    return bool(lines) and bool(FIRST_LINE.fullmatch(lines[0])) and any(map(QUESTION.match, lines))
+
+
+def make_anchor(words: str) -> str:
+    """Returns the name by which links lead to a heading, as code hosts make it."""
+    return re.sub(r"[^\w\- ]", "", words.lower()).replace(" ", "-")
+
+
+class SiteRenderer(markdown.Renderer):
+    """Renders a document of a site. `tests` are the lab's, by the names that its sheet has for them.
+
+    A name of one letter may be another thing (`R` is a load, too), so it leads to an example only in the table of shapes.
+    """
+
+    def __init__(self, tests: dict[str, str], shortest: int) -> None:
+        """Makes a renderer of a document. `tests` are those of the lab; names of examples with fewer than `shortest` letters are no links.
+        """
+        super().__init__()
+        self.tests, self.shortest = tests, shortest
+        self.files = {it.source: file for file, it in DOCUMENTS.items()}
+        self.headings: list[str] = []
+
+    def render_body(self, text: str) -> str:
+        """Returns a text as HTML, in which items that follow each other are a list."""
+        html = super().render_body(text)
+        html = re.sub(r"(?:<li>.*</li>\n)+", lambda it: f"<ul>\n{it[0]}</ul>\n", html)
+        return re.sub(r'(?:<li value="\d+">.*</li>\n)+', lambda it: f"<ol>\n{it[0]}</ol>\n", html)
+
+    def render_block(self, kind: str, lines: list[str]) -> str:
+        """Returns a block; of a line that names tests of the lab these tests."""
+        if kind == "paragraph" and (match := sheets.TESTS.fullmatch(lines[0])):
+            shown = (sheets.render_test(it, self.tests[it], "index.html", bool(match[1])) for it in match[2].split())
+            return '<div class="tests">\n' + "".join(shown) + "</div>\n"
+        if kind == "item":
+            number, _, rest = markdown.join_lines(lines).partition(" ")
+            value = "" if number == "-" else f' value="{number[:-1]}"'
+            return f"<li{value}>{self.render_inline(rest)}</li>\n"
+        html = super().render_block(kind, lines)
+        is_on_commands = kind == "paragraph" and lines[0].startswith("`python3 tools/")
+        return html.replace("<p>", '<p class="on-commands">', 1) if is_on_commands else html
+
+    def render_heading(self, level: int, words: str) -> str:
+        """Returns a heading that links lead to, and keeps it for the contents if it is one of the second level."""
+        if level == 2:
+            self.headings.append(words)
+        return f'<h{level} id="{make_anchor(words)}">{self.render_inline(words)}</h{level}>\n'
+
+    def render_listing(self, lines: list[str]) -> str:
+        """Returns lines in a fixed pitch, with links that open on the page what they show: above commands, and below a test."""
+        views = [it for line in lines if line.startswith("$ ") for it in list_views(line[len("$ ") :])]
+        above = make_links([make_page_link(escape(f"▸ {it.words}"), **it.fields) for it in views])
+        below = make_links([make_page_link("▸ open this test", predict="1", text="\n".join(lines) + "\n")] if is_test(lines) else [])
+        listing = super().render_listing(lines).replace("<pre>", '<pre tabindex="0">')
+        return above + COMMAND.sub(r'<span class="command">\g<0></span>', listing) + below
+
+    def render_picture(self, words: str, path: str) -> str:
+        """Returns a picture of docs/ with its caption."""
+        drawn = BY_DARK.sub("", read_file(f"docs/{path}"))
+        return f'<figure class="picture">\n{drawn}<figcaption>{self.render_inline(words)}</figcaption></figure>\n'
+
+    def render_table(self, lines: list[str]) -> str:
+        """Returns a table that a narrow screen can scroll."""
+        return f'<div class="wide" tabindex="0">\n{super().render_table(lines)}</div>\n'
+
+    def render_cell(self, text: str) -> str:
+        """Returns the content of a cell; the name of an example leads to it."""
+        return make_page_link(text, example=text) if self.is_name(text) else super().render_cell(text)
+
+    def is_name(self, text: str) -> bool:
+        """Returns whether a text is the name of an example here."""
+        return len(text) >= self.shortest and is_example(text)
+
+    def render_plain(self, text: str) -> str:
+        """Returns words without marks; the name of a document's file leads to it."""
+        return NAMED.sub(lambda it: self.render_link(it[0], it[1]) if it[1][: -len(".md")] in self.files else it[0], super().render_plain(text))
+
+    def render_code(self, text: str) -> str:
+        """Returns code within words, which may be broken at `_`; the name of an example leads to it."""
+        match, html = EXAMPLE.fullmatch(text), super().render_code(text).replace("_", "_<wbr>")
+        if match and is_example(match[1]):
+            return make_page_link(html, example=match[1])
+        return make_page_link(html, example=text) if len(text) > 1 and self.is_name(text) else html
+
+    def render_link(self, words: str, target: str) -> str:
+        """Returns a link to a document of the site, a part of it or an example; of any other link the words."""
+        words = WITHIN.sub("", words)
+        document, hash_sign, part = target.partition("#")
+        name = document[: -len(".md")] if document.endswith(".md") else document
+        if not document or name in self.files:
+            file = self.files.get(name, "")
+            words = DOCUMENTS[file].title if words in (document, f"docs/{document}") else words
+            return f'<a href="{file}{hash_sign}{part}">{words}</a>'
+        match = EXAMPLE.fullmatch(document)
+        return make_page_link(words, example=match[1]) if match and is_example(match[1]) else words
+
+
+def make_navigation(current: str) -> str:
+    """Returns the links to the page and to the other documents, and the choice of light or dark."""
+    names = [it for it in DOCUMENTS if list(DOCUMENTS).index(it) <= list(DOCUMENTS).index(LAST_LISTED)]
+    mark_of_current = lambda it: ' aria-current="page"' if it == current else ""
+    links = "".join(f'<a href="{it}"{mark_of_current(it)}>{DOCUMENTS[it].title}</a>\n' for it in names)
+    options = "".join(f'<option value="{it.lower()}">{it}</option>' for it in ("System", "Light", "Dark"))
+    return (
+        f'<a class="skip" href="#document">To the text</a>\n<header>\n<a class="home" href="index.html" target="lw">lw: run a test</a>\n'
+        f'<nav aria-label="Documents">\n{links}</nav>\n<label class="theme">Colours <select id="theme">{options}</select></label>\n</header>\n'
+    )
+
+
+def make_contents(headings: list[str], renderer: markdown.Renderer) -> str:
+    """Returns the contents of a document that has several parts."""
+    if len(headings) < 3:
+        return ""
+    items = "".join(f'<li><a href="#{make_anchor(it)}">{renderer.render_inline(it)}</a></li>\n' for it in headings)
+    return f'<nav class="contents" aria-label="On this page">\n<ul>\n{items}</ul>\n</nav>\n'
+
+
+def make_next_link(file: str) -> str:
+    """Returns a link to the document after this one."""
+    names = list(DOCUMENTS)
+    after = names[(names.index(file) + 1) % len(names)]
+    return f'<p class="next">Next: <a href="{after}">{DOCUMENTS[after].title}</a>, {DOCUMENTS[after].about}. Or <a href="index.html" target="lw">run a test</a>.</p>\n' + f'<p class="origin">{escape(describe_origin(read_origin()))}</p>\n'
+
+
+def make_hand_out_steps(has_slides: bool) -> str:
+    """Returns what a teacher does with the site alone, in steps, and what needs the repository."""
+    sheet = f'Print <a href="{SHEET}">the sheet for students</a>, or send its link: it opens the tests here.'
+    slides = f'Show <a href="{SLIDES}">the slides</a>; N shows notes for the teacher.'
+    compared = f'Solve one test with the class: {make_page_link("SB beside the same test with fences", example="SB-x86", beside="SB+mfences-x86")}.'
+    steps = [sheet, *([slides] if has_slides else []), compared]
+    items = "".join(f"<li>{it}</li>\n" for it in steps)
+    repository = "With lw's repository the steps below make a copy of this site without the answers, a quiz and homework" + (
+        "." if has_slides else ", and the slides: this site was made without the built program, which they need."
+    )
+    return f'<div class="note">\n<p>With this site alone:</p>\n<ol>\n{items}</ol>\n<p>{repository}</p>\n</div>\n'
+
+
+def make_page(file: str, tests: dict[str, str], policy: str, has_slides: bool) -> str:
+    """Returns a document of a site as a page."""
+    heading, _, text = read_file(f"docs/{DOCUMENTS[file].source}.md").partition("\n")
+    title, renderer = heading.lstrip("# "), SiteRenderer(tests, 1 if file == SHAPES else 2)
+    body = renderer.render_body(text)
+    open_note, command_note = (f'<p class="note">{it}</p>\n' if '<p class="open">' in body else "" for it in (OPEN_NOTE, COMMAND_NOTE))
+    kind = ' class="card"' if file in CARDS else ""
+    sheet = make_hand_out_steps(has_slides) if file == "lab.html" else ""
+    return (
+        f'<!doctype html>\n<html lang="en">\n<head>\n<meta charset="utf-8">\n<meta name="viewport" content="width=device-width, initial-scale=1">\n'
+        f'<title>{escape(title)}</title>\n<meta http-equiv="Content-Security-Policy" content="{policy}">\n<link rel="icon" href="icon.svg">\n'
+        f'<link rel="stylesheet" href="{STYLE}">\n<script src="{SCRIPT}"></script>\n</head>\n<body{kind}>\n{make_navigation(file)}'
+        f'<main id="document" tabindex="-1">\n<h1>{escape(title)}</h1>\n{open_note}{sheet}{make_contents(renderer.headings, renderer)}{body}{command_note}{make_next_link(file)}</main>\n</body>\n</html>\n'
+    )
+
+
+def list_documents() -> list[list[str]]:
+    """Returns each document with what it is, as the page lists them, and the sheet of the lab after the lab."""
+    documents = [[file, f"{it.title}: {it.about}"] for file, it in DOCUMENTS.items()]
+    documents.insert(list(DOCUMENTS).index("lab.html") + 1, [SHEET, "Sheet for students: the lab's items, to print"])
+    return documents
+
+
+def make_pages(policy: str, slides: str | None = None) -> dict[str, str]:
+    """Returns the documents of a site, the sheet of the lab, and its slides if there are some: of each file its text."""
+    lab = read_file("docs/LAB.md")
+    tests = make_tests(lab)
+    pages = {file: make_page(file, tests, policy, slides is not None) for file in DOCUMENTS}
+    pages[SHEET] = sheets.make_sheet(lab, tests, "index.html", is_of_site=True)
+    return pages if slides is None else {**pages, SLIDES: slides}

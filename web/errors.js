@@ -1,0 +1,122 @@
+// What is shown if there is no answer: a fault, with its place and the sentence of docs/FORMAT.md for it, or an error.
+
+import { button, byId, el, sentence } from "./dom.js";
+import { hintOn, misspeltQuestion, questionIn } from "./faults.js";
+import { table } from "./supplies.js";
+
+let sentences = {};
+
+/** Loads the sentences of docs/FORMAT.md. */
+export async function loadSentences() {
+  sentences = await table("sentences");
+}
+
+/**
+ * Returns the sentence of docs/FORMAT.md for a cause: its kind is text, cell, schedule, limit or end.
+ * @param {string} kind
+ * @param {number} number
+ * @returns {string}
+ */
+function sentenceOf(kind, number) {
+  return sentences[`${kind} ${number}`] ?? "";
+}
+
+/**
+ * Returns why an event can't be carried out, as a sentence, by the number of its cause.
+ * @param {string} event
+ * @param {{number: number}} refused
+ * @returns {string}
+ */
+export function refusalOf(event, { number }) {
+  const [kind, thread] = event;
+  const who = { P: `P${thread} can't go on`, D: `P${thread}'s buffer can't drain`, E: `P${thread}'s cache can't give up its line` }[kind];
+  return `${who}: ${sentenceOf("end", number)}.`;
+}
+
+/**
+ * Says why there is no answer: in the panel, or at the editor if its text has a fault.
+ * @param {{fault?: Fault, error?: string, refused?: object}} answer
+ * @param {Element} panel
+ * @param {Editor} editor
+ */
+export function showError(answer, panel, editor) {
+  const { fault } = answer;
+  if (editor.isAlone && isInText(fault)) {
+    showFaultInEditor(fault, editor);
+    panel.append(el("p", { class: "no-answer" }, `No answer: line ${fault.row} of the text has a fault.`));
+  } else panel.append(el("p", { class: "notice", role: "alert" }, fault ? wordsOf(fault, editor.text) : errorWords(answer)));
+}
+
+function isInText(fault) {
+  return fault?.kind === "text" || fault?.kind === "cell";
+}
+
+/**
+ * Returns an error in words. A refused event of a schedule is named with the sentence of its cause.
+ * @param {{error: string, refused?: object}} answer
+ * @returns {(Node | string)[]}
+ */
+function errorWords({ error, refused }) {
+  if (!refused) return sentence(error);
+  return sentence(`Event ${refused.at + 1} of the schedule, \`${refused.event}\`, is refused. ${refusalOf(refused.event, refused)}`);
+}
+
+/**
+ * Returns that the row before a fault has no `;` at its end, if that is so. A line of the question is no row.
+ * @param {Fault} fault
+ * @param {string} text
+ * @returns {(Node | string)[] | string}
+ */
+function endOfRowBefore({ kind, row }, text) {
+  const lines = text.split("\n").slice(0, row - 1);
+  const at = lines.findLastIndex((it) => it.trim());
+  const begin = lines.findIndex((it) => /^\s*P0\b/.test(it));
+  if (!isInText({ kind }) || begin < 0 || at < begin || /;|\(\*|\*\)/.test(lines[at]) || misspeltQuestion(text)) return "";
+  if (questionIn(lines.slice(0, at + 1).join("\n")) !== null) return "";
+  return sentence(`Line ${at + 1} has no \`;\` at its end: perhaps that is the fault. `);
+}
+
+// Why a list is refused, by the name of the limit.
+const LIMITS = {
+  TooManyItems: "One choice of its branches and words has more than 128 events and fences",
+  TooManyOrders: "For n conflicts lw counts 2^n orders, and here these are more than 1,048,576",
+};
+
+/**
+ * Returns a fault in words: its place, what is wrong, and lw's own line. `known` is the page's sentence on it, or null.
+ * @param {Fault} fault
+ * @param {string} text
+ * @param {string | null} [known]
+ * @returns {(Node | string)[]}
+ */
+function wordsOf(fault, text, known = isInText(fault) ? hintOn(fault, text).words : null) {
+  const line = el("code", { class: "fault-line" }, fault.line);
+  if (fault.kind === "limit") return [`The list could take too long, so it is refused. ${LIMITS[fault.name]}. `, line];
+  const place = fault.row ? el("b", {}, `Line ${fault.row}, column ${fault.column}: `) : "";
+  const cause = known ? sentence(`${known} `) : fault.name ? [fault.name, ": ", sentence(sentenceOf(fault.kind, fault.number)), ". "] : [];
+  return [place, ...cause, ...endOfRowBefore(fault, text), line];
+}
+
+/**
+ * Marks a fault in the editor, with a hint on it.
+ * @param {Fault} fault
+ * @param {Editor} editor
+ */
+function showFaultInEditor(fault, editor) {
+  editor.mark(fault);
+  const { words, change } = hintOn(fault, editor.text);
+  const apply = change && button(change.title ?? `Change it to ${change.text}`, () => editor.replace(change), { class: "apply" });
+  byId("fault").replaceChildren(
+    el("p", { class: "notice" }, wordsOf(fault, editor.text, words), " ", apply, " ", button("Go to it", () => editor.goToFault(), { class: "go-to" })),
+  );
+}
+
+/**
+ * Removes the fault from the editor.
+ * @param {Editor} editor
+ */
+export function clearFault(editor) {
+  if (!editor.isAlone) return;
+  byId("fault").replaceChildren();
+  editor.mark(null);
+}

@@ -1,0 +1,142 @@
+// Finds examples by words: in names, other names, families and descriptions, each by how its words begin. What fits best comes first: a name as
+// it is, then how a name begins, then a word of a name, then what is said of the test. Some words of users have others in the examples, and some
+// mean what the format has not: then a note says what it has instead.
+
+// Of a word that readers look for the words that the examples have for it, the best first.
+const SYNONYMS = {
+  atomic: ["locked", "xchg", "xadd", "swap"], barrier: ["mfence", "fence"], cas: ["trylock", "consensus", "xchg", "swap", "locked"],
+  cmpxchg: ["trylock", "consensus", "xchg", "swap", "locked"], coherence: ["co"], deadlock: ["peterson", "dekker", "lock"],
+  deque: ["chaselev", "workstealing"], fence: ["mfence", "fences"], fifo: ["queue", "ring"], mesi: ["cache"], moesi: ["cache"],
+  mutex: ["spinlock", "peterson", "dekker", "ticketlock", "bakery", "lock"],
+  queue: ["ring", "workstealing", "chaselev"], rcu: ["urcu", "epoch"], reordering: ["buffering"], rmw: ["swap", "xchg", "xadd"],
+  rwlock: ["readerswriter", "bytelock"], semaphore: ["lock"], singleton: ["doublechecked"], spin: ["lock"], spsc: ["ringbuffer", "oneslot"],
+  stale: ["mp", "publication", "seqlock"],
+  stealing: ["chaselev"], swap: ["xchg"], tas: ["spinlock", "trylock", "testthenset"],
+  volatile: ["mp", "publication", "doublechecked"],
+};
+// The full names of the classics, each with the name that its tests have: these come first.
+const FULL_NAMES = {
+  "independent reads": "iriw", "independent reads of independent writes": "iriw", "load buffer": "lb", "load buffering": "lb", "message passing": "mp",
+  "read to write causality": "rwc", "store buffer": "sb", "store buffering": "sb", "store forwarding": "n6", "write to read causality": "wrc",
+};
+// What the format has in place of what some words mean.
+const NOTES = [
+  [["cas", "cmpxchg", "compare"], "lw reads no compare-and-swap. `TryLock` and `Consensus` have a swap in its place."],
+  [["deadlock", "livelock", "starvation"], "No run waits for ever: jumps go forward only. A test of a lock tries once or twice, and asks who got in."],
+  [["volatile"], "The format has no `volatile`: each load and store is carried out once, as it is written."],
+  [["acquire", "release", "relaxed", "seq_cst"], "The format has no memory orders: a source test is sequentially consistent, and x86 code is what the machine runs."],
+  [["loop", "while", "retry"], "Jumps go forward only: a loop is written out as often as it is tried."],
+  [["array", "struct"], "Locations have names and no addresses: an array has a location for each element."],
+  [["clflush", "movnti", "nontemporal", "prefetch", "streaming"],
+    "lw has ordinary loads and stores to cached memory: no nontemporal store, flush or prefetch."],
+  [["sfence", "lfence"], "The only fence is `MFENCE`; a locked instruction does the same."],
+];
+// How well a word fits, the best first; a synonym fits less than the word itself.
+const [WHOLE, OTHER_LANGUAGE, BEGIN, IN_NAME, IN_FAMILY, IN_WORDS, BEGINS_WORD] = [0, 0.5, 1, 2, 4, 6, 8];
+const FOR_SYNONYM = 3;
+// What is added to the fit of a test whose full name is written: it comes before all others.
+const FULL_NAME = -20;
+// How the name of an x86 test ends that has the name of a source test.
+const X86_FORM = "-x86";
+
+/**
+ * Returns the words of a name: `ChaseLev+mfence-x86` has chase, lev, mfence and x86.
+ * @param {string} name
+ * @returns {string[]}
+ */
+function wordsOfName(name) {
+  return name.replace(/([a-z])([A-Z])/g, "$1 $2").toLowerCase().split(/[^a-z0-9.]+/);
+}
+
+const wordsOf = (text) => text.toLowerCase().match(/[a-z0-9]+/g) ?? [];
+const isWord = (word) => (it) => it === word || it === `${word}s`;
+
+/**
+ * Returns how well a word fits a test; null if it does not. The source test and the x86 test of a name have that name, the one in the preferred
+ * language first. If only names count, what is said of the test is not looked at.
+ * @param {string} word
+ * @param {Example} test
+ * @param {Family} family
+ * @param {{isOnlyNames: boolean, isX86: boolean}} how
+ * @returns {number | null}
+ */
+function fitOf(word, { name, also, shows, about }, family, { isOnlyNames, isX86 }) {
+  const lower = name.toLowerCase();
+  const begins = (it) => it.startsWith(word);
+  if (isNameOf(lower, word)) return lower.endsWith(X86_FORM) === isX86 ? WHOLE : OTHER_LANGUAGE;
+  if (lower.startsWith(word)) return BEGIN;
+  if (wordsOfName(name).some(begins)) return IN_NAME;
+  if (isOnlyNames) return null;
+  if ([also, family.name].some((it) => wordsOf(it).some(isWord(word)))) return IN_FAMILY;
+  const said = wordsOf(`${shows} ${about}`);
+  if (said.some(isWord(word))) return IN_WORDS;
+  return [...said, ...wordsOf(family.name)].some(begins) ? BEGINS_WORD : null;
+}
+
+/**
+ * Returns whether a word, in small letters, is the name of a test, or that without the form of x86.
+ * @param {string} lower
+ * @param {string} word
+ * @returns {boolean}
+ */
+export function isNameOf(lower, word) {
+  return lower === word || lower === `${word}${X86_FORM}`;
+}
+
+/**
+ * Returns how well a word or a synonym of it fits a test; null if none does.
+ * @param {string} word
+ * @param {Example} test
+ * @param {Family} family
+ * @param {{isOnlyNames: boolean, isX86: boolean}} how
+ * @returns {number | null}
+ */
+function bestFit(word, test, family, how) {
+  const others = Object.hasOwn(SYNONYMS, word) ? SYNONYMS[word] : [];
+  const found = [fitOf(word, test, family, how), ...others.map((it, index) => addedTo(fitOf(it, test, family, how), FOR_SYNONYM + index))];
+  const fits = found.filter((it) => it !== null);
+  return fits.length ? Math.min(...fits) : null;
+}
+
+const addedTo = (fit, more) => (fit === null ? null : fit + more);
+
+/**
+ * Returns the words of a text that is looked for.
+ * @param {string} text
+ * @returns {string[]}
+ */
+function wordsLookedFor(text) {
+  return text.toLowerCase().split(/\s+/).map((it) => it.replace(/^[^a-z0-9]+|[^a-z0-9]+$/g, "")).filter(Boolean);
+}
+
+/**
+ * Returns what the format has in place of what a text looks for, as sentences in which code is between backquotes.
+ * @param {string} text
+ * @returns {string[]}
+ */
+export function notesOn(text) {
+  const words = wordsLookedFor(text);
+  return NOTES.filter(([names]) => names.some((it) => words.includes(it))).map(([, note]) => note);
+}
+
+/**
+ * Returns the tests of families that all words of a text fit, the best first, with x86 tests before source tests of the same name if `isX86` is set.
+ * @param {Family[]} families
+ * @param {string} text
+ * @param {boolean} isOnlyNames
+ * @param {boolean} [isX86]
+ * @returns {Example[]}
+ */
+export function findTests(families, text, isOnlyNames, isX86 = false) {
+  const words = wordsLookedFor(text);
+  const all = families.flatMap((family) => family.tests.map((test) => ({ test, family })));
+  const phrase = words.join(" ");
+  const fullName = Object.hasOwn(FULL_NAMES, phrase) ? FULL_NAMES[phrase] : null;
+  const found = all.flatMap(({ test, family }) => {
+    const named = fullName === null ? null : fitOf(fullName, test, family, { isOnlyNames: true, isX86 });
+    if (named !== null) return [{ test, fit: FULL_NAME + named }];
+    const fits = words.map((it) => bestFit(it, test, family, { isOnlyNames, isX86 }));
+    return fits.includes(null) ? [] : [{ test, fit: fits.reduce((sum, it) => sum + it, 0) }];
+  });
+  return words.length ? found.sort((one, other) => one.fit - other.fit).map((it) => it.test) : [];
+}

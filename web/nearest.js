@@ -1,0 +1,38 @@
+// The word that a misspelt one may mean: of some names the one that takes the fewest changes of letters.
+
+// How many letters a word has at most of which one letter may be wrong; in a longer one two may be.
+const SHORT = 4;
+
+/**
+ * Returns how many letters are changed, added, left out or exchanged with the next one to make one word of another.
+ * @param {string} one
+ * @param {string} other
+ * @returns {number}
+ */
+function changesBetween(one, other) {
+  let [before, row] = [[], Array.from({ length: other.length + 1 }, (_, at) => at)];
+  for (let i = 1; i <= one.length; i += 1) {
+    const next = [i];
+    for (let j = 1; j <= other.length; j += 1) {
+      next[j] = Math.min(row[j] + 1, next[j - 1] + 1, row[j - 1] + (one[i - 1] === other[j - 1] ? 0 : 1));
+      const isExchanged = i > 1 && j > 1 && one[i - 1] === other[j - 2] && one[i - 2] === other[j - 1];
+      if (isExchanged) next[j] = Math.min(next[j], before[j - 2] + 1);
+    }
+    [before, row] = [row, next];
+  }
+  return row[other.length];
+}
+
+/**
+ * Returns the one name that is nearest to a word, whatever the case of its letters; null if none is near, or if two are as near.
+ * @param {string} word
+ * @param {string[]} names
+ * @returns {string | null}
+ */
+export function nearest(word, names) {
+  const most = word.length < 2 ? 0 : word.length <= SHORT ? 1 : 2;
+  const found = names.map((name) => ({ name, changes: changesBetween(word.toUpperCase(), name.toUpperCase()) }));
+  const least = Math.min(...found.map((it) => it.changes));
+  const best = found.filter((it) => it.changes === least);
+  return least > 0 && least <= most && best.length === 1 ? best[0].name : null;
+}

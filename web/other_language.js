@@ -1,0 +1,115 @@
+// Code in the other language than the first word of its text says: source statements in an x86 test, and instructions in a source test. Not proved.
+
+import { REGISTERS } from "./token_reader.js";
+
+const LABELS = "(?:\\w+\\s*:(?!=)\\s*)*";
+// How code of each language begins, after its labels.
+const CODE = {
+  SRC: new RegExp(`^${LABELS}(?:\\w+\\s*:=|if\\b|goto\\b)`),
+  X86: new RegExp(`^${LABELS}(?:MOV|ADD|CMP|JE|JNE|JMP|XCHG|LOCK|XADD)\\b`, "i"),
+};
+const END_OF_ROWS = /;\s*(?:locations|filter|~?\s*exists|forall)\b/;
+const SAID = {
+  SRC: "This is a statement of a source test, and the text begins with `X86`.",
+  X86: "This is an x86 instruction, and the text begins with `SRC`.",
+};
+const SAID_OF_ALL = {
+  SRC: "All code is that of a source test, and the text begins with `X86`.",
+  X86: "All code is x86 code, and the text begins with `SRC`.",
+};
+
+/**
+ * Returns the register of the other language with the same number, or null if a word is none of that language.
+ * @param {string} word
+ * @param {boolean} isX86
+ * @returns {string | null}
+ */
+export function otherRegister(word, isX86) {
+  const [own, other] = isX86 ? [REGISTERS.X86, REGISTERS.SRC] : [REGISTERS.SRC, REGISTERS.X86];
+  return own[other.indexOf(isX86 ? word : word.toUpperCase())] ?? null;
+}
+
+/**
+ * Returns an operand that is a register or a number, in the other language than it is written in; null if it is neither.
+ * @param {string} language
+ * @param {string} word
+ * @returns {string | null}
+ */
+function valueIn(language, word) {
+  const number = /^\$?(\d+)$/.exec(word)?.[1];
+  if (number) return language === "X86" ? `$${number}` : number;
+  return otherRegister(word, language === "X86");
+}
+
+/**
+ * Returns an instruction for a source statement that stores, loads or sets a register, or null.
+ * @param {string} cell
+ * @returns {string | null}
+ */
+function inX86(cell) {
+  const [, to, from] = /^(\w+)\s*:=\s*(\w+)$/.exec(cell) ?? [];
+  if (!to) return null;
+  const [register, value] = [otherRegister(to, true), valueIn("X86", from)];
+  if (register === null) return value && `MOV [${to}],${value}`;
+  return `MOV ${register},${value ?? `[${from}]`}`;
+}
+
+/**
+ * Returns a source statement for an instruction that stores, loads or sets a register, or null.
+ * @param {string} cell
+ * @returns {string | null}
+ */
+function inSource(cell) {
+  const [, store, stored] = /^MOV\s+\[(\w+)\]\s*,\s*(\$?\w+)$/i.exec(cell) ?? [];
+  if (store) return valueIn("SRC", stored) && `${store} := ${valueIn("SRC", stored)}`;
+  const [, to, load, from] = /^MOV\s+(\w+)\s*,\s*(?:\[(\w+)\]|(\$?\w+))$/i.exec(cell) ?? [];
+  const [register, value] = [to && otherRegister(to, false), load ?? (from && valueIn("SRC", from))];
+  return register && value ? `${register} := ${value}` : null;
+}
+
+/**
+ * Returns whether all code of a text is in a language.
+ * @param {string} language
+ * @param {string} text
+ * @returns {boolean}
+ */
+function isAllIn(language, text) {
+  const rows = text.slice(text.indexOf(";", text.search(/\bP0\b/)) + 1);
+  const cells = rows.slice(0, rows.search(END_OF_ROWS) + 1).split(/[|;]/).map((it) => it.trim()).filter(Boolean);
+  const isIn = (it) => CODE[language].test(it) || (language === "X86" && /^MFENCE$/i.test(it));
+  return cells.length > 0 && cells.every(isIn);
+}
+
+/**
+ * Returns that all code of a text is in the other language than its first word says, if that is so, and proposes the other first word; or "".
+ * @param {Place} place
+ * @returns {string}
+ */
+export function otherHead(place) {
+  const other = place.isX86 ? "SRC" : "X86";
+  if (!isAllIn(other, place.text)) return "";
+  const head = place.text.search(/\S/);
+  return `${SAID_OF_ALL[other]}${place.propose(other, head, head + other.length)}`;
+}
+
+/**
+ * Returns that the code at a fault's place is in the other language, if that is so, and proposes the other first word if all code is, or else the
+ * same in the language of the test; or "".
+ * @param {Place} place
+ * @returns {string}
+ */
+export function otherCode(place) {
+  const { text, index, isX86 } = place;
+  const other = isX86 ? "SRC" : "X86";
+  const begin = Math.max(...["|", ";"].map((it) => text.lastIndexOf(it, index - 1))) + 1;
+  const end = begin + text.slice(begin).search(/[|;]|$/);
+  const cell = text.slice(begin, end);
+  const code = cell.trim();
+  if (!CODE[other].test(code)) return "";
+  const said = otherHead(place);
+  if (said) return said;
+  const translated = isX86 ? inX86(code) : inSource(code);
+  if (translated === null) return SAID[other];
+  const at = begin + cell.indexOf(code);
+  return `${SAID[other]}${place.propose(translated, at, at + code.length)}`;
+}

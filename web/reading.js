@@ -1,0 +1,41 @@
+// Shows a document of a made site by light or by dark, as the reader has chosen here or on the page, or else as the system asks.
+
+"use strict";
+(() => {
+  const KEY = "theme";
+
+  /** Returns what the browser keeps of the choice, or null. */
+  function stored() {
+    try {
+      return localStorage.getItem(KEY);
+    } catch {
+      return null;
+    }
+  }
+
+  /** Shows a theme, and has the list say so. */
+  function show(theme, list) {
+    const isForced = theme === "light" || theme === "dark";
+    if (isForced) document.documentElement.dataset.theme = theme;
+    else delete document.documentElement.dataset.theme;
+    if (list) list.value = isForced ? theme : "system";
+  }
+
+  /** Lets the list choose the theme, and keeps the choice for the page and the other documents. */
+  function bind() {
+    const list = document.getElementById("theme");
+    show(stored(), list);
+    list.addEventListener("change", () => {
+      show(list.value, list);
+      try {
+        localStorage.setItem(KEY, list.value);
+      } catch {
+        // Without a store the choice holds for this document.
+      }
+    });
+    addEventListener("storage", (event) => event.key === KEY && show(event.newValue, list));
+  }
+
+  show(stored());
+  addEventListener("DOMContentLoaded", bind);
+})();

@@ -1,0 +1,100 @@
+// Slips in a test that lw takes: a question that names what no instruction writes, and a load of what no thread writes. They are hints of the
+// page's own, beside what lw says. Not proved.
+
+import { button, el, plainMark, sentence } from "./dom.js";
+import { nearest } from "./nearest.js";
+import { siteName, sitesIn, sortedSites } from "./propositions.js";
+import { readTest } from "./tests.js";
+import { REGISTERS } from "./token_reader.js";
+
+const STORES = ["store", "xchg", "xadd", "swap", "fetchadd"];
+const LOADS = ["load", "xchg", "xadd", "swap", "fetchadd"];
+// What puts a word into its register.
+const SETS = [...LOADS, "set", "add", "sum"];
+const MOST_SHOWN = 3;
+
+// Where the question of a text begins.
+const QUESTION = /~?\s*\b(?:exists|forall)\b[^;]*$/;
+
+/**
+ * Returns a slip: its `words`, and the `change` that is proposed if there is a name that may be meant in place of a written one, in the question or
+ * in the code; or null.
+ */
+function slip(words, written, name, isInQuestion) {
+  return name ? { words: `${words} Did you mean \`${name}\`?`, change: { written, name, isInQuestion } } : { words, change: null };
+}
+
+/** Returns a text in which a name takes the place of a written one wherever that is in the question, or in the rest. */
+export function mended(text, { written, name, isInQuestion }) {
+  const at = text.search(QUESTION);
+  const pattern = new RegExp(`(?<![\\w:])${written.replace(":", "\\s*:\\s*")}\\b`, "g");
+  const [rest, question] = [text.slice(0, at), text.slice(at)];
+  return isInQuestion ? rest + question.replace(pattern, name) : rest.replace(pattern, name) + question;
+}
+
+/** Returns the numbers of the registers that a thread's code writes. */
+function registersWritten(code) {
+  return [...new Set(code.filter((it) => SETS.includes(it.kind)).map((it) => it.register))];
+}
+
+/** Says that the question names a register that its thread does not write, if that is so. */
+function slipOfRegister(test, site, asked) {
+  const { thread, register } = site;
+  const written = registersWritten(test.threads[thread]);
+  if (written.includes(register)) return [];
+  const names = REGISTERS[test.language];
+  const free = written.filter((it) => !asked.some((other) => other.thread === thread && other.register === it));
+  const proposed = free.length === 1 ? `${thread}:${names[free[0]]}` : null;
+  const word = test.registers[thread][register];
+  const named = siteName(test, site);
+  const words = `The question names \`${named}\`, but nothing in P${thread} writes ${names[register]}: it is ${word} in every run.`;
+  return [slip(words, named, proposed, true)];
+}
+
+/** Says of locations that no thread writes that the question names them, or that a thread loads one to which the text gives no word. */
+function slipsOfLocations(test, text, asked) {
+  const code = test.threads.flat();
+  const isIn = (kinds) => (_, location) => code.some((it) => kinds.includes(it.kind) && it.location === location);
+  const written = test.locations.filter(isIn(STORES));
+  const block = text.slice(text.indexOf("{"), text.indexOf("}"));
+  return test.locations.flatMap((name, location) => {
+    if (written.includes(name)) return [];
+    const isAsked = asked.some((it) => it.location === location);
+    const isGiven = new RegExp(`\\b${name}\\b`).test(block);
+    if (!isAsked && (isGiven || !isIn(LOADS)(name, location))) return [];
+    const begin = isAsked ? `The question names \`${name}\`` : `A thread loads \`${name}\``;
+    const words = `${begin}, but no thread writes ${name}: it is ${test.words[location]} in every run.`;
+    return [slip(words, name, nearest(name, written), isAsked)];
+  });
+}
+
+/**
+ * Returns the slips in a text, in whose words code is between backquotes; none of a text that the page's own reader refuses.
+ * @param {string} text
+ * @returns {Slip[]}
+ */
+export function slipsIn(text) {
+  let test;
+  try {
+    test = readTest(text);
+  } catch {
+    return [];
+  }
+  const asked = sortedSites(sitesIn(test.proposition));
+  const registers = asked.filter((it) => it.location === undefined);
+  return [...registers.flatMap((it) => slipOfRegister(test, it, asked)), ...slipsOfLocations(test, text, asked)];
+}
+
+/**
+ * Returns what is shown of the slips in a text. `mend` is called with a text that a reader wants in its place.
+ * @param {string} text
+ * @param {function(string): void} mend
+ * @returns {Element[]}
+ */
+export function slipNotes(text, mend) {
+  const slips = slipsIn(text).slice(0, MOST_SHOWN);
+  return slips.map(({ words, change }) => {
+    const apply = change && button(`Change it to ${change.name}`, () => mend(mended(text, change)), { class: "apply" });
+    return el("p", { class: "slip" }, el("b", {}, "A hint of the page: "), sentence(words), " ", plainMark(), " ", apply);
+  });
+}
