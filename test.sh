@@ -1,7 +1,9 @@
 #!/bin/sh
-# Proves every crate and its tests from nothing, tries the wrong bodies that the prover must refuse, runs the tests and the
+# Proves every crate and its tests by rt ci, tries the wrong bodies that the prover must refuse, runs the tests and the
 # program, and then what the documents and the examples say of the program. Near the end it prints where the time went; the last
 # line is 'N passed, M failed'.
+#
+# What an earlier rt ci passed on this machine, by checksums of all that it read, rt takes again; 'rt ci --anew' proves it anew.
 #
 # With --quick nothing is proved anew: what the documents, the examples and the tables say is compared with the program that is built for
 # these sources, in some minutes. (Where there is none, it is built first.)
@@ -23,12 +25,12 @@ esac
 room=$(mktemp -d) || exit 1
 trap 'rm -rf "$room"' EXIT
 
-# Runs a part of the gate by tools/gate/gate_times.py with the words behind the first, and keeps its lines in the file $1.
+# Runs a part of the gate by tools/gate/gate_times.py with the words after the first, and keeps its lines in the file $1.
 run_part() {
     log=$room/$1
     shift
     {
-        python3 tools/gate/gate_times.py "$room/times" "$@"
+        python3 tools gate.gate_times --into "$room/times" "$@"
         echo $? >"$log.status"
     } | tee "$log"
     return "$(cat "$log.status")"
@@ -62,9 +64,9 @@ for it in beyond lw; do
         exit 1
     }
 done
-python3 tools/gate/check_edits.py "$room/gate" >"$room/edits"
+python3 tools gate.check_edits "$room/gate" >"$room/edits"
 sed '$d' "$room/edits"
-python3 tools/gate/check_trusted.py "$room/gate" || exit 1
+python3 tools gate.check_trusted "$room/gate" || exit 1
 # The library and its modules, which rt ci proves, and does not make.
 run_part library --row library python3 tools/build_wasm.py --after-rt-ci || exit 1
 run_part documents --row documents python3 tools/check_documents.py

@@ -15,89 +15,93 @@ error shows how far it is. A test within the limits is answered as well, with th
 
 Standard input is read where there is no FILE. Faults are told as tools/plain.py tells them; Python 3.8 is enough, on any system.
 """
+from __future__ import annotations
+
 import re
 import sys
-from typing import Dict, Tuple
+from argparse import Namespace
+from typing import Tuple
 
 sys.dont_write_bytecode = True
 import given
 import plain
 from search.explore import Found, Search
-from search.reports import report_of
+from search.reports import make_report
 from shared import answers, batch, command, start
 
 Words = Tuple[int, ...]
 
 
-def state_on(page: str, test: plain.Test) -> Words:
-    """The words that are observed, on the page of a replay that is final."""
+def read_page_state(page: str, test: plain.Test) -> Words:
+    """Returns the words that are observed, on the page of a replay that is final."""
     lines = page.splitlines()
     if lines[2:3] != ["End Final"]:
         return ()
-    words: Dict[str, int] = {}
+    words: dict[str, int] = {}
     for line in lines[3:]:
         thread = re.match(r"P(\d) at \d+ ", line)
         if thread or line.startswith(("Memory ", "Content ")):
             prefix = f"{thread[1]}:" if thread else ""
             words.update({prefix + name: int(word) for name, word in re.findall(r"(\w+)=(\d+)", line)})
-    return tuple(words[plain.site_name(test, site)] for site in plain.observed(test))
+    return tuple(words[plain.format_site(test, site)] for site in plain.list_observed_sites(test))
 
 
-def replayed(test: plain.Test, text: str, found: Found) -> str:
-    """Replays all schedules, each of which has to lead to its state. Returns by which they are replayed."""
-    schedules = list(found.schedules.values())
-    pages, by = batch.replays(text, schedules), answers.maker_of("lw").value
+def replay_all(test: plain.Test, text: str, exploration: Found) -> str:
+    """Replays all schedules, each of which must end in its state. Returns the name of what replays them. Exits if one does not."""
+    schedules = list(exploration.schedules.values())
+    pages, maker = batch.replay_all(text, schedules), answers.find_maker("lw").value
     if pages is None:
-        pages, by = [plain.replay(test, schedule)[0] for schedule in schedules], answers.Maker.PLAIN.value
-    for (words, schedule), page in zip(found.schedules.items(), pages):
-        if state_on(page, test) != words:
-            raise SystemExit(f"beyond: the search is wrong: {by} replays {schedule!r} to another state than {words}")
-    return by
+        pages, maker = [plain.replay(test, schedule)[0] for schedule in schedules], answers.Maker.PLAIN.value
+    for (words, schedule), page in zip(exploration.schedules.items(), pages):
+        if read_page_state(page, test) != words:
+            raise SystemExit(f"beyond: the search is wrong: {maker} replays {schedule!r} to another state than {words}")
+    return maker
 
 
-def last_line(found: Found, by: str) -> str:
-    """What the list is."""
-    end = "" if found.is_whole else f"; the search ended at {found.seen} state{'s' * (found.seen != 1)} of the machine"
+def format_last_line(exploration: Found, by: str) -> str:
+    """Returns what the list is."""
+    end = "" if exploration.is_whole else f"; the search ended at {exploration.seen} state{'s' * (exploration.seen != 1)} of the machine"
     return f"Listed by tools/beyond.py and not claimed complete; each state is replayed by {by}{end}"
 
 
-def schedules_of(test: plain.Test, found: Found) -> str:
-    """The list of schedules."""
-    lines = [f"Test {test.name}", f"States {len(found.schedules)}"]
-    for words in sorted(found.schedules):
-        lines += [plain.state_line(test, words), f" {found.schedules[words]}"]
-    return plain.text_of(lines)
+def list_schedules(test: plain.Test, exploration: Found) -> str:
+    """Returns the list of schedules."""
+    lines = [f"Test {test.name}", f"States {len(exploration.schedules)}"]
+    for words in sorted(exploration.schedules):
+        lines += [plain.format_state(test, words), f" {exploration.schedules[words]}"]
+    return plain.join_lines(lines)
 
 
-def tell_progress(looked_at: int, seen: int) -> None:
+def show_progress(looked_at: int, seen: int) -> None:
     """Says on a terminal how far the search is."""
     if sys.stderr.isatty():
         print(f"\r{looked_at} of {seen} states looked at", end="", file=sys.stderr, flush=True)
 
 
-def show(words, text: str) -> int:
+def print_report(words: Namespace, text: str) -> int:
     """Prints the report of one test, or its schedules."""
     test = plain.read_test(text)
-    found = Search(test).run(words.max_states, tell_progress)
+    exploration = Search(test).explore(words.max_states, show_progress)
     if sys.stderr.isatty():
         print(f"\r{'':60}\r", end="", file=sys.stderr, flush=True)
-    by = replayed(test, text, found)
-    if found.schedules:
-        print(schedules_of(test, found) if words.schedules else report_of(test, found), end="")
+    maker = replay_all(test, text, exploration)
+    if exploration.schedules:
+        print(list_schedules(test, exploration) if words.schedules else make_report(test, exploration), end="")
     else:
-        print(answers.without_verdict(test, "the search came to no final state"), end="")
-    print(last_line(found, by))
-    return 0 if found.schedules else answers.NO_VERDICT
+        print(answers.format_no_verdict(test, "the search came to no final state"), end="")
+    print(format_last_line(exploration, maker))
+    return 0 if exploration.schedules else answers.NO_VERDICT
 
 
 def main() -> int:
-    given.print_as_lw()
-    reader = command.words_of(__doc__)
-    reader.add_argument("file", nargs="?", default=given.STANDARD_INPUT, metavar="FILE")
-    reader.add_argument("--max-states", type=command.number_from(1), default=answers.MOST_STATES, metavar="N")
+    """Runs the command that the arguments describe. Returns the exit status."""
+    given.set_output_encoding()
+    reader = command.Reader(__doc__)
+    reader.add_file()
+    reader.add_argument("--max-states", type=command.make_number_parser(1), default=answers.MAX_STATES, metavar="N")
     reader.add_argument("--schedules", action="store_true")
-    words = reader.parse_args()
-    return command.for_one("beyond", words.file, lambda _name, text: show(words, text))
+    arguments = reader.read()
+    return command.for_one("beyond", arguments.file, lambda _name, text: print_report(arguments, text))
 
 
 if __name__ == "__main__":

@@ -15,18 +15,19 @@ With --after-rt-ci, as the gate has it, the libraries are those that `rt ci` has
 (`rt ci` cuts the proofs out of its libraries, so it gives them no stamp by which other commands would take them: those of another
 run would not fit. Here all are of one run: the gate takes those of earlier ones away first, and one that has a stamp is refused.)
 """
+from __future__ import annotations
+
 import hashlib
 import importlib.machinery
 import importlib.util
 import os
-import re
 import shutil
 import subprocess
 import sys
 import tempfile
 
-from shared import start
-from shared.home import HOME, crates
+from shared import command, start
+from shared.home import HOME, read_crates
 
 LIBRARY = "lw_library"
 STACK = 1048576
@@ -34,99 +35,103 @@ LOWER = """--enable-memory64 --enable-bulk-memory --enable-mutable-globals --ena
     --enable-nontrapping-float-to-int -O3 --memory64-lowering""".split()
 
 
-def needed(lines, crate):
+def list_needed_crates(lines: dict[str, tuple[str, list[str]]], crate: str) -> list[str]:
     """Returns a crate of the repository and those on which it depends."""
-    found = [crate]
-    for it in found:
-        found += [name for name in lines[it][1] if name in lines and name not in found]
-    return found
+    needed_crates = [crate]
+    for needed_crate in needed_crates:
+        needed_crates += [name for name in lines[needed_crate][1] if name in lines and name not in needed_crates]
+    return needed_crates
 
 
-def sum_of_sources():
+def hash_sources() -> str:
     """Returns a checksum of the library's code and contracts, and of the graph of crates."""
-    lines, found = crates(), hashlib.sha256()
-    for name in needed(lines, LIBRARY):
-        found.update(repr((name, lines[name])).encode())
+    lines, checksum = read_crates(), hashlib.sha256()
+    for name in list_needed_crates(lines, LIBRARY):
+        checksum.update(repr((name, lines[name])).encode())
         for part in ("src", "specs"):
-            for at, folders, files in os.walk(f"{HOME}/crates/{name}/{part}"):
+            for folder, folders, files in os.walk(f"{HOME}/crates/{name}/{part}"):
                 folders.sort()
                 for file in sorted(files):
-                    with open(f"{at}/{file}", "rb") as it:
-                        found.update(repr((f"{at[len(HOME):]}/{file}", it.read())).encode())
-    return found.hexdigest()
+                    with open(f"{folder}/{file}", "rb") as stream:
+                        checksum.update(repr((f"{folder[len(HOME):]}/{file}", stream.read())).encode())
+    return checksum.hexdigest()
 
 
 # The copy.
 
 
-def write_crates(room, kind):
+def write_crate_list(folder: str, kind: str) -> None:
     """Writes the copy's list of crates, with the library as one of a kind."""
-    lines = crates()
-    with open(f"{room}/crates.txt", "w", encoding="utf-8") as it:
-        for name in needed(lines, LIBRARY):
-            it.write(f"{name}{kind if name == LIBRARY else ''}: {' '.join(lines[name][1])}\n")
+    lines = read_crates()
+    with open(f"{folder}/crates.txt", "w", encoding="utf-8") as file:
+        for name in list_needed_crates(lines, LIBRARY):
+            file.write(f"{name}{kind if name == LIBRARY else ''}: {' '.join(lines[name][1])}\n")
 
 
-def copy(room):
+def copy_sources(folder: str) -> None:
     """Copies the library's sources, with what is already built of them."""
-    shutil.copy(f"{HOME}/HANDLES", room)
-    for name in needed(crates(), LIBRARY):
-        here, there = f"{HOME}/crates/{name}", f"{room}/crates/{name}"
-        os.makedirs(there)
+    shutil.copy(f"{HOME}/HANDLES", folder)
+    for name in list_needed_crates(read_crates(), LIBRARY):
+        source, target = f"{HOME}/crates/{name}", f"{folder}/crates/{name}"
+        os.makedirs(target)
         for part in ("src", "specs", "proofs", "out/rlib"):
-            if os.path.isdir(f"{here}/{part}"):
-                shutil.copytree(f"{here}/{part}", f"{there}/{part}", symlinks=True)
+            if os.path.isdir(f"{source}/{part}"):
+                shutil.copytree(f"{source}/{part}", f"{target}/{part}", symlinks=True)
 
 
-def has_stamps(room):
+def has_stamps(folder: str) -> bool:
     """Returns whether libraries of the copy were built by commands other than `rt ci`."""
-    return any(os.path.exists(f"{room}/crates/{it}/out/rlib/stamp") for it in os.listdir(f"{room}/crates"))
+    return any(os.path.exists(f"{folder}/crates/{it}/out/rlib/stamp") for it in os.listdir(f"{folder}/crates"))
 
 
-def stamp_libraries(room):
+def stamp_libraries(folder: str) -> None:
     """Gives the copy's libraries the stamps with which `rt lib` accepts them."""
     kit = os.path.dirname(subprocess.run(["rt", "doc"], capture_output=True, text=True, check=True).stdout)
     loader = importlib.machinery.SourceFileLoader("rtlib", f"{kit}/bin/rtlib.py")
-    rtlib = importlib.util.module_from_spec(importlib.util.spec_from_loader("rtlib", loader))
+    spec = importlib.util.spec_from_loader("rtlib", loader)
+    assert spec is not None
+    rtlib = importlib.util.module_from_spec(spec)
     loader.exec_module(rtlib)
-    for it in rtlib.Crate(f"{room}/crates/{LIBRARY}", room, {}).below():
-        with open(f"{it.folder}/out/rlib/stamp", "w", encoding="utf-8") as stamp:
-            stamp.write(it.stamp())
+    for below in rtlib.Crate(f"{folder}/crates/{LIBRARY}", folder, {}).below():
+        with open(f"{below.folder}/out/rlib/stamp", "w", encoding="utf-8") as stamp:
+            stamp.write(below.stamp())
 
 
-def build(room, kind, made, to):
-    """Builds the library as one of a kind, and moves the built file to its place. Returns the exit status."""
-    write_crates(room, kind)
-    status = subprocess.run(["rt", "lib"], cwd=f"{room}/crates/{LIBRARY}", check=False).returncode
+def build(folder: str, kind: str, built: str, target: str) -> int:
+    """Builds the library as one of a kind, and copies the built file to its place. Returns the exit status."""
+    write_crate_list(folder, kind)
+    status = subprocess.run(["rt", "lib"], cwd=f"{folder}/crates/{LIBRARY}", check=False).returncode
     if not status:
-        shutil.copy(f"{room}/crates/{LIBRARY}/out/{made}", to)
+        shutil.copy(f"{folder}/crates/{LIBRARY}/out/{built}", target)
     return status
 
 
-def main():
-    words = sys.argv[1:]
-    is_after_rt_ci = words == ["--after-rt-ci"]
-    if len(words) > 1 or not is_after_rt_ci and words and words[0].startswith("-"):
-        print(__doc__.split("\n\n")[1], file=sys.stderr)
-        return 2
-    out = f"{HOME}/crates/{LIBRARY}/out" if is_after_rt_ci or not words else os.path.abspath(words[0])
+def main() -> int:
+    """Builds the modules. Returns the exit status."""
+    reader = command.Reader(__doc__)
+    reader.add_argument("folder", nargs="?", metavar="FOLDER")
+    reader.add_argument("--after-rt-ci", action="store_true")
+    arguments = reader.read()
+    if arguments.folder is not None and arguments.after_rt_ci:
+        reader.error("either a FOLDER or --after-rt-ci")
+    out = f"{HOME}/crates/{LIBRARY}/out" if arguments.folder is None else os.path.abspath(arguments.folder)
     os.makedirs(out, exist_ok=True)
-    with tempfile.TemporaryDirectory(prefix="lw-wasm-") as room:
-        made_of = sum_of_sources()
-        copy(room)
+    with tempfile.TemporaryDirectory(prefix="lw-wasm-") as folder:
+        made_of = hash_sources()
+        copy_sources(folder)
         status = 0
-        if is_after_rt_ci:
-            write_crates(room, " staticlib")
-            if has_stamps(room):
+        if arguments.after_rt_ci:
+            write_crate_list(folder, " staticlib")
+            if has_stamps(folder):
                 print("build_wasm: these libraries are not those of rt ci", file=sys.stderr)
                 return 1
-            stamp_libraries(room)
-            status = build(room, " staticlib", f"lib{LIBRARY}.a", out)
-        status = status or build(room, f" wasm64 stack={STACK}", f"{LIBRARY}.wasm", f"{out}/lw.wasm")
+            stamp_libraries(folder)
+            status = build(folder, " staticlib", f"lib{LIBRARY}.a", out)
+        status = status or build(folder, f" wasm64 stack={STACK}", f"{LIBRARY}.wasm", f"{out}/lw.wasm")
         if status:
             return status
-    with open(f"{out}/modules-of", "w", encoding="utf-8") as it:
-        it.write(made_of + "\n")
+    with open(f"{out}/modules-of", "w", encoding="utf-8") as file:
+        file.write(made_of + "\n")
     if not shutil.which("wasm-opt"):
         print("no wasm-opt: lw32.wasm is not made", file=sys.stderr)
         return 0
@@ -134,4 +139,4 @@ def main():
 
 
 if __name__ == "__main__":
-    sys.exit(start.run(main, __doc__))
+    sys.exit(start.run(main))

@@ -44,7 +44,8 @@ in this list on.
 - How tools/plain.py and its kin read files and tell faults (tools/gate/test_plain.py); `--help` of each command of tools/, and commands whose
   output nobody reads (tools/gate/test_commands.py); pages of replays, which Python and JavaScript read the same
   (tools/gate/test_replay_state.py).
-- How long `./lw` says that a build takes (tools/gate/test_build.py), and the arguments of python/lw.py (tools/gate/test_python.py).
+- How long `./lw` says that a build takes (tools/gate/test_build.py), the arguments of python/lw.py (tools/gate/test_python.py), and the types of
+  tools/ (tools/gate/test_types.py).
 - The executions that tools/graph.py draws, and the outcomes that the axioms of tools/executions.py allow (tools/gate/check_graph.py).
 - Tests in herd's form, there and back (tools/gate/test_herd.py), compare-and-swap by assumption (tools/gate/test_assume.py), and the shapes that
   tools/cycles.py makes (tools/gate/test_shapes.py).
@@ -65,6 +66,8 @@ in this list on.
 
 Commands run side by side, and the web page is tried behind them; what differs is told in the order of the list above.
 """
+from __future__ import annotations
+
 import glob
 import os
 import re
@@ -73,8 +76,10 @@ import subprocess
 import sys
 import tempfile
 import time
+from collections.abc import Iterable, Iterator, Sequence
 from concurrent.futures import ThreadPoolExecutor
 from random import Random
+from typing import Any, Tuple
 
 sys.dont_write_bytecode = True
 import fences
@@ -85,12 +90,14 @@ from gate import (
     cases, check_beyond, check_build, check_card, check_edits, check_graph, check_lab, check_lemmas, check_library, check_many, check_names,
     check_pack, check_page, check_quiz, check_site, check_slides, check_tables, check_wings, proof_layout, test_answers, test_assume,
     test_build, test_commands, test_completion, test_editor, test_fences, test_free_names, test_from_c, test_herd, test_machine_parts, test_names,
-    test_on_machine, test_original, test_packages, test_plain, test_python, test_replay_state, test_run_all, test_seen_here, test_shapes,
+    test_on_machine, test_original, test_packages, test_plain, test_python, test_replay_state, test_run_all, test_seen_here, test_shapes, test_types,
     test_wings,
 )
+from gate.cases import Comparison
 from program import build
-from shared import start
+from shared import command, start
 from shared.home import BEYOND, HOME, PROGRAM
+from shared.matches import require_match
 
 RANDOM_TESTS = 100
 TWO_THREADS = b"SRC SB\n{}\n P0 | P1 ;\n x := 1 | y := 1 ;\n r0 := y | r0 := x ;\nexists (0:r0=0 /\\ 1:r0=0)\n"
@@ -163,17 +170,20 @@ USAGES = [
     ),
 ]
 
-# Each check yields its comparisons: what is compared, what is wanted, and what is told.
+# A check and its arguments.
+Check = Tuple[Any, ...]
+
+# Each check yields its comparisons: what is compared, what is expected, and what is found.
 
 
-def run(command, given=b"", **more):
-    """What a command prints on both streams, and its exit status."""
+def run_command(command: Sequence[str | bytes], given: bytes = b"", **more: Any) -> tuple[bytes, bytes, int]:
+    """Returns what a command prints on both streams, and its exit status."""
     ran = subprocess.run(command, input=given, capture_output=True, cwd=HOME, timeout=60, **more)
     return ran.stdout, ran.stderr, ran.returncode
 
 
-def blocks(text):
-    """The blocks of a document: fenced lines, or lines behind four spaces."""
+def list_blocks(text: str) -> Iterator[list[str]]:
+    """Yields the blocks of a document: fenced lines, or lines after four spaces."""
     fenced, block = False, []
     for line in [*text.splitlines(), ""]:
         if line.startswith("```"):
@@ -186,9 +196,9 @@ def blocks(text):
         block = []
 
 
-def transcript(block):
-    """The commands of a block, each with the lines that stand behind it."""
-    commands = []
+def split_transcript(block: list[str]) -> list[tuple[str, list[str]]]:
+    """Returns the commands of a block, each with the lines that follow it."""
+    commands: list[tuple[str, list[str]]] = []
     for line in block:
         if line.startswith("$ "):
             commands.append((line[2:], []))
@@ -197,69 +207,70 @@ def transcript(block):
     return commands
 
 
-def check_transcript(name, block):
-    for command, lines in transcript(block):
+def check_transcript(name: str, block: list[str]) -> Iterator[Comparison]:
+    """Compares what the commands of a block print with what the block says."""
+    for shell_command, lines in split_transcript(block):
         status = 0
         if lines and re.fullmatch(r"\[status \d+\]", lines[-1]):
             status = int(lines[-1][8:-1])
             lines = lines[:-1]
         out = "".join(f"{it}\n" for it in lines if not it.startswith("2> ")).encode()
         err = "".join(f"{it[3:]}\n" for it in lines if it.startswith("2> ")).encode()
-        yield f"{name}: {command}", (out, err, status), run(["sh", "-c", command])
+        yield f"{name}: {shell_command}", (out, err, status), run_command(["sh", "-c", shell_command])
 
 
-def bytes_of(text):
-    r"""What an example of a table stands for: `\n` is a line end, and `\|` a bar."""
+def unescape(text: str) -> bytes:
+    r"""Returns what an example of a table means: `\n` is a line end, and `\|` a bar."""
     return text.replace("\\|", "|").replace("\\n", "\n").encode()
 
 
-def check_fault(kind, number, name, example, language="SRC"):
-    """An example of a row of a table of faults."""
+def check_fault(kind: str, number: int, name: str, example: str, language: str = "SRC") -> Iterator[Comparison]:
+    """Compares what the program says of an example of a row of a table of faults."""
     if example in IN_WORDS:
-        given, place = IN_WORDS[example], None
+        given, position = IN_WORDS[example], None
     else:
         words = re.fullmatch(r"(.*): at (\d+)", example)
         text = words and re.fullmatch(r"`(.*)`", words[1])
         if not words or not text and words[1] not in IN_WORDS:
             yield f"docs/FORMAT.md, {kind} {number}: an example that is not understood", "", example
             return
-        given, place = bytes_of(text[1]) if text else IN_WORDS[words[1]], words[2]
+        given, position = unescape(text[1]) if text else IN_WORDS[words[1]], words[2]
     schedule = ""
     if kind == "cell" and example not in IN_WORDS:
         given = language.encode() + b" G\n{}\n P0 ;\n" + given + b"\nexists (true)\n"
     if kind == "schedule":
         given, schedule = TWO_THREADS, given.decode()
-    out, err, status = run([PROGRAM, "replay", schedule], given)
-    line = re.sub(rb"\d+\n$", b"", err) if place is None else err
-    wanted = f"lw: {kind} {number} {name} at {place or ''}" + ("\n" if place else "")
+    out, err, status = run_command([PROGRAM, "replay", schedule], given)
+    line = re.sub(rb"\d+\n$", b"", err) if position is None else err
+    wanted = f"lw: {kind} {number} {name} at {position or ''}" + ("\n" if position else "")
     yield f"docs/FORMAT.md, {kind} fault {number}", (b"", wanted.encode(), 1), (out, line, status)
 
 
-def check_limit(number, name, example):
-    """A row of the table of limits."""
-    for command in ("states", "schedules"):
-        told = run([PROGRAM, command], IN_WORDS[example])
-        yield f"docs/FORMAT.md, limit {number}", (b"", f"lw: limit {number} {name}\n".encode(), 3), told
+def check_limit(number: int, name: str, example: str) -> Iterator[Comparison]:
+    """Compares what the program says of a row of the table of limits."""
+    for lw_command in ("states", "schedules"):
+        printed = run_command([PROGRAM, lw_command], IN_WORDS[example])
+        yield f"docs/FORMAT.md, limit {number}", (b"", f"lw: limit {number} {name}\n".encode(), 3), printed
 
 
-def check_end(number, name, schedule, test):
-    """A row of the table of ends: the schedule's last event is refused."""
-    with open(f"{HOME}/examples/{test}.litmus", "rb") as it:
-        out, _, status = run([PROGRAM, "replay", schedule], it.read())
+def check_end(number: str, name: str, schedule: str, test: str) -> Iterator[Comparison]:
+    """Compares a row of the table of ends: the schedule's last event is refused."""
+    with open(f"{HOME}/examples/{test}.litmus", "rb") as file:
+        out, _, status = run_command([PROGRAM, "replay", schedule], file.read())
     wanted = f"End Stopped at {len(schedule.split()) - 1} by {number} {name}"
     yield f"docs/FORMAT.md, end {number}", ([wanted], 1), (out.decode().splitlines()[2:3], status)
 
 
-def check_mistake(text, line):
-    """A row of the table of common mistakes."""
-    told = run([PROGRAM, "replay", ""], bytes_of(text))
-    yield f"docs/FORMAT.md, a mistake: {text}", (b"", f"{line}\n".encode(), 1), told
+def check_mistake(text: str, line: str) -> Iterator[Comparison]:
+    """Compares what the program says of a row of the table of common mistakes."""
+    printed = run_command([PROGRAM, "replay", ""], unescape(text))
+    yield f"docs/FORMAT.md, a mistake: {text}", (b"", f"{line}\n".encode(), 1), printed
 
 
-def checks_of_faults():
-    """A check for each row of the tables of docs/FORMAT.md."""
+def list_fault_checks() -> Iterator[Check]:
+    """Yields a check for each row of the tables of docs/FORMAT.md."""
     kind = None
-    for line in read("docs/FORMAT.md").splitlines():
+    for line in read_file("docs/FORMAT.md").splitlines():
         mistake = re.fullmatch(r"\| .* \| `(.*)` \| `(lw: .*)` \|", line)
         if mistake:
             yield check_mistake, *mistake.groups()
@@ -272,7 +283,7 @@ def checks_of_faults():
             continue
         row = re.fullmatch(r"\| (\d+) \| (\w+) \| .* \| (.*) \|", line)
         if kind == "cell" and row:
-            in_both = re.fullmatch(r"\| .* \| (.*) \| (.*) \|", line)
+            in_both = require_match(re.fullmatch(r"\| .* \| (.*) \| (.*) \|", line))
             yield check_fault, kind, row[1], row[2], in_both[1]
             yield check_fault, kind, row[1], row[2], in_both[2], "X86"
         elif kind == "limit" and row and row[3] in IN_WORDS:
@@ -281,143 +292,144 @@ def checks_of_faults():
             yield check_fault, kind, row[1], row[2], row[3]
 
 
-def check_example(name):
-    """A test's name, its page, and the fixed words of its comment, by tools/plain.py."""
-    text, page = read(f"examples/{name}.litmus"), f"examples/{name}.page"
-    test, words = plain.read_test(text), make_pages.fixed_words(text)
+def check_example(name: str) -> Iterator[Comparison]:
+    """Compares a test's name, its page, and the fixed words of its comment with those of tools/plain.py."""
+    text, page = read_file(f"examples/{name}.litmus"), f"examples/{name}.page"
+    test, words = plain.read_test(text), make_pages.match_fixed_words(text)
     yield f"examples/{name}.litmus has its name", os.path.basename(name), test.name
-    yield f"{page} is as tools/documents/make_pages.py writes it", make_pages.page_of(name, text), read(page)
-    yield f"the words of {name}", plain.words_on(test), (words["interleaving"], words["x86"])
-    if test.language == "SRC" and plain.words_on(test) == ("forbidden", "allowed"):
+    yield f"{page} is as tools/documents/make_pages.py writes it", make_pages.make_page(name, text), read_file(page)
+    yield f"the words of {name}", plain.find_verdicts(test), (words["interleaving"], words["x86"])
+    if test.language == "SRC" and plain.find_verdicts(test) == ("forbidden", "allowed"):
         yield f"the x86 form that {name} points to", f"{os.path.basename(name)}-x86", words["shown_by"]
     elif words["x86"] == "allowed":
-        is_final, outcome = random_tests.end_of(test, words["telling"])
-        yield f"the schedule of {name} shows its outcome", (True, True), (is_final, plain.holds(test.proposition, outcome))
+        is_final, outcome = random_tests.find_end(test, words["telling"])
+        yield f"the schedule of {name} shows its outcome", (True, True), (is_final, plain.is_true(test.proposition, outcome))
 
 
-def check_x86_form(name):
-    """The x86 form of a source test, if it has one: what it is compiled to, without fences."""
+def check_x86_form(name: str) -> Iterator[Comparison]:
+    """Compares the x86 form of a source test, if it has one, with what the test is compiled to, without fences."""
     form = f"examples/{name}-x86.litmus"
     if os.path.exists(form):
-        program = plain.compiled(plain.read_test(read(f"examples/{name}.litmus")), with_fences=False)
+        program = plain.compile_test(plain.read_test(read_file(f"examples/{name}.litmus")), with_fences=False)
         program.name = f"{os.path.basename(name)}-x86"
-        yield f"{form} is the x86 form of {name}", plain.canonical_text(program), plain.canonical_text(plain.read_test(read(form)))
+        yield f"{form} is the x86 form of {name}", plain.format_canonical_text(program), plain.format_canonical_text(plain.read_test(read_file(form)))
 
 
-def check_index():
-    """examples/INDEX.md: a row for each test, with what its report and its comment tell."""
-    lines = re.findall(r"^\| (?!Test )(\S+) \|.*\| (.*?) ?\| ([\w ]+) \|$", read("examples/INDEX.md"), re.M)
-    yield "examples/INDEX.md has each test once", make_pages.names(), sorted(name for name, _, _ in lines)
+def check_index() -> Iterator[Comparison]:
+    """Compares examples/INDEX.md with the tests: a row for each, with what its report and its comment say."""
+    lines = re.findall(r"^\| (?!Test )(\S+) \|.*\| (.*?) ?\| ([\w ]+) \|$", read_file("examples/INDEX.md"), re.M)
+    yield "examples/INDEX.md has each test once", make_pages.list_test_names(), sorted(name for name, _, _ in lines)
     for name, observed, word in lines:
-        test = read(f"examples/{name}.litmus")
-        yield f"examples/INDEX.md, {name} on x86-TSO", make_pages.fixed_words(test)["x86"], word
+        test = read_file(f"examples/{name}.litmus")
+        yield f"examples/INDEX.md, {name} on x86-TSO", make_pages.match_fixed_words(test)["x86"], word
         program = BEYOND if name.startswith(make_pages.PAST_LIMITS) else PROGRAM
-        report = run([program, "states"], test.encode())[0].decode().splitlines()
+        report = run_command([program, "states"], test.encode())[0].decode().splitlines()
         yield f"examples/INDEX.md, the report of {name}", [f"Observation {os.path.basename(name)} {observed}"], report[-1:]
 
 
-def check_questions():
-    """What the shapes of examples/INDEX.md ask: `exists` where x86-TSO allows the outcome, else `~exists`."""
-    for family in read("examples/INDEX.md").split("\n## ")[1:]:
+def check_questions() -> Iterator[Comparison]:
+    """Checks what the shapes of examples/INDEX.md ask: `exists` if x86-TSO allows the outcome, and otherwise `~exists`."""
+    for family in read_file("examples/INDEX.md").split("\n## ")[1:]:
         for name, word in re.findall(r"^\| (?!Test )(\S+) \|.*\| (allowed|forbidden) \|$", family, re.M):
             if family.splitlines()[0] in SHAPES:
-                asked = plain.read_test(read(f"examples/{name}.litmus")).quantifier
+                asked = plain.read_test(read_file(f"examples/{name}.litmus")).quantifier
                 yield f"what {name} asks", "exists" if word == "allowed" else "~exists", asked
 
 
-def sizes_of(source, compiled, thread):
-    """Of each statement of a thread: of how many instructions it is, and whether it is a store."""
-    cells = [[row.split("|")[thread] for row in rows_of(text)] for text in (source, compiled)]
+def measure_statements(source: str, compiled: str, thread: int) -> list[tuple[int, bool]]:
+    """Returns of each statement of a thread: of how many instructions it is, and whether it is a store."""
+    cells = [[row.split("|")[thread] for row in list_rows(text)] for text in (source, compiled)]
     statements = [re.sub(r"^(\s*\w+:(?!=))+", "", cell).split() for cell in cells[0]]
     instructions = [re.sub(r"^\s*L\d+:", "", cell).split() for cell in cells[1]]
-    at, sizes = 0, []
+    index, sizes = 0, []
     for words in filter(None, statements):
-        is_two = instructions[at][0] in ("CMP", "MFENCE")
+        is_two = instructions[index][0] in ("CMP", "MFENCE")
         if words[2:3] in (["swap"], ["fetchadd"]):
             is_two = words[0] != words[-1]
         if "+" in words:
             is_two = words[0] not in (words[2], words[4])
         sizes.append((1 + is_two, words[1] == ":=" and not re.fullmatch(r"r[0-5]", words[0])))
-        at += 1 + is_two
+        index += 1 + is_two
     return sizes
 
 
-def rows_of(text):
-    """The rows of a test, without its header."""
+def list_rows(text: str) -> list[str]:
+    """Returns the rows of a test, without its header."""
     body = re.sub(r"\(\*.*?\*\)", "", text, flags=re.S).partition("}")[2]
     rows = re.split(r";", re.split(r"\b(?:exists|forall|locations)\b|~", body)[0])
     return [row for row in rows[1:] if row.strip()]
 
 
-def state_in(page):
-    """The positions, the registers' words and the words of memory that a page tells of."""
+def read_state_words(page: str) -> tuple[list[int], list[list[str]], str]:
+    """Returns the positions, the registers' words and the words of memory that a page has."""
     threads = re.findall(r"^P\d at (\d+)((?: \w+=\d+)+)$", page, re.M)
     words = re.findall(r"^(?:Memory|Content)(.*)$", page, re.M)[-1]
-    return [int(at) for at, _ in threads], [re.findall(r"=(\d+)", regs) for _, regs in threads], words
+    return [int(position) for position, _ in threads], [re.findall(r"=(\d+)", regs) for _, regs in threads], words
 
 
-def check_compiled(name):
-    """A source test beside what it is compiled to."""
-    source = read(name)
+def check_compiled(name: str) -> Iterator[Comparison]:
+    """Compares a source test with what it is compiled to."""
+    source = read_file(name)
     given, random = source.encode(), Random(name)
-    compiled = run([PROGRAM, "compile"], given)[0]
-    yield f"{name}, compiled twice", (compiled, b"", 0), run([PROGRAM, "compile"], compiled)
-    report = run([PROGRAM, "states"], given)[0].decode()
+    compiled = run_command([PROGRAM, "compile"], given)[0]
+    yield f"{name}, compiled twice", (compiled, b"", 0), run_command([PROGRAM, "compile"], compiled)
+    report = run_command([PROGRAM, "states"], given)[0].decode()
     in_x86 = re.sub(r"\b(\d):r([0-5])\b", lambda it: f"{it[1]}:{plain.REGISTERS['X86'][int(it[2])]}", report)
-    yield f"{name}, compiled, its report", (in_x86.encode(), b"", 0), run([PROGRAM, "states"], compiled)
-    threads = len(state_in(run([PROGRAM, "replay", ""], given)[0].decode())[0])
-    sizes = [sizes_of(source, compiled.decode(), thread) for thread in range(threads)]
+    yield f"{name}, compiled, its report", (in_x86.encode(), b"", 0), run_command([PROGRAM, "states"], compiled)
+    threads = len(read_state_words(run_command([PROGRAM, "replay", ""], given)[0].decode())[0])
+    sizes = [measure_statements(source, compiled.decode(), thread) for thread in range(threads)]
     for _ in range(5):
-        order, events = [], []
+        order: list[str] = []
+        events: list[str] = []
         while True:
-            page = run([PROGRAM, "replay", " ".join(order)], given)[0].decode()
-            at, *end = state_in(page)
-            running = [thread for thread in range(threads) if at[thread] < len(sizes[thread])]
+            page = run_command([PROGRAM, "replay", " ".join(order)], given)[0].decode()
+            index, *end = read_state_words(page)
+            running = [thread for thread in range(threads) if index[thread] < len(sizes[thread])]
             if not running:
                 break
             thread = random.choice(running)
-            size, is_store = sizes[thread][at[thread]]
+            size, is_store = sizes[thread][index[thread]]
             order.append(f"P{thread}")
             events += [f"P{thread}"] * size + [f"D{thread}"] * is_store
-        out, _, status = run([PROGRAM, "replay", " ".join(events)], compiled)
-        yield f"{name}, compiled, by {' '.join(events)}", (end, 0), (list(state_in(out.decode())[1:]), status)
+        out, _, status = run_command([PROGRAM, "replay", " ".join(events)], compiled)
+        yield f"{name}, compiled, by {' '.join(events)}", (end, 0), (list(read_state_words(out.decode())[1:]), status)
 
 
-def check_refused_memory(program, test, *words):
-    """Every call for memory of a run refused in turn, up to the first run that makes fewer calls."""
+def check_refused_memory(program: str, test: str, *arguments: str) -> Iterator[Comparison]:
+    """Refuses every call for memory of a run in turn, up to the first run that makes fewer calls."""
     given = open(f"{HOME}/examples/{test}.litmus", "rb").read()
-    name = f"{os.path.basename(program)} on {test}, {' '.join(words)}"
-    refused, whole = (b"", b"lw: memory\n", 4), run([program, *words], given)
-    with tempfile.TemporaryDirectory() as room:
-        library, mark = f"{room}/refuse_memory.so", f"{room}/mark"
+    name = f"{os.path.basename(program)} on {test}, {' '.join(arguments)}"
+    refused, whole = (b"", b"lw: memory\n", 4), run_command([program, *arguments], given)
+    with tempfile.TemporaryDirectory() as folder:
+        library, mark = f"{folder}/refuse_memory.so", f"{folder}/mark"
         subprocess.run(["cc", "-O1", "-shared", "-fPIC", "-o", library, f"{HOME}/tools/gate/refuse_memory.c"], check=True)
         for nth in range(1, 10000):
             refusing = {"LD_PRELOAD": library, "REFUSED_CALL": str(nth), "REFUSED_MARK": mark}
-            told = run([program, *words], given, env={**os.environ, **refusing})
+            printed = run_command([program, *arguments], given, env={**os.environ, **refusing})
             if not os.path.exists(mark):
                 break
             os.remove(mark)
-            yield f"{name}: call {nth} for memory is refused", refused, told
-        yield f"{name}: behind the last call none is refused", whole, told
+            yield f"{name}: call {nth} for memory is refused", refused, printed
+        yield f"{name}: behind the last call none is refused", whole, printed
 
 
-def streams_of(command, **streams):
-    """What a command prints on standard error, and its exit status, between these streams."""
+def run_with_streams(command: Sequence[str | bytes], **streams: Any) -> tuple[bytes, int]:
+    """Returns what a command prints on standard error, and its exit status, between these streams."""
     ran = subprocess.run(command, stderr=subprocess.PIPE, cwd=HOME, timeout=60, check=False, **streams)
     return ran.stderr, ran.returncode
 
 
-def closing(stream, program, command):
-    """The words that run a program with a stream closed, `>&-` or `<&-`."""
+def wrap_with_closed_stream(stream: str, program: str, command: Sequence[str]) -> list[str]:
+    """Returns the words that run a program with a stream closed, `>&-` or `<&-`."""
     return ["sh", "-c", f'exec "$0" "$@" {stream}', program, *command]
 
 
-def shown(program, command):
-    """A command in print."""
+def format_command(program: str, command: Sequence[str]) -> str:
+    """Returns a command in print."""
     return " ".join([os.path.basename(program), *command])
 
 
-def wait_for_no_reader(writing):
+def wait_for_no_reader(writing: int) -> None:
     """Waits until no process has the other end of a pipe. One that another thread begins meanwhile has it until it runs its program."""
     poll = select.poll()
     poll.register(writing, select.POLLOUT)
@@ -427,38 +439,38 @@ def wait_for_no_reader(writing):
         time.sleep(0.01)
 
 
-def check_output_stream(program, command):
-    """A command whose standard output is closed or full, and one whose output nobody reads."""
-    wanted, name = (b"lw: write failed\n", 4), shown(program, command)
+def check_output_stream(program: str, command: Sequence[str]) -> Iterator[Comparison]:
+    """Runs a command whose standard output is closed or full, and one whose output nobody reads."""
+    wanted, name = (b"lw: write failed\n", 4), format_command(program, command)
     with open(f"{HOME}/examples/SB.litmus", "rb") as given:
-        yield f"{name}, standard output closed", wanted, streams_of(closing(">&-", program, command), stdin=given)
+        yield f"{name}, standard output closed", wanted, run_with_streams(wrap_with_closed_stream(">&-", program, command), stdin=given)
     with open(f"{HOME}/examples/SB.litmus", "rb") as given, open("/dev/full", "wb") as output:
-        yield f"{name}, standard output is full", wanted, streams_of([program, *command], stdin=given, stdout=output)
+        yield f"{name}, standard output is full", wanted, run_with_streams([program, *command], stdin=given, stdout=output)
     reading, writing = os.pipe()
     os.close(reading)
     wait_for_no_reader(writing)
     with open(f"{HOME}/examples/SB.litmus", "rb") as given, open(writing, "wb") as output:
-        yield f"{name}, nobody reads standard output", wanted, streams_of([program, *command], stdin=given, stdout=output)
+        yield f"{name}, nobody reads standard output", wanted, run_with_streams([program, *command], stdin=given, stdout=output)
 
 
-def check_input_stream(program, command):
-    """A command whose standard input is closed, is a folder, and never ends. Nothing is written to standard output."""
-    failed, name = (b"lw: read failed\n", 4), shown(program, command)
+def check_input_stream(program: str, command: Sequence[str]) -> Iterator[Comparison]:
+    """Runs a command whose standard input is closed, is a folder, and never ends. Nothing is written to standard output."""
+    failed, name = (b"lw: read failed\n", 4), format_command(program, command)
     with tempfile.TemporaryFile() as output:
-        told = streams_of(closing("<&-", program, command), stdout=output)
-        yield f"{name}, standard input closed", failed, told
+        printed = run_with_streams(wrap_with_closed_stream("<&-", program, command), stdout=output)
+        yield f"{name}, standard input closed", failed, printed
         folder = os.open(HOME, os.O_RDONLY)
-        yield f"{name}, standard input is a folder", failed, streams_of([program, *command], stdin=folder, stdout=output)
+        yield f"{name}, standard input is a folder", failed, run_with_streams([program, *command], stdin=folder, stdout=output)
         os.close(folder)
         with subprocess.Popen(["cat", "/dev/zero"], stdout=subprocess.PIPE) as endless:
-            told = streams_of([program, *command], stdin=endless.stdout, stdout=output)
+            printed = run_with_streams([program, *command], stdin=endless.stdout, stdout=output)
             endless.kill()
-        yield f"{name}, an endless pipe", (b"lw: text 2 TooLong at 65536\n", 1), told
+        yield f"{name}, an endless pipe", (b"lw: text 2 TooLong at 65536\n", 1), printed
         yield f"{name}, nothing is written", 0, output.tell()
 
 
-def left_unread(command, given):
-    """What a command leaves in the pipe of its standard input, what it prints on both streams, and its exit status."""
+def run_and_read_rest(command: Sequence[str], given: bytes) -> tuple[bytes, bytes, bytes, int]:
+    """Returns what a command leaves in the pipe of its standard input, what it prints on both streams, and its exit status."""
     reading, writing = os.pipe()
     with open(writing, "wb") as pipe:
         pipe.write(given)
@@ -467,155 +479,181 @@ def left_unread(command, given):
         return pipe.read(), ran.stdout, ran.stderr, ran.returncode
 
 
-def check_usage(program, usage, command, others):
-    """Words that are no command, which leave their input unread, and a command, which reads it."""
-    given = read("examples/SB.litmus").encode()
+def check_usage(program: str, usage: str, command: Sequence[str], others: Sequence[Sequence[str]]) -> Iterator[Comparison]:
+    """Runs a program with words that are no command, which leave their input unread, and with a command, which reads it."""
+    given = read_file("examples/SB.litmus").encode()
     for words in others:
         wanted = given, b"", usage.encode(), 2
-        yield f"{shown(program, words)} leaves its input unread", wanted, left_unread([program, *words], given)
-    yield f"{shown(program, command)} reads its input", (b"", 0), left_unread([program, *command], given)[::3]
+        yield f"{format_command(program, words)} leaves its input unread", wanted, run_and_read_rest([program, *words], given)
+    yield f"{format_command(program, command)} reads its input", (b"", 0), run_and_read_rest([program, *command], given)[::3]
 
 
-def check_words():
-    """Words that are no UTF-8, a program's own name among them, whatever the others are, and the protocols by name."""
+def check_words() -> Iterator[Comparison]:
+    """Runs the programs with words that are no UTF-8, a program's own name among them, whatever the others are; and with the protocols by name."""
     for program in (PROGRAM, BEYOND):
-        for words in ([], ["states"], ["state"]):
-            told = run([b"lw\xff", *words], executable=program)
-            yield f"{shown(program, words)} by a name that is no UTF-8", (b"", b"lw: read failed\n", 4), told
-        yield f"{shown(program, words)}, words that are no UTF-8", (b"", b"lw: read failed\n", 4), run([program, b"states\xff"])
-    for words in ([b"replay", b"\xff"], [b"\xff"], [b"states", b"P0\xc3"], [b"replay", b"P0", b"--protocol", b"me\xffsi"]):
-        yield f"lw {words}", (b"", b"lw: read failed\n", 4), run([PROGRAM, *words])
-    given = read("examples/SB-x86.litmus").encode()
-    by_default = run([PROGRAM, "replay", "P0 P0 D0 P1 P1 D1"], given)
+        for name in (None, "states", "state"):
+            words = [name] if name else []
+            printed = run_command([b"lw\xff", *words], executable=program)
+            yield f"{format_command(program, words)} by a name that is no UTF-8", (b"", b"lw: read failed\n", 4), printed
+        yield f"{format_command(program, words)}, words that are no UTF-8", (b"", b"lw: read failed\n", 4), run_command([program, b"states\xff"])
+    for others in ([b"replay", b"\xff"], [b"\xff"], [b"states", b"P0\xc3"], [b"replay", b"P0", b"--protocol", b"me\xffsi"]):
+        yield f"lw {others}", (b"", b"lw: read failed\n", 4), run_command([PROGRAM, *others])
+    given = read_file("examples/SB-x86.litmus").encode()
+    by_default = run_command([PROGRAM, "replay", "P0 P0 D0 P1 P1 D1"], given)
     yield "a replay by default", (0, b""), (by_default[2], by_default[1])
-    yield "lw replay --protocol mesi", by_default, run([PROGRAM, "replay", "P0 P0 D0 P1 P1 D1", "--protocol", "mesi"], given)
+    yield "lw replay --protocol mesi", by_default, run_command([PROGRAM, "replay", "P0 P0 D0 P1 P1 D1", "--protocol", "mesi"], given)
 
 
-def check_measured(name, wanted):
-    told = run([PROGRAM, "states"], read(f"bench/{name}.litmus").encode())[0]
-    number = re.search(rb"^States (\d+)$", told, re.M)
+def check_measured(name: str, wanted: str) -> Iterator[Comparison]:
+    """Compares the number of states of a test of bench/ with that of its table."""
+    printed = run_command([PROGRAM, "states"], read_file(f"bench/{name}.litmus").encode())[0]
+    number = re.search(rb"^States (\d+)$", printed, re.M)
     yield f"the states of bench/{name}.litmus", wanted, number[1].decode() if number else "-"
 
 
-def check_bench():
-    files = sorted(os.path.basename(it).removesuffix(".litmus") for it in glob.glob("bench/*.litmus"))
-    yield "bench/INDEX.md has each test", files, sorted(name for name, _ in measure_lists.tests())
+def check_bench() -> Iterator[Comparison]:
+    """Yields whether bench/INDEX.md has each test of bench/."""
+    files = sorted(os.path.basename(it)[: -len(".litmus")] for it in glob.glob("bench/*.litmus"))
+    yield "bench/INDEX.md has each test", files, sorted(name for name, _ in measure_lists.list_tests())
 
 
-def check_handles():
-    yield "HANDLES", "Handles allowed: none.\n", read("HANDLES")
+def check_handles() -> Iterator[Comparison]:
+    """Yields whether HANDLES says that no handle is allowed."""
+    yield "HANDLES", "Handles allowed: none.\n", read_file("HANDLES")
 
 
-def check_least():
-    """Whether there is as much to look at as there must be."""
+def check_counts() -> Iterator[Comparison]:
+    """Checks that there is as much to look at as there must be."""
     documents = ["README.md", *sorted(glob.glob("docs/*.md"))]
     sources = glob.glob("crates/*tests/src/*.rt")
     numbers = {
-        "blocks with commands in README.md and docs/": sum(bool(transcript(it)) for name in documents for it in blocks(read(name))),
-        "rows of the tables of docs/FORMAT.md": len(list(checks_of_faults())),
-        "rows of the tables of docs/FENCES.md and docs/FAMILIES.md": len(list(checks_of_tables())),
-        "examples": len(tests()),
-        "examples past the limits": len(make_pages.names()) - len(tests()),
-        "wrong bodies": len(check_edits.edits()),
-        "tests of the crates": sum(read(it).count("#[test]") for it in sources),
+        "blocks with commands in README.md and docs/": sum(bool(split_transcript(it)) for name in documents for it in list_blocks(read_file(name))),
+        "rows of the tables of docs/FORMAT.md": len(list(list_fault_checks())),
+        "rows of the tables of docs/FENCES.md and docs/FAMILIES.md": len(list(list_table_checks())),
+        "examples": len(list_examples()),
+        "examples past the limits": len(make_pages.list_test_names()) - len(list_examples()),
+        "wrong bodies": len(check_edits.list_edits()),
+        "tests of the crates": sum(read_file(it).count("#[test]") for it in sources),
     }
     for what, number in numbers.items():
         yield f"there are at least {LEAST[what]} {what}: {number}", True, number >= LEAST[what]
 
 
-def read(name):
-    with open(f"{HOME}/{name}", encoding="utf-8") as it:
-        return it.read()
+def read_file(name: str) -> str:
+    """Returns the text of a file of the repository."""
+    with open(f"{HOME}/{name}", encoding="utf-8") as file:
+        return file.read()
 
 
-def fences_by(name):
-    """How many fences a test has, compiled, and how many of them are enough for its question, with none to spare."""
-    test = plain.compiled(plain.read_test(read(f"examples/{name}.litmus")))
-    places = fences.fences_of(test)
-    return len(places), len(places) - len(fences.spared(test, places, fences.states_of(test)))
+def count_fences(name: str) -> tuple[int, int]:
+    """Returns how many fences a test has, compiled, and how many of them are enough for its question, with none to spare."""
+    test = plain.compile_test(plain.read_test(read_file(f"examples/{name}.litmus")))
+    places = fences.list_fences(test)
+    return len(places), len(places) - len(fences.find_spared(test, places, fences.list_states(test)))
 
 
-def check_counts_of_fences(names, number, needed):
-    """A row of the table of docs/FENCES.md."""
+def check_counts_of_fences(names: str, number: str, needed: str) -> Iterator[Comparison]:
+    """Compares a row of the table of docs/FENCES.md."""
     for name in names.split(", "):
-        yield f"docs/FENCES.md, the fences of {name}", (int(number), int(needed)), fences_by(name)
+        yield f"docs/FENCES.md, the fences of {name}", (int(number), int(needed)), count_fences(name)
 
 
-def check_family(name, interleaving, x86, needed):
-    """A row of the table of docs/FAMILIES.md."""
-    words = make_pages.fixed_words(read(f"examples/{name}.litmus"))
-    told = words["interleaving"], words["x86"], fences_by(name)[1]
-    yield f"docs/FAMILIES.md, {name}", (interleaving, x86, int(needed)), told
+def check_family(name: str, interleaving: str, x86: str, needed: str) -> Iterator[Comparison]:
+    """Compares a row of the table of docs/FAMILIES.md."""
+    words = make_pages.match_fixed_words(read_file(f"examples/{name}.litmus"))
+    counted = words["interleaving"], words["x86"], count_fences(name)[1]
+    yield f"docs/FAMILIES.md, {name}", (interleaving, x86, int(needed)), counted
 
 
-def checks_of_tables():
-    """A check for each row of the tables of docs/FENCES.md and docs/FAMILIES.md."""
-    for row in re.findall(r"^\| ([^|]+) \| (\d+) \| (\d+) \| [^|]+ \|$", read("docs/FENCES.md"), re.M):
+def list_table_checks() -> Iterator[Check]:
+    """Yields a check for each row of the tables of docs/FENCES.md and docs/FAMILIES.md."""
+    for row in re.findall(r"^\| ([^|]+) \| (\d+) \| (\d+) \| [^|]+ \|$", read_file("docs/FENCES.md"), re.M):
         yield check_counts_of_fences, *row
-    for row in re.findall(r"^\| (\S+) \| .* \| (\w+) \| (\w+) \| (\d+) \|.*\|$", read("docs/FAMILIES.md"), re.M):
+    for row in re.findall(r"^\| (\S+) \| .* \| (\w+) \| (\w+) \| (\d+) \|.*\|$", read_file("docs/FAMILIES.md"), re.M):
         yield check_family, *row
 
 
-def tests():
-    """The names of all examples."""
-    return sorted(os.path.basename(path).removesuffix(".litmus") for path in glob.glob(f"{HOME}/examples/*.litmus"))
+def list_examples() -> list[str]:
+    """Returns the names of all examples."""
+    return sorted(os.path.basename(path)[: -len(".litmus")] for path in glob.glob(f"{HOME}/examples/*.litmus"))
 
 
-def check_readmes():
+def check_readmes() -> Iterator[Comparison]:
     """Yields whether each crate has a README.md with the present list of files, and links to names that the files declare."""
     yield from make_readmes.comparisons()
 
 
-def check_times():
-    yield "docs/TIMES.md has the table of tools/program/minutes.txt (tools/documents/make_times.py writes it)", True, make_times.is_whole()
-    yield "tools/program/minutes.txt has the minutes of each crate of the program", [], [it.name for it in build.crates_of_program() if not it.minutes]
+def check_times() -> Iterator[Comparison]:
+    """Yields whether docs/TIMES.md and tools/program/minutes.txt have the crates of the program."""
+    yield "docs/TIMES.md has the table of tools/program/minutes.txt (tools/documents/make_times.py writes it)", True, make_times.is_current()
+    yield "tools/program/minutes.txt has the minutes of each crate of the program", [], [it.name for it in build.list_crates() if not it.minutes]
 
 
-def check_wings_apart():
-    yield "no crate that says what tests mean names one that reads texts", [], check_wings.faults()
+def check_wings_apart() -> Iterator[Comparison]:
+    """Yields whether each crate names only what its line of crates.txt allows."""
+    yield "no crate that says what tests mean names one that reads texts", [], check_wings.find_faults()
 
 
-def check_semantic_core():
-    yield "what the meaning of a test stands on, and docs/MAP.md on it (tools/documents/semantic_core.py)", [], semantic_core.told()
+def check_semantic_core() -> Iterator[Comparison]:
+    """Yields whether the definitions that the theorem needs are within their limits."""
+    yield "what the meaning of a test stands on, and docs/MAP.md on it (tools/documents/semantic_core.py)", [], semantic_core.find_faults()
 
 
-def check_believe():
-    yield "the definitions that the contract of `answer` reaches, and docs/BELIEVE.md on them (tools/documents/believe.py)", [], believe.told_faults()
+def check_believe() -> Iterator[Comparison]:
+    """Yields whether docs/BELIEVE.md has the present lines of the definitions."""
+    yield "the definitions that the contract of `answer` reaches, and docs/BELIEVE.md on them (tools/documents/believe.py)", [], believe.find_page_faults()
 
 
-def check_classics():
-    """The texts of the classic tests, which a test of lw_text_tests reads as the values that theorems speak of."""
-    source = read("crates/lw_text_tests/src/classics.rt")
-    found = re.findall(r'^/// examples/([\w-]+)\.litmus\.\nconst \w+: &str = "((?:[^"\\]|\\.)*)";', source, re.M)
-    yield "how many examples lw_text_tests reads as values", 3, len(found)
-    for name, text in found:
-        yield f"examples/{name}.litmus is what lw_text_tests reads", read(f"examples/{name}.litmus"), text.replace("\\\\", "\\")
+def check_classics() -> Iterator[Comparison]:
+    """Compares the texts of the classic tests with those that a test of lw_text_tests reads as the values that theorems speak of."""
+    source = read_file("crates/lw_text_tests/src/classics.rt")
+    constants = re.findall(r'^/// examples/([\w-]+)\.litmus\.\nconst \w+: &str = "((?:[^"\\]|\\.)*)";', source, re.M)
+    yield "how many examples lw_text_tests reads as values", 3, len(constants)
+    for name, text in constants:
+        yield f"examples/{name}.litmus is what lw_text_tests reads", read_file(f"examples/{name}.litmus"), text.replace("\\\\", "\\")
 
 
-def text_of_spec(source, name):
-    """The bytes of a text that a file of definitions writes out, by the names of its parts."""
-    block = re.search(rf"^{name} =\s*((?:.+\n?)*)", source, re.M)[1]
-    parts = re.findall(r'codes "((?:[^"\\]|\\.)*)"|\b([a-z]\w*_\w+)\b', block)
-    written = {"\\n": "\n", "\\\\": "\\", '\\"': '"'}
-    return "".join(text_of_spec(source, part) if part else re.sub(r"\\.", lambda it: written[it[0]], text) for text, part in parts)
+def read_spec_text(source: str, name: str) -> str:
+    """Returns the bytes of a text that a file of definitions writes out, by the names of its parts."""
+    block = require_match(re.search(rf"^{name} =\s*((?:.+\n?)*)", source, re.M))[1]
+    parts: list[tuple[str, str]] = re.findall(r'codes "((?:[^"\\]|\\.)*)"|\b([a-z]\w*_\w+)\b', block)
+    written, escaped = {"\\n": "\n", "\\\\": "\\", '\\"': '"'}, re.compile(r"\\.")
+    return "".join(read_spec_text(source, part) if part else escaped.sub(lambda it: written[it[0]], text) for text, part in parts)
 
 
-def check_theorem_on_bytes():
-    """The text and the report of the law on bytes are those of the files."""
-    source = read("crates/lw_bench/specs/Examples.antt")
-    text, report = (text_of_spec(source, f"store_buffering_{it}") for it in ("text", "report"))
-    yield "examples/SB-x86.litmus is the text of the law on bytes", read("examples/SB-x86.litmus"), text
-    yield "its report is that of the law on bytes", (report.encode(), b"", 0), run([PROGRAM, "states"], text.encode())
-    shown = ["".join(f"{line}\n" for line in block[1:]) for block in blocks(read("README.md")) if block[0] == "$ ./lw states < examples/SB-x86.litmus"]
+def check_theorem_on_bytes() -> Iterator[Comparison]:
+    """Compares the text and the report of the law on bytes with those of the files."""
+    source = read_file("crates/lw_bench/specs/Examples.antt")
+    text, report = (read_spec_text(source, f"store_buffering_{it}") for it in ("text", "report"))
+    yield "examples/SB-x86.litmus is the text of the law on bytes", read_file("examples/SB-x86.litmus"), text
+    yield "its report is that of the law on bytes", (report.encode(), b"", 0), run_command([PROGRAM, "states"], text.encode())
+    shown = [
+        "".join(f"{line}\n" for line in block[1:])
+        for block in list_blocks(read_file("README.md")) if block[0] == "$ ./lw states < examples/SB-x86.litmus"
+    ]
     yield "README.md shows the report of the law on bytes", [report], shown
 
 
-def check_names_there():
-    yield "what README.md and the pages of docs/ name is there (tools/gate/check_names.py)", [], check_names.faults()
+def check_named_items() -> Iterator[Comparison]:
+    """Yields whether all that documents name exists."""
+    yield "what README.md and the pages of docs/ name is there (tools/gate/check_names.py)", [], check_names.find_faults()
 
 
-def checks():
-    """All checks: functions with their arguments, each of which is one thing to do."""
+def list_checks() -> Iterator[Check]:
+    """Yields all checks: functions with their arguments, each of which is one thing to do."""
+    yield from list_proof_checks()
+    for name in ["README.md", *sorted(glob.glob("docs/*.md"))]:
+        for block in list_blocks(read_file(name)):
+            yield check_transcript, name, block
+    yield from list_fault_checks()
+    yield from list_table_checks()
+    yield (check_card.comparisons,)
+    yield from list_example_checks()
+    yield from list_program_checks()
+
+
+def list_proof_checks() -> Iterator[Check]:
+    """Yields the checks of builds, proofs and definitions, and of what documents say of them."""
     yield (check_build.comparisons,)
     yield (check_times,)
     yield (check_wings_apart,)
@@ -628,49 +666,51 @@ def checks():
     yield (check_believe,)
     yield (check_classics,)
     yield (check_theorem_on_bytes,)
-    yield (check_names_there,)
-    for name in ["README.md", *sorted(glob.glob("docs/*.md"))]:
-        for block in blocks(read(name)):
-            yield check_transcript, name, block
-    yield from checks_of_faults()
-    yield from checks_of_tables()
-    yield (check_card.comparisons,)
-    for name in make_pages.names():
+    yield (check_named_items,)
+
+
+def list_example_checks() -> Iterator[Check]:
+    """Yields the checks of examples/, tables/ and bench/."""
+    for name in make_pages.list_test_names():
         yield check_example, name
         yield check_x86_form, name
-        yield check_transcript, f"examples/{name}.page", read(f"examples/{name}.page").splitlines()
-    yield (check_tables.are_there,)
+        yield check_transcript, f"examples/{name}.page", read_file(f"examples/{name}.page").splitlines()
+    yield (check_tables.check_table_names,)
     for name in check_tables.TABLES:
         yield check_tables.comparisons, PROGRAM, name
     for name in check_tables.FOLDERS:
-        yield check_tables.comparisons_in, PROGRAM, name
+        yield check_tables.compare_folder, PROGRAM, name
     yield (check_index,)
     yield (check_questions,)
     yield (check_readmes,)
     yield (check_bench,)
-    for it in measure_lists.tests():
-        yield check_measured, *it
+    for name_and_states in measure_lists.list_tests():
+        yield check_measured, *name_and_states
+
+
+def list_program_checks() -> Iterator[Check]:
+    """Yields the checks of what the programs print, whatever they are asked and however they are run."""
     yield (check_handles,)
-    yield (check_least,)
+    yield (check_counts,)
     yield from check_beyond.checks()
     for usage in USAGES:
         yield check_usage, *usage
     yield (check_words,)
     for program, commands in ((PROGRAM, COMMANDS), (BEYOND, BEYOND_COMMANDS)):
-        for command in commands:
-            yield check_output_stream, program, command
-            yield check_input_stream, program, command
-    for name in tests():
-        if read(f"examples/{name}.litmus").startswith("SRC"):
+        for lw_command in commands:
+            yield check_output_stream, program, lw_command
+            yield check_input_stream, program, lw_command
+    for name in list_examples():
+        if read_file(f"examples/{name}.litmus").startswith("SRC"):
             yield check_compiled, f"examples/{name}.litmus"
-    for language, seed in random_tests.jobs(RANDOM_TESTS):
+    for language, seed in random_tests.list_jobs(RANDOM_TESTS):
         yield random_tests.comparisons, language, seed
     for program, test, *words in REFUSED_MEMORY:
         yield check_refused_memory, program, test, *words
 
 
-def last_checks():
-    """Those for which it matters how long things take: one after another, when all others are through."""
+def list_last_checks() -> Iterator[Iterator[Comparison]]:
+    """Yields the checks for which it matters how long things take: they run one after another, when all others have ended."""
     yield cases.comparisons(test_plain)
     yield cases.comparisons(test_commands)
     yield cases.comparisons(test_completion)
@@ -678,6 +718,7 @@ def last_checks():
     yield cases.comparisons(test_replay_state)
     yield cases.comparisons(test_build)
     yield cases.comparisons(test_python)
+    yield cases.comparisons(test_types)
     yield check_graph.comparisons()
     yield cases.comparisons(test_herd)
     yield cases.comparisons(test_assume)
@@ -694,49 +735,49 @@ def last_checks():
     yield cases.comparisons(test_machine_parts)
     yield cases.comparisons(test_on_machine)
     yield cases.comparisons(test_seen_here)
-    yield check_page.by_client()
-    yield check_page.by_browser()
+    yield check_page.check_by_client()
+    yield check_page.check_by_browser()
     yield check_site.comparisons()
     yield check_library.comparisons()
     yield check_pack.comparisons()
     yield cases.comparisons(test_packages)
 
 
-def comparisons(is_quick):
-    """All comparisons: what is compared, what is wanted, and what is told."""
+def comparisons(is_quick: bool) -> Iterator[Comparison]:
+    """Yields all comparisons: what is compared, what is expected, and what was found."""
     with ThreadPoolExecutor(len(os.sched_getaffinity(0))) as pool:
-        for compared in pool.map(lambda check: list(check[0](*check[1:])), checks()):
+        for compared in pool.map(lambda check: list(check[0](*check[1:])), list_checks()):
             yield from compared
-    for compared in () if is_quick else last_checks():
-        yield from compared
+    for last in () if is_quick else list_last_checks():
+        yield from last
 
 
-def left_out():
-    """The lines that tell which checks were skipped."""
-    parts = (test_completion, test_editor, test_from_c, test_run_all, test_on_machine, check_lab, check_page, check_site, check_library, check_pack, test_packages)
+def list_skipped() -> Iterable[str]:
+    """Returns the lines that say which checks were skipped."""
+    parts = (test_types, test_completion, test_editor, test_from_c, test_run_all, test_on_machine, check_lab, check_page, check_site, check_library, check_pack, test_packages)
     return filter(None, (it.skipped() for it in parts))
 
 
-def main():
-    if sys.argv[1:] not in ([], ["--quick"]):
-        print("usage: python3 tools/check_documents.py [--quick]", file=sys.stderr)
-        return 2
-    is_quick = bool(sys.argv[1:])
+def main() -> int:
+    """Runs the command that the arguments describe. Returns the exit status."""
+    reader = command.Reader(__doc__)
+    reader.add_argument("--quick", action="store_true")
+    is_quick = reader.read().quick
     os.chdir(HOME)
     # Where there is no program for the sources as they are, these build it first.
     for words in (["lw", "replay", ""], ["beyond", "states"]):
-        with open(f"{HOME}/examples/SB.litmus", "rb") as it:
-            subprocess.run([f"{HOME}/{words[0]}", *words[1:]], stdin=it, stdout=subprocess.DEVNULL)
+        with open(f"{HOME}/examples/SB.litmus", "rb") as file:
+            subprocess.run([f"{HOME}/{words[0]}", *words[1:]], stdin=file, stdout=subprocess.DEVNULL)
     passed = failed = 0
-    for what, wanted, told in comparisons(is_quick):
-        passed, failed = passed + (wanted == told), failed + (wanted != told)
-        if wanted != told:
-            print(f"{what}\n  wanted: {wanted!r}\n  told:   {told!r}")
-    for skipped in ["the checks of single tools, the page, the library and the pack were left out"] if is_quick else left_out():
+    for what, wanted, found in comparisons(is_quick):
+        passed, failed = passed + (wanted == found), failed + (wanted != found)
+        if wanted != found:
+            print(f"{what}\n  wanted: {wanted!r}\n  told:   {found!r}")
+    for skipped in ["the checks of single tools, the page, the library and the pack were left out"] if is_quick else list_skipped():
         print(skipped)
     print(f"{passed} passed, {failed} failed")
     return 1 if failed else 0
 
 
 if __name__ == "__main__":
-    sys.exit(start.run(main, __doc__))
+    sys.exit(start.run(main))

@@ -3,11 +3,14 @@
 
     python3 tools/check_up.py CRATE.. [--jobs N] [--tests]
 
-A library is built for those above it (`rt lib`), any other crate is checked (`rt check`); only what changed is proved anew. Of a crate
+Each crate is formatted first (`rt fmt`), since the gate refuses a file that is not, and a line names the files that this changed. A
+library is built for those above it (`rt lib`), any other crate is checked (`rt check`); only what changed is proved anew. Of a crate
 that is proved one line is printed, with its functions and the seconds that it took; of the first that is not, what rt printed but for
-its notes, and the rest is left. With --tests the tests of the crates of tests are run too (`rt test`). The exit status is 1 where a
-crate is not proved, and 2 where the words are not understood.
+its notes, and the rest is left. With --tests the tests of the crates of tests are run too (`rt test`). The exit status is 1 if a
+crate is not proved, and 2 if the words are not understood.
 """
+from __future__ import annotations
+
 import os
 import re
 import subprocess
@@ -15,85 +18,94 @@ import sys
 import time
 
 sys.dont_write_bytecode = True
-from shared import start
-from shared.home import HOME, crates
+from shared import command, start
+from shared.home import HOME, read_crates
 
 PROVED = re.compile(r"^logic=proved (?:tests=\d+ )?functions=(\d+) ", re.M)
 
 
-def of_repository():
+def read_dependencies() -> dict[str, list[str]]:
     """Returns the crates, each with those of the repository on which it depends directly."""
-    known = crates()
-    return {name: [it for it in below if it in known] for name, (_, below) in known.items()}
+    known = read_crates()
+    return {name: [it for it in used if it in known] for name, (_, used) in known.items()}
 
 
-def all_below(name, below):
+def list_dependencies(name: str, below: dict[str, list[str]]) -> set[str]:
     """Returns the crates on which one depends, directly or not."""
-    found = set(below[name])
-    for it in below[name]:
-        found |= all_below(it, below)
-    return found
+    dependencies = set(below[name])
+    for used in below[name]:
+        dependencies |= list_dependencies(used, below)
+    return dependencies
 
 
-def from_here_up(names, below):
+def list_dependents(names: list[str], below: dict[str, list[str]]) -> list[str]:
     """Returns the crates of these names and all that depend on them, each after those on which it depends."""
-    wanted = [it for it in below if it in names or all_below(it, below) & set(names)]
-    return sorted(wanted, key=lambda it: len(all_below(it, below)))
+    wanted = [it for it in below if it in names or list_dependencies(it, below) & set(names)]
+    return sorted(wanted, key=lambda it: len(list_dependencies(it, below)))
 
 
-def command_of(name, below, tests):
+def make_command(name: str, below: dict[str, list[str]], tests: bool) -> list[str]:
     """Returns the command that checks a crate."""
     if any(name in it for it in below.values()):
         return ["rt", "lib"]
     return ["rt", "test"] if tests and name.endswith("_tests") else ["rt", "check"]
 
 
-def without_notes(text):
+def remove_notes(text: str) -> str:
     """Returns what rt printed, without notes and without what is proved."""
     lines = [it for it in text.splitlines() if not re.match(r"(rt: )?note: |fn \S+: proved$|statements |logic ", it)]
     return "\n".join(lines[-60:])
 
 
-def is_proved(name, command, jobs):
+def read_code(name: str) -> dict[str, bytes]:
+    """Returns the files of a crate's code: of each path its bytes."""
+    code = {}
+    for folder, _, files in os.walk(f"{HOME}/crates/{name}/src"):
+        for file_name in files:
+            with open(f"{folder}/{file_name}", "rb") as file:
+                code[f"{folder}/{file_name}"] = file.read()
+    return code
+
+
+def format_crate(name: str) -> None:
+    """Formats the code of a crate, and names the files that this changed."""
+    before = read_code(name)
+    subprocess.run(["rt", "fmt"], cwd=f"{HOME}/crates/{name}", stdout=subprocess.DEVNULL, stderr=subprocess.DEVNULL, check=True)
+    changed = [os.path.relpath(path, HOME) for path, text in read_code(name).items() if text != before[path]]
+    if changed:
+        print(f"{name}: formatted {', '.join(changed)}", flush=True)
+
+
+def check_crate(name: str, command: list[str], jobs: str) -> bool:
     """Checks a crate, and prints its verdict. Returns whether it is proved."""
+    format_crate(name)
     start = time.monotonic()
     words = command if command[1] == "test" else [*command, "--jobs", jobs]
     ran = subprocess.run(words, cwd=f"{HOME}/crates/{name}", stdout=subprocess.PIPE, stderr=subprocess.STDOUT, text=True, check=False)
     proved = PROVED.search(ran.stdout)
     # (Nothing is printed for a library that is built already.)
-    told = [it for it in ran.stdout.splitlines() if not it.startswith("rt: ")]
-    if ran.returncode or told and not proved:
-        print(f"{name}: not proved\n{without_notes(ran.stdout)}")
+    verdict_lines = [it for it in ran.stdout.splitlines() if not it.startswith("rt: ")]
+    if ran.returncode or verdict_lines and not proved:
+        print(f"{name}: not proved\n{remove_notes(ran.stdout)}")
         return False
     functions = f"proved, {proved[1]} functions" if proved else "as it was proved"
     print(f"{name}: {functions}, {time.monotonic() - start:.0f} s", flush=True)
     return True
 
 
-def words_of(words):
-    """Returns the crates, the number of jobs and whether tests are run, or `None`."""
-    jobs, tests, names = "1", False, []
-    words = iter(words)
-    for it in words:
-        if it == "--jobs":
-            jobs = next(words, "")
-        elif it == "--tests":
-            tests = True
-        else:
-            names.append(it)
-    is_understood = names and jobs.isdigit() and all(it in crates() for it in names)
-    return (names, jobs, tests) if is_understood else None
-
-
-def main():
-    words = words_of(sys.argv[1:])
-    if not words:
-        print("usage: python3 tools/check_up.py CRATE.. [--jobs N] [--tests]", file=sys.stderr)
-        return 2
-    names, jobs, tests = words
-    below = of_repository()
-    return 0 if all(is_proved(it, command_of(it, below, tests), jobs) for it in from_here_up(names, below)) else 1
+def main() -> int:
+    """Runs the command that the arguments describe. Returns the exit status."""
+    reader, below = command.Reader(__doc__), read_dependencies()
+    reader.add_argument("crates", nargs="+", metavar="CRATE")
+    reader.add_argument("--jobs", type=command.make_number_parser(1), default=1, metavar="N")
+    reader.add_argument("--tests", action="store_true")
+    arguments = reader.read()
+    unknown = [it for it in arguments.crates if it not in below]
+    if unknown:
+        reader.error(f"crates.txt has no crate {' '.join(unknown)}")
+    checks = ((it, make_command(it, below, arguments.tests)) for it in list_dependents(arguments.crates, below))
+    return 0 if all(check_crate(name, checked, str(arguments.jobs)) for name, checked in checks) else 1
 
 
 if __name__ == "__main__":
-    sys.exit(start.run(main, __doc__))
+    sys.exit(start.run(main))

@@ -17,60 +17,63 @@ The third makes N tests that are in no family, the easier ones first: it prints 
 
 It needs no program. A cycle that is none is told in one line, with status 1; Python 3.8 is enough, on any system.
 """
+from __future__ import annotations
+
 import os
 import sys
+from argparse import Namespace
 
 sys.dont_write_bytecode = True
 import given
-from shapes.edges import NoCycle, critical_cycles, cycle_of
-from shapes.families import name_of
-from shapes.quiz import answer_of, quiz_of
-from shapes.tests import SRC, X86, shape_of, text_of
+from shapes.edges import NoCycle, list_critical_cycles, make_cycle
+from shapes.families import make_name
+from shapes.quiz import format_answer, make_quiz
+from shapes.tests import SRC, X86, format_test, make_shape
 from shared import command, start
 
 ORDERS = {"mfence": "MFenced", "xchg": "LockXchgd", "xadd": "LockXaddd"}
 
 
-def write(folder: str, name: str, text: str) -> None:
+def write_file(folder: str, name: str, text: str) -> None:
     """Writes a file into a folder."""
-    with open(os.path.join(folder, name), "w", encoding="utf-8", newline="\n") as it:
-        it.write(text)
+    with open(os.path.join(folder, name), "w", encoding="utf-8", newline="\n") as file:
+        file.write(text)
 
 
-def tell_one(words) -> None:
+def print_test(arguments: Namespace) -> None:
     """Prints the test of one cycle."""
-    edges = cycle_of(words.edges)
-    language = SRC if words.source else X86
-    print(text_of(shape_of(edges), words.name or name_of(edges), language), end="")
+    edges = make_cycle(arguments.edges)
+    language = SRC if arguments.source else X86
+    print(format_test(make_shape(edges), arguments.name or make_name(edges), language), end="")
 
 
-def tell_all(words) -> None:
+def print_cycles(arguments: Namespace) -> None:
     """Lists all critical cycles of a size, or writes their tests."""
-    orders = ("Pod", *(ORDERS[it] for it in words.between.split(",") if it))
-    for names in critical_cycles(words.all, words.threads, orders):
-        edges = cycle_of(list(names))
-        if words.into is None:
-            print(f"{name_of(edges)}: {' '.join(names)}")
+    orders = ("Pod", *(ORDERS[it] for it in arguments.between.split(",") if it))
+    for names in list_critical_cycles(arguments.all, arguments.threads, orders):
+        edges = make_cycle(list(names))
+        if arguments.into is None:
+            print(f"{make_name(edges)}: {' '.join(names)}")
         else:
-            text = text_of(shape_of(edges), name_of(edges), SRC if words.source else X86)
-            write(words.into, f"{name_of(edges)}.litmus", text)
+            text = format_test(make_shape(edges), make_name(edges), SRC if arguments.source else X86)
+            write_file(arguments.into, f"{make_name(edges)}.litmus", text)
 
 
-def tell_quiz(words) -> None:
+def print_quiz(arguments: Namespace) -> None:
     """Prints a quiz or its answers, or writes both."""
-    questions = quiz_of(words.quiz, words.seed)
-    answers = "".join(answer_of(it, number) for number, it in enumerate(questions, 1))
-    if words.into is not None:
-        for number, it in enumerate(questions, 1):
-            write(words.into, f"quiz{number}.litmus", it.text)
-        write(words.into, "answers.txt", answers)
+    questions = make_quiz(arguments.quiz, arguments.seed)
+    answers = "".join(format_answer(it, number) for number, it in enumerate(questions, 1))
+    if arguments.into is not None:
+        for number, question in enumerate(questions, 1):
+            write_file(arguments.into, f"quiz{number}.litmus", question.text)
+        write_file(arguments.into, "answers.txt", answers)
     else:
-        print(answers if words.answers else "\n".join(it.text for it in questions), end="")
+        print(answers if arguments.answers else "\n".join(it.text for it in questions), end="")
 
 
-def reader_of_words():
+def make_parser() -> command.Reader:
     """Returns the parser of the command's arguments."""
-    reader = command.words_of(__doc__)
+    reader = command.Reader(__doc__)
     reader.add_argument("edges", nargs="*", metavar="EDGE")
     reader.add_argument("--all", type=int, metavar="N")
     reader.add_argument("--between", default="", metavar="WHAT")
@@ -85,15 +88,16 @@ def reader_of_words():
 
 
 def main() -> int:
-    given.print_as_lw()
-    reader = reader_of_words()
-    words = reader.parse_args()
-    if sum((bool(words.edges), words.all is not None, words.quiz is not None)) != 1:
+    """Runs the command that the arguments describe. Returns the exit status."""
+    given.set_output_encoding()
+    reader = make_parser()
+    arguments = reader.read()
+    if sum((bool(arguments.edges), arguments.all is not None, arguments.quiz is not None)) != 1:
         reader.error("one of EDGE..., --all N and --quiz N")
-    if not set(words.between.split(",")) <= {*ORDERS, ""}:
+    if not set(arguments.between.split(",")) <= {*ORDERS, ""}:
         reader.error(f"--between takes {', '.join(ORDERS)}")
     try:
-        (tell_one if words.edges else tell_all if words.quiz is None else tell_quiz)(words)
+        (print_test if arguments.edges else print_cycles if arguments.quiz is None else print_quiz)(arguments)
     except NoCycle as why:
         return given.refuse(f"cycles: {why}")
     except OSError as why:

@@ -6,7 +6,13 @@ is as the words say. An effect is a mapping: `thread`, `words`, in which code st
 `register` (its name), a `location` that is read from memory, or an `entry` that is read (its number in the buffer). Where a word that is said
 to be in memory is in a cache, `cache` is the thread of that.
 """
+from __future__ import annotations
+
 import re
+from collections.abc import Callable
+from typing import List, TypedDict
+
+from replay_state import State, ThreadState
 
 WORD = 2**32
 # Why an event is refused, by the number of its cause: the sentences of docs/FORMAT.md.
@@ -22,50 +28,74 @@ REFUSALS = {
 }
 
 
-def refusal(number):
-    """Why an event is refused, as a sentence without marks."""
+def describe_refusal(number: int) -> str:
+    """Returns why an event is refused, as a sentence without marks."""
     return REFUSALS[number].replace("`", "")
 
 
+class Cell(TypedDict):
+    """A cell of a thread's code, and the index of its statement."""
+
+    text: str
+    at: int
+
+
+# The cells of a thread.
+Cells = List[Cell]
+
+
+class Effect(TypedDict, total=False):
+    """What an event does: the `thread` and the `words`, which each has, and the register, location, cache and entry that have a part in it."""
+
+    thread: int
+    words: str
+    register: str
+    location: str
+    cache: int
+    entry: int
+
+
 class Unknown(Exception):
-    """What the statement does is not known, or the state behind it is another."""
+    """What the statement does is not known, or the state after it is another."""
 
 
 class Step:
     """A step of a thread: the words that it finds and leaves."""
 
-    def __init__(self, thread, before, after):
+    def __init__(self, thread: int, before: State, after: State) -> None:
+        """Looks at a step of a thread, by the states before and after it."""
         self.thread, self.before, self.after = thread, before, after
         self.place, self.left = before["threads"][thread], after["threads"][thread]
         self.name = f"P{thread}"
 
-    def value(self, text):
-        """The word of a number, with a `$` before it or without, or of a register."""
+    def read_value(self, text: str) -> int:
+        """Returns the word of a number, with a `$` before it or without, or of a register."""
         registers = dict(self.place["registers"])
         return registers[text] if text in registers else int(text.lstrip("$"), 0 if "x" in text else 10)
 
-    def put(self, register, word, words, **more):
-        """An effect that leaves a word in a register."""
-        self.check(dict(self.left["registers"]).get(register) == word)
-        return {"words": words, "register": register, **more}
+    def describe_put(self, register: str, word: int, words: str) -> Effect:
+        """Returns an effect that leaves a word in a register."""
+        self.require(dict(self.left["registers"]).get(register) == word)
+        return {"words": words, "register": register}
 
     @staticmethod
-    def check(is_so):
+    def require(is_so: bool) -> None:
+        """Raises Unknown unless a condition holds."""
         if not is_so:
             raise Unknown
 
-    def memory(self, location):
-        """What memory has at a location, as a load finds it."""
+    def read_memory(self, location: str) -> int:
+        """Returns what memory has at a location, as a load finds it."""
         return dict(self.before["content"])[location]
 
-    def cache(self, location):
-        """What memory has of a location is in a cache: in the own one, if that holds it, else in that of its owner, if there is one."""
+    def describe_cache(self, location: str) -> Effect:
+        """Returns in whose cache a location is: in the own one, if that holds it, otherwise in its owner's, if there is one."""
         letters = [dict(it.get("lines", [])).get(location, "I") for it in self.before["threads"]]
         holding = [thread for thread, it in enumerate(letters) if it in "MO" or thread == self.thread and it != "I"]
         return {"cache": self.thread if self.thread in holding else holding[0]} if holding else {}
 
-    def waiting(self, location):
-        """What still waits of a location in the buffers of others, in words."""
+    def describe_waiting(self, location: str) -> str:
+        """Returns what still waits of a location in the buffers of others, in words."""
         others = (it for it in enumerate(self.before["threads"]) if it[0] != self.thread)
         entries = [(thread, word) for thread, it in others for name, word in it.get("buffer", []) if name == location]
         return "".join(f"; P{thread}'s `{location}={word}` still waits in its store buffer" for thread, word in entries)
@@ -74,139 +104,163 @@ class Step:
 # What statements do.
 
 
-def store(step, location, value):
-    word = step.value(value)
+def describe_store(step: Step, location: str, value: str) -> Effect:
+    """Returns the effect of a store of a value to a location."""
+    word = step.read_value(value)
     if "buffer" not in step.place:
-        step.check(dict(step.after["content"])[location] == word)
+        step.require(dict(step.after["content"])[location] == word)
         return {"words": f"{step.name} writes `{location}={word}` to memory"}
-    step.check(step.left["buffer"][-1:] == [[location, word]])
+    step.require(step.left["buffer"][-1:] == [(location, word)])
     return {"words": f"{step.name} puts `{location}={word}` into its store buffer"}
 
 
-def load(step, register, location):
+def describe_load(step: Step, register: str, location: str) -> Effect:
+    """Returns the effect of a load of a location into a register."""
     own = [(entry, word) for entry, (name, word) in enumerate(step.place.get("buffer", [])) if name == location]
     if own:
         entry, word = own[-1]
-        return step.put(register, word, f"{step.name} reads `{location}={word}` from its own store buffer into `{register}`", entry=entry)
-    word = step.memory(location)
-    words = f"{step.name} reads `{location}={word}` from memory into `{register}`{step.waiting(location)}"
-    return step.put(register, word, words, location=location, **step.cache(location))
+        effect = step.describe_put(register, word, f"{step.name} reads `{location}={word}` from its own store buffer into `{register}`")
+        effect["entry"] = entry
+        return effect
+    word = step.read_memory(location)
+    effect = step.describe_put(
+        register, word, f"{step.name} reads `{location}={word}` from memory into `{register}`{step.describe_waiting(location)}"
+    )
+    effect["location"] = location
+    effect.update(step.describe_cache(location))
+    return effect
 
 
-def assign(step, register, value):
-    return assign_word(step, register, step.value(value))
+def describe_assignment(step: Step, register: str, value: str) -> Effect:
+    """Returns the effect of an assignment of a value to a register."""
+    return describe_word_assignment(step, register, step.read_value(value))
 
 
-def assign_word(step, register, word):
-    return step.put(register, word, f"{step.name} sets `{register}={word}`")
+def describe_word_assignment(step: Step, register: str, word: int) -> Effect:
+    """Returns the effect of an assignment of a word to a register."""
+    return step.describe_put(register, word, f"{step.name} sets `{register}={word}`")
 
 
-def assign_sum(step, register, left, value):
-    return assign_word(step, register, (step.value(left) + step.value(value)) % WORD)
+def describe_sum_assignment(step: Step, register: str, left: str, value: str) -> Effect:
+    """Returns the effect of an assignment of a sum to a register."""
+    return describe_word_assignment(step, register, (step.read_value(left) + step.read_value(value)) % WORD)
 
 
-def add(step, register, value):
-    word = (step.value(register) + step.value(value)) % WORD
-    return step.put(register, word, f"{step.name} adds {step.value(value)}, which makes `{register}={word}`")
+def describe_add(step: Step, register: str, value: str) -> Effect:
+    """Returns the effect of ADD."""
+    word = (step.read_value(register) + step.read_value(value)) % WORD
+    return step.describe_put(register, word, f"{step.name} adds {step.read_value(value)}, which makes `{register}={word}`")
 
 
-def compare(step, register, value):
-    one, other = step.value(register), step.value(value)
-    return {"words": f"{step.name} compares `{register}={one}` with {other}: they {'are equal' if one == other else 'differ'}"}
+def describe_compare(step: Step, register: str, value: str) -> Effect:
+    """Returns the effect of CMP."""
+    word, other_word = step.read_value(register), step.read_value(value)
+    return {"words": f"{step.name} compares `{register}={word}` with {other_word}: they {'are equal' if word == other_word else 'differ'}"}
 
 
-def pass_fence(step):
+def describe_fence(step: Step) -> Effect:
+    """Returns the effect of MFENCE."""
     return {"words": f"{step.name} passes its fence, since its store buffer is empty"}
 
 
-def jump(step, label):
-    """A jump to an instruction, whose number is in its label."""
+def describe_jump(step: Step, label: str) -> Effect:
+    """Returns a jump to an instruction, whose number is in its label."""
     return {"words": f"{step.name} jumps to `{label}`" if step.left["at"] == int(label[1:]) else f"{step.name} does not jump"}
 
 
-def go_to(step, label):
+def describe_goto(step: Step, label: str) -> Effect:
+    """Returns the effect of `goto`."""
     return {"words": f"{step.name} goes to `{label}`"}
 
 
-def conditional_jump(step, register, sign, number, label):
-    word = step.value(register)
-    jumps = (word == step.value(number)) == (sign == "=")
-    step.check(jumps or step.left["at"] == step.place["at"] + 1)
+def describe_conditional_jump(step: Step, register: str, sign: str, number: str, label: str) -> Effect:
+    """Returns the effect of `if r = n goto L`, or of one with `!=`."""
+    word = step.read_value(register)
+    jumps = (word == step.read_value(number)) == (sign == "=")
+    step.require(jumps or step.left["at"] == step.place["at"] + 1)
     where = f"goes to `{label}`" if jumps else "does not jump"
     return {"words": f"{step.name} {where}, since `{register}={word}`"}
 
 
-def exchange(step, register, location, value):
-    return exchange_word(step, register, location, step.value(value))
+def describe_exchange(step: Step, register: str, location: str, value: str) -> Effect:
+    """Returns the effect of XCHG, or of `swap`."""
+    return describe_word_exchange(step, register, location, step.read_value(value))
 
 
-def exchange_word(step, register, location, word):
-    """Reads a location and writes a word to it, with nothing between."""
-    old = step.memory(location)
-    step.check(dict(step.after["content"])[location] == word)
+def describe_word_exchange(step: Step, register: str, location: str, word: int) -> Effect:
+    """Returns the effect of reading a location and writing a word to it, with nothing between."""
+    old = step.read_memory(location)
+    step.require(dict(step.after["content"])[location] == word)
     read = f"{step.name} reads `{location}={old}` from memory into `{register}`"
-    words = f"{read} and writes `{location}={word}` in one step{step.waiting(location)}"
-    return step.put(register, old, words, location=location, **step.cache(location))
+    words = f"{read} and writes `{location}={word}` in one step{step.describe_waiting(location)}"
+    effect = step.describe_put(register, old, words)
+    effect["location"] = location
+    effect.update(step.describe_cache(location))
+    return effect
 
 
-def fetch_and_add(step, register, location, value):
-    return exchange_word(step, register, location, (step.memory(location) + step.value(value)) % WORD)
+def describe_fetch_and_add(step: Step, register: str, location: str, value: str) -> Effect:
+    """Returns the effect of LOCK XADD, or of `fetchadd`."""
+    return describe_word_exchange(step, register, location, (step.read_memory(location) + step.read_value(value)) % WORD)
 
 
 # The forms of instructions and statements, each with what it does.
-FORMS = (
-    (r"MOV \[(\w+)\],(\S+)", store),
-    (r"MOV (\w+),\[(\w+)\]", load),
-    (r"MOV (\w+),(\S+)", assign),
-    (r"ADD (\w+),(\S+)", add),
-    (r"CMP (\w+),(\S+)", compare),
-    (r"MFENCE", pass_fence),
-    (r"J\w+ (L\d+)", jump),
-    (r"XCHG \[(\w+)\],(\w+)", lambda step, location, register: exchange(step, register, location, register)),
-    (r"LOCK XADD \[(\w+)\],(\w+)", lambda step, location, register: fetch_and_add(step, register, location, register)),
-    (r"(r\d) := swap (\w+) (\w+)", exchange),
-    (r"(r\d) := fetchadd (\w+) (\w+)", fetch_and_add),
-    (r"(r\d) := (r\d) \+ (\w+)", assign_sum),
-    (r"(r\d) := (\d\w*|r\d)", assign),
-    (r"(r\d) := (\w+)", load),
-    (r"(\w+) := (\w+)", store),
-    (r"if (r\d) (!?=) (\w+) goto (\w+)", conditional_jump),
-    (r"goto (\w+)", go_to),
+FORMS: tuple[tuple[str, Callable], ...] = (
+    (r"MOV \[(\w+)\],(\S+)", describe_store),
+    (r"MOV (\w+),\[(\w+)\]", describe_load),
+    (r"MOV (\w+),(\S+)", describe_assignment),
+    (r"ADD (\w+),(\S+)", describe_add),
+    (r"CMP (\w+),(\S+)", describe_compare),
+    (r"MFENCE", describe_fence),
+    (r"J\w+ (L\d+)", describe_jump),
+    (r"XCHG \[(\w+)\],(\w+)", lambda step, location, register: describe_exchange(step, register, location, register)),
+    (r"LOCK XADD \[(\w+)\],(\w+)", lambda step, location, register: describe_fetch_and_add(step, register, location, register)),
+    (r"(r\d) := swap (\w+) (\w+)", describe_exchange),
+    (r"(r\d) := fetchadd (\w+) (\w+)", describe_fetch_and_add),
+    (r"(r\d) := (r\d) \+ (\w+)", describe_sum_assignment),
+    (r"(r\d) := (\d\w*|r\d)", describe_assignment),
+    (r"(r\d) := (\w+)", describe_load),
+    (r"(\w+) := (\w+)", describe_store),
+    (r"if (r\d) (!?=) (\w+) goto (\w+)", describe_conditional_jump),
+    (r"goto (\w+)", describe_goto),
 )
 
 
 # Events.
 
 
-def cell_at(cells, place):
-    """The text of the statement that stands at a place."""
-    return next((it["text"] for it in cells if it["at"] == place["at"] and not it["text"].endswith(":")), "")
+def find_cell(cells: Cells, thread_state: ThreadState) -> str:
+    """Returns the text of the statement at a place, or an empty text."""
+    return next((it["text"] for it in cells if it["at"] == thread_state["at"] and not it["text"].endswith(":")), "")
 
 
-def statement_effect(step, text):
-    """What a statement does."""
+def describe_statement(step: Step, text: str) -> Effect:
+    """Returns the effect of a statement. Raises Unknown if no form matches it."""
     for form, effect in FORMS:
         if parts := re.fullmatch(form, text):
             return effect(step, *parts.groups())
     raise Unknown
 
 
-def drain(thread, before, after):
-    """The oldest entry of a store buffer leaves it."""
+def describe_drain(thread: int, before: State, after: State) -> Effect:
+    """Returns the effect of a drain, by which the oldest entry of a store buffer leaves it."""
     location, word = before["threads"][thread]["buffer"][0]
     is_there = dict(after["content"])[location] == word
     return {"words": f"P{thread}'s `{location}={word}` leaves its store buffer" + " for memory" * is_there, "cache": thread}
 
 
-def effect_of(event, cells, before, after):
-    """The effect of an event, given the states before it and behind it."""
+def describe_event(event: str, cells: list[Cells], before: State, after: State) -> Effect:
+    """Returns the effect of an event, by the states before and after it."""
     thread = int(event[1])
+    effect: Effect = {"thread": thread}
     if event[0] == "D":
-        return {"thread": thread, **drain(thread, before, after)}
+        effect.update(describe_drain(thread, before, after))
+        return effect
     if event[0] == "E":
         return {"thread": thread, "words": f"P{thread}'s cache gives up its line of `{event[3:]}`"}
-    text = cell_at(cells[thread], before["threads"][thread])
+    text = find_cell(cells[thread], before["threads"][thread])
     try:
-        return {"thread": thread, **statement_effect(Step(thread, before, after), re.sub(r"^(?:\w+: *)+", "", text))}
+        effect.update(describe_statement(Step(thread, before, after), re.sub(r"^(?:\w+: *)+", "", text)))
     except Unknown:
-        return {"thread": thread, "words": f"P{thread} carries out `{text}`"}
+        effect["words"] = f"P{thread} carries out `{text}`"
+    return effect

@@ -11,9 +11,12 @@ after the one that it reads from. x86-TSO allows it where two relations have no 
 A locked instruction is one event, which reads and writes. The crate that proves this model equal to the machine states the same
 axioms; this file is their plain form, for pictures and answers, and is not proved. tools/gate/check_graph.py compares it with the machine.
 """
+from __future__ import annotations
+
 from collections import deque
+from collections.abc import Iterable, Iterator, Sequence
 from itertools import permutations, product
-from typing import NamedTuple
+from typing import Any, NamedTuple, Optional, Tuple
 
 import plain
 
@@ -21,6 +24,11 @@ WORD = 1 << 32
 READS = ("load", "xchg", "xadd")
 WRITES = ("store", "xchg", "xadd")
 AXIOMS = ("coherence", "global happens-before")
+
+
+# The position, the registers and the zero flag of a thread; words that are not known are None.
+Registers = Tuple[Optional[int], ...]
+ThreadState = Tuple[Optional[int], Registers, Optional[bool]]
 
 
 class TooMany(Exception):
@@ -47,268 +55,296 @@ class Execution:
     word, and of each location its writes in coherence order. Words follow from these; one that would only follow from itself is None.
     """
 
-    def __init__(self, test, paths, rf, co):
+    def __init__(
+        self, test: plain.Test, paths: Sequence[Sequence[int]], rf: dict[Event, Event | None], co: dict[int, Sequence[Event]]
+    ) -> None:
+        """Finds the words of an execution. `ends` is None if a jump goes another way than its thread's path."""
         self.test, self.paths, self.rf, self.co = test, paths, rf, co
-        self.read, self.written = {}, {}
-        self.ends = self.find_words()
+        self.read: dict[Event, int | None] = {}
+        self.written: dict[Event, int | None] = {}
+        self.ends = self.compute_words()
 
-    def instruction(self, event):
+    def find_instruction(self, event: Event) -> plain.Statement:
+        """Returns the instruction of an event."""
         return self.test.threads[event.thread][event.position]
 
-    def events(self):
+    def list_events(self) -> list[Event]:
         """Returns the accesses to memory and the fences, thread by thread."""
-        return [it for it in events_of(self.test, self.paths) if has_place(self.instruction(it))]
+        return [it for it in list_events(self.test, self.paths) if appears_in_relations(self.find_instruction(it))]
 
     # Words.
 
-    def find_words(self):
+    def compute_words(self) -> list[Registers] | None:
         """Finds what each event reads and writes. Returns each thread's state at its end, or `None` if a jump goes another way."""
         while True:
             before = dict(self.written)
-            ends = [self.go_along(thread, path) for thread, path in enumerate(self.paths)]
+            ends = [self.follow_path(thread, path) for thread, path in enumerate(self.paths)]
             if None in ends:
                 return None
             if self.written == before:
-                return ends
+                return [it for it in ends if it is not None]
 
-    def go_along(self, thread, path):
+    def follow_path(self, thread: int, path: Sequence[int]) -> Registers | None:
         """Returns the registers of a thread at the end of its path, or `None` if the words lead it elsewhere."""
-        state = (0, self.test.registers[thread], False)
+        state: ThreadState = (0, self.test.registers[thread], False)
         for position in path:
             if state[0] not in (position, None):
                 return None
-            event, it = Event(thread, position), self.test.threads[thread][position]
-            word = self.word_read(event) if it.kind in READS else None
+            event, statement = Event(thread, position), self.test.threads[thread][position]
+            word = self.find_read_word(event) if statement.kind in READS else None
             self.read[event] = word
-            if it.kind in WRITES:
-                self.written[event] = written_word(it, state[1], word)
-            state = state_after(it, position, state, word)
+            if statement.kind in WRITES:
+                self.written[event] = compute_written_word(statement, state[1], word)
+            state = compute_next_state(statement, position, state, word)
         return state[1] if state[0] in (len(self.test.threads[thread]), None) else None
 
-    def word_read(self, event):
+    def find_read_word(self, event: Event) -> int | None:
+        """Returns the word that a read finds, if it is known. `None` if it is not."""
         source = self.rf[event]
-        return self.test.words[self.instruction(event).location] if source is None else self.written.get(source)
+        return self.test.words[self.find_instruction(event).location] if source is None else self.written.get(source)
 
-    def outcome(self):
+    def make_outcome(self) -> plain.Outcome:
         """Returns all threads' registers and the locations' words; `None` for a word that would follow only from itself."""
         lasts = [self.co.get(location, ())[-1:] for location in range(len(self.test.locations))]
-        words = tuple(self.written[it[0]] if it else self.test.words[location] for location, it in enumerate(lasts))
-        return tuple(self.ends), words
+        words: Any = tuple(self.written[it[0]] if it else self.test.words[location] for location, it in enumerate(lasts))
+        assert self.ends is not None
+        registers: Any = tuple(self.ends)
+        return plain.Outcome(registers, words)
 
     # Relations.
 
-    def po(self):
+    def list_po_edges(self) -> list[Edge]:
         """Returns program order, all pairs."""
-        return [Edge("po", a, b) for a in self.events() for b in self.events() if a.thread == b.thread and a.position < b.position]
+        return [
+            Edge("po", first, second)
+            for first in self.list_events()
+            for second in self.list_events() if first.thread == second.thread and first.position < second.position
+        ]
 
-    def rf_edges(self):
+    def list_rf_edges(self) -> list[Edge]:
+        """Returns the pairs of reads-from whose write is no initial word."""
         return [Edge("rf", source, read) for read, source in self.rf.items() if source is not None]
 
-    def co_edges(self):
+    def list_co_edges(self) -> list[Edge]:
         """Returns coherence order, all pairs."""
-        return [Edge("co", a, b) for row in self.co.values() for at, a in enumerate(row) for b in row[at + 1 :]]
+        return [Edge("co", first, second) for row in self.co.values() for index, first in enumerate(row) for second in row[index + 1 :]]
 
-    def fr_edges(self):
+    def list_fr_edges(self) -> list[Edge]:
         """Returns from-reads: from each read to the writes after the one that it reads from."""
-        found = []
+        fr_edges = []
         for read, source in self.rf.items():
-            row = self.co.get(self.instruction(read).location, ())
+            row = self.co.get(self.find_instruction(read).location, ())
             later = row if source is None else row[row.index(source) + 1 :]
-            found += [Edge("fr", read, it) for it in later if it != read]
-        return found
+            fr_edges += [Edge("fr", read, it) for it in later if it != read]
+        return fr_edges
 
-    def is_preserved(self, edge):
+    def is_preserved(self, edge: Edge) -> bool:
         """Returns whether a pair of program order is preserved: all pairs are, except a store followed by a load."""
-        first, second = self.instruction(edge.source), self.instruction(edge.target)
+        first, second = self.find_instruction(edge.source), self.find_instruction(edge.target)
         return not (first.kind == "store" and second.kind == "load")
 
-    def has_fence_between(self, edge):
+    def has_fence_between(self, edge: Edge) -> bool:
         """Returns whether a fence or a locked instruction is between the events of a pair of program order."""
-        between = [it for it in self.events() if it.thread == edge.source.thread and edge.source.position < it.position < edge.target.position]
-        return any(self.instruction(it).kind not in ("store", "load") for it in between)
+        between = [it for it in self.list_events() if it.thread == edge.source.thread and edge.source.position < it.position < edge.target.position]
+        return any(self.find_instruction(it).kind not in ("store", "load") for it in between)
 
-    def coherence(self):
-        same = lambda it: self.instruction(it.source).location == self.instruction(it.target).location is not None
-        return [*filter(same, self.po()), *self.rf_edges(), *self.co_edges(), *self.fr_edges()]
+    def list_coherence_edges(self) -> list[Edge]:
+        """Returns the edges of the axiom of coherence."""
+        is_of_one_location = lambda it: self.find_instruction(it.source).location == self.find_instruction(it.target).location is not None
+        return [*filter(is_of_one_location, self.list_po_edges()), *self.list_rf_edges(), *self.list_co_edges(), *self.list_fr_edges()]
 
-    def happens_before(self):
-        external = [it for it in self.rf_edges() if it.source.thread != it.target.thread]
-        return [*filter(self.is_preserved, self.po()), *external, *self.co_edges(), *self.fr_edges()]
+    def list_happens_before_edges(self) -> list[Edge]:
+        """Returns the edges of the axiom of global happens-before."""
+        external = [it for it in self.list_rf_edges() if it.source.thread != it.target.thread]
+        return [*filter(self.is_preserved, self.list_po_edges()), *external, *self.list_co_edges(), *self.list_fr_edges()]
 
-    def broken(self):
+    def find_broken_axiom(self) -> tuple[str, list[Edge]] | None:
         """Returns the first axiom that the execution violates, with a shortest cycle; `None` if it satisfies both."""
-        for axiom, edges in zip(AXIOMS, (self.coherence, self.happens_before)):
-            if found := cycle_in(edges()):
-                return axiom, found
+        for axiom, edges in zip(AXIOMS, (self.list_coherence_edges, self.list_happens_before_edges)):
+            if cycle := find_shortest_cycle(edges()):
+                return axiom, cycle
         return None
 
-    def cycle(self):
-        """Returns a shortest cycle of program order, rf, co and fr together: there is one if the execution is not sequentially consistent.
+    def find_cycle(self) -> list[Edge] | None:
+        """Returns a shortest cycle of program order, rf, co and fr together: there is one if the execution is not sequentially consistent. `None` if
+        it is.
         """
-        return cycle_in([*self.po(), *self.rf_edges(), *self.co_edges(), *self.fr_edges()])
+        return find_shortest_cycle([*self.list_po_edges(), *self.list_rf_edges(), *self.list_co_edges(), *self.list_fr_edges()])
 
 
-def has_place(it):
+def appears_in_relations(statement: plain.Statement) -> bool:
     """Returns whether an instruction appears in an execution's relations: it accesses memory, or is a fence."""
-    return it.location is not None or it.kind == "mfence"
+    return statement.location is not None or statement.kind == "mfence"
 
 
-def events_of(test, paths):
+def list_events(test: plain.Test, paths: Sequence[Sequence[int]]) -> list[Event]:
+    """Returns the events of all threads on their paths."""
     return [Event(thread, position) for thread, path in enumerate(paths) for position in path]
 
 
 # One thread's instructions, with words that may be unknown (None).
 
 
-def known(value, registers):
-    return value[1] if value[0] == "number" else registers[value[1]]
+def resolve_value(value: plain.Value | None, registers: Registers) -> int | None:
+    """Returns the word of a value, if it is known. `None` if it is not."""
+    assert value is not None
+    return value.word if isinstance(value, plain.Number) else registers[value.register]
 
 
-def total(first, second):
-    return None if None in (first, second) else (first + second) % WORD
+def add_words(first: int | None, second: int | None) -> int | None:
+    """Returns the sum of two words, if both are known. `None` if one is not."""
+    return None if first is None or second is None else (first + second) % WORD
 
 
-def is_same(first, second):
+def are_equal(first: int | None, second: int | None) -> bool | None:
+    """Returns whether two words are the same, if both are known. `None` if one is not."""
     return None if None in (first, second) else first == second
 
 
-def written_word(it, registers, read):
-    """Returns the word that an instruction writes to memory."""
-    if it.kind == "store":
-        return known(it.value, registers)
-    return registers[it.register] if it.kind == "xchg" else total(read, registers[it.register])
+def compute_written_word(statement: plain.Statement, registers: Registers, read: int | None) -> int | None:
+    """Returns the word that an instruction writes to memory. `None` if it writes none, or the word is not known."""
+    if statement.kind == "store":
+        return resolve_value(statement.value, registers)
+    return registers[statement.register] if statement.kind == "xchg" else add_words(read, registers[statement.register])
 
 
-def state_after(it, position, state, read):
+def compute_next_state(statement: plain.Statement, position: int, state: ThreadState, read: int | None) -> ThreadState:
     """Returns the position, the registers and the zero flag after an instruction that reads a word, if it reads one."""
     _, registers, zero = state
-    if it.kind in ("je", "jne", "jmp"):
-        jumps = True if it.kind == "jmp" else is_same(zero, it.kind == "je")
-        return None if jumps is None else it.target if jumps else position + 1, registers, zero
-    if it.kind in ("load", "xchg"):
-        return position + 1, plain.put(registers, it.register, read), zero
-    if it.kind == "xadd":
-        return position + 1, plain.put(registers, it.register, read), is_same(total(read, registers[it.register]), 0)
-    if it.kind == "set":
-        return position + 1, plain.put(registers, it.register, known(it.value, registers)), zero
-    if it.kind == "add":
-        sum_ = total(registers[it.register], known(it.value, registers))
-        return position + 1, plain.put(registers, it.register, sum_), is_same(sum_, 0)
-    if it.kind == "cmp":
-        return position + 1, registers, is_same(registers[it.register], known(it.value, registers))
+    if statement.kind in ("je", "jne", "jmp"):
+        jumps = True if statement.kind == "jmp" else are_equal(zero, statement.kind == "je")
+        return None if jumps is None else statement.target if jumps else position + 1, registers, zero
+    if statement.kind in ("load", "xchg"):
+        return position + 1, plain.replace_item(registers, statement.register, read), zero
+    if statement.kind == "xadd":
+        return position + 1, plain.replace_item(registers, statement.register, read), are_equal(add_words(read, registers[statement.register]), 0)
+    if statement.kind == "set":
+        return position + 1, plain.replace_item(registers, statement.register, resolve_value(statement.value, registers)), zero
+    if statement.kind == "add":
+        sum_ = add_words(registers[statement.register], resolve_value(statement.value, registers))
+        return position + 1, plain.replace_item(registers, statement.register, sum_), are_equal(sum_, 0)
+    if statement.kind == "cmp":
+        return position + 1, registers, are_equal(registers[statement.register], resolve_value(statement.value, registers))
     return position + 1, registers, zero
 
 
 # Cycles.
 
 
-def cycle_in(edges):
+def find_shortest_cycle(edges: Iterable[Edge]) -> list[Edge] | None:
     """Returns the edges of a shortest cycle, or `None`."""
-    leaving = {}
-    for it in edges:
-        leaving.setdefault(it.source, {}).setdefault(it.target, it)
+    leaving: dict[Event, dict[Event, Edge]] = {}
+    for edge in edges:
+        leaving.setdefault(edge.source, {}).setdefault(edge.target, edge)
     if is_acyclic({source: set(targets) for source, targets in leaving.items()}):
         return None
-    found = [it for it in (cycle_from(start, leaving) for start in sorted(leaving)) if it]
-    return min(found, key=len)
+    cycles = [it for it in (find_cycle_through(start, leaving) for start in sorted(leaving)) if it]
+    return min(cycles, key=len)
 
 
-def is_acyclic(targets):
+def is_acyclic(targets: dict[Event, set[Event]]) -> bool:
     """Returns whether there is no cycle: events without successors are removed until none is left."""
     while targets:
-        left = {source: found for source, all_of in targets.items() if (found := all_of & targets.keys())}
-        if len(left) == len(targets):
+        remaining = {source: successors for source, all_of in targets.items() if (successors := all_of & targets.keys())}
+        if len(remaining) == len(targets):
             return False
-        targets = left
+        targets = remaining
     return True
 
 
-def cycle_from(start, leaving):
+def find_cycle_through(start: Event, leaving: dict[Event, dict[Event, Edge]]) -> list[Edge] | None:
     """Returns a shortest cycle through an event, or `None`."""
-    came_by, waiting = {}, deque([start])
+    came_by: dict[Event, Edge] = {}
+    waiting = deque([start])
     while waiting:
-        at = waiting.popleft()
-        for target, edge in leaving.get(at, {}).items():
+        event = waiting.popleft()
+        for target, edge in leaving.get(event, {}).items():
             if target == start:
-                return way_back(start, edge, came_by)
+                return trace_cycle(start, edge, came_by)
             if target not in came_by:
                 came_by[target] = edge
                 waiting.append(target)
     return None
 
 
-def way_back(start, last, came_by):
-    found = [last]
-    while found[-1].source != start:
-        found.append(came_by[found[-1].source])
-    return found[::-1]
+def trace_cycle(start: Event, last: Edge, came_by: dict[Event, Edge]) -> list[Edge]:
+    """Returns the edges of a cycle that ends with an edge to its start. `came_by` has the edge by which each event was reached."""
+    cycle = [last]
+    while cycle[-1].source != start:
+        cycle.append(came_by[cycle[-1].source])
+    return cycle[::-1]
 
 
 # All candidate executions.
 
 
-def candidates(test, most):
-    """Yields all candidate executions of a test. Raises TooMany after `most` of them."""
+def list_candidates(test: plain.Test, max_candidates: int) -> Iterator[Execution]:
+    """Yields all candidate executions of a test. Raises TooMany after `max_candidates` of them."""
     number = 0
-    for paths in product(*map(plain.paths, test.threads)):
-        events = events_of(test, paths)
-        kind = lambda it: test.threads[it.thread][it.position]
-        writes = {}
-        for it in events:
-            if kind(it).kind in WRITES:
-                writes.setdefault(kind(it).location, []).append(it)
-        reads = [it for it in events if kind(it).kind in READS]
-        sources = [[None, *(it for it in writes.get(kind(read).location, []) if it != read)] for read in reads]
+    for paths in product(*map(plain.list_paths, test.threads)):
+        events = list_events(test, paths)
+        statement_of = lambda it: test.threads[it.thread][it.position]
+        writes: dict[int, list[Event]] = {}
+        for event in events:
+            if statement_of(event).kind in WRITES:
+                writes.setdefault(statement_of(event).location, []).append(event)
+        reads = [it for it in events if statement_of(it).kind in READS]
+        sources = [[None, *(it for it in writes.get(statement_of(read).location, []) if it != read)] for read in reads]
         for chosen in product(*sources):
             number += 1
-            if number > most:
+            if number > max_candidates:
                 raise TooMany
-            one = Execution(test, paths, dict(zip(reads, chosen)), {it: tuple(row) for it, row in writes.items()})
-            if one.ends is None:
+            execution = Execution(test, paths, dict(zip(reads, chosen)), {it: tuple(row) for it, row in writes.items()})
+            if execution.ends is None:
                 continue
             for rows in product(*(permutations(row) for row in writes.values())):
                 number += 1
-                other = Execution.__new__(Execution)
-                other.__dict__ = {**one.__dict__, "co": dict(zip(writes, rows))}
-                yield other
+                reordered = Execution.__new__(Execution)
+                reordered.__dict__ = {**execution.__dict__, "co": dict(zip(writes, rows))}
+                yield reordered
 
 
-def allowed_outcomes(test, most):
+def list_allowed_outcomes(test: plain.Test, max_candidates: int) -> set[plain.Outcome]:
     """Returns the outcomes that the axioms allow."""
-    return {it.outcome() for it in candidates(test, most) if it.broken() is None}
+    return {it.make_outcome() for it in list_candidates(test, max_candidates) if it.find_broken_axiom() is None}
 
 
 # The execution of a run.
 
 
-def execution_of(test, schedule):
-    """Returns the execution of a run of an x86 test to a final state, by its schedule. (Evictions move no word.)"""
-    processors, memory = list(plain.x86_start(test)[0]), plain.OneMemory(test.words)
-    waiting = [[] for _ in processors]
-    last = dict.fromkeys(range(len(test.locations)))
-    paths, rf, co = [[] for _ in processors], {}, {}
+def make_execution(test: plain.Test, schedule: str) -> Execution:
+    """Returns the execution of a run of an x86 test to a final state, by its schedule. (Evictions move no word.) Raises Refused if the run is not
+    final, or an event is not enabled.
+    """
+    processors, memory = list(plain.make_x86_start(test)[0]), plain.OneMemory(test.words)
+    waiting: list[list[Event]] = [[] for _ in processors]
+    last: dict[int, Event | None] = dict.fromkeys(range(len(test.locations)))
+    paths: list[list[int]] = [[] for _ in processors]
+    rf: dict[Event, Event | None] = {}
+    co: dict[int, list[Event]] = {}
 
-    def reach(event, location):
+    def record_write(event: Event, location: int) -> None:
+        """Records that a write reaches memory."""
         last[location] = event
         co.setdefault(location, []).append(event)
 
     for kind, cpu, _ in plain.read_schedule(schedule, test.locations):
         if kind == "D":
-            processors[cpu] = plain.drain(cpu, processors[cpu], memory)
+            processors[cpu] = plain.drain_oldest(cpu, processors[cpu], memory)
             event = waiting[cpu].pop(0)
-            reach(event, test.threads[event.thread][event.position].location)
+            record_write(event, test.threads[event.thread][event.position].location)
         elif kind == "P":
-            event = Event(cpu, processors[cpu].at)
-            processors[cpu] = plain.step(test, cpu, processors[cpu], memory)
-            it = test.threads[cpu][event.position]
+            event = Event(cpu, processors[cpu].position)
+            processors[cpu] = plain.execute_next(test, cpu, processors[cpu], memory)
+            statement = test.threads[cpu][event.position]
             paths[cpu].append(event.position)
-            if it.kind in READS:
-                own = [each for each in waiting[cpu] if test.threads[cpu][each.position].location == it.location]
-                rf[event] = own[-1] if own else last[it.location]
-            if it.kind == "store":
+            if statement.kind in READS:
+                own = [each for each in waiting[cpu] if test.threads[cpu][each.position].location == statement.location]
+                rf[event] = own[-1] if own else last[statement.location]
+            if statement.kind == "store":
                 waiting[cpu].append(event)
-            elif it.kind in WRITES:
-                reach(event, it.location)
-    if any(waiting) or any(it.at != len(code) for it, code in zip(processors, test.threads)):
+            elif statement.kind in WRITES:
+                record_write(event, statement.location)
+    if any(waiting) or any(it.position != len(code) for it, code in zip(processors, test.threads)):
         raise plain.Refused(0, "NotFinal")
     return Execution(test, [tuple(it) for it in paths], rf, {location: tuple(row) for location, row in co.items()})

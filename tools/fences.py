@@ -9,9 +9,11 @@ shows: of the names in its question and in its list of names. With `--everything
 all locations, whatever the question is. Each line that says what can be left out names what was asked. A fence is called spare if a law
 that is proved says that no outcome of any kind is new without it (tools/fencing/spare.py); then it is not tried.
 
-If what the question asks about is present with all fences, or of `forall` not always, it prints at which places an MFENCE more would
-change that: all smallest sets of places. With `--exchanges` it prints of each XCHG and LOCK XADD which states are added if it is not
-locked: a plain store, or a load and a store if the old word is used; both by the question and by all registers and locations.
+If a state that the question is against is present with all fences, no set of them is enough. Then the smallest sets that add no state are
+called as good as all fences, and there is no such line if the test has no fence. All smallest sets of places at which MFENCEs more would forbid
+these states are printed too. By `--everything` the fences of an x86 test are never called enough, since no question is asked. With
+`--exchanges` it prints of each XCHG and LOCK XADD which states are added if it is not locked: for XCHG a plain store, or a load and a store if
+the old word is used; for LOCK XADD a load, a sum and a store; both by the question and by all registers and locations.
 
 A test in herd's form that lw does not read, as with LOCK CMPXCHG or loops, is converted and put together as by tools/assume.py, and its own
 instructions are spoken of, each with its line: a fence is left out in all tests and copies in which it is. A loop is gone through N times at
@@ -25,257 +27,285 @@ program beyond if that is built. These are proved if they are those of the sourc
 which is not proved. If a list is not proved, the first line says `(not proved)`, and the last line says of how many lists. Files and faults are
 reported as by tools/plain.py; Python 3.8 is enough, on any system.
 """
+from __future__ import annotations
+
 import re
 import sys
 from dataclasses import replace
-from typing import Dict, List
+from typing import NamedTuple, TypedDict
 
 sys.dont_write_bytecode = True
 import given
 import plain
-from fencing.exchanges import exchanges_of, named, with_instructions, without_lock
-from fencing.places import places_of, with_fences, without
-from fencing.sets import smallest_sets
+from fencing.exchanges import format_instructions, list_exchanges, make_unlocked_instructions, replace_instruction
+from fencing.places import Place, insert_fences, list_fence_places, remove_fences
+from fencing.sets import find_smallest_sets
 from fencing.spare import is_spare
-from fencing.together import Original, Part, Together, line_of_makers, lines_of, lines_of_added
-from herd.convert import converted
-from herd.lines import Text, origins_of
+from fencing.together import CombinedTest, Original, Part, format_added_states, format_answer, format_sets, format_tests_and_makers
+from herd.convert import Converted, convert
+from herd.lines import Text, find_origins
 from herd.order import ORDERS
-from herd.together import in_original_names
+from herd.together import make_renamer
 from shared import answers, command, start
+from shared.matches import require_match
 
 TRIES = 1
+
+
+class Row(TypedDict):
+    """The place of a fence, and the states that are added without it."""
+
+    place: str
+    added: list[str]
+
+
+class Table(TypedDict):
+    """What `make_table` returns; and which makers have listed the states."""
+
+    rows: list[Row]
+    enough: list[str]
+    states: int
+    positive: int
+    answered_by: list[str]
+
+
+class Choices(NamedTuple):
+    """What is asked of the fences of a test: by all registers and locations, of exchanges too, how often loops are gone through, and the order of
+    operands.
+    """
+
+    everything: bool = False
+    exchanges: bool = False
+    tries: int = TRIES
+    order: str | None = None
+
+
 # The lists that were asked for since this was cleared, by the texts of their tests.
-lists: Dict[str, answers.Answer] = {}
+lists: dict[str, answers.Answer] = {}
 
 
-def fences_of(test):
-    """The places of all fences: a thread, and the number of the instruction."""
-    return [(thread, at) for thread, code in enumerate(test.threads) for at, it in enumerate(code) if it.kind == "mfence"]
+def list_fences(test: plain.Test) -> list[Place]:
+    """Returns the places of all fences: a thread, and the number of the instruction."""
+    return [(thread, index) for thread, code in enumerate(test.threads) for index, it in enumerate(code) if it.kind == "mfence"]
 
 
-def showing_everything(test):
-    """A test that shows all registers that it uses, and all locations."""
+def show_everything(test: plain.Test) -> plain.Test:
+    """Returns a test that shows all registers that it uses, and all locations."""
     used = set()
     for thread, code in enumerate(test.threads):
-        for it in code:
-            registers = {it.register} | ({it.value[1]} if it.value and it.value[0] == "register" else set())
-            used |= {("register", thread, register) for register in registers - {None}}
-    return replace(test, listed=test.listed | used | {("location", it) for it in range(len(test.locations))})
+        for statement in code:
+            registers = {statement.register} | ({statement.value.register} if isinstance(statement.value, plain.Register) else set())
+            used |= {plain.RegisterSite(thread, register) for register in registers - {None}}
+    return replace(test, listed=test.listed | used | {plain.LocationSite(it) for it in range(len(test.locations))})
 
 
-def report_of(test):
-    """The report of a test."""
-    text = plain.canonical_text(test)
+def make_report(test: plain.Test) -> str:
+    """Returns the report of a test."""
+    text = plain.format_canonical_text(test)
     if text not in lists:
-        lists[text] = answers.answer(["states"], test, text)
+        lists[text] = answers.make_answer(["states"], test, text)
     return lists[text].text
 
 
-def makers():
-    """By whom the lists were made."""
+def list_makers() -> set[answers.Maker]:
+    """Returns who made the lists."""
     return {it.by for it in lists.values()}
 
 
-def states_of(test):
-    """The lines of the states of a test."""
-    return lines_of_states(report_of(test))
+def list_states(test: plain.Test) -> list[str]:
+    """Returns the lines of the states of a test."""
+    return filter_state_lines(make_report(test))
 
 
-def unwanted(test):
-    """In how many states what a question is against is present: its proposition, or of `forall` its contrary."""
-    numbers = re.search(r"^Positive: (\d+) Negative: (\d+)$", report_of(test), re.M)
+def count_unwanted_states(test: plain.Test) -> int:
+    """Returns in how many states what a question is against is present: its proposition, or of `forall` its contrary."""
+    numbers = require_match(re.search(r"^Positive: (\d+) Negative: (\d+)$", make_report(test), re.M))
     return int(numbers[2 if test.quantifier == "forall" else 1])
 
 
-def lines_of_states(report):
+def filter_state_lines(report: str) -> list[str]:
+    """Returns the lines of the states of a report."""
     lines = report.splitlines()
     return lines[2 : 2 + int(lines[1].split()[1])]
 
 
-def place(test, fence):
-    """What is said of where a fence stands."""
-    thread, at = fence
-    behind = [plain.instruction_text(test, it) for it in test.threads[thread][at + 1 : at + 2]]
-    return f"P{thread} at {at}" + (f", before {behind[0]}" if behind else "")
+def format_place(test: plain.Test, fence: Place) -> str:
+    """Returns the words for the place of a fence."""
+    thread, position = fence
+    after = [plain.format_instruction(test, it) for it in test.threads[thread][position + 1 : position + 2]]
+    return f"P{thread} at {position}" + (f", before {after[0]}" if after else "")
 
 
-def lines_of_fence(row, spare, asked):
+def format_fence(row: Row, spare: bool, asked: str) -> list[str]:
     """Returns what is said of a fence that is left out alone, and whether it is spare. Advice names what was asked, since it is read by itself."""
     if spare:
         return [f"{row['place']}: spare: can be left out by a proved law, whatever is asked"]
     if not row["added"]:
         return [f"{row['place']}: can be left out alone, by {asked}"]
-    return [f"{row['place']}: needed, {len(row['added'])} more without it", *lines_of_added(row["added"], "  ")]
+    return [f"{row['place']}: needed, {len(row['added'])} more without it", *format_added_states(row["added"], "  ")]
 
 
-def spared(test, fences, states):
-    """Fences that can be left out together, taken one after another as long as no state is added."""
-    left_out = []
+def find_spared(test: plain.Test, fences: list[Place], states: list[str]) -> list[Place]:
+    """Returns fences that can be left out together, taken one after another as long as no state is added."""
+    left_out: list[Place] = []
     for fence in fences:
-        if states_of(without(test, [*left_out, fence])) == states:
+        if list_states(remove_fences(test, [*left_out, fence])) == states:
             left_out.append(fence)
     return left_out
 
 
-def table_of(test):
-    """Of each fence its place, and the states that are added without it; the fences that are enough; the number of states, and of those in
-    which the proposition is true."""
+def make_table(test: plain.Test) -> Table:
+    """Returns a table: of each fence its place, and the states that are added without it; the fences that are enough; the number of states, and of
+    those in which the proposition is true.
+    """
     lists.clear()
-    fences, report = fences_of(test), report_of(test)
-    states, positive = lines_of_states(report), int(re.search(r"^Positive: (\d+) ", report, re.M)[1])
-    before, rows = set(states), []
+    fences, report = list_fences(test), make_report(test)
+    states, positive = filter_state_lines(report), int(require_match(re.search(r"^Positive: (\d+) ", report, re.M))[1])
+    before = set(states)
+    rows: list[Row] = []
     for fence in fences:
-        added = [] if is_spare(test, fence) else [line for line in states_of(without(test, [fence])) if line not in before]
-        rows.append({"place": place(test, fence), "added": added})
-    gone = spared(test, fences, states)
-    enough = [f"P{thread} at {at}" for thread, at in fences if (thread, at) not in gone]
-    answered_by = sorted(it.name.lower() for it in makers())
+        added = [] if is_spare(test, fence) else [line for line in list_states(remove_fences(test, [fence])) if line not in before]
+        rows.append({"place": format_place(test, fence), "added": added})
+    gone = find_spared(test, fences, states)
+    enough = [f"P{thread} at {position}" for thread, position in fences if (thread, position) not in gone]
+    answered_by = sorted(it.name.lower() for it in list_makers())
     return {"rows": rows, "enough": enough, "states": len(states), "positive": positive, "answered_by": answered_by}
 
 
-def enough_sets(test, fences, states):
-    """All smallest sets of fences that add no state."""
-    return smallest_sets(fences, lambda kept: states_of(without(test, [it for it in fences if it not in kept])) == states)
+def find_enough_sets(test: plain.Test, fences: list[Place], states: list[str]) -> list[list[Place]]:
+    """Returns all smallest sets of fences that add no state."""
+    return find_smallest_sets(fences, lambda kept: list_states(remove_fences(test, [it for it in fences if it not in kept])) == states)
 
 
-def helping_sets(test):
-    """All smallest sets of places at which fences answer the question; none where no fence does."""
-    return smallest_sets(places_of(test), lambda chosen: not unwanted(with_fences(test, sorted(chosen))))
+def find_helping_sets(test: plain.Test) -> list[list[Place]]:
+    """Returns all smallest sets of places at which fences answer the question; none where no fence does."""
+    return find_smallest_sets(list_fence_places(test), lambda chosen: not count_unwanted_states(insert_fences(test, sorted(chosen))))
 
 
-def place_of_load(test, place):
-    """What is said of a place for a fence."""
-    thread, at = place
-    return f"P{thread} at {at}, before {plain.instruction_text(test, test.threads[thread][at])}"
+def format_load_place(test: plain.Test, place: Place) -> str:
+    """Returns what is said of a place for a fence."""
+    thread, position = place
+    return f"P{thread} at {position}, before {plain.format_instruction(test, test.threads[thread][position])}"
 
 
-def line_of_enough(sets, asked):
-    """Returns which sets of fences are enough, by what was asked."""
-    texts = [", ".join(f"P{thread} at {at}" for thread, at in fences) or "no fence" for fences in sets]
-    return f"Enough, with none to spare, by {asked}: {'; or '.join(texts)}"
+def format_enough_sets(test: plain.Test, states: list[str], asked: str, are_enough: bool) -> list[str]:
+    """Returns which sets of fences add no state, by what was asked, and whether they are enough."""
+    fences = list_fences(test)
+    sets = find_enough_sets(test, fences, states) if fences or are_enough else []
+    return format_sets([[f"P{thread} at {position}" for thread, position in it] for it in sets], asked, are_enough)
 
 
-def lines_of_places(test, number, states):
-    """Where further fences would answer the question."""
-    what = "What has to be always is not there" if test.quantifier == "forall" else "What is asked about is there"
-    sets = helping_sets(test)
+def format_helping_places(test: plain.Test, number: int, states: int) -> list[str]:
+    """Returns where further fences would answer the question."""
+    presence = "What has to be always is not there" if test.quantifier == "forall" else "What is asked about is there"
+    sets = find_helping_sets(test)
     end = "an MFENCE more at these places changes that" if sets else "no MFENCE changes that"
-    head = f"{what}, in {number} of {states} states: {end}"
-    return [head, *(f"  {'; '.join(place_of_load(test, place) for place in places)}" for places in sets)]
+    head = f"{presence}, in {number} of {states} states: {end}"
+    return [head, *(f"  {'; '.join(format_load_place(test, place) for place in places)}" for places in sets)]
 
 
-def lines_without_lock(test, place, by):
-    """What is said of an exchange without its lock, by the states that a test shows."""
-    instructions = without_lock(test, place)
+def format_without_lock(test: plain.Test, place: Place, asked: str) -> list[str]:
+    """Returns what is said of an exchange without its lock, by the states that a test shows. `asked` says by what it is asked."""
+    instructions = make_unlocked_instructions(test, place)
     if not instructions:
-        return [f"  {by}: not tried, since no register is free"]
-    before = set(states_of(test))
-    added = [line for line in states_of(with_instructions(test, place, instructions)) if line not in before]
+        return [f"  {asked}: not tried, since no register is free"]
+    before = set(list_states(test))
+    added = [line for line in list_states(replace_instruction(test, place, instructions)) if line not in before]
     number = f"{len(added) or 'no'} state{'s' * (len(added) > 1)}"
-    return [f"  {by}: {number} more as {named(instructions)}", *lines_of_added(added, "    ")]
+    return [f"  {asked}: {number} more as {format_instructions(instructions)}", *format_added_states(added, "    ")]
 
 
-def lines_of_exchanges(test, by_everything):
-    """What is said of each exchange: by the question, unless everything is asked about, and by everything."""
+def format_exchanges(test: plain.Test, by_everything: bool) -> list[str]:
+    """Returns what is said of each exchange: by the question, unless everything is asked about, and by everything."""
     lines = []
-    for thread, at in exchanges_of(test):
-        lines.append(f"P{thread} at {at}, {plain.instruction_text(test, test.threads[thread][at])}, without its lock:")
-        lines += [] if by_everything else lines_without_lock(test, (thread, at), f"by its question, {plain.condition_text(test)}")
-        lines += lines_without_lock(showing_everything(test), (thread, at), "by all registers and locations")
+    for thread, position in list_exchanges(test):
+        lines.append(f"P{thread} at {position}, {plain.format_instruction(test, test.threads[thread][position])}, without its lock:")
+        lines += [] if by_everything else format_without_lock(test, (thread, position), f"by its question, {plain.format_condition(test)}")
+        lines += format_without_lock(show_everything(test), (thread, position), "by all registers and locations")
     return lines
 
 
-def lines_of_makers() -> List[str]:
-    """That lists are not proved, if some are not."""
+def format_makers() -> list[str]:
+    """Returns the line that says that some lists are not proved, if some are not."""
     number = sum(not it.by.is_proved for it in lists.values())
-    by = answers.names_of(it for it in makers() if not it.is_proved)
-    is_searched = answers.Maker.SEARCH in makers()
+    names = answers.format_makers(it for it in list_makers() if not it.is_proved)
+    is_searched = answers.Maker.SEARCH in list_makers()
     why = ", since lw and beyond are not built here, or refuse these tests" if is_searched else ""
-    return [f"Not proved: of {len(lists)} lists {number} are made by {by}{why}"] if number else []
-
-
-def options_in(words):
-    """The words that are switches, and the values of those that have one: `--tries` and `--order`. None if they are no words of the command."""
-    switches, values, rest = set(), {}, list(words)
-    while rest:
-        word = rest.pop(0)
-        if word in switches or word in values:
-            return None
-        if word in ("--everything", "--exchanges"):
-            switches.add(word)
-        elif word == "--tries" and rest and rest[0].isdecimal() or word == "--order" and rest and rest[0] in ORDERS:
-            values[word] = rest.pop(0)
-        else:
-            return None
-    return switches, values
-
-
-def is_command(words):
-    return options_in(words) is not None
+    return [f"Not proved: of {len(lists)} lists {number} are made by {names}{why}"] if number else []
 
 
 # Tests in herd's form.
 
 
-def converted_in_place(text, fault, values):
-    """What a text is converted to that lw does not read. If it is not converted either, the fault is that of the one that reads further."""
+def convert_unread_text(text: str, fault: plain.NoTest, choices: Choices) -> Converted:
+    """Returns what a text is converted to that lw does not read. If it is not converted either, raises the fault of the reader that came further.
+    """
     try:
-        return converted(text, int(values.get("--tries", TRIES)), ORDERS[values.get("--order")])
+        return convert(text, choices.tries, ORDERS[choices.order])
     except given.Fault as other:
         raise (fault if fault.args[1] >= other.args[1] else other) from None
 
 
-def show_converted(switches, text, name, made):
+def print_converted(choices: Choices, text: str, name: str, conversion: Converted) -> int:
     """Prints which fences of a test in herd's form matter. Returns the exit status."""
-    for at, says in made.notes:
-        print(command.note(name, text, at, says), file=sys.stderr)
-    parts = [Part(it, origins_of(it), it.begins) for it in made.conversions]
-    in_names = in_original_names(made)
-    condition = in_names(plain.condition_text(made.conversions[0].question))
-    tests, its = Together(parts, in_names), Text(text, made)
-    if not tests.states():
-        tries = f"{made.tries} tr{'ies' if made.tries != 1 else 'y'}"
-        print(answers.without_verdict(tests.question, f"no run goes through every loop within {tries}"), end="")
-        print(line_of_makers(tests, tests.makers, made.tries))
+    for offset, says in conversion.notes:
+        print(command.format_note(name, text, offset, says), file=sys.stderr)
+    parts = [Part(it, find_origins(it), it.begins) for it in conversion.conversions]
+    in_names = make_renamer(conversion)
+    condition = in_names(plain.format_condition(conversion.conversions[0].question))
+    tests, its = CombinedTest(parts, in_names), Text(text, conversion)
+    if not tests.list_states():
+        tries = f"{conversion.tries} tr{'ies' if conversion.tries != 1 else 'y'}"
+        print(answers.format_no_verdict(tests.question, f"no run goes through every loop within {tries}"), end="")
+        print(format_tests_and_makers(tests, tests.makers, conversion.tries))
         return answers.NO_VERDICT
-    original = Original(made.frame.name, condition, its.named, its.short, {*made.sites}, made.tries)
-    print("\n".join(lines_of(tests, original, "--everything" in switches, "--exchanges" in switches)))
+    original = Original(conversion.frame.name, condition, its.describe_place, its.describe_place_briefly, {*conversion.sites}, conversion.tries)
+    print("\n".join(format_answer(tests, original, choices.everything, choices.exchanges)))
     return 0
 
 
 # The command.
 
 
-def show(words, text, name=given.STANDARD_INPUT):
+def print_fences(choices: Choices, text: str, name: str = given.STANDARD_INPUT) -> int:
     """Prints which fences of a test matter. Returns the exit status."""
-    switches, values = options_in(words)
     try:
         read = plain.read_test(text)
     except plain.NoTest as fault:
-        return show_converted(switches, text, name, converted_in_place(text, fault, values))
-    test = plain.compiled(read)
-    by_everything = "--everything" in switches
-    asked = "all registers and locations" if by_everything else f"its question, {plain.condition_text(test)}"
-    shown = showing_everything(test) if by_everything else test
-    table = table_of(shown)
-    spare = [is_spare(shown, fence) for fence in fences_of(shown)]
-    lines = [line for row in zip(table["rows"], spare) for line in lines_of_fence(*row, asked)]
-    lines.append(line_of_enough(enough_sets(shown, fences_of(shown), states_of(shown)), asked))
-    number = 0 if by_everything else unwanted(test)
+        return print_converted(choices, text, name, convert_unread_text(text, fault, choices))
+    test = plain.compile_test(read)
+    by_everything = choices.everything
+    asked = "all registers and locations" if by_everything else f"its question, {plain.format_condition(test)}"
+    shown = show_everything(test) if by_everything else test
+    table = make_table(shown)
+    spare = [is_spare(shown, fence) for fence in list_fences(shown)]
+    lines = [line for row in zip(table["rows"], spare) for line in format_fence(*row, asked)]
+    number = 0 if by_everything else count_unwanted_states(test)
+    are_enough = not number and (read.language == "SRC" or not by_everything)
+    lines += format_enough_sets(shown, list_states(shown), asked, are_enough)
     if number:
-        lines += lines_of_places(test, number, table["states"])
-    if "--exchanges" in switches:
-        lines += lines_of_exchanges(test, by_everything)
-    mark = "" if answers.are_proved(makers()) else " (not proved)"
+        lines += format_helping_places(test, number, table["states"])
+    if choices.exchanges:
+        lines += format_exchanges(test, by_everything)
+    mark = "" if answers.are_proved(list_makers()) else " (not proved)"
     head = f"{test.name}, by {asked}: fences {len(table['rows'])}, states {table['states']}{mark}"
-    print("\n".join([head, *lines, *lines_of_makers()]))
+    print("\n".join([head, *lines, *format_makers()]))
     return 0
 
 
-def main():
-    return given.run("fences", __doc__, is_command, show, is_named=True)
+def main() -> int:
+    """Runs the command that the arguments describe. Returns the exit status."""
+    given.set_output_encoding()
+    reader = command.Reader(__doc__)
+    reader.add_file()
+    reader.add_argument("--everything", action="store_true")
+    reader.add_argument("--exchanges", action="store_true")
+    reader.add_argument("--tries", type=command.make_number_parser(0), default=TRIES, metavar="N")
+    reader.add_argument("--order", choices=("intel", "att"))
+    arguments = reader.read()
+    choices = Choices(arguments.everything, arguments.exchanges, arguments.tries, arguments.order)
+    return command.for_one("fences", arguments.file, lambda name, text: print_fences(choices, text, name))
 
 
 if __name__ == "__main__":
-    sys.exit(start.run(main, __doc__))
+    sys.exit(start.run(main))

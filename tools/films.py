@@ -3,17 +3,41 @@ event does. Where an event is refused, the film ends before it, and `refused` sa
 
 For tools/picture.py, which draws them. tools/plain.py, which is not proved, gives the rows of source statements.
 """
-import os
+from __future__ import annotations
+
 import subprocess
 import sys
+from typing import TypedDict
 
 sys.dont_write_bytecode = True
-from shared.home import HOME, PROGRAM
+from shared.home import PROGRAM
 import plain
-from effects import effect_of
-from replay_state import read_state
+from effects import Cells, Effect, describe_event
+from replay_state import State, read_state
 
-MOST_STEPS = 1000
+MAX_STEPS = 1000
+
+
+class RefusedEvent(TypedDict):
+    """An event that is refused, its index in the schedule, and the number and the name of the cause."""
+
+    event: str
+    at: int
+    number: int
+    cause: str
+
+
+class Film(TypedDict):
+    """The code of each thread, the states, one more than the events, the effect of each event, and the event that ends the film by its refusal."""
+
+    language: str
+    text: str
+    cells: list[Cells]
+    events: list[str]
+    effects: list[Effect]
+    states: list[State]
+    refused: RefusedEvent | None
+    protocol: str
 
 
 class NoFilm(Exception):
@@ -27,7 +51,7 @@ class Refused(Exception):
 # The program.
 
 
-def check_program():
+def check_program() -> None:
     """Checks that the program is that of the present sources."""
     from program import build  # which, as the program does, needs Linux
 
@@ -35,84 +59,90 @@ def check_program():
         raise NoFilm("there is no program of the sources as they are: ./lw builds it")
 
 
-def ask(words, text):
-    """Returns what the program prints on the bytes of a text."""
+def ask_program(arguments: list[str], text: bytes) -> str:
+    """Returns what the program prints on the bytes of a text. Raises NoFilm if the program does not start or is ended, and Refused if it refuses the
+    text.
+    """
     try:
-        ran = subprocess.run([PROGRAM, *words], input=text, capture_output=True, check=False)
+        ran = subprocess.run([PROGRAM, *arguments], input=text, capture_output=True, check=False)
     except OSError:
         raise NoFilm("the program does not start") from None
     if ran.returncode < 0:
         raise NoFilm("the program was ended by the system")
     if line := ran.stderr.decode(errors="replace").strip():
-        raise Refused(line, ran.returncode, text, words[1] if words[0] == "replay" else "")
+        raise Refused(line, ran.returncode, text, arguments[1] if arguments[0] == "replay" else "")
     return ran.stdout.decode()
 
 
-def replayed(text, schedule, protocol):
+def replay_schedule(text: bytes, schedule: str, protocol: str) -> State:
     """Returns the state that a schedule reaches."""
-    return read_state(ask(["replay", schedule, "--protocol", protocol], text))
+    return read_state(ask_program(["replay", schedule, "--protocol", protocol], text))
 
 
-def language_of(text):
+def read_language(text: bytes) -> str:
     """Returns the language of a test that the program has accepted."""
-    return plain.heading_of(text.decode())[0]
+    return plain.read_heading(text.decode())[0]
 
 
 # Code and films.
 
 
-def x86_cells(canonical):
+def list_x86_cells(canonical: str) -> list[Cells]:
     """Returns, for each thread, its cells in a canonical text: row k has instruction k."""
     rows = [line[1:-2].split(" | ") for line in canonical.partition("\n}\n")[2].splitlines() if line.startswith(" ")]
     columns = list(zip(*rows[1:])) or [() for _ in rows[0]]
-    return [[{"text": cell, "at": at} for at, cell in enumerate(column) if cell] for column in columns]
+    return [[{"text": cell, "at": index} for index, cell in enumerate(column) if cell] for column in columns]
 
 
-def source_cells(test):
+def list_source_cells(test: plain.Test) -> list[Cells]:
     """Returns, for each thread, its cells that are not empty, and the index of the statement of each; a label by itself has the next one's.
     """
     columns = []
     for cells in test.columns:
-        at, column = 0, []
-        for cell in filter(None, cells):
-            column.append({"text": cell_text(cell), "at": at})
-            at += has_statement(cell)
+        position = 0
+        column: Cells = []
+        for cell in (it for it in cells if it):
+            column.append({"text": format_cell(cell), "at": position})
+            position += has_statement(cell)
         columns.append(column)
     return columns
 
 
-def has_statement(cell):
+def has_statement(cell: list[tuple[str, str]]) -> bool:
     """Returns whether a statement follows a cell's labels."""
-    at = 0
-    while cell[at + 1 : at + 2] == [("symbol", ":")]:
-        at += 2
-    return at < len(cell)
+    position = 0
+    while cell[position + 1 : position + 2] == [("symbol", ":")]:
+        position += 2
+    return position < len(cell)
 
 
-def cell_text(tokens):
+def format_cell(tokens: list[tuple[str, str]]) -> str:
     """Returns a cell of a source test, spelled anew."""
     spelled = " ".join(text for _, text in tokens).replace(" : ", ": ")
     return spelled[: -len(" :")] + ":" if tokens[-1][1] == ":" else spelled
 
 
-def cells_of(text):
+def list_cells(text: bytes) -> list[Cells]:
     """Returns, for each thread, the code to show: that of the canonical text for an x86 test."""
-    if language_of(text) == "X86":
-        return x86_cells(ask(["compile"], text))
-    return source_cells(plain.read_test(text.decode()))
+    if read_language(text) == "X86":
+        return list_x86_cells(ask_program(["compile"], text))
+    return list_source_cells(plain.read_test(text.decode()))
 
 
-def film_of(text, schedule, protocol):
-    """Returns the film of a schedule."""
-    events, refused = schedule.split(), None
-    if len(events) > MOST_STEPS:
-        raise NoFilm(f"the schedule has {len(events)} events; a film has at most {MOST_STEPS}")
-    end = replayed(text, " ".join(events), protocol)["end"]
+def make_film(text: bytes, schedule: str, protocol: str) -> Film:
+    """Returns the film of a schedule. Raises NoFilm if the schedule has too many events, and Refused if the program refuses text or schedule."""
+    events = schedule.split()
+    refused: RefusedEvent | None = None
+    if len(events) > MAX_STEPS:
+        raise NoFilm(f"the schedule has {len(events)} events; a film has at most {MAX_STEPS}")
+    end = replay_schedule(text, " ".join(events), protocol)["end"]
     if end["kind"] == "Stopped":
         refused = {"event": events[end["at"]], "at": end["at"], "number": end["number"], "cause": end["cause"]}
         events = events[: end["at"]]
-    states = [replayed(text, " ".join(events[:number]), protocol) for number in range(len(events) + 1)]
-    cells = cells_of(text)
-    effects = [effect_of(event, cells, *states[at : at + 2]) for at, event in enumerate(events)]
-    code = {"language": language_of(text), "text": text.decode(), "cells": cells}
-    return {**code, "events": events, "effects": effects, "states": states, "refused": refused, "protocol": protocol}
+    states = [replay_schedule(text, " ".join(events[:number]), protocol) for number in range(len(events) + 1)]
+    cells = list_cells(text)
+    effects = [describe_event(event, cells, *states[index : index + 2]) for index, event in enumerate(events)]
+    return {
+        "language": read_language(text), "text": text.decode(), "cells": cells,
+        "events": events, "effects": effects, "states": states, "refused": refused, "protocol": protocol,
+    }

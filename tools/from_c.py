@@ -30,20 +30,22 @@ The last line but one says by whom the lists are made, and `not proved` if not b
 standard error. The status is 1 if FILE is refused, 2 if the command is none, and 6 if no run is left, so that there is no verdict.
 Python 3.8 is enough; it needs a compiler that writes assembly of x86-64 in AT&T's order.
 """
+from __future__ import annotations
+
 import os
 import sys
-from typing import Optional, Tuple
+from argparse import Namespace
 
 sys.dont_write_bytecode = True
 import given
 import plain
 
-from c.compiler import assembly_of, default_compiler, lines_before, with_readable_names
+from c.compiler import choose_compiler, compile_to_assembly, count_lines_before, demangle_assembly
 from c.convert import Converter
-from c.matrix import show_matrix
+from c.matrix import print_matrix
 from c.refused import NoRun, Refused
-from c.report import Answer, answer_of, sentence_on
-from c.shown import fences_of, film_of, schedules_of, tests_of
+from c.report import Answer, describe_answer, make_answer
+from c.shown import format_fences, format_schedules, format_tests, render_film
 from c.source import Source, read_source
 from films import NoFilm
 from shared import answers, command, start
@@ -52,72 +54,75 @@ LIMITS = "That is what this compiler's code does on x86-TSO; the language may al
 RECURSION = 10000
 
 
-def converted(source: Source, compiler: str, tries: int, weaker: int = 0, include: Optional[str] = None) -> Tuple[Answer, Converter]:
-    """The answer on a source by a compiler, and what it was converted to."""
-    assembly = with_readable_names(assembly_of(source, compiler, weaker, include))
+def convert_source(source: Source, compiler: str, tries: int, weaker: int = 0, include: str | None = None) -> tuple[Answer, Converter]:
+    """Returns the answer on a source by a compiler, and what it was converted to. Raises Refused if the source or its code is not followed, and NoRun
+    if no run comes to an end.
+    """
+    assembly = demangle_assembly(compile_to_assembly(source, compiler, weaker, include))
     try:
-        made = Converter(assembly, source.condition, source.name, source.threads, tries, source.added)
-        return answer_of(made), made
+        converter = Converter(assembly, source.condition, source.name, source.threads, tries, source.added)
+        return make_answer(converter), converter
     except Refused as why:
-        raise type(why)(why.cause, why.line and why.line - lines_before(source), why.instruction) from None
+        raise type(why)(why.cause, why.line and why.line - count_lines_before(source), why.instruction) from None
 
 
-def without_verdict(source: Source, why: str) -> str:
-    """What is printed in place of a report if no run is left."""
+def format_no_run(source: Source, why: str) -> str:
+    """Returns what is printed in place of a report if no run is left."""
     condition = source.condition
-    lines = answers.without_verdict(plain.Test("X86", source.name, quantifier=condition.quantifier), why).splitlines()
-    return plain.text_of([*lines[:-1], f"Condition {condition.text}"])
+    lines = answers.format_no_verdict(plain.Test("X86", source.name, quantifier=condition.quantifier), why).splitlines()
+    return plain.join_lines([*lines[:-1], f"Condition {condition.text}"])
 
 
-def show(words, name: str, text: str) -> int:
+def print_answer(arguments: Namespace, name: str, text: str) -> int:
     """Prints the answer on one file."""
     source = read_source(name, text)
     include = os.path.dirname(os.path.abspath(name)) if name != given.STANDARD_INPUT else None
-    by = lambda compiler, weaker=0: converted(source, compiler, words.tries, weaker, include)
-    if words.matrix:
-        return show_matrix(name, source, words.cc, lambda compiler, weaker=0: by(compiler, weaker)[0])
-    compiler = words.cc[0] if words.cc else default_compiler(source.ending)
+    answer_by = lambda compiler, weaker=0: convert_source(source, compiler, arguments.tries, weaker, include)
+    if arguments.matrix:
+        return print_matrix(name, source, arguments.cc, lambda compiler, weaker=0: answer_by(compiler, weaker)[0])
+    compiler = arguments.cc[0] if arguments.cc else choose_compiler(source.ending)
     try:
-        answer, made = by(compiler)
-        film = film_of(answer, made, words.film, text.splitlines()) if words.film else ""
-        more = schedules_of(answer, made) if words.schedules else fences_of(answer, made) if words.fences else ""
+        answer, converter = answer_by(compiler)
+        film = render_film(answer, converter, arguments.film, text.splitlines()) if arguments.film else ""
+        more = format_schedules(answer, converter) if arguments.schedules else format_fences(answer, converter) if arguments.fences else ""
     except NoRun as why:
-        print(without_verdict(source, why.cause), end="")
+        print(format_no_run(source, why.cause), end="")
         return answers.NO_VERDICT
     except Refused as why:
-        return given.refuse(why.text(name))
+        return given.refuse(why.format_line(name))
     except NoFilm as why:
         return given.refuse(f"from_c: {why}")
     for note in answer.notes:
         print(f"{name}: note: {note}", file=sys.stderr)
-    if words.show or film:
-        print(film or tests_of(answer, made), end="")
+    if arguments.show or film:
+        print(film or format_tests(answer, converter), end="")
         return 0
-    no_run = f"no run goes through every loop within {words.tries} tr{'ies' if words.tries != 1 else 'y'}"
-    print(answer.report if answer.has_run else without_verdict(source, no_run), end="")
+    no_run = f"no run goes through every loop within {arguments.tries} tr{'ies' if arguments.tries != 1 else 'y'}"
+    print(answer.report if answer.has_run else format_no_run(source, no_run), end="")
     print(more, end="")
-    print(sentence_on(answer, compiler, words.tries))
+    print(describe_answer(answer, compiler, arguments.tries))
     print(LIMITS)
     return 0 if answer.has_run else answers.NO_VERDICT
 
 
 def main() -> int:
-    given.print_as_lw()
+    """Runs the command that the arguments describe. Returns the exit status."""
+    given.set_output_encoding()
     sys.setrecursionlimit(RECURSION)
-    reader = command.words_of(__doc__)
-    reader.add_argument("file", nargs="?", default=given.STANDARD_INPUT, metavar="FILE")
+    reader = command.Reader(__doc__)
+    reader.add_file()
     reader.add_argument("--cc", action="append", metavar="COMMAND")
-    reader.add_argument("--tries", type=command.number_from(0), default=1, metavar="N")
-    what = reader.add_mutually_exclusive_group()
-    what.add_argument("--show", action="store_true")
-    what.add_argument("--schedules", action="store_true")
-    what.add_argument("--fences", action="store_true")
-    what.add_argument("--film", type=command.number_from(1), metavar="N")
-    what.add_argument("--matrix", action="store_true")
-    words = reader.parse_args()
-    if words.cc and len(words.cc) > 1 and not words.matrix:
+    reader.add_argument("--tries", type=command.make_number_parser(0), default=1, metavar="N")
+    choices = reader.add_mutually_exclusive_group()
+    choices.add_argument("--show", action="store_true")
+    choices.add_argument("--schedules", action="store_true")
+    choices.add_argument("--fences", action="store_true")
+    choices.add_argument("--film", type=command.make_number_parser(1), metavar="N")
+    choices.add_argument("--matrix", action="store_true")
+    arguments = reader.read()
+    if arguments.cc and len(arguments.cc) > 1 and not arguments.matrix:
         reader.error("several --cc need --matrix")
-    return command.for_one("from_c", words.file, lambda name, text: show(words, name, text))
+    return command.for_one("from_c", arguments.file, lambda name, text: print_answer(arguments, name, text))
 
 
 if __name__ == "__main__":

@@ -19,97 +19,99 @@ or if it is `-`. docs/FROM-HERD.md says what is taken as it is, what is rewritte
 Standard error gets a line `FILE:LINE:COLUMN: note: ..` for what is left out or taken otherwise, and a line `FILE:LINE:COLUMN: cause` where
 a test is refused, with status 1. Python 3.8 is enough, on any system.
 """
+from __future__ import annotations
+
 import os
 import sys
-from typing import Dict, Optional
+from argparse import Namespace
 
 sys.dont_write_bytecode = True
 import given
 import plain
-from herd.convert import Conversion, Converted, converted
+from herd.convert import Conversion, Converted, convert
 from herd.order import ORDERS
-from herd.origin import comment_of
-from herd.text import heading_of
+from herd.origin import make_comment
+from herd.text import read_heading
 from shared import command, start
 
 
-
-def text_of(made: Converted, it: Conversion) -> str:
-    """The text of a converted test, with a comment that says where it comes from."""
-    heading, _, rest = plain.canonical_text(it.test).partition("\n")
-    return f"{heading}\n{comment_of(made, it)}{rest}"
+def write_converted_text(original: Converted, conversion: Conversion) -> str:
+    """Returns the text of a converted test, with a comment that says where it comes from."""
+    heading, _, rest = plain.format_canonical_text(conversion.test).partition("\n")
+    return f"{heading}\n{make_comment(original, conversion)}{rest}"
 
 
 class Folder:
     """The folder that tests are written into. It knows from which input each of its files comes, and overwrites nothing."""
 
-    def __init__(self, path: str):
+    def __init__(self, path: str) -> None:
         self.path = path
-        self.origins: Dict[str, str] = {}
+        self.origins: dict[str, str] = {}
 
-    def check(self, path: str, text: str, made: Converted, name: str, at: int) -> None:
-        """Looks whether a file may be written: no other input of this run has its name, and no other text is there."""
+    def check_file(self, path: str, text: str, conversion: Converted, name: str, offset: int) -> None:
+        """Looks whether a file may be written: no other input of this run has its name, and no other text is there. Raises Fault if not."""
         if path in self.origins:
-            where = f"'{made.frame.name}' of {name} and a test of {self.origins[path]} have one file name, {path}"
-            raise given.Fault(f"{where}: nothing is written for the second, name one of them otherwise", at)
+            where = f"'{conversion.frame.name}' of {name} and a test of {self.origins[path]} have one file name, {path}"
+            raise given.Fault(f"{where}: nothing is written for the second, name one of them otherwise", offset)
         try:
             with open(path, encoding="utf-8", errors="replace", newline="") as file:
-                there = file.read()
+                present = file.read()
         except FileNotFoundError:
             return
-        if there != text:
-            raise given.Fault(f"{path} has another text already, and is not overwritten: take it away, or name another folder", at)
+        if present != text:
+            raise given.Fault(f"{path} has another text already, and is not overwritten: take it away, or name another folder", offset)
 
-    def write(self, made: Converted, name: str, text: str) -> None:
+    def write_tests(self, conversion: Converted, name: str, text: str) -> None:
         """Writes the tests of one input, all or none."""
-        at = heading_of(text)[2] - len(made.frame.name)
-        files = [(os.path.join(self.path, file_name(it.test.name)), text_of(made, it)) for it in made.conversions]
+        offset = read_heading(text)[2] - len(conversion.frame.name)
+        files = [(os.path.join(self.path, make_file_name(it.test.name)), write_converted_text(conversion, it)) for it in conversion.conversions]
         for path, test in files:
-            self.check(path, test, made, name, at)
+            self.check_file(path, test, conversion, name, offset)
         for path, test in files:
             self.origins[path] = name
             with open(path, "w", encoding="utf-8", newline="\n") as file:
                 file.write(test)
 
 
-def file_name(name: str) -> str:
-    """The name of a test's file."""
+def make_file_name(name: str) -> str:
+    """Returns the name of a test's file."""
     return name.replace("/", "_").replace("\\", "_") + ".litmus"
 
 
-def tell_notes(name: str, text: str, made: Converted) -> None:
-    """Tells on standard error what is left out or taken otherwise."""
-    for at, says in made.notes:
-        print(command.note(name, text, at, says), file=sys.stderr)
+def print_notes(name: str, text: str, conversion: Converted) -> None:
+    """Prints on standard error what is left out or taken otherwise."""
+    for offset, says in conversion.notes:
+        print(command.format_note(name, text, offset, says), file=sys.stderr)
 
 
-def convert(words, folder: Optional[Folder], name: str, text: str) -> int:
-    """Converts one text. Returns the exit status."""
-    made = converted(text, words.tries, ORDERS[words.order])
-    if folder is None and len(made.conversions) > 1:
-        count = len(made.conversions)
+def convert_text(arguments: Namespace, folder: Folder | None, name: str, text: str) -> int:
+    """Converts one text. Returns the exit status. Raises Fault if it is not converted, or if it becomes several tests and there is no folder."""
+    conversion = convert(text, arguments.tries, ORDERS[arguments.order])
+    if folder is None and len(conversion.conversions) > 1:
+        count = len(conversion.conversions)
         raise given.Fault(f"LOCK CMPXCHG makes {count} tests: name a folder by --into, or use tools/assume.py", 0)
-    tell_notes(name, text, made)
+    print_notes(name, text, conversion)
     if folder is None:
-        print(text_of(made, made.conversions[0]), end="")
+        print(write_converted_text(conversion, conversion.conversions[0]), end="")
     else:
-        folder.write(made, name, text)
+        folder.write_tests(conversion, name, text)
     return 0
 
 
 def main() -> int:
-    given.print_as_lw()
-    reader = command.words_of(__doc__)
+    """Runs the command that the arguments describe. Returns the exit status."""
+    given.set_output_encoding()
+    reader = command.Reader(__doc__)
     reader.add_argument("files", nargs="*", metavar="FILE")
     reader.add_argument("--into", metavar="FOLDER")
     reader.add_argument("--tries", type=int, default=0, metavar="N")
     reader.add_argument("--order", choices=("intel", "att"))
-    words = reader.parse_args()
-    if words.into is None and len(words.files) > 1:
+    arguments = reader.read()
+    if arguments.into is None and len(arguments.files) > 1:
         reader.error("several files need --into FOLDER")
-    folder = None if words.into is None else Folder(words.into)
+    folder = None if arguments.into is None else Folder(arguments.into)
     try:
-        return command.for_each("from_herd", words.files, lambda name, text: convert(words, folder, name, text))
+        return command.for_each("from_herd", arguments.files, lambda name, text: convert_text(arguments, folder, name, text))
     except OSError as why:
         return given.refuse(f"from_herd: {why.filename}: {why.strerror}")
 

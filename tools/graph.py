@@ -19,26 +19,29 @@ execution has and the axioms forbid. A source test is asked about in its own nam
 tools/executions.py has the axioms. It looks at no more than 400,000 candidates, and says so if that is too few.
 --documents draws the pictures in docs/pictures/ anew.
 """
+from __future__ import annotations
+
 import math
-import os
 import re
 import sys
+from collections.abc import Collection, Sequence
+from typing import NamedTuple, Tuple
 
 sys.dont_write_bytecode = True
-from shared import start
+from shared import command, start
 from shared.home import HOME
 import executions
 import given
 import plain
 from picture import EDGE, LETTER, LINE, Drawing
-from shared.graph_layout import GraphLayout
+from shared.graph_layout import BASE, GraphLayout, Point, Route
 
 # The pictures of the documents: the file, an example and a schedule.
 DOCUMENTS = (("docs/pictures/SB-graph.svg", "SB-x86", "P0 P0 P1 P1 D0 D1"),)
-MOST = 400_000
-MOST_CYCLES = 6
-MOST_DRAWN = 3
-MOST_NAMED = 4  # so many reads of the initial word have a name at their arrow
+MAX_CANDIDATES = 400_000
+MAX_CYCLES = 6
+MAX_DRAWN_CYCLES = 3
+MAX_NAMED_READS = 4  # so many reads of the initial word have a name at their arrow
 LETTERS = "abcdefghijklmnopqrstuvwxyz"
 NONE_FORBIDDEN = "x86-TSO allows every state that some candidate execution has."
 NAMES = {"po": "program order", "rf": "reads-from", "co": "coherence order", "fr": "from-reads"}
@@ -57,293 +60,330 @@ path, path.marked { stroke: #ececec } path.po { stroke: #8d939c } text.relation 
 # Words.
 
 
+# The words of the observed sites of a state.
+Words = Tuple[int, ...]
+# What two ways have in common if they are the same: the axiom, the cycle, and the cycle's events.
+WayKey = Tuple[str, str, Tuple[str, ...]]
+
+
+class WhyNot(NamedTuple):
+    """The lines on a state, or on all; the exit status; and the cycles that are printed first, each as a picture with its words."""
+
+    lines: list[str]
+    status: int
+    cycles: list[tuple[str, str]]
+
+
 class Names:
     """The letters of an execution's events, and what each does."""
 
-    def __init__(self, execution):
+    def __init__(self, execution: executions.Execution) -> None:
+        """Gives each event of an execution a letter."""
         self.execution = execution
-        self.letters = {it: LETTERS[at] if at < 26 else f"{LETTERS[at % 26]}{at // 26}" for at, it in enumerate(execution.events())}
+        letter = lambda index: LETTERS[index] if index < 26 else f"{LETTERS[index % 26]}{index // 26}"
+        self.letters = {event: letter(index) for index, event in enumerate(execution.list_events())}
 
-    def deed(self, event):
-        """What an event does: R, W or U (a locked instruction) with a location and its words, or MFENCE."""
-        it = self.execution.instruction(event)
-        if it.kind == "mfence":
+    def describe_event(self, event: executions.Event) -> str:
+        """Returns what an event does: R, W or U (a locked instruction) with a location and its words, or MFENCE."""
+        statement = self.execution.find_instruction(event)
+        if statement.kind == "mfence":
             return "MFENCE"
-        location = self.execution.test.locations[it.location]
-        read, written = (shown(row.get(event)) for row in (self.execution.read, self.execution.written))
-        if it.kind == "load":
+        location = self.execution.test.locations[statement.location]
+        read, written = (format_word(row.get(event)) for row in (self.execution.read, self.execution.written))
+        if statement.kind == "load":
             return f"R {location}={read}"
-        return f"W {location}={written}" if it.kind == "store" else f"U {location}={read}→{written}"
+        return f"W {location}={written}" if statement.kind == "store" else f"U {location}={read}→{written}"
 
-    def line(self, event):
-        return f"{self.letters[event]}: P{event.thread} {self.deed(event)}"
+    def format_event(self, event: executions.Event) -> str:
+        """Returns the line of an event: its letter, its thread and what it does."""
+        return f"{self.letters[event]}: P{event.thread} {self.describe_event(event)}"
 
-    def cycle(self, edges):
-        """A cycle in letters: a -fr-> b -po-> a."""
+    def format_cycle(self, edges: list[executions.Edge]) -> str:
+        """Returns a cycle in letters: a -fr-> b -po-> a."""
         first = self.letters[edges[0].source]
         return first + "".join(f" -{it.kind}-> {self.letters[it.target]}" for it in edges)
 
 
-def shown(word):
+def format_word(word: int | None) -> str:
+    """Returns a word in print: `?` if it is None, not known."""
     return "?" if word is None else str(word)
 
 
-def near(edges):
-    """The edges that the others do not follow from: those without an event between."""
+def list_direct_edges(edges: list[executions.Edge]) -> list[executions.Edge]:
+    """Returns the edges that the others do not follow from: those without an event between."""
     ways = {(it.source, it.target) for it in edges}
     between = lambda it: any((it.source, mid) in ways and (mid, it.target) in ways for _, mid in ways)
     return [it for it in edges if not between(it)]
 
 
-def near_fr(execution):
-    """Of each read the edge to the first write after the one that it reads from."""
-    found = {}
-    for it in execution.fr_edges():
-        found.setdefault(it.source, it)
-    return list(found.values())
+def list_direct_fr_edges(execution: executions.Execution) -> list[executions.Edge]:
+    """Returns of each read the edge to the first write after the one that it reads from."""
+    direct_fr_edges: dict[executions.Event, executions.Edge] = {}
+    for edge in execution.list_fr_edges():
+        direct_fr_edges.setdefault(edge.source, edge)
+    return list(direct_fr_edges.values())
 
 
-def drawn_edges(execution, marked):
-    """The edges that a picture has: those of the relations, and those of a cycle that is marked."""
-    edges = [*near(execution.po()), *execution.rf_edges(), *near(execution.co_edges()), *near_fr(execution)]
+def list_drawn_edges(execution: executions.Execution, marked: list[executions.Edge]) -> list[executions.Edge]:
+    """Returns the edges that a picture has: those of the relations, and those of a cycle that is marked."""
+    edges = [
+        *list_direct_edges(execution.list_po_edges()), *execution.list_rf_edges(), *list_direct_edges(execution.list_co_edges()),
+        *list_direct_fr_edges(execution),
+    ]
     return edges + [it for it in marked if it not in edges]
 
 
-def unpreserved(execution, cycle):
-    """The pairs of program order in a cycle that are not preserved by themselves."""
+def list_unpreserved_pairs(execution: executions.Execution, cycle: list[executions.Edge]) -> list[executions.Edge]:
+    """Returns the pairs of program order in a cycle that are not preserved by themselves."""
     return [it for it in cycle or [] if it.kind == "po" and not execution.is_preserved(it)]
 
 
-def missing_fences(execution, cycle):
-    """The pairs of program order in a cycle that x86-TSO may turn round: nothing that waits is between the store and the load."""
-    return [it for it in unpreserved(execution, cycle) if not execution.has_fence_between(it)]
+def find_missing_fences(execution: executions.Execution, cycle: list[executions.Edge]) -> list[executions.Edge]:
+    """Returns the pairs of program order in a cycle that x86-TSO may turn round: nothing that waits is between the store and the load."""
+    return [it for it in list_unpreserved_pairs(execution, cycle) if not execution.has_fence_between(it)]
 
 
-def text_of(execution):
-    """An execution in words, with what the axioms say of it."""
-    names, cycle = Names(execution), execution.cycle()
-    lines = [names.line(it) for it in execution.events()]
+def format_execution(execution: executions.Execution) -> list[str]:
+    """Returns an execution in words, with what the axioms say of it."""
+    names, cycle = Names(execution), execution.find_cycle()
+    lines = [names.format_event(it) for it in execution.list_events()]
     for kind, edges in (
-        ("rf", execution.rf_edges()),
-        ("co", near(execution.co_edges())),
-        ("fr", near_fr(execution)),
+        ("rf", execution.list_rf_edges()),
+        ("co", list_direct_edges(execution.list_co_edges())),
+        ("fr", list_direct_fr_edges(execution)),
     ):
         pairs = ", ".join(f"{names.letters[it.source]} -> {names.letters[it.target]}" for it in edges)
         lines.append(f"{NAMES[kind]} ({kind}): {pairs or 'none'}")
     starts = [names.letters[read] for read, source in execution.rf.items() if source is None]
     lines.append(f"reads of the initial word: {', '.join(starts) or 'none'}")
-    lines.append(verdict_of(execution, names))
+    lines.append(format_verdict(execution, names))
     if not cycle:
         lines.append("A run of interleaving: po, rf, co and fr have no cycle.")
         return lines
-    lines.append(f"No run of interleaving: {names.cycle(cycle)}")
-    for it in missing_fences(execution, cycle):
-        lines.append(f"An MFENCE between {names.letters[it.source]} and {names.letters[it.target]} would keep their order.")
+    lines.append(f"No run of interleaving: {names.format_cycle(cycle)}")
+    for edge in find_missing_fences(execution, cycle):
+        lines.append(f"An MFENCE between {names.letters[edge.source]} and {names.letters[edge.target]} would keep their order.")
     return lines
 
 
-def verdict_of(execution, names):
-    broken = execution.broken()
+def format_verdict(execution: executions.Execution, names: Names) -> str:
+    """Returns the line that says whether x86-TSO allows the execution."""
+    broken = execution.find_broken_axiom()
     if not broken:
         return "x86-TSO allows it: coherence and global happens-before have no cycle."
-    return f"x86-TSO forbids it: {broken[0]} has the cycle {names.cycle(broken[1])}"
+    return f"x86-TSO forbids it: {broken[0]} has the cycle {names.format_cycle(broken[1])}"
 
 
 # The picture.
 
 
-def rounded(number):
-    """A number to a tenth."""
+def round_to_tenth(number: float) -> float:
+    """Returns a number to a tenth."""
     return math.floor(number * 10 + 0.5) / 10
 
 
-def spot(point):
-    """A point, as a path has it."""
+def format_point(point: Point) -> str:
+    """Returns a point, as a path has it."""
     x, y = point
-    return f"{rounded(x):g} {rounded(y):g}"
+    return f"{round_to_tenth(x):g} {round_to_tenth(y):g}"
 
 
-def place_of(event):
-    """The place of an event in its test, by which the page finds its instruction."""
+def format_place(event: executions.Event) -> str:
+    """Returns the place of an event in its test, by which the page finds its instruction."""
     return f"{event.thread}:{event.position}"
 
 
-def draw_edge(drawing, layout, route, is_marked):
-    """An arrow along the curves of a route."""
+def draw_edge(drawing: Drawing, layout: GraphLayout, route: Route, is_marked: bool) -> None:
+    """Draws an arrow along the curves of a route."""
     kind = route.edge.kind if route.edge else "rf"
-    curves = layout.curves_of(route)
-    path = f"M{spot(curves[0][0])} " + " ".join(f"C{' '.join(map(spot, points))}" for _, *points in curves)
-    start = "" if route.way == "start" else f'data-from="{place_of(route.source)}" '
-    ends = f'{start}data-to="{place_of(route.target)}"'
+    curves = layout.make_picture_curves(route)
+    path = f"M{format_point(curves[0][0])} " + " ".join(f"C{' '.join(map(format_point, points))}" for _, *points in curves)
+    start = "" if route.way == "start" else f'data-from="{format_place(route.source)}" '
+    ends = f'{start}data-to="{format_place(route.target)}"'
     marked = " marked" if is_marked else ""
     drawing.elements.append(f'<path class="{kind}{marked}" {ends} marker-end="url(#to-{kind})" d="{path}"/>')
 
 
-def draw_label(drawing, layout, route, name):
-    """The name of a relation at its arrow."""
+def draw_label(drawing: Drawing, layout: GraphLayout, route: Route, name: str) -> None:
+    """Writes the name of a relation at its arrow."""
     x, y = layout.place_label(route, len(name))
-    drawing.text(rounded(x - (len(name) * LETTER) / 2), rounded(y + 4), name, "relation")
+    drawing.draw_text(round_to_tenth(x - (len(name) * LETTER) / 2), round_to_tenth(y + 4), name, "relation")
 
 
-def label_of(edge):
-    """The name of a relation at its arrow: a thread that reads its own store is told apart."""
+def format_label(edge: executions.Edge) -> str:
+    """Returns the name of a relation at its arrow: a thread that reads its own store is marked."""
     return "rfi" if edge.kind == "rf" and edge.source.thread == edge.target.thread else edge.kind
 
 
-def markers():
-    """The heads of the arrows, by relation."""
+def make_markers() -> str:
+    """Returns the heads of the arrows, by relation."""
     head = '<marker id="to-{0}" viewBox="0 0 8 8" refX="7" refY="4" markerWidth="9" markerHeight="9" orient="auto" markerUnits="userSpaceOnUse">'
     head += '<path class="{0}" d="M1 1 L7 4 L1 7"/></marker>'
     return "<defs>" + "".join(head.format(it) for it in NAMES) + "</defs>"
 
 
-def draw_events(drawing, layout, execution, texts, marked):
-    """The events, thread by thread; those of a cycle are marked."""
+def draw_events(
+    drawing: Drawing, layout: GraphLayout, execution: executions.Execution, texts: dict[executions.Event, str], marked: Collection[executions.Event]
+) -> None:
+    """Draws the events, thread by thread, and marks those of a cycle."""
     for thread, events in enumerate(layout.threads):
-        drawing.text(*layout.title_at(thread), f"P{thread}", "title")
+        drawing.draw_text(*layout.find_title(thread), f"P{thread}", "title")
         for event in events:
-            x, y = layout.corner(event)
-            kind = "entry" if execution.instruction(event).kind == "store" else "box"
-            drawing.elements.append(f'<g data-at="{place_of(event)}">')
-            drawing.box(x, y, *layout.box, f"{kind} marked" if event in marked else kind)
-            drawing.text(x + 9, y + 18, texts[event])
+            x, y = layout.find_corner(event)
+            kind = "entry" if execution.find_instruction(event).kind == "store" else "box"
+            drawing.elements.append(f'<g data-at="{format_place(event)}">')
+            drawing.draw_box(x, y, *layout.box, f"{kind} marked" if event in marked else kind)
+            drawing.draw_text(x + 9, y + BASE, texts[event])
             drawing.elements.append("</g>")
 
 
-def lines_below(names, cycle, broken, missing):
-    """What is said below a picture."""
+def format_caption(
+    names: Names, cycle: list[executions.Edge], broken: tuple[str, list[executions.Edge]] | None, missing: list[executions.Edge]
+) -> list[str]:
+    """Returns what is said below a picture."""
     if broken:
         return [f"Marked: a cycle, against {broken[0]}."]
     said = "Marked: a cycle, so no run of interleaving." if cycle else "No cycle: a run of interleaving, too."
     return [said, *(f"{names.letters[it.source]}, then {names.letters[it.target]}: no fence between" for it in missing)]
 
 
-def picture_of(execution, title, broken=None):
-    """The picture of an execution; if x86-TSO forbids it, with the cycle of the axiom that it breaks, and otherwise with one of
+def draw_execution(execution: executions.Execution, title: str, broken: tuple[str, list[executions.Edge]] | None = None) -> str:
+    """Returns the picture of an execution; if x86-TSO forbids it, with the cycle of the axiom that it breaks, and otherwise with one of
     interleaving."""
-    names, cycle = Names(execution), broken[1] if broken else execution.cycle() or []
-    missing = [] if broken else missing_fences(execution, cycle)
-    texts = {it: f"{names.letters[it]}: {names.deed(it)}" for it in execution.events()}
+    names, cycle = Names(execution), broken[1] if broken else execution.find_cycle() or []
+    missing = [] if broken else find_missing_fences(execution, cycle)
+    texts = {it: f"{names.letters[it]}: {names.describe_event(it)}" for it in execution.list_events()}
     initial = [read for read, source in execution.rf.items() if source is None]
-    layout = GraphLayout(execution, texts, drawn_edges(execution, cycle if broken else unpreserved(execution, cycle)), initial)
+    layout = GraphLayout(execution, texts, list_drawn_edges(execution, cycle if broken else list_unpreserved_pairs(execution, cycle)), initial)
     drawing = Drawing()
-    drawing.elements += [f"<style>{STYLE}</style>", markers()]
-    for it in [*layout.routes, *layout.starts]:
-        draw_edge(drawing, layout, it, it.edge in cycle)
-    draw_events(drawing, layout, execution, texts, {it.source for it in cycle} if broken else ())
-    for it in layout.starts if len(initial) <= MOST_NAMED else ():
-        draw_label(drawing, layout, it, "init")
-    for it in layout.routes:
-        if it.edge.kind != "po" or it.edge in cycle:
-            draw_label(drawing, layout, it, label_of(it.edge))
-    lines = lines_below(names, cycle, broken, missing)
+    drawing.elements += [f"<style>{STYLE}</style>", make_markers()]
+    for route in [*layout.routes, *layout.starts]:
+        draw_edge(drawing, layout, route, route.edge in cycle)
+    draw_events(drawing, layout, execution, texts, {edge.source for edge in cycle} if broken else ())
+    for route in layout.starts if len(initial) <= MAX_NAMED_READS else ():
+        draw_label(drawing, layout, route, "init")
+    for route in layout.routes:
+        if route.edge and (route.edge.kind != "po" or route.edge in cycle):
+            draw_label(drawing, layout, route, format_label(route.edge))
+    lines = format_caption(names, cycle, broken, missing)
     wide, high = layout.size
-    for at, text in enumerate(lines):
-        drawing.text(EDGE, high + LINE * (at + 1) - 5, text, "faint")
+    for index, text in enumerate(lines):
+        drawing.draw_text(EDGE, high + LINE * (index + 1) - 5, text, "faint")
     width = max([wide] + [len(it) * LETTER + 2 * EDGE for it in lines])
-    return drawing.svg(width, high + LINE * len(lines) + EDGE, title)
+    return drawing.make_svg(width, high + LINE * len(lines) + EDGE, title)
 
 
 # Why not.
 
 
-def state_of(test, line):
-    """The words that a report's line tells, by site; the line has to name exactly what the test shows."""
+def parse_state(test: plain.Test, line: str) -> dict[plain.Site, int]:
+    """Returns the words of a report's line, by site; the line has to name exactly what the test shows. Raises Fault if it does not."""
     pairs = re.findall(r"([^\s=;]+)=([0-9]+);", line)
-    found = dict(pairs)
-    names = {plain.site_name(test, site): site for site in plain.observed(test)}
+    word_of_name = dict(pairs)
+    names = {plain.format_site(test, site): site for site in plain.list_observed_sites(test)}
     if sorted(name for name, _ in pairs) != sorted(names) or not re.fullmatch(r"(?:\s*[^\s=;]+=[0-9]+;)*\s*", line):
         raise given.Fault(f"the test shows {' '.join(f'{it}=..;' for it in names)}, and the state has to name these", 0)
-    return {names[name]: int(word) for name, word in found.items()}
+    return {names[name]: int(word) for name, word in word_of_name.items()}
 
 
 class Way:
     """A way in which the axioms forbid a state: the axiom and its cycle, with the first execution that has it, and how many have it."""
 
-    def __init__(self, execution, broken):
+    def __init__(self, execution: executions.Execution, broken: tuple[str, list[executions.Edge]]) -> None:
+        """Describes the cycle by which an execution breaks an axiom."""
         self.execution, self.broken, self.times = execution, broken, 0
         names = Names(execution)
-        self.axiom, self.cycle = broken[0], names.cycle(broken[1])
-        self.events = tuple(names.line(event) for event in dict.fromkeys(it.source for it in broken[1]))
+        self.axiom, self.cycle = broken[0], names.format_cycle(broken[1])
+        self.events = tuple(names.format_event(event) for event in dict.fromkeys(it.source for it in broken[1]))
 
-    def key(self):
+    def make_key(self) -> WayKey:
+        """Returns the key of the order of ways, which differs for different ways."""
         return self.axiom, self.cycle, self.events
 
 
-def forbidden_states(test, wanted, most):
-    """The states that the axioms allow; and of each state that candidate executions have, and the axioms allow in none, its ways."""
-    allowed, broken = set(), {}
-    sites = plain.observed(test)
-    for it in executions.candidates(test, most):
-        outcome = it.outcome()
-        words = tuple(plain.word_at(site, outcome) for site in sites)
+def list_forbidden_states(
+    test: plain.Test, wanted: dict[plain.Site, int] | None, max_candidates: int
+) -> tuple[set[Words], dict[Words, dict[WayKey, Way]]]:
+    """Returns the states that the axioms allow; and of each state that candidate executions have, and the axioms allow in none, its ways.
+
+    With wanted words only their state is looked for. Raises TooMany if there are more than `max_candidates` candidate executions.
+    """
+    allowed: set[Words] = set()
+    broken: dict[Words, dict[WayKey, Way]] = {}
+    sites = plain.list_observed_sites(test)
+    for execution in executions.list_candidates(test, max_candidates):
+        outcome = execution.make_outcome()
+        words = tuple(plain.read_word(site, outcome) for site in sites)
         if words in allowed or wanted is not None and any(None is not a != wanted[site] for a, site in zip(words, sites)):
             continue
-        found = it.broken()
-        if not found:
+        broken_axiom = execution.find_broken_axiom()
+        if not broken_axiom:
             allowed.add(words)
             broken.pop(words, None)
             continue
-        way = Way(it, found)
-        broken.setdefault(words, {}).setdefault(way.key(), way).times += 1
+        way = Way(execution, broken_axiom)
+        broken.setdefault(words, {}).setdefault(way.make_key(), way).times += 1
     return allowed, broken
 
 
-def in_order(broken):
-    """The states that are forbidden, in their order, each with its ways, the shortest first."""
+def sort_forbidden_states(broken: dict[Words, dict[WayKey, Way]]) -> list[tuple[Words, list[Way]]]:
+    """Returns the states that are forbidden, in their order, each with its ways, the shortest first."""
     shorter = lambda it: (len(it.events), -it.times)
     ordered = sorted(broken.items(), key=lambda it: [-1 if word is None else word for word in it[0]])
     return [(words, sorted(ways.values(), key=shorter)) for words, ways in ordered]
 
 
-def say_why(test, words, ways):
+def explain_state(test: plain.Test, words: Words, ways: list[Way]) -> list[str]:
     """Returns the lines on a state that the axioms forbid."""
-    line = " ".join(f"{plain.site_name(test, site)}={shown(word)};" for site, word in zip(plain.observed(test), words))
+    line = " ".join(f"{plain.format_site(test, site)}={format_word(word)};" for site, word in zip(plain.list_observed_sites(test), words))
     lines = [f"x86-TSO forbids {line}"]
-    for it in ways[:MOST_CYCLES]:
-        breaking = "1 candidate execution breaks" if it.times == 1 else f"{it.times} candidate executions break"
-        lines += [f"  {breaking} {it.axiom}: {it.cycle}", *(f"    {event}" for event in it.events)]
-    if len(ways) > MOST_CYCLES:
-        lines.append(f"  and {len(ways) - MOST_CYCLES} other cycles")
+    for way in ways[:MAX_CYCLES]:
+        breaking = "1 candidate execution breaks" if way.times == 1 else f"{way.times} candidate executions break"
+        lines += [f"  {breaking} {way.axiom}: {way.cycle}", *(f"    {event}" for event in way.events)]
+    if len(ways) > MAX_CYCLES:
+        lines.append(f"  and {len(ways) - MAX_CYCLES} other cycles")
     return lines
 
 
-def why_not(test, state):
-    """The lines on a state, or on all; the exit status; and the cycles that are told first, each as a picture with its words."""
-    wanted = None if state == "all" else state_of(test, state)
+def explain_states(test: plain.Test, state: str) -> WhyNot:
+    """Returns the lines on a state, or on all; the exit status; and the cycles that are printed first, each as a picture with its words."""
+    wanted = None if state == "all" else parse_state(test, state)
     try:
-        allowed, broken = forbidden_states(test, wanted, MOST)
+        allowed, broken = list_forbidden_states(test, wanted, MAX_CANDIDATES)
     except executions.TooMany:
-        return [f"More than {MOST} candidate executions: that is too many for this tool."], 1, []
-    if wanted is not None and tuple(wanted[site] for site in plain.observed(test)) in allowed:
-        return ["x86-TSO allows this state: `lw schedules` lists it with a schedule."], 1, []
+        return WhyNot([f"More than {MAX_CANDIDATES} candidate executions: that is too many for this tool."], 1, [])
+    if wanted is not None and tuple(wanted[site] for site in plain.list_observed_sites(test)) in allowed:
+        return WhyNot(["x86-TSO allows this state: `lw schedules` lists it with a schedule."], 1, [])
     if not broken:
-        return [f"No thread reads or writes such values: no candidate execution ends in {state}" if wanted else NONE_FORBIDDEN], 0, []
-    states = in_order(broken)
-    drawn = [it for _, ways in states for it in ways[:MOST_DRAWN]][:MOST_DRAWN]
-    cycles = [(picture_of(it.execution, f"{test.name}: {it.cycle}", it.broken), f"{it.axiom}: {it.cycle}") for it in drawn]
-    return [line for words, ways in states for line in say_why(test, words, ways)], 0, cycles
+        no_state = f"No thread reads or writes such values: no candidate execution ends in {state}"
+        return WhyNot([no_state if wanted else NONE_FORBIDDEN], 0, [])
+    states = sort_forbidden_states(broken)
+    drawn = [it for _, ways in states for it in ways[:MAX_DRAWN_CYCLES]][:MAX_DRAWN_CYCLES]
+    cycles = [(draw_execution(it.execution, f"{test.name}: {it.cycle}", it.broken), f"{it.axiom}: {it.cycle}") for it in drawn]
+    return WhyNot([line for words, ways in states for line in explain_state(test, words, ways)], 0, cycles)
 
 
-def why_not_of(test, state):
-    """As `why_not`, of a test of either language, in its own names: a source test's registers are those of its compiled program, by their
-    numbers."""
-    program = plain.compiled(test)
+def explain_states_of_any(test: plain.Test, state: str) -> WhyNot:
+    """Returns what `explain_states` does for a test of either language, in its own names: a source test's registers are those of its compiled
+    program, by their numbers. Raises Fault if the state has other names than those that the test shows.
+    """
+    program = plain.compile_test(test)
     if test.language == "X86":
-        return why_not(program, state)
+        return explain_states(program, state)
     try:
-        lines, status, cycles = why_not(program, renamed(state, plain.REGISTERS["SRC"], plain.REGISTERS["X86"]))
+        explanation = explain_states(program, rename_registers(state, plain.REGISTERS["SRC"], plain.REGISTERS["X86"]))
     except given.Fault as fault:
-        raise given.Fault(in_source(fault.args[0]), *fault.args[1:]) from None
-    return [in_source(it) for it in lines], status, cycles
+        raise given.Fault(rename_to_source(fault.args[0]), *fault.args[1:]) from None
+    return explanation._replace(lines=[rename_to_source(line) for line in explanation.lines])
 
 
-def in_source(words):
-    return renamed(words, plain.REGISTERS["X86"], plain.REGISTERS["SRC"])
+def rename_to_source(words: str) -> str:
+    """Returns words in which registers have their names of the source language."""
+    return rename_registers(words, plain.REGISTERS["X86"], plain.REGISTERS["SRC"])
 
 
-def renamed(words, before, after):
-    """Words in which registers have their names of another language, by their numbers."""
+def rename_registers(words: str, before: Sequence[str], after: Sequence[str]) -> str:
+    """Returns words in which registers have their names of another language, by their numbers."""
     new = lambda it: f"{it[1]}:{after[before.index(it[2])]}" if it[2] in before else it[0]
     return re.sub(r"\b([0-3]):([A-Za-z][A-Za-z0-9_]*)\b", new, words)
 
@@ -351,50 +391,68 @@ def renamed(words, before, after):
 # The command line.
 
 
-def document_picture(example, schedule):
-    """A picture of the documents."""
-    with open(f"{HOME}/examples/{example}.litmus", encoding="utf-8") as it:
-        test = plain.compiled(plain.read_test(it.read()))
-    return picture_of(executions.execution_of(test, schedule), f"{test.name}, the execution of {schedule}")
+def draw_document_picture(example: str, schedule: str) -> str:
+    """Returns a picture of the documents."""
+    with open(f"{HOME}/examples/{example}.litmus", encoding="utf-8") as file:
+        test = plain.compile_test(plain.read_test(file.read()))
+    return draw_execution(executions.make_execution(test, schedule), f"{test.name}, the execution of {schedule}")
 
 
-def write_documents():
-    for path, *what in DOCUMENTS:
-        with open(f"{HOME}/{path}", "w", encoding="utf-8") as it:
-            it.write(document_picture(*what))
+def write_documents() -> None:
+    """Writes the graphs of the documents."""
+    for path, *example_and_schedule in DOCUMENTS:
+        with open(f"{HOME}/{path}", "w", encoding="utf-8") as file:
+            file.write(draw_document_picture(*example_and_schedule))
 
 
-def is_command(words):
-    return len(words) == 1 and not words[0].startswith("-") or len(words) == 2 and words[0] in ("--text", "--why-not")
+def print_why_not(state: str, text: str) -> int:
+    """Prints why a test does not end in a state. Returns the exit status."""
+    lines, status, _ = explain_states_of_any(plain.read_test(text), state)
+    print("\n".join(lines))
+    return status
 
 
-def show(words, text):
-    """Prints a picture, or what is asked in words. Returns the exit status."""
-    asked = plain.read_test(text)
-    if words[0] == "--why-not":
-        lines, status, _ = why_not_of(asked, words[1])
-        print("\n".join(lines))
-        return status
-    test = plain.compiled(asked)
+def print_graph(schedule: str, in_words: bool, text: str) -> int:
+    """Prints a picture of a run, or the same in words. Returns the exit status."""
+    test = plain.compile_test(plain.read_test(text))
     try:
-        execution = executions.execution_of(test, words[-1])
+        execution = executions.make_execution(test, schedule)
     except plain.NoSchedule as fault:
         return given.refuse("lw: schedule {} {} at {}".format(*fault.args))
     except (plain.Refused, IndexError) as why:
         return given.refuse(f"graph: the schedule is no run to the end: {why.args[-1]}")
-    if words[0] == "--text":
-        print("\n".join(text_of(execution)))
+    if in_words:
+        print("\n".join(format_execution(execution)))
     else:
-        print(picture_of(execution, f"{test.name}, the execution of {words[-1]}"), end="")
+        print(draw_execution(execution, f"{test.name}, the execution of {schedule}"), end="")
     return 0
 
 
-def main():
-    if sys.argv[1:] == ["--documents"]:
+def main() -> int:
+    """Runs the command that the arguments describe. Returns the exit status."""
+    given.set_output_encoding()
+    reader = command.Reader(__doc__)
+    choices = reader.add_mutually_exclusive_group()
+    choices.add_argument("--text", action="store_true")
+    choices.add_argument("--why-not", metavar="STATE")
+    choices.add_argument("--documents", action="store_true")
+    reader.add_argument("others", nargs="*")
+    arguments = reader.read()
+    if arguments.documents and not arguments.others:
         write_documents()
         return 0
-    return given.run("graph", __doc__, is_command, show)
+    is_run = arguments.why_not is None and not arguments.documents
+    if is_run and not arguments.others:
+        reader.error("a SCHEDULE is missing")
+    files = arguments.others[int(is_run) :]
+    if arguments.documents or len(files) > 1:
+        reader.error(f"unrecognized arguments: {' '.join(files)}")
+    if is_run:
+        answer = lambda _name, text: print_graph(arguments.others[0], arguments.text, text)
+    else:
+        answer = lambda _name, text: print_why_not(arguments.why_not, text)
+    return command.for_one("graph", (files or [given.STANDARD_INPUT])[0], answer)
 
 
 if __name__ == "__main__":
-    sys.exit(start.run(main, __doc__))
+    sys.exit(start.run(main))

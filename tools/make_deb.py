@@ -11,6 +11,8 @@ glibc, of the version that the programs need, and Python.
 It is made of a built tree, as the wheel is (tools/make_wheel.py), by the same rules: what is missing is said with status 1, and nothing
 written; and a checkout whose gate has not passed is named in its description and on standard error. The same tree gives the same bytes.
 """
+from __future__ import annotations
+
 import gzip
 import hashlib
 import io
@@ -18,10 +20,13 @@ import os
 import posixpath
 import sys
 import tarfile
+from collections.abc import Iterable, Mapping
+from typing import Dict, Union
 
 sys.dont_write_bytecode = True
 import pack
 from packing import completion, manual, tree
+from packing.tree import Origin
 from shared import start
 from shared.home import HOME
 
@@ -53,106 +58,111 @@ Version: {{version}}
 Cflags: -I${{{{includedir}}}}
 Libs: -L${{{{libdir}}}} -llw
 """
-COMMAND = f'#!/bin/sh\nexec /usr/bin/python3 /{SHARE}/{{path}} "$@"\n'
+COMMAND = f'#!/bin/sh\nexec /usr/bin/python3 -B /{SHARE}/tools {{tool}} "$@"\n'
 
 
 class Link(str):
     """The target of a symbolic link, from the top of the system."""
 
 
-def zipped(content):
+# What a package installs: of each name the bytes, or the target of a link.
+Installed = Dict[str, Union[bytes, Link]]
+
+
+def compress(content: bytes) -> bytes:
     """Returns some bytes in gzip's form. The same bytes give the same ones."""
-    made = io.BytesIO()
-    with gzip.GzipFile("", "wb", mtime=0, fileobj=made) as it:
-        it.write(content)
-    return made.getvalue()
+    stream = io.BytesIO()
+    with gzip.GzipFile("", "wb", mtime=0, fileobj=stream) as zipper:
+        zipper.write(content)
+    return stream.getvalue()
 
 
-def read(name):
+def read_packing_file(name: str) -> bytes:
     """Returns the bytes of a file of tools/packing/debian."""
-    with open(os.path.join(DEBIAN, name), "rb") as it:
-        return it.read()
+    with open(os.path.join(DEBIAN, name), "rb") as file:
+        return file.read()
 
 
-def tree_in_share(files):
+def list_tree_files(files: Mapping[str, bytes]) -> Installed:
     """Returns the tree in /usr/share/lw, with its programs and the library where Debian has such files."""
     places = {tree.LIBRARY: f"{LIB}/liblw.so", tree.LW: "usr/bin/lw", tree.BEYOND: "usr/bin/beyond"}
-    found = {}
+    package: Installed = {}
     for name, content in files.items():
         if name in places:
-            found[places[name]], content = content, Link(places[name])
-        found[f"{SHARE}/{name}"] = content
-    return found
+            package[places[name]] = content
+        package[f"{SHARE}/{name}"] = Link(places[name]) if name in places else content
+    return package
 
 
-def library(version):
+def list_library_files(version: str) -> Installed:
     """Returns the library for C and for Python, without the shared object."""
-    with open(os.path.join(HOME, pack.LIBRARY), "rb") as it:
-        found = {f"{LIB}/liblw.a": it.read()}
-    found[f"{LIB}/pkgconfig/lw.pc"] = PKG_CONFIG.format(version=version).encode()
-    found.update({f"usr/include/{name}": Link(f"{SHARE}/include/{name}") for name in ("lw.h", "lw_see.h")})
-    return {**found, f"{PYTHON}/lw.py": Link(f"{SHARE}/python/lw.py")}
+    with open(os.path.join(HOME, pack.LIBRARY), "rb") as file:
+        installed: dict[str, bytes | Link] = {f"{LIB}/liblw.a": file.read()}
+    installed[f"{LIB}/pkgconfig/lw.pc"] = PKG_CONFIG.format(version=version).encode()
+    installed.update({f"usr/include/{name}": Link(f"{SHARE}/include/{name}") for name in ("lw.h", "lw_see.h")})
+    return {**installed, f"{PYTHON}/lw.py": Link(f"{SHARE}/python/lw.py")}
 
 
-def commands(files):
+def list_command_files(files: Mapping[str, bytes]) -> Installed:
     """Returns the tools as commands, and the manual pages and completions of all commands."""
     names = [os.path.basename(it) for it in (tree.LW, tree.BEYOND) if it in files]
-    found, pages, options = {}, {name: read(f"{name}.1") for name in names}, {}
+    installed: dict[str, bytes | Link] = {}
+    pages, options = {name: read_packing_file(f"{name}.1") for name in names}, {}
     for tool in tree.TOOLS:
-        command, path = tree.command_of(tool), tree.path_of(tool)
-        found[f"usr/bin/{command}"] = COMMAND.format(path=path).encode()
-        pages[command] = manual.page_of(tool, files[path].decode()).encode()
-        options[command] = completion.options_of(files[path].decode())
-    found.update({f"usr/share/man/man1/{name}.1.gz": zipped(page) for name, page in pages.items()})
-    found.update({name: text.encode() for name, text in completion.files_of(options).items()})
-    return {**found, **{name: Link(target) for name, target in completion.links_of(pages).items()}}
+        command, path = tree.name_command(tool), tree.find_tool(tool)
+        installed[f"usr/bin/{command}"] = COMMAND.format(tool=tool).encode()
+        pages[command] = manual.make_page(tool, files[path].decode()).encode()
+        options[command] = completion.list_options(files[path].decode())
+    installed.update({f"usr/share/man/man1/{name}.1.gz": compress(page) for name, page in pages.items()})
+    installed.update({name: text.encode() for name, text in completion.make_files(options).items()})
+    return {**installed, **{name: Link(target) for name, target in completion.list_links(pages).items()}}
 
 
-def documents(files, origin):
+def list_document_files(files: Mapping[str, bytes], origin: Origin) -> Installed:
     """Returns what Debian has of each package in /usr/share/doc."""
     licences = "".join(f"\n{name}\n\n{files[name].decode()}" for name in sorted(files) if name.startswith("licences/"))
-    told = f"{tree.told(origin, tree.BEYOND in files)}\nThe crates of others that are linked in:\n{licences}"
+    copyright_text = f"{tree.describe_provenance(origin, tree.BEYOND in files)}\nThe crates of others that are linked in:\n{licences}"
     links = {f"usr/share/doc/lw/{name}": Link(f"{SHARE}/{name}") for name in ("README.md", "docs", "examples")}
-    return {"usr/share/doc/lw/copyright": told.encode(), **links}
+    return {"usr/share/doc/lw/copyright": copyright_text.encode(), **links}
 
 
-def installed(origin, files):
+def list_installed_files(origin: Origin, files: Mapping[str, bytes]) -> Installed:
     """Returns what is installed: by name, the bytes or the target of a link."""
-    return {**tree_in_share(files), **library(origin.version), **commands(files), **documents(files, origin)}
+    return {**list_tree_files(files), **list_library_files(origin.version), **list_command_files(files), **list_document_files(files, origin)}
 
 
-def described(text):
+def format_description(text: str) -> str:
     """Returns a description as control files have it. The lines of its first paragraph stay lines."""
     first, rest = text.rstrip("\n").split("\n\n", 1)
     lines = [f"  {line}" for line in first.split("\n")] + [f" {line or '.'}" for line in ["", *rest.split("\n")]]
     return "".join(f"{it}\n" for it in lines)
 
 
-def control(origin, files, made):
+def make_control_files(origin: Origin, files: Mapping[str, bytes], package: Installed) -> dict[str, bytes]:
     """Returns the files of the package's own description."""
-    held = {name: it for name, it in made.items() if not isinstance(it, Link)}
-    least = "{}.{}".format(*tree.least_glibc([it for it in files.values() if it.startswith(b"\x7fELF")]))
+    held = {name: it for name, it in package.items() if not isinstance(it, Link)}
+    least = "{}.{}".format(*tree.find_least_glibc([it for it in files.values() if it.startswith(b"\x7fELF")]))
     size = sum(-(-len(it) // 1024) for it in held.values())
-    told = described(tree.told(origin, tree.BEYOND in files))
+    description = format_description(tree.describe_provenance(origin, tree.BEYOND in files))
     sums = "".join(f"{hashlib.md5(held[name]).hexdigest()}  {name}\n" for name in sorted(held))
-    return {"control": CONTROL.format(version=origin.version, size=size, libc=least, told=told).encode(), "md5sums": sums.encode()}
+    return {"control": CONTROL.format(version=origin.version, size=size, libc=least, told=description).encode(), "md5sums": sums.encode()}
 
 
-def folders_of(names):
+def list_folders(names: Iterable[str]) -> set[str]:
     """Returns all folders above some names."""
-    found = set()
+    folders = set()
     for name in names:
         while "/" in name:
             name = posixpath.dirname(name)
-            found.add(name)
-    return found
+            folders.add(name)
+    return folders
 
 
-def tarred(files, seconds):
+def make_tar(files: Mapping[str, bytes | Link], seconds: int) -> bytes:
     """Returns the bytes of a tar file: all its files are root's, and have the same time."""
-    made = io.BytesIO()
-    folders = folders_of(files)
-    with tarfile.open(fileobj=made, mode="w", format=tarfile.GNU_FORMAT) as tar:
+    stream = io.BytesIO()
+    folders = list_folders(files)
+    with tarfile.open(fileobj=stream, mode="w", format=tarfile.GNU_FORMAT) as tar:
         for name in ["", *sorted({*files, *folders})]:
             content = files.get(name)
             info = tarfile.TarInfo(f"./{name}")
@@ -163,35 +173,36 @@ def tarred(files, seconds):
                 info.type, info.mode = tarfile.SYMTYPE, 0o777
                 info.linkname = posixpath.relpath(content, posixpath.dirname(name))
             else:
-                info.size, info.mode = len(content), 0o755 if is_run(name, content) else 0o644
-            tar.addfile(info, io.BytesIO(content) if info.isreg() else None)
-    return zipped(made.getvalue())
+                info.size, info.mode = len(content), 0o755 if is_executable(name, content) else 0o644
+            tar.addfile(info, io.BytesIO(content) if isinstance(content, bytes) else None)
+    return compress(stream.getvalue())
 
 
-def is_run(name, content):
+def is_executable(name: str, content: bytes) -> bool:
     """Returns whether a file is executable: a library is not."""
     return tree.is_program(content) and not name.startswith(LIB)
 
 
-def archived(members, seconds):
+def make_ar(members: Iterable[tuple[str, bytes]], seconds: int) -> bytes:
     """Returns the bytes of an archive of ar's."""
-    made = b"!<arch>\n"
+    archive = b"!<arch>\n"
     for name, content in members:
-        made += f"{name:<16}{seconds:<12}{0:<6}{0:<6}{'100644':<8}{len(content):<10}`\n".encode() + content + b"\n" * (len(content) % 2)
-    return made
+        archive += f"{name:<16}{seconds:<12}{0:<6}{0:<6}{'100644':<8}{len(content):<10}`\n".encode() + content + b"\n" * (len(content) % 2)
+    return archive
 
 
-def write(folder, origin, files):
+def write_package(folder: str, origin: Origin, files: Mapping[str, bytes]) -> str:
     """Writes the package. Returns its path."""
-    made = installed(origin, files)
-    parts = ("control.tar.gz", control(origin, files, made)), ("data.tar.gz", made)
-    members = [("debian-binary", b"2.0\n"), *((name, tarred(part, origin.seconds)) for name, part in parts)]
-    return tree.put(folder, f"lw_{origin.version}_amd64.deb", archived(members, origin.seconds))
+    package = list_installed_files(origin, files)
+    parts: list[tuple[str, Mapping[str, bytes | Link]]] = [("control.tar.gz", make_control_files(origin, files, package)), ("data.tar.gz", package)]
+    members = [("debian-binary", b"2.0\n"), *((name, make_tar(part, origin.seconds)) for name, part in parts)]
+    return tree.write_file(folder, f"lw_{origin.version}_amd64.deb", make_ar(members, origin.seconds))
 
 
-def main():
-    return tree.make("package", __doc__, write)
+def main() -> int:
+    """Runs the command that the arguments describe. Returns the exit status."""
+    return tree.make_and_report("package", __doc__, write_package)
 
 
 if __name__ == "__main__":
-    sys.exit(start.run(main, __doc__))
+    sys.exit(start.run(main))

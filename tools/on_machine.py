@@ -26,12 +26,14 @@ The list is made by lw, by beyond if lw refuses the test for its size, and other
 the output says which. That a program is converted rightly is not proved. A C compiler and objdump are needed: without one of them, if what is
 compiled is not the test, or if no run of a program is left, a line says so and the status is 5. A file that has no test ends with status 1, and one line `FILE:LINE:COLUMN: cause`. Linux on x86-64, Python 3.8.
 """
+from __future__ import annotations
+
 import argparse
 import json
 import shlex
 import sys
 import tempfile
-from typing import List, Optional
+from typing import Any
 
 sys.dont_write_bytecode = True
 import given
@@ -40,31 +42,31 @@ from machine import knobs, programs, summary
 from machine.faults import NotRun
 from machine.laboratory import Laboratory, Settings
 from machine.plans import Limits
-from machine.subjects import Subject, subject_of
+from machine.subjects import Subject, make_subject
 from shared import command, start
 
 SEEN_AND_NOT_LISTED, NOT_RUN, INTERRUPTED = 3, 5, 130
 SECONDS = 10.0
 
 
-def knob_of(word: str):
-    """Reads a word that sets a knob."""
+def parse_knob(word: str) -> tuple[str, Any]:
+    """Reads a word that sets a knob. Raises ArgumentTypeError if it sets none."""
     try:
-        return knobs.read_knob(word)
+        return knobs.parse_knob(word)
     except knobs.NoKnob as why:
         raise argparse.ArgumentTypeError(str(why)) from None
 
 
-def seconds_of(text: str) -> float:
-    """Reads a number of seconds."""
-    seconds = command.seconds_in(text)
+def parse_seconds(text: str) -> float:
+    """Reads a number of seconds. Raises ArgumentTypeError if the text says none."""
+    seconds = command.parse_seconds(text)
     if seconds is None:
         raise argparse.ArgumentTypeError(f"'{text}' is no number of seconds from 0.001 to 10000000")
     return seconds
 
 
-def compiler_of(text: str) -> List[str]:
-    """Reads the words of a compiler."""
+def parse_compiler(text: str) -> list[str]:
+    """Reads the words of a compiler. Raises ArgumentTypeError if they are no command."""
     try:
         words = shlex.split(text)
     except ValueError as why:
@@ -74,32 +76,32 @@ def compiler_of(text: str) -> List[str]:
     return words
 
 
-def settings_of(words, against: Optional[Subject]) -> Settings:
+def make_settings(arguments: argparse.Namespace, against: Subject | None) -> Settings:
     """Returns how tests are run, by the arguments of the command."""
-    seconds = SECONDS if words.seconds is None and not words.runs else words.seconds
-    return Settings(Limits(seconds, words.runs, words.until == "complete"), knobs.knobs_of(words.knob), words.everything, against)
+    seconds = SECONDS if arguments.seconds is None and not arguments.runs else arguments.seconds
+    return Settings(Limits(seconds, arguments.runs, arguments.until == "complete"), knobs.make_knobs(arguments.knob), arguments.everything, against)
 
 
-def show(laboratory: Laboratory, words, settings: Settings, file: str, text: str) -> int:
+def run_and_print(laboratory: Laboratory, arguments: argparse.Namespace, settings: Settings, file: str, text: str) -> int:
     """Runs one test, and prints what was seen. Returns the exit status."""
     try:
-        result = programs.result_of_file(laboratory, file, text, settings, words.program_cc, words.tries)
+        result = programs.run_file(laboratory, file, text, settings, arguments.program_cc, arguments.tries)
     except NotRun as why:
         print(f"on_machine: {file}: {why}", file=sys.stderr)
         return NOT_RUN
     except Refused as why:
-        return given.refuse(why.text(file))
-    print(json.dumps(summary.json_of(result)) if words.json else summary.text_of(result), end="\n" if words.json else "", flush=True)
+        return given.refuse(why.format_line(file))
+    print(json.dumps(summary.make_json(result)) if arguments.json else summary.format_result(result), end="\n" if arguments.json else "", flush=True)
     return SEEN_AND_NOT_LISTED if result.is_contradicted() else 0
 
 
-def run_all(words, settings: Settings) -> int:
+def run_all(arguments: argparse.Namespace, settings: Settings) -> int:
     """Runs all tests. Returns the exit status; a state that was seen and not listed determines it first."""
     try:
         with tempfile.TemporaryDirectory(prefix="lw-machine-") as folder:
-            laboratory = Laboratory(words.cc, folder)
-            work = lambda file, text: show(laboratory, words, settings, file, text)
-            statuses = {command.for_one("on_machine", file, work) for file in words.files}
+            laboratory = Laboratory(arguments.cc, folder)
+            work = lambda file, text: run_and_print(laboratory, arguments, settings, file, text)
+            statuses = {command.for_one("on_machine", file, work) for file in arguments.files}
     except NotRun as why:
         print(f"on_machine: {why}", file=sys.stderr)
         return NOT_RUN
@@ -108,41 +110,44 @@ def run_all(words, settings: Settings) -> int:
     return SEEN_AND_NOT_LISTED if SEEN_AND_NOT_LISTED in statuses else max(statuses)
 
 
-def run_against(words) -> int:
+def run_against(arguments: argparse.Namespace) -> int:
     """Reads the test of `--against`, if there is one, and runs all tests. Returns the exit status."""
-    if words.against is None:
-        return run_all(words, settings_of(words, None))
-    return command.for_one("on_machine", words.against, lambda file, text: run_held_against(words, file, text))
+    if arguments.against is None:
+        return run_all(arguments, make_settings(arguments, None))
+    return command.for_one("on_machine", arguments.against, lambda file, text: run_held_against(arguments, file, text))
 
 
-def run_held_against(words, file: str, text: str) -> int:
+def run_held_against(arguments: argparse.Namespace, file: str, text: str) -> int:
     """Runs all tests against the list of a test or a program. Returns the exit status."""
     try:
         is_converted = programs.is_converted(file, text)
-        its = programs.program_of(file, text, words.program_cc, words.tries).subject if is_converted else subject_of(text, words.everything)
+        subject = programs.compile_program(
+            file, text, arguments.program_cc, arguments.tries
+        ).subject if is_converted else make_subject(text, arguments.everything)
     except NotRun as why:
         print(f"on_machine: {file}: {why}", file=sys.stderr)
         return NOT_RUN
     except Refused as why:
-        return given.refuse(why.text(file))
-    return run_all(words, settings_of(words, its))
+        return given.refuse(why.format_line(file))
+    return run_all(arguments, make_settings(arguments, subject))
 
 
 def main() -> int:
-    given.print_as_lw()
-    reader = command.words_of(__doc__)
+    """Runs the command that the arguments describe. Returns the exit status."""
+    given.set_output_encoding()
+    reader = command.Reader(__doc__)
     reader.add_argument("files", nargs="+", metavar="FILE")
-    reader.add_argument("--runs", type=command.number_from(1), default=0, metavar="N")
-    reader.add_argument("--seconds", type=seconds_of, metavar="S")
+    reader.add_argument("--runs", type=command.make_number_parser(1), default=0, metavar="N")
+    reader.add_argument("--seconds", type=parse_seconds, metavar="S")
     reader.add_argument("--until", choices=["complete"])
     reader.add_argument("--everything", action="store_true")
     reader.add_argument("--against", metavar="FILE")
     reader.add_argument("--json", action="store_true")
-    reader.add_argument("--cc", type=compiler_of, default="cc")
+    reader.add_argument("--cc", type=parse_compiler, default="cc")
     reader.add_argument("--program-cc", metavar="COMMAND")
-    reader.add_argument("--tries", type=command.number_from(0), default=1, metavar="N")
-    reader.add_argument("--knob", type=knob_of, action="append", default=[], metavar="NAME=VALUE")
-    return run_against(reader.parse_args())
+    reader.add_argument("--tries", type=command.make_number_parser(0), default=1, metavar="N")
+    reader.add_argument("--knob", type=parse_knob, action="append", default=[], metavar="NAME=VALUE")
+    return run_against(reader.read())
 
 
 if __name__ == "__main__":

@@ -12,6 +12,8 @@ It is made of a built tree alone: the sources are those of the commit, and the p
 (tools/build_wasm.py) are there. Otherwise it says what is missing, with status 1, and writes nothing. If the gate (./test.sh) has not passed
 for these sources in this checkout, PACK.txt and a line on standard error say so: it may have passed elsewhere, which nothing here shows.
 """
+from __future__ import annotations
+
 import glob
 import gzip
 import hashlib
@@ -22,19 +24,21 @@ import subprocess
 import sys
 import tarfile
 import tempfile
+from collections.abc import Sequence
+from typing import IO, cast
 
 sys.dont_write_bytecode = True
 import make_site
 from page import web_files
 from program import build
-from shared import start
-from shared.home import HOME, crates
+from shared import command, start
+from shared.home import HOME, read_crates, read_lines
 
 OUT = f"{HOME}/crates/lw/out"
 LIBRARY = "crates/lw_library/out/liblw_library.a"
 # What is taken as it is. Of the tools, those that need neither the toolchain nor the sources.
 FILES = """lw beyond page README.md docs/*.md docs/pictures/* examples/* examples/*/* include/* python/* web/* tools/program/*
-    tools/assume.py tools/beyond.py tools/build_wasm.py tools/cycles.py tools/effects.py tools/executions.py tools/fences.py
+    tools/__main__.py tools/assume.py tools/beyond.py tools/build_wasm.py tools/cycles.py tools/effects.py tools/executions.py tools/fences.py
     tools/films.py tools/from_c.py tools/from_herd.py tools/given.py tools/graph.py tools/on_machine.py tools/picture.py tools/plain.py
     tools/random_tests.py tools/read_codes.py tools/replay_state.py tools/run_all.py tools/to_herd.py
     tools/c/* tools/fencing/*.py tools/herd/*.py tools/herd/tests/* tools/interpreter/*.py tools/lab/*.html tools/lab/*.py
@@ -66,122 +70,114 @@ class NoPack(Exception):
     """The pack can't be made, and why."""
 
 
-def ask(*words):
-    """The lines that a command prints; none where it fails."""
-    ran = subprocess.run(words, cwd=HOME, stdout=subprocess.PIPE, stderr=subprocess.DEVNULL, text=True, check=False)
+def run_command(*arguments: str) -> list[str]:
+    """Returns the lines that a command prints; none where it fails."""
+    ran = subprocess.run(arguments, cwd=HOME, stdout=subprocess.PIPE, stderr=subprocess.DEVNULL, text=True, check=False)
     return ran.stdout.splitlines() if ran.returncode == 0 else []
-
-
-def read_lines(path):
-    try:
-        with open(path, encoding="utf-8") as it:
-            return it.read().splitlines()
-    except OSError:
-        return []
 
 
 # What it is made of.
 
 
-def commit():
-    """The commit of the sources, which are as it has them."""
-    found = ask("git", "rev-parse", "HEAD")
-    if not found:
+def read_commit() -> str:
+    """Returns the commit of the sources. Fails if files differ from it."""
+    commit = run_command("git", "rev-parse", "HEAD")
+    if not commit:
         raise NoPack("this is no checkout of the repository")
-    if ask("git", "status", "--porcelain"):
+    if run_command("git", "status", "--porcelain"):
         raise NoPack("files differ from the commit's: commit them, or put them away")
-    return found[0]
+    return commit[0]
 
 
-def ending_of_gate():
-    """How the gate ended that proved the program: the last line of ./test.sh for these sources, or that it has not passed here."""
-    made_of, told = read_lines(f"{OUT}/made-of"), read_lines(f"{OUT}/gate")
-    if len(made_of) < 4 or len(told) != 2 or told[0] != made_of[3]:
+def describe_gate() -> str:
+    """Returns how the gate ended that proved the program: the last line of ./test.sh for these sources, or that it has not passed here."""
+    made_of, lines_of_gate = read_lines(f"{OUT}/made-of"), read_lines(f"{OUT}/gate")
+    if len(made_of) < 4 or len(lines_of_gate) != 2 or lines_of_gate[0] != made_of[3]:
         return NO_GATE
-    return told[1]
+    return lines_of_gate[1]
 
 
-def licences():
-    """The licence texts of the crates of others that the program is linked with: of each name its bytes."""
+def read_licences() -> dict[str, bytes]:
+    """Returns the licence texts of the crates of others that the program is linked with: of each name its bytes. Raises NoPack if one is missing."""
     ours = {os.path.basename(it) for it in glob.glob(f"{HOME}/crates/*")}
     tests = re.compile(r"\w+_tests|lw_test_reader")
-    named = {it for name, (_, below) in crates().items() if not tests.fullmatch(name) for it in below}
-    doc = ask("rt", "doc")
+    named = {it for name, (_, below) in read_crates().items() if not tests.fullmatch(name) for it in below}
+    doc = run_command("rt", "doc")
     if not doc:
         raise NoPack("the toolchain's command rt does not run")
     kit = os.path.dirname(doc[0])
-    found = {}
+    licences = {}
     for crate in sorted(named - ours):
         texts = glob.glob(f"{kit}/rattle/{crate}/LICEN[CS]E*")
         if not texts:
             raise NoPack(f"the crate {crate} comes without a licence text")
         for path in texts:
-            with open(path, "rb") as it:
-                found[f"licences/{crate}/{os.path.basename(path)}"] = it.read()
-    return found
+            with open(path, "rb") as file:
+                licences[f"licences/{crate}/{os.path.basename(path)}"] = file.read()
+    return licences
 
 
-def is_built(program):
-    """Whether a program is there, and that of the sources."""
+def is_built(program: build.Program) -> bool:
+    """Returns whether a program is there, and that of the sources."""
     return build.ask_program_sh("is_current", program) is not None
 
 
-def taken(parts=tuple(FILES)):
-    """The files that are taken as they are: of each name its bytes."""
-    found = {}
+def read_taken_files(parts: Sequence[str] = tuple(FILES)) -> dict[str, bytes]:
+    """Returns the files that are taken as they are: of each name its bytes. Raises NoPack if one is missing."""
+    taken_files = {}
     for part in parts:
         paths = [it for it in glob.glob(f"{HOME}/{part}") if os.path.isfile(it)]
         if not paths:
             raise NoPack(f"{part} is missing")
         for path in paths:
-            with open(path, "rb") as it:
-                found[os.path.relpath(path, HOME)] = it.read()
-    return found
+            with open(path, "rb") as file:
+                taken_files[os.path.relpath(path, HOME)] = file.read()
+    return taken_files
 
 
-def shared_library():
-    """The library as a shared object."""
-    with tempfile.TemporaryDirectory(prefix="lw-pack-") as room:
-        subprocess.run([*SHARED, f"{room}/liblw.so"], check=True)
-        with open(f"{room}/liblw.so", "rb") as it:
-            return it.read()
+def make_shared_library() -> bytes:
+    """Returns the library as a shared object."""
+    with tempfile.TemporaryDirectory(prefix="lw-pack-") as folder:
+        subprocess.run([*SHARED, f"{folder}/liblw.so"], check=True)
+        with open(f"{folder}/liblw.so", "rb") as file:
+            return file.read()
 
 
-def made():
-    """The files that are made for it: the site, and the library as a shared object."""
-    modules = web_files.modules()
+def make_files() -> dict[str, bytes]:
+    """Returns the files that are made for it: the site, and the library as a shared object. Raises NoPack if the module is missing."""
+    modules = web_files.read_modules()
     if not modules:
         raise NoPack("the WebAssembly module of these sources is missing: run tools/build_wasm.py")
-    with tempfile.TemporaryDirectory(prefix="lw-pack-") as room:
-        make_site.make(f"{room}/site", modules)
-        make_site.make(f"{room}/site.html", modules, True)
-        found = {"python/liblw.so": shared_library()}
-        for path in glob.glob(f"{room}/**", recursive=True):
+    with tempfile.TemporaryDirectory(prefix="lw-pack-") as folder:
+        make_site.make_site(f"{folder}/site", modules)
+        make_site.make_site(f"{folder}/site.html", modules, True)
+        files = {"python/liblw.so": make_shared_library()}
+        for path in glob.glob(f"{folder}/**", recursive=True):
             if os.path.isfile(path):
-                with open(path, "rb") as it:
-                    found[os.path.relpath(path, room)] = it.read()
-        return found
+                with open(path, "rb") as file:
+                    files[os.path.relpath(path, folder)] = file.read()
+        return files
 
 
 # The pack.
 
 
-def contents(made_by, gate):
-    """Of each name in the pack its bytes, by the commit and by how the gate ended."""
+def make_contents(made_by: str, gate: str) -> dict[str, bytes]:
+    """Returns of each name in the pack its bytes, by the commit and by how the gate ended. Raises NoPack if a program is not built."""
     for program in (build.LW, build.BEYOND):
         if not is_built(program):
             raise NoPack(f"there is no program {program.name} of these sources: run ./{program.name}")
     ended = f"{gate}\n           ({NO_LIBRARY})" if gate == NO_GATE else gate
-    told = TOLD.format(commit=made_by, toolchain=" ".join(ask("rt", "version")), gate=ended)
-    files = {**taken(), **made(), **licences(), "PACK.txt": told.encode()}
+    description = TOLD.format(commit=made_by, toolchain=" ".join(run_command("rt", "version")), gate=ended)
+    files = {**read_taken_files(), **make_files(), **read_licences(), "PACK.txt": description.encode()}
     sums = "".join(f"{hashlib.sha256(files[name]).hexdigest()}  {name}\n" for name in sorted(files))
     return {**files, "SHA256SUMS": sums.encode()}
 
 
-def write(path, top, files):
+def write_pack(path: str, top: str, files: dict[str, bytes]) -> None:
     """Writes the pack under another name first, so that none is there by half. The same contents give the same bytes."""
-    with open(f"{path}.new", "wb") as it, gzip.GzipFile("", "wb", mtime=0, fileobj=it) as packed:
-        with tarfile.open(fileobj=packed, mode="w") as tar:
+    with open(f"{path}.new", "wb") as file, gzip.GzipFile("", "wb", mtime=0, fileobj=file) as packed:
+        with tarfile.open(fileobj=cast(IO[bytes], packed), mode="w") as tar:
             for name in sorted(files):
                 info = tarfile.TarInfo(f"{top}/{name}")
                 info.size = len(files[name])
@@ -190,30 +186,31 @@ def write(path, top, files):
     os.replace(f"{path}.new", path)
 
 
-def warning(gate):
-    """The lines on standard error that say that the gate has not passed here."""
+def make_warning(gate: str) -> list[str]:
+    """Returns the lines on standard error that say that the gate has not passed here."""
     return [f"note: the gate (./test.sh) {gate}; {NO_LIBRARY}; what is made says so"] if gate == NO_GATE else []
 
 
-def main():
-    if len(sys.argv) != 2 or sys.argv[1].startswith("-"):
-        print(__doc__.split("\n\n")[1].strip(), file=sys.stderr)
-        return 2
+def main() -> int:
+    """Runs the command that the arguments describe. Returns the exit status."""
+    reader = command.Reader(__doc__)
+    reader.add_argument("folder", metavar="FOLDER")
+    folder = reader.read().folder
     try:
-        made_by = commit()
-        gate = ending_of_gate()
-        files = contents(made_by, gate)
+        made_by = read_commit()
+        gate = describe_gate()
+        files = make_contents(made_by, gate)
         top = f"lw-{made_by[:8]}-linux-x86_64"
-        os.makedirs(sys.argv[1], exist_ok=True)
-        write(f"{sys.argv[1]}/{top}.tar.gz", top, files)
+        os.makedirs(folder, exist_ok=True)
+        write_pack(f"{folder}/{top}.tar.gz", top, files)
     except (NoPack, make_site.NoSite, OSError, subprocess.CalledProcessError) as why:
         print(f"no pack: {why}", file=sys.stderr)
         return 1
-    for line in warning(gate):
+    for line in make_warning(gate):
         print(line, file=sys.stderr)
-    print(f"{sys.argv[1]}/{top}.tar.gz")
+    print(f"{folder}/{top}.tar.gz")
     return 0
 
 
 if __name__ == "__main__":
-    sys.exit(start.run(main, __doc__))
+    sys.exit(start.run(main))

@@ -5,8 +5,10 @@
     python3 tools/plain.py schedules FILE
     python3 tools/plain.py compile FILE
     python3 tools/plain.py replay SCHEDULE [--protocol mesi|moesi] FILE
+    python3 tools/plain.py words FILE
+    python3 tools/plain.py orders FILE
 
-prints what `./lw` prints, by other means: final states are found by walking through all states that a test can be in, a source
+The first four print what `./lw` prints, by other means: final states are found by walking through all states that a test can be in, a source
 test's by interleaving on one memory, an x86 test's with store buffers before one memory. The caches are played in replays only.
 
 - `schedules` gives a shortest schedule to each state; `./lw` may give another.
@@ -18,75 +20,98 @@ test's by interleaving on one memory, an x86 test's with store buffers before on
 - There is no limit but patience: a test with very many states takes very long. Only a condition with hundreds of parentheses in one another
   is refused, by a line that says so.
 
-Two commands more:
-
-    python3 tools/plain.py words FILE
-    python3 tools/plain.py orders FILE
-
-say whether interleaving and x86-TSO allow what a test's condition asks about, in the words of the examples' comments; and how many
+The last two say whether interleaving and x86-TSO allow what a test's condition asks about, in the words of the examples' comments; and how many
 items a choice of flow paths has at most, and how many orders `./lw` counts.
 """
+from __future__ import annotations
+
 import sys
 
 sys.dont_write_bytecode = True
 import given
 from interpreter.compiling import (
-    canonical_text, cells_of, compiled, compiled_thread, fenced_loads, followers, instruction_text, instructions_of,
+    compile_statement, compile_test, compile_thread, find_fenced_loads, format_canonical_text, format_cells, format_instruction, list_successors,
 )
-from interpreter.conditions import condition_text, holds, proposition_text, site_name, site_order, sites_in, word_at
+from interpreter.conditions import (
+    format_condition, format_proposition, format_site, is_true, list_parts, list_sites, read_word, replace_atoms, site_sort_key,
+)
 from interpreter.machines import (
-    Caches, OneMemory, Processor, drain, instruction_step, locked_step, put, source_statement, step, word_of,
+    Caches, OneMemory, Processor, drain_oldest, execute_instruction, execute_locked, execute_next, execute_statement, read_value, replace_item,
 )
-from interpreter.orders import accesses_of, conflicts_between, orders_of, paths
+from interpreter.orders import count_accesses, count_conflicts, count_orders, list_paths
 from interpreter.reading import (
-    BLANKS, LANGUAGE, MOST_BYTES, MOST_NODES, MOST_ROWS, MOST_STATEMENTS, NAME_OF_TEST, RESERVED, Reader, heading_of,
-    read_test,
+    BLANKS, LANGUAGE, MAX_BYTES, MAX_NODES, MAX_ROWS, MAX_STATEMENTS, NAME_OF_TEST, RESERVED, Reader, read_heading, read_test,
 )
-from interpreter.replays import SourceReplay, X86Replay, named, read_schedule, replay, start_replay
-from interpreter.reports import observed, report, schedules, state_line, states_of, word_on, words_on
-from interpreter.tests import NoSchedule, NoTest, REGISTERS, Refused, Statement, Test, WORD, text_of
-from interpreter.tokens import KEY, LETTERS, TOKEN, letters_at, quoted, skip_comment, skip_notes, skip_quoted, tokens_of
+from interpreter.replays import SourceReplay, X86Replay, format_words, read_schedule, replay, start_replay
+from interpreter.reports import (
+    collect_states, find_verdict, find_verdicts, format_schedules, format_state, list_observed_sites, make_outcome_from_words, make_report,
+)
+from interpreter.tests import (
+    REGISTERS, WORD, And, Constant, Eq, LocationSite, NoSchedule, NoTest, Not, Number, Or, Outcome, Proposition, Refused, Register, RegisterSite,
+    Site, Statement, Test, Value, join_lines,
+)
+from interpreter.tokens import KEY, LETTERS, TOKEN, quote, quote_at, read_tokens, skip_comment, skip_notes, skip_quoted
 from interpreter.walks import (
-    interleaved_moves, outcome_of, outcomes, source_moves, source_start, walk, way_to, x86_moves, x86_start,
+    explore_states, list_interleaved_moves, list_outcomes, list_source_moves, list_x86_moves, make_outcome, make_schedule, make_source_start,
+    make_x86_start,
 )
-from shared import start
+from shared import command, start
+
+COMMANDS = ("states", "schedules", "compile", "replay", "words", "orders")
+PROTOCOLS = ("mesi", "moesi")
 
 
-def answer(words, text):
-    """Returns what the program prints for a command, and its exit status."""
-    command, *rest = words
+def answer_command(arguments: list[str], text: str) -> tuple[str, int]:
+    """Returns what the program prints for a command, and its exit status. The words are those of its command line, without the file."""
+    name, *rest = arguments
     test = read_test(text)
-    if command == "replay":
+    if name == "replay":
         return replay(test, rest[0], *rest[2:])
     texts = {
-        "states": lambda: report(test),
-        "schedules": lambda: schedules(test),
-        "compile": lambda: canonical_text(compiled(test)),
-        "words": lambda: "Interleaving: {}. x86-TSO: {}.\n".format(*words_on(test)),
-        "orders": lambda: "Items: {}. Orders: {}.\n".format(*orders_of(test)),
+        "states": lambda: make_report(test),
+        "schedules": lambda: format_schedules(test),
+        "compile": lambda: format_canonical_text(compile_test(test)),
+        "words": lambda: "Interleaving: {}. x86-TSO: {}.\n".format(*find_verdicts(test)),
+        "orders": lambda: "Items: {}. Orders: {}.\n".format(*count_orders(test)),
     }
-    return texts[command](), 0
+    return texts[name](), 0
 
 
-def is_command(words):
-    if words[:1] == ["replay"]:
-        return len(words) == 2 or len(words) == 4 and words[2] == "--protocol" and words[3] in ("mesi", "moesi")
-    return len(words) == 1 and words[0] in ("states", "schedules", "compile", "words", "orders")
+def parse_arguments() -> tuple[list[str], str]:
+    """Reads the command line. Returns the words of the command, as `answer` takes them, and the name of its file."""
+    parser = command.Reader(__doc__)
+    parser.add_argument("command", choices=COMMANDS)
+    parser.add_argument("others", nargs="*")
+    parser.add_argument("--protocol", choices=PROTOCOLS)
+    options = parser.read()
+    is_replay = options.command == "replay"
+    schedule, files = options.others[: int(is_replay)], options.others[int(is_replay) :]
+    if is_replay and not schedule:
+        parser.error("replay needs a SCHEDULE")
+    if options.protocol and not is_replay:
+        parser.error(f"{options.command} takes no --protocol")
+    if len(files) > 1:
+        parser.error(f"one FILE is enough, and not {' '.join(files)}")
+    protocol = ["--protocol", options.protocol] if options.protocol else []
+    return [options.command, *schedule, *protocol], (files or [given.STANDARD_INPUT])[0]
 
 
-def show(words, text):
+def print_answer(arguments: list[str], text: str) -> int:
     """Prints the answer to a command. Returns the exit status."""
     try:
-        told, status = answer(words, text)
+        printed, status = answer_command(arguments, text)
     except NoSchedule as fault:
         return given.refuse("lw: schedule {} {} at {}".format(*fault.args))
-    print(told, end="")
+    print(printed, end="")
     return status
 
 
-def main():
-    return given.run("plain", __doc__, is_command, show)
+def main() -> int:
+    """Reads the command line and prints the answer. Returns the exit status."""
+    given.set_output_encoding()
+    words, file = parse_arguments()
+    return command.for_one("plain", file, lambda _name, text: print_answer(words, text))
 
 
 if __name__ == "__main__":
-    sys.exit(start.run(main, __doc__))
+    sys.exit(start.run(main))

@@ -11,9 +11,12 @@ how many answers are right, and which are wrong: `3 interleaving`, `5 x86`, or `
 A bad code is told as `FILE:LINE:COLUMN: cause`, in which FILE is `-` for standard input, and the status is 1; the others are read. A
 student who has handed in before is noted. Python 3.8 is enough, on any system.
 """
+from __future__ import annotations
+
 import json
 import re
 import sys
+from typing import Tuple
 
 sys.dont_write_bytecode = True
 import films
@@ -26,83 +29,93 @@ DATA = re.compile(r"^const quiz = (\{.*\});$", re.M)
 WRONG = ("", "interleaving", "x86", "both")
 
 
+# A row of the table: who has handed a code in, the points, and the tests with wrong answers.
+Row = Tuple[str, ...]
+
+
 class Quizzes:
     """The quizzes that codes may be of: the one of a page, or those of a seed."""
 
-    def __init__(self, word):
-        self.known, self.page = {}, None
+    def __init__(self, word: str) -> None:
+        """Reads the quiz of a page, or remembers a seed."""
+        self.known: dict[int, quiz.Data] = {}  # by the number of tests
+        self.page: quiz.Data | None = None
         self.seed = word
         if not re.fullmatch("[0-9a-z]+", word):
-            found = DATA.search(given.decoded(given.bytes_of(word)))
-            if not found:
+            match = DATA.search(given.decode(given.read_bytes(word)))
+            if not match:
                 raise quiz.NoQuiz(f"{word}: the file is no quiz of tools/make_quiz.py")
-            self.page = json.loads(found[1])
+            self.page = json.loads(match[1])
             self.seed = self.page["seed"]
 
-    def of(self, count):
-        """The quiz with so many tests."""
+    def find_quiz(self, count: int) -> quiz.Data:
+        """Returns the quiz with this number of tests."""
         if self.page:
             return self.page
         if count not in self.known:
-            self.known[count] = quiz.data_of(self.seed, quiz.tests_of(count, self.seed, quiz.reports()))
+            self.known[count] = quiz.make_data(self.seed, quiz.make_tests(count, self.seed, quiz.choose_reporter()))
         return self.known[count]
 
-    def row(self, line):
-        """What the code of a line says: who, how many answers, how many of them right, and which wrong."""
-        it = codes.read_code(line)
+    def make_row(self, line: str) -> Row:
+        """Returns what the code of a line says: who, how many answers, how many of them right, and which wrong. Raises BadCode if it is of another
+        quiz.
+        """
+        handed_in = codes.read_code(line)
         begin = len(line) - len(line.lstrip(codes.BETWEEN))
-        if it.seed != self.seed:
-            raise codes.BadCode(f"the code is of the quiz with the seed {it.seed}, not {self.seed}", begin)
-        data = self.of(len(it.answers))
-        if len(it.answers) != len(data["tests"]):
-            raise codes.BadCode(f"the code is of a quiz with {len(it.answers)} tests, not {len(data['tests'])}", begin)
-        if it.mark != data["mark"]:
+        if handed_in.seed != self.seed:
+            raise codes.BadCode(f"the code is of the quiz with the seed {handed_in.seed}, not {self.seed}", begin)
+        data = self.find_quiz(len(handed_in.answers))
+        if len(handed_in.answers) != len(data["tests"]):
+            raise codes.BadCode(f"the code is of a quiz with {len(handed_in.answers)} tests, not {len(data['tests'])}", begin)
+        if handed_in.mark != data["mark"]:
             raise codes.BadCode("the code is of other tests with this seed", begin)
-        wrong = [told ^ right for told, right in zip(it.answers, quiz.answers_in(data))]
+        wrong = [answer ^ right for answer, right in zip(handed_in.answers, quiz.read_answers(data))]
         points = sum(2 - (which & 1) - (which >> 1) for which in wrong)
-        told = ", ".join(f"{at} {WRONG[which]}" for at, which in enumerate(wrong, 1) if which)
-        return it.student, f"{points}/{2 * len(wrong)}", told or "-"
+        mistakes = ", ".join(f"{number} {WRONG[which]}" for number, which in enumerate(wrong, 1) if which)
+        return handed_in.student, f"{points}/{2 * len(wrong)}", mistakes or "-"
 
 
-def table_of(rows):
-    """Rows as a table with aligned columns."""
-    widths = [max(len(row[at]) for row in rows) for at in range(len(rows[0]) - 1)]
+def format_table(rows: list[Row]) -> str:
+    """Returns rows as a table with aligned columns."""
+    widths = [max(len(row[index]) for row in rows) for index in range(len(rows[0]) - 1)]
     return "".join("  ".join([*(cell.ljust(width) for cell, width in zip(row, widths)), row[-1]]) + "\n" for row in rows)
 
 
-def read_all(quizzes, name, text):
-    """Prints the table of a text's codes, and tells which are bad. Returns the exit status."""
-    rows, seen, faults = [("Line", "Student", "Right", "Wrong")], {}, 0
-    at = 0
+def print_table(quizzes: Quizzes, name: str, text: str) -> int:
+    """Prints the table of a text's codes, and reports bad ones. Returns the exit status."""
+    rows: list[tuple[str, ...]] = [("Line", "Student", "Right", "Wrong")]
+    seen: dict[str, int] = {}
+    faults = offset = 0
     for number, line in enumerate(text.split("\n"), 1):
         try:
             if line.strip(codes.BETWEEN):
-                student, *rest = quizzes.row(line)
+                student, *rest = quizzes.make_row(line)
                 rows.append((str(number), student, *rest))
                 if student in seen:
-                    print(command.note(name, text, at, f"{student} has handed in on line {seen[student]} too"), file=sys.stderr)
+                    print(command.format_note(name, text, offset, f"{student} has handed in on line {seen[student]} too"), file=sys.stderr)
                 seen.setdefault(student, number)
         except codes.BadCode as why:
             cause, column = why.args
-            faults = given.refuse(f"{name}:{given.place(text, at + column)}: {cause}")
-        at += len(line) + 1
-    print(table_of(rows), end="")
+            faults = given.refuse(f"{name}:{given.format_place(text, offset + column)}: {cause}")
+        offset += len(line) + 1
+    print(format_table(rows), end="")
     return faults
 
 
-def main():
-    given.print_as_lw()
-    reader = command.words_of(__doc__)
+def main() -> int:
+    """Runs the command that the arguments describe. Returns the exit status."""
+    given.set_output_encoding()
+    reader = command.Reader(__doc__)
     reader.add_argument("quiz", metavar="OUT.html|SEED")
-    reader.add_argument("file", nargs="?", default=given.STANDARD_INPUT, metavar="FILE")
-    words = reader.parse_args()
+    reader.add_file()
+    arguments = reader.read()
     try:
-        quizzes = Quizzes(words.quiz)
-        return command.for_one("read_codes", words.file, lambda name, text: read_all(quizzes, name, text))
+        quizzes = Quizzes(arguments.quiz)
+        return command.for_one("read_codes", arguments.file, lambda name, text: print_table(quizzes, name, text))
     except OSError as why:
         return given.refuse(f"read_codes: {why.filename}: {why.strerror}")
     except given.Fault as fault:
-        return given.refuse(f"read_codes: {words.quiz}: {fault.args[0]}")
+        return given.refuse(f"read_codes: {arguments.quiz}: {fault.args[0]}")
     except (quiz.NoQuiz, NoCycle, films.NoFilm) as why:
         return given.refuse(f"read_codes: {why}")
 

@@ -14,17 +14,21 @@ prints the state as JSON, in the second way of what a replay printed into a file
 Nothing is made up here: a text of another form is refused, as `FILE:LINE:COLUMN: cause`. Each line that a replay prints has to be there,
 in its place and with its end; an end may be that of Windows. web/replays.js takes the same texts. Python 3.8 is enough, on any system.
 """
+from __future__ import annotations
+
 import json
 import re
 import sys
+from typing import List, Tuple, TypedDict
 
 sys.dont_write_bytecode = True
 import given
-from shared import start
+from shared import command, start
+from shared.matches import require_match
 
 X86 = ("EAX", "EBX", "ECX", "EDX", "ESI", "EDI")
 SOURCE = ("r0", "r1", "r2", "r3", "r4", "r5")
-MOST_THREADS = 4
+MAX_THREADS = 4
 NUMBER = "(0|[1-9][0-9]{0,14})"
 NAME = "[A-Za-z_][A-Za-z0-9_]*"
 WORDS = f"((?: {NAME}=(?:0|[1-9][0-9]{{0,9}}))*)"
@@ -36,116 +40,169 @@ class NoReplay(given.Fault):
     """The text is not what a replay prints: the cause in words, and the position of the line that is refused."""
 
 
+# Pairs of a name and its word, and of a location and the letter of its cache line.
+Words = List[Tuple[str, int]]
+Letters = List[Tuple[str, str]]
+
+
+class Ending(TypedDict):
+    """How each run ends: Final, NotFinal or Stopped."""
+
+    kind: str
+
+
+class End(Ending, total=False):
+    """How a run ends; of one that stopped also the index of the event that is refused, and the number and the name of the cause."""
+
+    at: int
+    number: int
+    cause: str
+
+
+class Registers(TypedDict):
+    """What each thread has: the position of its next statement, and its registers."""
+
+    at: int
+    registers: Words
+
+
+class ThreadState(Registers, total=False):
+    """The state of a thread; in an x86 test also its store buffer and its cache lines."""
+
+    buffer: Words
+    lines: Letters
+
+
+class State(TypedDict):
+    """The state that a schedule reaches."""
+
+    name: str
+    steps: int
+    end: End
+    threads: list[ThreadState]
+    memory: Words
+    content: Words
+
+
 class Page:
     """The lines of a text, which are read one after another."""
 
-    def __init__(self, text):
+    def __init__(self, text: str) -> None:
         *self.lines, self.rest = text.split("\n")
-        self.at = self.before = 0
+        self.offset = self.before = 0  # of the next line, and of the line that was read last
 
-    def take(self, pattern):
+    def take_line(self, pattern: str) -> tuple[str, ...]:
         """Reads the next line. Returns the groups that a pattern matches in it, and refuses a line that it does not match."""
         if not self.lines:
-            raise NoReplay("the last line has no end" if self.rest else "the text ends, and a replay prints more", self.at)
+            raise NoReplay("the last line has no end" if self.rest else "the text ends, and a replay prints more", self.offset)
         line = self.lines.pop(0)
-        self.before, self.at = self.at, self.at + len(line) + 1
-        found = re.fullmatch(pattern, line[:-1] if line.endswith("\r") else line)
-        self.require(found)
-        return found.groups()
+        self.before, self.offset = self.offset, self.offset + len(line) + 1
+        match = re.fullmatch(pattern, line[:-1] if line.endswith("\r") else line)
+        self.require(match)
+        return require_match(match).groups()
 
-    def words(self, text):
+    def parse_words(self, text: str) -> Words:
         """Returns the pairs of a name and a word in the line that was read last."""
-        found = [[name, int(word)] for name, word in pairs(text)]
-        self.require(all(word < 2**32 for _, word in found))
-        return found
+        words = [(name, int(word)) for name, word in parse_pairs(text)]
+        self.require(all(word < 2**32 for _, word in words))
+        return words
 
-    def require(self, condition):
+    def require(self, condition: object) -> None:
         """Refuses the line that was read last unless a condition holds."""
         if not condition:
             raise NoReplay("a replay prints no such line here", self.before)
 
-    def close(self):
+    def close(self) -> None:
         """Refuses whatever follows the last line of a replay."""
         if self.lines or self.rest:
-            raise NoReplay("a replay prints no line here", self.at)
+            raise NoReplay("a replay prints no line here", self.offset)
 
 
-def pairs(text):
+def parse_pairs(text: str) -> Letters:
     """Returns the pairs of a name and what follows its `=`."""
-    return [it.split("=") for it in text.split()]
+    return [(name, value) for name, value in (it.split("=") for it in text.split())]
 
 
-def names_of(found):
+def list_names(words: Words | Letters) -> tuple[str, ...]:
     """Returns the names of pairs."""
-    return tuple(name for name, _ in found)
+    return tuple(it[0] for it in words)
 
 
-def end_of(kind, at, number, cause):
-    """Returns how a run ended."""
-    return {"kind": kind} if kind else {"kind": "Stopped", "at": int(at), "number": int(number), "cause": cause}
+def make_end(kind: str | None, stopped_at: str, number: str, cause: str) -> End:
+    """Returns how a run ended: the groups of a match of END."""
+    return {"kind": kind} if kind else {"kind": "Stopped", "at": int(stopped_at), "number": int(number), "cause": cause}
 
 
-def read_thread(page, number, languages):
+def read_thread(page: Page, number: int, languages: tuple[tuple[str, ...], ...]) -> ThreadState:
     """Reads the state of the thread at an index, whose registers are those of one of some languages."""
-    at, text = page.take(f"P{number} at {NUMBER}{WORDS}")
-    thread = {"at": int(at), "registers": page.words(text)}
-    page.require(names_of(thread["registers"]) in languages)
-    if names_of(thread["registers"]) == X86:
-        thread["buffer"] = page.words(*page.take(f"P{number} buffer{WORDS}"))
-        thread["lines"] = pairs(*page.take(f"P{number} lines{LETTERS}"))
+    position, text = page.take_line(f"P{number} at {NUMBER}{WORDS}")
+    thread: ThreadState = {"at": int(position), "registers": page.parse_words(text)}
+    page.require(list_names(thread["registers"]) in languages)
+    if list_names(thread["registers"]) == X86:
+        thread["buffer"] = page.parse_words(*page.take_line(f"P{number} buffer{WORDS}"))
+        thread["lines"] = parse_pairs(*page.take_line(f"P{number} lines{LETTERS}"))
     return thread
 
 
-def read_threads(page):
+def read_threads(page: Page) -> list[ThreadState]:
     """Reads the states of all threads, which are of one language."""
     threads = [read_thread(page, 0, (X86, SOURCE))]
-    language = names_of(threads[0]["registers"])
-    while len(threads) < MOST_THREADS and page.lines[:1] and page.lines[0].startswith("P"):
+    language = list_names(threads[0]["registers"])
+    while len(threads) < MAX_THREADS and page.lines[:1] and page.lines[0].startswith("P"):
         threads.append(read_thread(page, len(threads), (language,)))
     return threads
 
 
-def read_state(text):
+def read_state(text: str) -> State:
     """Returns the state that a replay's text describes."""
     page = Page(text)
-    state = {"name": page.take("Test ([!-~]{1,128})")[0], "steps": int(page.take(f"Steps {NUMBER}")[0]), "end": end_of(*page.take(END))}
-    state["threads"] = read_threads(page)
-    state["memory"] = state["content"] = page.words(*page.take(f"Memory{WORDS}"))
-    names, of_x86 = names_of(state["memory"]), [it for it in state["threads"] if "lines" in it]
-    page.require(all(names_of(it["lines"]) == names and {*names_of(it["buffer"])} <= {*names} for it in of_x86))
+    name, steps = page.take_line("Test ([!-~]{1,128})")[0], int(page.take_line(f"Steps {NUMBER}")[0])
+    end, threads = make_end(*page.take_line(END)), read_threads(page)
+    memory = content = page.parse_words(*page.take_line(f"Memory{WORDS}"))
+    names, of_x86 = list_names(memory), [it for it in threads if "lines" in it]
+    page.require(all(list_names(it["lines"]) == names and {*list_names(it["buffer"])} <= {*names} for it in of_x86))
     if of_x86:
-        state["content"] = page.words(*page.take(f"Content{WORDS}"))
-        page.require(names_of(state["content"]) == names)
+        content = page.parse_words(*page.take_line(f"Content{WORDS}"))
+        page.require(list_names(content) == names)
     page.close()
-    return state
+    return {"name": name, "steps": steps, "end": end, "threads": threads, "memory": memory, "content": content}
 
 
-def register_number(name):
+def parse_register(name: str) -> int:
     """Returns the index of a register of either language, by its name."""
     return int(name[1:]) if name.startswith("r") else ("EAX", "EBX", "ECX", "EDX", "ESI", "EDI").index(name)
 
 
-def words_of(line):
+def parse_report_line(line: str) -> list[tuple[str, int]]:
     """Returns the pairs of an observed name and a word in a line of a report."""
     return [(name, int(word)) for name, word in re.findall(r"(\S+)=(\d+);", line)]
 
 
-def ends_in(state, line):
+def is_final_in(state: State, line: str) -> bool:
     """Returns whether a run is final, in the state of a line of a report. A register may have its name in either language."""
     content = dict(state["content"])
-    for name, word in words_of(line):
+    for name, word in parse_report_line(line):
         thread, is_register, register = name.rpartition(":")
-        told = state["threads"][int(thread)]["registers"][register_number(register)][1] if is_register else content[name]
-        if told != word:
+        found_word = state["threads"][int(thread)]["registers"][parse_register(register)][1] if is_register else content[name]
+        if found_word != word:
             return False
     return state["end"]["kind"] == "Final"
 
 
-def show(_words, text):
+def print_state(text: str) -> int:
     """Prints the state that a replay's text describes. Returns the exit status."""
     print(json.dumps(read_state(text), indent=1))
     return 0
 
 
+def main() -> int:
+    """Runs the command that the arguments describe. Returns the exit status."""
+    given.set_output_encoding()
+    reader = command.Reader(__doc__)
+    reader.add_file()
+    arguments = reader.read()
+    return command.for_one("replay_state", arguments.file, lambda _name, text: print_state(text))
+
+
 if __name__ == "__main__":
-    sys.exit(start.run(lambda: given.run("replay_state", __doc__, lambda words: not words, show), __doc__))
+    sys.exit(start.run(main))

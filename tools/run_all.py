@@ -59,9 +59,13 @@ import time
 sys.dont_write_bytecode = True
 import given
 from many import files, lists, rows
-from many.statuses import NO_VERDICT, NOT_OK, SEEN_AND_NOT_LISTED, NoTable, status_of
+from many.statuses import NOT_OK, NO_VERDICT, SEEN_AND_NOT_LISTED, NoTable, choose_status
 from many.table import print_table
 from shared import command, start
+
+TYPE_CHECKING = False
+if TYPE_CHECKING:
+    from many.expected import Expected
 
 FORMS = ("text", "csv", "json", "log")
 
@@ -69,163 +73,168 @@ FORMS = ("text", "csv", "json", "log")
 class Progress:
     """A line on a terminal that says how far the runs are."""
 
-    def __init__(self, total: int):
+    def __init__(self, total: int) -> None:
         self.total, self.done, self.shown = total, 0, 0.0
         self.is_terminal = sys.stderr.isatty()
 
-    def step(self, name: str) -> None:
+    def count_run(self, name: str) -> None:
         """Counts one more run as done."""
         self.done += 1
         if self.is_terminal and time.monotonic() - self.shown > 0.1:
             self.shown = time.monotonic()
             print(f"\r{min(self.done, self.total)} of {self.total}: {name[-50:]:50}", end="", file=sys.stderr, flush=True)
 
-    def end(self) -> None:
+    def remove_line(self) -> None:
         """Removes the line."""
         if self.is_terminal:
             print(f"\r{'':70}\r", end="", file=sys.stderr, flush=True)
 
 
-def seconds_of(text: str) -> float:
-    """Reads a number of seconds."""
-    seconds = command.seconds_in(text)
+def parse_seconds(text: str) -> float:
+    """Reads a number of seconds. Raises ArgumentTypeError if the text says none."""
+    seconds = command.parse_seconds(text)
     if seconds is None:
         raise argparse.ArgumentTypeError(f"'{text}' is no number of seconds from 0.001 to 10000000")
     return seconds
 
 
-def shard_of(text: str) -> files.Shard:
-    """Reads a shard."""
-    shard = files.shard_in(text)
+def parse_shard(text: str) -> files.Shard:
+    """Reads a shard. Raises ArgumentTypeError if the text is none."""
+    shard = files.parse_shard(text)
     if shard is None:
         raise argparse.ArgumentTypeError(f"'{text}' is no I/N, in which I is from 1 to N")
     return shard
 
 
-def name_of(text: str) -> str:
-    """Reads the name of a file or of a command, which is not empty."""
+def parse_name(text: str) -> str:
+    """Reads the name of a file or of a command, which is not empty. Raises ArgumentTypeError if it is."""
     if not text.strip():
         raise argparse.ArgumentTypeError("the name is empty")
     return text
 
 
-def words_of() -> argparse.Namespace:
+def parse_arguments() -> argparse.Namespace:
     """Reads the arguments of the command."""
-    reader = command.words_of(__doc__)
+    reader = command.Reader(__doc__)
     reader.add_argument("names", nargs="*", metavar="FOLDER|FILE")
     reader.add_argument("--as", dest="form", choices=FORMS, default="text")
-    reader.add_argument("--against", type=name_of, metavar="LOG")
-    reader.add_argument("--machine-log", type=name_of, metavar="LOG")
-    reader.add_argument("--on-machine", type=seconds_of, metavar="SECONDS", dest="seconds")
-    reader.add_argument("--shard", type=shard_of, metavar="I/N")
+    reader.add_argument("--against", type=parse_name, metavar="LOG")
+    reader.add_argument("--machine-log", type=parse_name, metavar="LOG")
+    reader.add_argument("--on-machine", type=parse_seconds, metavar="SECONDS", dest="seconds")
+    reader.add_argument("--shard", type=parse_shard, metavar="I/N")
     reader.add_argument("--merge", nargs="+", metavar="TABLE")
     reader.add_argument("--expect-ok", action="store_true")
-    reader.add_argument("--expect", type=name_of, metavar="TABLE")
-    reader.add_argument("--tries", type=command.number_from(0), default=1, metavar="N")
+    reader.add_argument("--expect", type=parse_name, metavar="TABLE")
+    reader.add_argument("--tries", type=command.make_number_parser(0), default=1, metavar="N")
     reader.add_argument("--order", choices=("intel", "att"))
-    reader.add_argument("--cc", type=name_of, metavar="COMMAND")
-    words = reader.parse_intermixed_args()
-    if words.merge and (words.names or words.against or words.machine_log or words.seconds or words.shard or words.form == "log"):
+    reader.add_argument("--cc", type=parse_name, metavar="COMMAND")
+    arguments = reader.read()
+    if arguments.merge and (
+        arguments.names or arguments.against or arguments.machine_log or arguments.seconds or arguments.shard or arguments.form == "log"
+    ):
         reader.error("--merge runs nothing: it goes with --as text, csv or json, and with --expect-ok")
-    return words
+    return arguments
 
 
-def expected_by(words: argparse.Namespace):
+def read_expected(arguments: argparse.Namespace) -> Expected | None:
     """Returns what is expected of the rows, or None if nothing is."""
-    if not (words.expect or words.expect_ok):
+    if not (arguments.expect or arguments.expect_ok):
         return None
     from many.expected import Expected
 
-    return Expected(words.expect, words.expect_ok, words.shard is not None)
+    return Expected(arguments.expect, arguments.expect_ok, arguments.shard is not None)
 
 
-def tell_of_expected(table: list, expected) -> int:
+def report_unexpected(table: list[rows.Row], expected: Expected) -> int:
     """Reports on standard error what is not as expected, and names of the table that mean no file. Returns the exit status."""
-    unmet = expected.unmet(table)
-    for it, word in unmet:
-        print(f"{it.file}: the verdict is {it.verdict}, and {word} is expected" + (f": {it.observation}" if it.observation else ""), file=sys.stderr)
-    missing = expected.missing()
+    unmet = expected.list_unmet(table)
+    for row, word in unmet:
+        print(
+            f"{row.file}: the verdict is {row.verdict}, and {word} is expected" + (f": {row.observation}" if row.observation else ""), file=sys.stderr
+        )
+    missing = expected.list_missing()
     if missing:
         print(f"run_all: {expected.name}: no file here is meant by {', '.join(missing)}", file=sys.stderr)
     return NOT_OK if unmet else 1 if missing and len(missing) == len(expected.table) else 0
 
 
-def tell_of(table: list, expected) -> set:
+def report_rows(table: list[rows.Row], expected: Expected | None) -> set[int]:
     """Reports on standard error which files are refused, and what is not as expected. Returns the exit statuses."""
     unexpected = [it for it in table if not (expected and expected.is_expected(it))]
     refused = [it for it in unexpected if it.verdict == rows.REFUSED]
     without = [it for it in unexpected if it.verdict == rows.NO_VERDICT]
-    for it in [*refused, *without]:
-        print(rows.line_of(it), file=sys.stderr)
-    return {1 if refused else 0, NO_VERDICT if without else 0, tell_of_expected(table, expected) if expected else 0}
+    for row in [*refused, *without]:
+        print(rows.format_refusal(row), file=sys.stderr)
+    return {1 if refused else 0, NO_VERDICT if without else 0, report_unexpected(table, expected) if expected else 0}
 
 
-def tell_notes(done: list) -> None:
+def report_notes(answers: list[rows.Answered]) -> None:
     """Reports on standard error what was left out of converted files or read otherwise, and whose lists are not proved."""
-    for row in (it.row for it in done if it.row.converted):
+    for row in (it.row for it in answers if it.row.converted):
         for note in row.notes:
             print(note, file=sys.stderr)
         if rows.NOT_PROVED in (row.method or ""):
             print(f"run_all: {row.file}: {row.method}", file=sys.stderr)
 
 
-def merge(words: argparse.Namespace) -> int:
+def merge_and_print(arguments: argparse.Namespace) -> int:
     """Merges tables, and prints the result. Returns the exit status."""
-    from many.merge import merged
+    from many.merge import merge_tables
 
-    table, expected = merged(words.merge), expected_by(words)
-    print_table(table, words.form)
+    table, expected = merge_tables(arguments.merge), read_expected(arguments)
+    print_table(table, arguments.form)
     sys.stdout.flush()
     seen = {SEEN_AND_NOT_LISTED for it in table if it.seen and "not listed" in it.seen}
-    return status_of({0} | seen | tell_of(table, expected))
+    return choose_status({0} | seen | report_rows(table, expected))
 
 
-def comparisons(done: list, words: argparse.Namespace) -> set:
+def compare_with_logs(answers: list[rows.Answered], arguments: argparse.Namespace) -> set[int]:
     """Compares the answers with logs, as far as that is requested. Returns the exit statuses."""
-    if not (words.against or words.machine_log):
+    if not (arguments.against or arguments.machine_log):
         return {0}
     from many import compare
 
-    differing = compare.tell_differences(done, words.against) if words.against else 0
-    return {differing, compare.tell_of_machine(done, words.machine_log) if words.machine_log else 0}
+    differing = compare.report_differences(answers, arguments.against) if arguments.against else 0
+    return {differing, compare.report_machine_log(answers, arguments.machine_log) if arguments.machine_log else 0}
 
 
-def rows_with_seen(done: list, words: argparse.Namespace) -> tuple:
+def make_rows(answers: list[rows.Answered], arguments: argparse.Namespace) -> tuple[list[rows.Row], int]:
     """Returns the rows, with what was seen on this machine if that is requested, and the exit status."""
-    if words.seconds is None:
-        return [it.row for it in done], 0
+    if arguments.seconds is None:
+        return [it.row for it in answers], 0
     from many import compare
 
-    progress = Progress(len(done))
+    progress = Progress(len(answers))
     try:
-        return compare.rows_with_seen(done, words.seconds, progress.step, words.cc, words.tries)
+        return compare.add_seen_column(answers, arguments.seconds, progress.count_run, arguments.cc, arguments.tries)
     finally:
-        progress.end()
+        progress.remove_line()
 
 
-def work(words: argparse.Namespace) -> int:
+def run_files(arguments: argparse.Namespace) -> int:
     """Runs the files, and prints what is requested. Returns the exit status."""
-    expected = expected_by(words)
-    named = files.files_of(words.names)
-    chosen = files.part_of(named, words.shard) if words.shard else named
+    expected = read_expected(arguments)
+    named = files.list_files(arguments.names)
+    chosen = files.select_shard(named, arguments.shard) if arguments.shard else named
     progress = Progress(len(chosen))
-    done = lists.all_answers(chosen, lists.Choices(words.tries, words.order, words.cc), progress.step)
-    progress.end()
-    table, here = rows_with_seen(done, words)
+    done = lists.answer_all(chosen, lists.Choices(arguments.tries, arguments.order, arguments.cc), progress.count_run)
+    progress.remove_line()
+    table, here = make_rows(done, arguments)
     reported = [it for it in done if it.report]
-    if words.form == "log":
+    if arguments.form == "log":
         sys.stdout.write("".join(f"{it.report}\n" for it in reported))
-    print_table(table, words.form, words.shard, len(set(named)))
+    print_table(table, arguments.form, arguments.shard, len(set(named)))
     sys.stdout.flush()
-    tell_notes(done)
-    return status_of({here} | tell_of(table, expected) | comparisons(reported, words))
+    report_notes(done)
+    return choose_status({here} | report_rows(table, expected) | compare_with_logs(reported, arguments))
 
 
 def main() -> int:
-    given.print_as_lw()
-    words = words_of()
+    """Runs the command. Returns the exit status."""
+    given.set_output_encoding()
+    arguments = parse_arguments()
     try:
-        return merge(words) if words.merge else work(words)
+        return merge_and_print(arguments) if arguments.merge else run_files(arguments)
     except NoTable as why:
         return given.refuse(f"run_all: {why}")
     except OSError as why:

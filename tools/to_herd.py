@@ -14,44 +14,48 @@ time. There is no line `Hash`, which herd's tools make of the text of a test in 
 Standard input is read where there is no file. Faults are told as tools/plain.py tells them; Python 3.8 is enough, on any system.
 docs/FROM-HERD.md says of which spellings it is not known whether herd takes them.
 """
+from __future__ import annotations
+
 import sys
+from argparse import Namespace
 
 sys.dont_write_bytecode = True
 import given
 import plain
-from herd.write import FORMS, herd_report, herd_text
+from herd.write import FORMS, write_herd_report, write_herd_text
 from shared import answers, command, start
 
 
-def program_of(text: str) -> plain.Test:
+def read_program(text: str) -> plain.Test:
     """Returns the x86 test that a test is, or is compiled to."""
     test = plain.read_test(text)
     if test.language == "X86":
         return test
-    return plain.read_test(answers.answer(["compile"], test, text).text)
+    return plain.read_test(answers.make_answer(["compile"], test, text).text)
 
 
-def show(words, text: str) -> int:
-    """Prints one test, or one report."""
-    if not words.report:
-        print(herd_text(program_of(text), words.form), end="")
+def print_herd_form(arguments: Namespace, text: str) -> int:
+    """Prints one test, or one report. Raises Fault if the input of --report is no report."""
+    if not arguments.report:
+        print(write_herd_text(read_program(text), arguments.form), end="")
         return 0
     try:
-        print(herd_report(text, words.form), end="")
+        print(write_herd_report(text, arguments.form), end="")
     except ValueError as why:
         raise given.Fault(str(why), 0) from None
     return 0
 
 
 def main() -> int:
-    given.print_as_lw()
-    reader = command.words_of(__doc__)
-    reader.add_argument("file", nargs="?", default=given.STANDARD_INPUT, metavar="FILE")
+    """Runs the command that the arguments describe. Returns the exit status."""
+    given.set_output_encoding()
+    reader = command.Reader(__doc__)
+    reader.add_file()
     reader.add_argument("--form", choices=FORMS)
     reader.add_argument("--report", action="store_true")
-    words = reader.parse_args()
-    words.form = words.form or ("X86" if words.report else "X86_64")
-    return command.for_one("to_herd", words.file, lambda _name, text: show(words, text))
+    arguments = reader.read()
+    arguments.form = arguments.form or ("X86" if arguments.report else "X86_64")
+    return command.for_one("to_herd", arguments.file, lambda _name, text: print_herd_form(arguments, text))
 
 
 if __name__ == "__main__":

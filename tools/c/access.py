@@ -1,14 +1,16 @@
 """The accesses of an instruction: registers, the thread's own memory, and shared locations."""
-from typing import Dict, List, Optional, Tuple
+from __future__ import annotations
+
+from typing import Any
 
 from c.assembly import Instruction
 from c.layout import STACKS, STACK_OF_THREAD
-from c.liveness import FLAGS, uses_and_writes
-from c.operands import Memory, Number, Operand, Register, WHOLE_REGISTERS
-from c.own_memory import own_load, own_store
+from c.liveness import FLAGS, list_reads_and_writes
+from c.operands import Memory, Number, Operand, WHOLE_REGISTERS
+from c.own_memory import load_own, store_own
 from c.program import Program
 from c.refused import Refused
-from c.values import Clock, MASK, Question, Symbol, Value, later, put_earlier, symbols_in
+from c.values import MASK, Clock, Question, Symbol, Value, later_clock, record_earlier, symbols_in
 from c.way import Way
 from c.ways import Effect, Load, Store
 
@@ -22,31 +24,32 @@ class Access:
     what an effect must find: a question, and the answer that does not abandon the run.
     """
 
-    def __init__(self, program: Program, thread: int, found: Dict[int, Dict[int, Clock]], way: Way, it: Instruction):
-        self.program, self.thread, self.found, self.way, self.it = program, thread, found, way, it
-        self.effects: List[Effect] = []
-        self.done: Optional[Tuple[Way, Effect]] = None
-        self.guess: Optional[Tuple[Question, bool]] = None
+    def __init__(self, program: Program, thread: int, stored_words: dict[int, dict[int, Clock]], way: Way, instruction: Instruction) -> None:
+        """Does an instruction on a way of a thread. `stored_words` are the words that the thread has stored at each address, with their clocks."""
+        self.program, self.thread, self.found, self.way, self.instruction = program, thread, stored_words, way, instruction
+        self.effects: list[Effect] = []
+        self.done: tuple[Way, Effect] | None = None
+        self.guess: tuple[Question, bool] | None = None
         self.gives_up = False
 
     # Registers.
 
-    def register(self, name: str, size: int, offset: int = 0) -> Value:
+    def read_register(self, name: str, size: int, offset: int = 0) -> Value:
         """Returns some bytes of a register."""
         value, known = self.way.registers[name]
-        return self.way.part(value, size, offset) if known >= size + offset else None
+        return self.way.extract_bytes(value, size, offset) if known >= size + offset else None
 
-    def get(self, operand: Operand, size: int) -> Value:
+    def read_register_or_number(self, operand: Any, size: int) -> Value:
         """Returns the value of a register or a number."""
         if isinstance(operand, Number):
-            return self.program.layout.address(operand.symbol, operand.number) & MASK[size]
-        return self.register(operand.name, size, operand.offset)
+            return self.program.layout.find_address(operand.symbol, operand.number) & MASK[size]
+        return self.read_register(operand.name, size, operand.offset)
 
-    def value_of(self, operand: Operand, size: int) -> Value:
+    def read_operand(self, operand: Operand, size: int) -> Value:
         """Returns the value of an operand, which may be in memory."""
-        return self.load(self.address(operand), size) if isinstance(operand, Memory) else self.get(operand, size)
+        return self.load(self.compute_address(operand), size) if isinstance(operand, Memory) else self.read_register_or_number(operand, size)
 
-    def put(self, operand: Register, size: int, value: Value) -> None:
+    def write_register(self, operand: Any, size: int, value: Value) -> None:
         """Sets a register. A write of 4 bytes clears those above, and a shorter one preserves them."""
         way, name, offset = self.way, operand.name, operand.offset
         old, known = way.registers[name]
@@ -59,54 +62,54 @@ class Access:
         elif isinstance(value, Symbol) and not offset and way.apply(old, lambda it: it & MASK[known] & ~MASK[size]) == 0:
             way.registers[name] = (value, known)
         else:
-            number = way.number(value) & MASK[size]
-            way.registers[name] = (way.number(old) & ~(MASK[size] << 8 * offset) | number << 8 * offset, known)
+            number = way.require_number(value) & MASK[size]
+            way.registers[name] = (way.require_number(old) & ~(MASK[size] << 8 * offset) | number << 8 * offset, known)
 
-    def address(self, it: Memory) -> int:
+    def compute_address(self, memory: Memory) -> int:
         """Returns the address of a place in memory."""
-        at = self.program.layout.address(it.symbol, it.number)
-        for name, scale in ((it.base, 1), (it.index, it.scale)):
+        address = self.program.layout.find_address(memory.symbol, memory.number)
+        for name, scale in ((memory.base, 1), (memory.index, memory.scale)):
             if name:
-                at += self.way.number(self.register(name, 8)) * scale
-        return at & MASK[8]
+                address += self.way.require_number(self.read_register(name, 8)) * scale
+        return address & MASK[8]
 
     # Memory.
 
-    def is_shared(self, at: int, size: int) -> bool:
-        """Returns whether other threads access some bytes too."""
-        if self.program.layout.is_stack(at):
+    def is_shared(self, address: int, size: int) -> bool:
+        """Returns whether other threads access some bytes too. Raises Refused if they are on another thread's stack."""
+        if self.program.layout.is_stack(address):
             top = STACKS - STACK_OF_THREAD * self.thread
-            if not top - STACK_OF_THREAD < at <= top:
+            if not top - STACK_OF_THREAD < address <= top:
                 raise Refused("another thread's stack is accessed")
             return False
-        return self.program.locations.touch(self.thread, at, size)
+        return self.program.locations.record_access(self.thread, address, size)
 
-    def is_only_writer(self, at: int, size: int) -> bool:
+    def is_only_writer(self, address: int, size: int) -> bool:
         """Returns whether no other thread stores to a location."""
-        return self.program.locations.writers_of(at, size) <= {self.thread}
+        return self.program.locations.find_writers(address, size) <= {self.thread}
 
-    def last(self, at: int, size: int) -> Value:
+    def read_own_last_store(self, address: int, size: int) -> Value:
         """Returns what this thread, the only one that stores to a location, has stored last."""
-        return self.way.last.get(at, self.program.layout.first_word(at, size))
+        return self.way.last.get(address, self.program.layout.read_initial_word(address, size))
 
-    def load(self, at: int, size: int) -> Value:
+    def load(self, address: int, size: int) -> Value:
         """Returns what a load finds. It is an effect if others may have stored it."""
         locations = self.program.locations
-        if not self.is_shared(at, size):
-            return own_load(self.way, self.program.layout, at, size)
-        if not locations.writers_of(at, size):
-            return self.program.layout.first_word(at, size)
-        begin, has = locations.location_of(at, size)
+        if not self.is_shared(address, size):
+            return load_own(self.way, self.program.layout, address, size)
+        if not locations.find_writers(address, size):
+            return self.program.layout.read_initial_word(address, size)
+        begin, length = locations.find_location(address, size)
         if self.way.pending:
             value, = self.way.pending
             self.way.pending = None
-        elif self.is_only_writer(begin, has):
-            value = self.last(begin, has)
+        elif self.is_only_writer(begin, length):
+            value = self.read_own_last_store(begin, length)
         else:
-            symbol = self.new_symbol(begin, has)
-            value = Symbol(symbol, has, 0, has)
+            symbol = self.make_symbol(begin, length)
+            value = Symbol(symbol, length, 0, length)
             self.finish_load(Load(symbol, begin), value)
-        return value if (begin, has) == (at, size) else self.way.apply(value, lambda it: it >> 8 * (at - begin) & MASK[size])
+        return value if (begin, length) == (address, size) else self.way.apply(value, lambda it: it >> 8 * (address - begin) & MASK[size])
 
     def finish_load(self, effect: Effect, value: Value) -> None:
         """Adds the effect of a load. If the way forks later in this instruction, the load stays done, and the rest is followed again."""
@@ -116,54 +119,54 @@ class Access:
         self.done = (before, effect)
         self.effects.append(effect)
 
-    def store(self, at: int, size: int, value: Value) -> None:
+    def store(self, address: int, size: int, value: Value) -> None:
         """Stores a value. It is an effect if others access the location."""
         locations = self.program.locations
-        is_shared = self.is_shared(at, size)
-        if not self.program.layout.is_stack(at):
-            locations.write(self.thread, at, size)
+        is_shared = self.is_shared(address, size)
+        if not self.program.layout.is_stack(address):
+            locations.record_store(self.thread, address, size)
         if not is_shared:
-            own_store(self.way, at, size, value)
+            store_own(self.way, address, size, value)
             return
-        self.whole_location(at, size)
-        value = self.way.part(value, size)
-        self.record_store(at, self.way.clocked(value))
-        self.way.last[at] = value
-        self.effects.append(Store(at, value))
+        self.check_whole_location(address, size)
+        value = self.way.extract_bytes(value, size)
+        self.record_store(address, self.way.list_clocked_words(value))
+        self.way.last[address] = value
+        self.effects.append(Store(address, value))
 
-    def whole_location(self, at: int, size: int) -> None:
+    def check_whole_location(self, address: int, size: int) -> None:
         """Refuses a store to a part of a location."""
-        begin, has = self.program.locations.location_of(at, size)
-        if (begin, has) != (at, size):
-            name = self.program.layout.name_of(begin)
-            raise Refused(f"a part of '{name}', of {size} bytes, is stored or locked, and all {has} bytes are accessed at once elsewhere")
+        begin, length = self.program.locations.find_location(address, size)
+        if (begin, length) != (address, size):
+            name = self.program.layout.name_address(begin)
+            raise Refused(f"a part of '{name}', of {size} bytes, is stored or locked, and all {length} bytes are accessed at once elsewhere")
 
-    def record_store(self, at: int, words: Dict[int, Clock]) -> None:
+    def record_store(self, address: int, words: dict[int, Clock]) -> None:
         """Records a store: its words come after all that this way has observed, and after this thread's earlier stores."""
         self.way.stores += 1
-        found = self.found.setdefault(at, {})
+        clocks = self.found.setdefault(address, {})
         for word, clock in words.items():
-            clock = later(clock, self.way.past)
-            put_earlier(found, word, (*clock[: self.thread], self.way.stores, *clock[self.thread + 1 :]))
+            clock = later_clock(clock, self.way.past)
+            record_earlier(clocks, word, (*clock[: self.thread], self.way.stores, *clock[self.thread + 1 :]))
 
     # Symbols.
 
-    def new_symbol(self, at: int, size: int) -> int:
+    def make_symbol(self, address: int, size: int) -> int:
         """Returns a symbol for what a load of a location finds."""
         way, locations = self.way, self.program.locations
-        symbol = self.free_symbol()
-        way.take_symbol(symbol)
-        if self.is_only_writer(at, size):
-            clocks = way.clocked(self.last(at, size))
-            words = clocks
+        symbol = self.find_free_symbol()
+        way.begin_symbol(symbol)
+        if self.is_only_writer(address, size):
+            clocks = way.list_clocked_words(self.read_own_last_store(address, size))
+            words = frozenset(clocks)
         else:
-            clocks = dict(locations.words[at])
-            words = locations.words_for(at, self.thread, way.stores)
+            clocks = dict(locations.words[address])
+            words = locations.list_readable_words(address, self.thread, way.stores)
         way.clocks[symbol] = clocks
         way.narrow(symbol, words)
         return symbol
 
-    def free_symbol(self) -> int:
+    def find_free_symbol(self) -> int:
         """Returns the first symbol that nothing refers to any more, so that ways that continue in the same way are equal."""
         self.forget_dead()
         way = self.way
@@ -175,8 +178,8 @@ class Access:
 
     def forget_dead(self) -> None:
         """Forgets registers, flags and places of the stack that cannot be read any more."""
-        way, (used, writes) = self.way, uses_and_writes(self.it)
-        if self.it.mnemonic.startswith("jmp"):  # what comes next is not known yet
+        way, (used, writes) = self.way, list_reads_and_writes(self.instruction)
+        if self.instruction.mnemonic.startswith("jmp"):  # what comes next is not known yet
             return
         live = used | self.program.live[way.place] - writes
         for name in WHOLE_REGISTERS:
@@ -184,6 +187,6 @@ class Access:
                 way.registers[name] = (None, 0)
         if FLAGS not in live:
             way.flags = None
-        bottom = way.known(way.registers["rsp"][0]) - RED_ZONE
-        for it in [it for it in way.memory if self.program.layout.is_stack(it) and it < bottom]:
-            del way.memory[it]
+        bottom = way.resolve(way.registers["rsp"][0]) - RED_ZONE
+        for area in [it for it in way.memory if self.program.layout.is_stack(it) and it < bottom]:
+            del way.memory[area]

@@ -1,9 +1,11 @@
 """The results of operations on values, and the flags that they set."""
+from __future__ import annotations
+
 from typing import Optional, Tuple
 
 from c.flags import Flags, Source
 from c.refused import Refused
-from c.values import MASK, Symbol, Value, signed
+from c.values import MASK, Symbol, Value, to_signed
 from c.way import Way
 
 Result = Tuple[Value, Optional[Flags]]
@@ -12,13 +14,13 @@ SHIFTS = {
     "shl": lambda x, count, size: x << count,
     "sal": lambda x, count, size: x << count,
     "shr": lambda x, count, size: x >> count,
-    "sar": lambda x, count, size: signed(x, size) >> count,
+    "sar": lambda x, count, size: to_signed(x, size) >> count,
 }
 
 
-def plus(way: Way, left: Value, right: Value, size: int) -> Value:
+def add_values(way: Way, left: Value, right: Value, size: int) -> Value:
     """Returns a sum. A symbol and a number stay a symbol, even if its word is known, so that it is equal on ways on which it is not."""
-    known = way.known(left), way.known(right)
+    known = way.resolve(left), way.resolve(right)
     if known[1] is None or isinstance(right, Symbol) and not isinstance(left, Symbol):
         left, right, known = right, left, (known[1], known[0])
     if known[1] is None:
@@ -32,74 +34,76 @@ def plus(way: Way, left: Value, right: Value, size: int) -> Value:
     return way.apply(left, lambda it: it + known[1] & MASK[size])
 
 
-def minus(way: Way, left: Value, right: Value, size: int) -> Value:
+def subtract_values(way: Way, left: Value, right: Value, size: int) -> Value:
     """Returns a difference."""
-    known = way.known(right)
+    known = way.resolve(right)
     if known is not None:
-        return plus(way, left, -known & MASK[size], size)
+        return add_values(way, left, -known & MASK[size], size)
     return way.apply_both(left, right, lambda x, y: x - y & MASK[size])
 
 
-def logical(way: Way, base: str, left: Value, right: Value, size: int) -> Result:
+def compute_logical(way: Way, base: str, left: Value, right: Value, size: int) -> Result:
     """Returns the result of AND, OR, XOR or TEST. An operation that preserves all words of a symbol preserves the symbol."""
     if left is None or right is None:
-        known = [way.known(it) for it in (left, right) if it is not None]
+        known = [way.resolve(it) for it in (left, right) if it is not None]
         if base == "and" and known == [0] or base == "or" and known == [MASK[size]]:
             return known[0], Flags(Source.LOGIC, known[0], None, size)
     if left == right and isinstance(left, Symbol) and base != "xor":
         return left, Flags(Source.LOGIC, left, None, size)
-    for one, other in ((left, right), (right, left)):
-        if isinstance(one, Symbol) and way.known(one) is None and (number := way.known(other)) is not None:
-            if all(LOGIC[base](word, number) & MASK[size] == word for word in way.words_of(one)):
-                return one, Flags(Source.LOGIC, one, None, size)
+    for operand, other in ((left, right), (right, left)):
+        if isinstance(operand, Symbol) and way.resolve(operand) is None and (number := way.resolve(other)) is not None:
+            if all(LOGIC[base](word, number) & MASK[size] == word for word in way.list_words(operand)):
+                return operand, Flags(Source.LOGIC, operand, None, size)
     word = way.apply_both(left, right, lambda x, y: LOGIC[base](x, y) & MASK[size])
     return word, Flags(Source.LOGIC, word, None, size)
 
 
-def shifted(way: Way, base: str, value: Value, count: Value, size: int) -> Result:
+def shift_value(way: Way, base: str, value: Value, count: Value, size: int) -> Result:
     """Returns the result of a shift. A shift by 0 preserves the flags."""
-    number = way.number(count) & (63 if size == 8 else 31)
+    number = way.require_number(count) & (63 if size == 8 else 31)
     word = way.apply(value, lambda it: SHIFTS[base](it, number, size) & MASK[size])
     return word, Flags(Source.SHIFT, word, None, size) if number else None
 
 
-def rotated(way: Way, base: str, value: Value, count: Value, size: int) -> Value:
+def rotate_value(way: Way, base: str, value: Value, count: Value, size: int) -> Value:
     """Returns the result of a rotation."""
-    number = (way.number(count) & (63 if size == 8 else 31)) % (8 * size)
-    left = number if base == "rol" else -number % (8 * size)
-    return way.apply(value, lambda it: (it << left | it >> (8 * size - left)) & MASK[size])
+    number = (way.require_number(count) & (63 if size == 8 else 31)) % (8 * size)
+    left_shift = number if base == "rol" else -number % (8 * size)
+    return way.apply(value, lambda it: (it << left_shift | it >> (8 * size - left_shift)) & MASK[size])
 
 
-def result_of(way: Way, base: str, left: Value, right: Value, size: int) -> Result:
-    """Returns the result of `left = left op right`, and the flags; `None` for flags that are preserved, and for the result of CMP."""
+def compute_result(way: Way, base: str, left: Value, right: Value, size: int) -> Result:
+    """Returns the result of `left = left op right`, and the flags; `None` for flags that are preserved, and for the result of CMP. Raises Refused for
+    any other operation.
+    """
     if base == "add":
-        return plus(way, left, right, size), Flags(Source.SUM, left, right, size)
+        return add_values(way, left, right, size), Flags(Source.SUM, left, right, size)
     if base in ("sub", "cmp"):
-        return None if base == "cmp" else minus(way, left, right, size), Flags(Source.DIFFERENCE, left, right, size)
+        return None if base == "cmp" else subtract_values(way, left, right, size), Flags(Source.DIFFERENCE, left, right, size)
     if base == "inc":
-        return plus(way, left, 1, size), Flags(Source.SUM, left, 1, size, has_carry=False)
+        return add_values(way, left, 1, size), Flags(Source.SUM, left, 1, size, has_carry=False)
     if base == "dec":
-        return minus(way, left, 1, size), Flags(Source.DIFFERENCE, left, 1, size, has_carry=False)
+        return subtract_values(way, left, 1, size), Flags(Source.DIFFERENCE, left, 1, size, has_carry=False)
     if base in LOGIC:
-        return logical(way, base, left, right, size)
+        return compute_logical(way, base, left, right, size)
     if base == "neg":
         return way.apply(left, lambda it: -it & MASK[size]), Flags(Source.DIFFERENCE, 0, left, size)
     if base == "not":
         return way.apply(left, lambda it: ~it & MASK[size]), None
     if base in SHIFTS:
-        return shifted(way, base, left, right, size)
+        return shift_value(way, base, left, right, size)
     raise Refused(f"'{base}' is not followed")
 
 
-def quotient_of(way: Way, high: Value, low: Value, divisor: Value, size: int, is_signed: bool) -> Tuple[int, int]:
-    """Returns the quotient and the remainder of a division."""
-    whole, number = way.number(high) << 8 * size | way.number(low), way.number(divisor)
+def divide(way: Way, high: Value, low: Value, divisor: Value, size: int, is_signed: bool) -> tuple[int, int]:
+    """Returns the quotient and the remainder of a division. Raises Refused if the divisor may be 0, or a quotient too large."""
+    whole, number = way.require_number(high) << 8 * size | way.require_number(low), way.require_number(divisor)
     if is_signed:
-        whole, number = signed(whole, 2 * size), signed(number, size)
+        whole, number = to_signed(whole, 2 * size), to_signed(number, size)
     if number == 0:
         raise Refused("a division by 0 may be")
     quotient = abs(whole) // abs(number) * (1 if (whole < 0) == (number < 0) else -1)
-    least, most = (-(1 << 8 * size - 1), (1 << 8 * size - 1) - 1) if is_signed else (0, MASK[size])
-    if not least <= quotient <= most:
+    minimum, maximum = (-(1 << 8 * size - 1), (1 << 8 * size - 1) - 1) if is_signed else (0, MASK[size])
+    if not minimum <= quotient <= maximum:
         raise Refused("a quotient may be too large")
     return quotient & MASK[size], whole - quotient * number & MASK[size]

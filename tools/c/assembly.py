@@ -1,11 +1,13 @@
 """Reads the assembly that gcc, clang and rustc write, in AT&T's order: the instructions, their labels and lines, and the data."""
+from __future__ import annotations
+
 import os
 import re
 from dataclasses import dataclass, field
 from enum import Enum
-from typing import Dict, List, Optional, Set, Tuple
+from typing import Any
 
-from c.operands import Label, Operand, REGISTERS, number_of, operand_of, split_operands, sum_of
+from c.operands import REGISTERS, Label, Operand, parse_number, parse_operand, parse_sum, split_operands
 from c.refused import Refused
 
 
@@ -15,9 +17,9 @@ class Instruction:
 
     text: str
     mnemonic: str
-    operands: Tuple[Operand, ...]
+    operands: tuple[Any, ...]  # of kinds that c/forms.py checks
     is_locked: bool = False
-    line: Optional[int] = None
+    line: int | None = None
     name: str = ""
 
 
@@ -27,7 +29,7 @@ class Datum:
 
     offset: int
     size: int
-    symbol: Optional[str]
+    symbol: str | None
     number: int
 
 
@@ -36,7 +38,7 @@ class DataObject:
     """An object: its alignment in bytes, its nonzero bytes, and its length."""
 
     alignment: int = 1
-    data: List[Datum] = field(default_factory=list)
+    data: list[Datum] = field(default_factory=list)
     length: int = 0
 
 
@@ -64,17 +66,17 @@ UNWINDING = (".gcc_except_table", ".eh_frame")
 ESCAPES = {"n": 10, "t": 9, "r": 13, "b": 8, "f": 12, "\\": 92, '"': 34}
 
 
-def bytes_in(text: str) -> List[int]:
-    """Returns the bytes of a quoted text of the assembler."""
-    made: List[int] = []
-    for found in re.finditer(r'\\([0-7]{1,3})|\\(.)|([^\\"])', text[text.index('"') + 1 : text.rindex('"')]):
-        if found[2] and found[2] not in ESCAPES:
-            raise Refused(f"a text has the escape '{found[0]}', which is not read")
-        made += [int(found[1], 8) & 255] if found[1] else [ESCAPES[found[2]]] if found[2] else list(found[3].encode("utf-8"))
-    return made
+def parse_bytes(text: str) -> list[int]:
+    """Returns the bytes of a quoted text of the assembler. Raises Refused for an escape that is not read."""
+    byte_values: list[int] = []
+    for match in re.finditer(r'\\([0-7]{1,3})|\\(.)|([^\\"])', text[text.index('"') + 1 : text.rindex('"')]):
+        if match[2] and match[2] not in ESCAPES:
+            raise Refused(f"a text has the escape '{match[0]}', which is not read")
+        byte_values += [int(match[1], 8) & 255] if match[1] else [ESCAPES[match[2]]] if match[2] else list(match[3].encode("utf-8"))
+    return byte_values
 
 
-def section_of(name: str, flags: Optional[str]) -> Section:
+def classify_section(name: str, flags: str | None) -> Section:
     """Returns the content of a section, by its flags if it has any, and by its name otherwise."""
     if name.startswith(UNWINDING):
         return Section.OTHER
@@ -85,75 +87,79 @@ def section_of(name: str, flags: Optional[str]) -> Section:
     return Section.DATA if re.match(r"\.(data|bss|rodata|tdata|tbss)\b", name) else Section.OTHER
 
 
-def statements_of(line: str) -> List[str]:
+def split_statements(line: str) -> list[str]:
     """Returns the statements of a line, without comments; `;` separates them."""
-    made, quoted, part, at = [], False, "", 0
-    while at < len(line):
-        letter = line[at]
+    parts, quoted, part, offset = [], False, "", 0
+    while offset < len(line):
+        letter = line[offset]
         if quoted and letter == "\\":
-            part += line[at : at + 2]
-            at += 2
+            part += line[offset : offset + 2]
+            offset += 2
             continue
         quoted ^= letter == '"'
         if letter == "#" and not quoted:
             break
         if letter == ";" and not quoted:
-            made.append(part)
+            parts.append(part)
             part = ""
         else:
             part += letter
-        at += 1
-    return [it.strip() for it in [*made, part] if it.strip()]
+        offset += 1
+    return [it.strip() for it in [*parts, part] if it.strip()]
 
 
 class Assembly:
     """All instructions of a file in sequence, labels as indices of instructions, and the objects of data by their names."""
 
-    def __init__(self, text: str, source: str = "test"):
-        self.code: List[Instruction] = []
-        self.labels: Dict[str, int] = {}
-        self.functions: Set[str] = set()
-        self.objects: Dict[str, DataObject] = {}
-        self.aliases: Dict[str, str] = {}
+    def __init__(self, text: str, source: str = "test") -> None:
+        """Reads the text of an assembler's file. `source` is the name of the compiled file, without its suffix."""
+        self.code: list[Instruction] = []
+        self.labels: dict[str, int] = {}
+        self.functions: set[str] = set()
+        self.objects: dict[str, DataObject] = {}
+        self.aliases: dict[str, str] = {}
         self.source = source
         Reader(self).read(text)
         for name in list(self.aliases):  # functions that are the same as others
-            if self.resolved(name) in self.labels:
-                self.labels.setdefault(name, self.labels[self.resolved(name)])
+            if self.resolve_alias(name) in self.labels:
+                self.labels.setdefault(name, self.labels[self.resolve_alias(name)])
 
-    def resolved(self, name: str) -> str:
+    def resolve_alias(self, name: str) -> str:
         """Returns the name to which an alias refers."""
-        seen: Set[str] = set()
+        seen: set[str] = set()
         while name in self.aliases and name not in seen:
             seen.add(name)
             name = self.aliases[name]
         return name
 
-    def entries(self) -> Set[int]:
+    def find_function_starts(self) -> set[int]:
         """Returns the indices of the instructions at which functions start."""
         return {self.labels[it] for it in self.functions if it in self.labels}
 
 
-    def back_targets(self) -> Set[int]:
+    def find_backward_targets(self) -> set[int]:
         """Returns the indices of the instructions that some jump targets backward."""
-        made = set()
-        for at, it in enumerate(self.code):
-            to = self.labels.get(self.resolved(it.operands[0].name)) if it.operands and isinstance(it.operands[0], Label) else None
-            made |= {to} if to is not None and to <= at else set()
-        return made
+        targets = set()
+        for index, instruction in enumerate(self.code):
+            label = instruction.operands[0] if instruction.operands else None
+            target = self.labels.get(self.resolve_alias(label.name)) if isinstance(label, Label) else None
+            targets |= {target} if target is not None and target <= index else set()
+        return targets
 
 
 class Reader:
     """A reader of the lines of a file."""
 
-    def __init__(self, made: Assembly):
-        self.made = made
-        self.section, self.section_name, self.stack = Section.CODE, ".text", []
+    def __init__(self, assembly: Assembly) -> None:
+        """Makes a reader that adds what it reads to an assembly."""
+        self.made = assembly
+        self.section, self.section_name = Section.CODE, ".text"
+        self.stack: list[tuple[Section, str]] = []
         self.object, self.is_new, self.alignment = DataObject(), False, 1
-        self.label: Optional[str] = None
-        self.main_files: Set[str] = set()
-        self.line: Optional[int] = None
-        self.prefixes: List[str] = []
+        self.label: str | None = None
+        self.main_files: set[str] = set()
+        self.line: int | None = None
+        self.prefixes: list[str] = []
 
     def read(self, text: str) -> None:
         """Reads all lines. A fault has the line number in the assembly."""
@@ -162,25 +168,25 @@ class Reader:
             try:
                 see = SEE.match(line)
                 if see:
-                    self.see(see[1], see[2], line.strip())
+                    self.read_see(see[1], see[2], line.strip())
                     continue
-                for statement in statements_of(line):
-                    self.statement(statement)
+                for statement in split_statements(line):
+                    self.read_statement(statement)
             except Refused as why:
                 raise Refused(f"{why.cause} (line {number} of the assembly)", self.line, line.strip()) from None
 
-    def see(self, name: str, operand: str, text: str) -> None:
-        """Reads what `lw_see` writes. Rust names registers without `%`."""
+    def read_see(self, name: str, operand: str, text: str) -> None:
+        """Reads what `lw_see` writes. Rust names registers without `%`. Raises Refused if the value is in no register."""
         register = REGISTERS.get(operand.lstrip("%"))
         if register is None:
             raise Refused("lw_see has a value that is in no register")
         self.made.code.append(Instruction(text, "see", (register,), line=self.line, name=name))
 
-    def statement(self, text: str) -> None:
+    def read_statement(self, text: str) -> None:
         """Reads the labels and the directive or the instruction of a statement."""
         label = LABEL.match(text)
         while label:
-            self.begin(label[1])
+            self.begin_label(label[1])
             text = text[label.end() :]
             label = LABEL.match(text)
         alias = re.fullmatch(rf"({NAME})\s*=\s*({NAME})", text)
@@ -188,46 +194,46 @@ class Reader:
             self.made.aliases[alias[1]] = alias[2]
         elif text.startswith("."):
             word, _, rest = re.sub(r"\s+", " ", text, count=1).partition(" ")
-            self.directive(word, rest.strip())
+            self.read_directive(word, rest.strip())
         elif text and self.section is Section.CODE:
-            self.instruction(re.sub(r"\s+", " ", text))
+            self.read_instruction(re.sub(r"\s+", " ", text))
 
-    def begin(self, name: str) -> None:
+    def begin_label(self, name: str) -> None:
         """Starts an object, or names the place of the next instruction."""
-        made = self.made
+        assembly = self.made
         if self.section is Section.CODE:
-            made.labels[name] = len(made.code)
-            self.line = None if name in made.functions else self.line
+            assembly.labels[name] = len(assembly.code)
+            self.line = None if name in assembly.functions else self.line
         elif self.section is Section.DATA:
             if self.is_new:  # two names of one object
-                made.aliases[name] = self.label
+                assembly.aliases[name] = self.label or name
                 return
             self.object, self.is_new, self.label = DataObject(self.alignment), True, name
-            made.objects[name] = self.object
+            assembly.objects[name] = self.object
             self.alignment = 1
 
     # Directives.
 
-    def directive(self, word: str, rest: str) -> None:
+    def read_directive(self, word: str, rest: str) -> None:
         """Reads a directive. An unknown one that may emit bytes is refused."""
         if word in (".section", ".pushsection", ".popsection", ".previous", ".text", ".data", ".bss", ".rodata"):
             self.change_section(word, rest)
         elif word in (".comm", ".lcomm"):
             name, size, *alignment = [it.strip() for it in rest.split(",")]
-            self.made.objects[name] = DataObject(number_of(alignment[0]) if alignment else 1, [], number_of(size))
+            self.made.objects[name] = DataObject(parse_number(alignment[0]) if alignment else 1, [], parse_number(size))
         elif word in (".set", ".equ"):
             name, value = [it.strip() for it in rest.split(",", 1)]
             self.made.aliases[name] = value
         elif word in (".type", ".file", ".loc"):
-            self.remark(word, rest)
+            self.read_debug_directive(word, rest)
         elif word in (".align", ".balign", ".p2align"):
-            self.align(2 ** number_of(rest.split(",")[0]) if word == ".p2align" else number_of(rest.split(",")[0]))
+            self.align(2 ** parse_number(rest.split(",")[0]) if word == ".p2align" else parse_number(rest.split(",")[0]))
         elif word in WITHOUT_BYTES or word.startswith(".cfi_") or self.section is Section.OTHER:
             return
         elif self.section is Section.CODE:
             raise Refused(f"'{word}' is in code, and is not read")
         else:
-            self.data(word, rest)
+            self.read_data(word, rest)
 
     def change_section(self, word: str, rest: str) -> None:
         """Starts another section."""
@@ -240,18 +246,18 @@ class Reader:
             parts = split_operands(rest)
             self.stack.append(before)
             self.section_name = parts[0].strip('"') if word in (".section", ".pushsection") else word
-            self.section = section_of(self.section_name, parts[1].strip('"') if len(parts) > 1 and word != ".text" else None)
+            self.section = classify_section(self.section_name, parts[1].strip('"') if len(parts) > 1 and word != ".text" else None)
         self.object, self.is_new, self.alignment = DataObject(), False, 1
 
-    def remark(self, word: str, rest: str) -> None:
+    def read_debug_directive(self, word: str, rest: str) -> None:
         """Reads what a line says about functions and the source's lines."""
         if word == ".type":
             name, _, kind = rest.partition(",")
             self.made.functions |= {name.strip()} if "function" in kind else set()
         elif word == ".file":
-            found = re.fullmatch(r'(\d+) (?:"[^"]*" )?"([^"]*)".*', rest)
-            if found and os.path.splitext(os.path.basename(found[2]))[0] == self.made.source:
-                self.main_files.add(found[1])
+            match = re.fullmatch(r'(\d+) (?:"[^"]*" )?"([^"]*)".*', rest)
+            if match and os.path.splitext(os.path.basename(match[2]))[0] == self.made.source:
+                self.main_files.add(match[1])
         else:
             number, line = rest.split()[:2]
             if number in self.main_files and line != "0":
@@ -263,34 +269,34 @@ class Reader:
         if self.section is Section.DATA and not self.is_new:
             self.object.length = (self.object.length + alignment - 1) // alignment * alignment
 
-    def data(self, word: str, rest: str) -> None:
-        """Reads data."""
+    def read_data(self, directive: str, operands: str) -> None:
+        """Reads a directive that gives the object bytes, as `.long 5`. Raises Refused if the bytes are not constants, or for another directive."""
         if self.section_name.startswith(BEFORE_MAIN):
             raise Refused("a global begins with what code before main makes of it: give it a constant")
-        if word in SIZES:
-            for part in split_operands(rest):
-                self.put(SIZES[word], *sum_of(part))
-        elif word in (".zero", ".skip", ".space"):
-            count, *filler = split_operands(rest)
-            if filler and number_of(filler[0]):
+        if directive in SIZES:
+            for part in split_operands(operands):
+                self.append_bytes(SIZES[directive], *parse_sum(part))
+        elif directive in (".zero", ".skip", ".space"):
+            count, *filler = split_operands(operands)
+            if filler and parse_number(filler[0]):
                 raise Refused("a filler other than 0 is not read")
-            self.object.length += number_of(count)
-        elif word in (".ascii", ".asciz", ".string"):
-            for byte in [*bytes_in(rest), *([0] if word != ".ascii" else [])]:
-                self.put(1, None, byte)
+            self.object.length += parse_number(count)
+        elif directive in (".ascii", ".asciz", ".string"):
+            for byte in [*parse_bytes(operands), *([0] if directive != ".ascii" else [])]:
+                self.append_bytes(1, None, byte)
         else:
-            raise Refused(f"data by '{word}' is not read")
+            raise Refused(f"data by '{directive}' is not read")
         self.is_new, self.alignment = False, 1
 
-    def put(self, size: int, symbol: Optional[str], number: int) -> None:
+    def append_bytes(self, size: int, symbol: str | None, number: int) -> None:
         """Adds some bytes to the object."""
         self.object.data.append(Datum(self.object.length, size, symbol, number))
         self.object.length += size
 
     # Instructions.
 
-    def instruction(self, text: str) -> None:
-        """Reads an instruction. A prefix may have a line of its own."""
+    def read_instruction(self, text: str) -> None:
+        """Reads an instruction. A prefix may have a line of its own. Raises Refused if a prefix repeats it."""
         rest = text
         mnemonic, _, operands = rest.partition(" ")
         while mnemonic in PREFIXES:
@@ -302,15 +308,15 @@ class Reader:
         if repeated and not mnemonic.startswith(("ret", "nop")):  # REP NOP is PAUSE
             raise Refused(f"'{repeated[0]} {mnemonic}' is not followed")
         leads = mnemonic[0] == "j" or mnemonic.startswith("call")
-        made = self.targets(operands) if leads else map(operand_of, split_operands(operands))
-        self.made.code.append(Instruction(text, mnemonic, tuple(made), "lock" in self.prefixes, self.line))
+        operands_read = self.parse_target(operands) if leads else map(parse_operand, split_operands(operands))
+        self.made.code.append(Instruction(text, mnemonic, tuple(operands_read), "lock" in self.prefixes, self.line))
         self.prefixes = []
 
     @staticmethod
-    def targets(text: str) -> List[Operand]:
-        """Returns the target of a jump or a call."""
+    def parse_target(text: str) -> list[Operand]:
+        """Returns the target of a jump or a call. Raises Refused if the target is found by a table of addresses."""
         if text.startswith("*"):
-            return [operand_of(text)]
+            return [parse_operand(text)]
         if "@" in text and not text.endswith("@PLT"):
             raise Refused(f"'{text}' is found by a table of addresses: compile with -fno-pic")
         return [Label(text.replace("@PLT", "").strip())]

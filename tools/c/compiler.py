@@ -1,4 +1,6 @@
 """Runs the reader's compiler: from a source to assembly."""
+from __future__ import annotations
+
 import functools
 import os
 import re
@@ -6,11 +8,10 @@ import shlex
 import shutil
 import subprocess
 import tempfile
-from typing import Dict, List, Optional
 
 from c.refused import Refused
 from c.source import Source
-from c.weaker import weaker_rust
+from c.weaker import weaken_rust
 from shared.home import HOME
 
 HEADER = os.path.join(HOME, "include", "lw_see.h")
@@ -32,13 +33,13 @@ LEVELS = ("-O0", "-O1", "-O2", "-O3")
 RUST_LEVELS = ("-C opt-level=0", "-C opt-level=1", "-C opt-level=2", "-C opt-level=3")
 
 
-def default_compiler(ending: str) -> str:
-    """The compiler that is run if the reader names none."""
+def choose_compiler(ending: str) -> str:
+    """Returns the compiler that is run if the reader names none."""
     return DEFAULTS.get(ending, "g++ -O2")
 
 
-def compilers_for(ending: str) -> List[str]:
-    """The compilers that are on this machine, each at all levels."""
+def list_compilers(ending: str) -> list[str]:
+    """Returns the compilers that are on this machine, each at all levels."""
     if ending == ".rs":
         return [f"rustc {level}" for level in RUST_LEVELS] if shutil.which("rustc") else []
     names = ("gcc", "clang") if ending == ".c" else ("g++", "clang++")
@@ -46,42 +47,42 @@ def compilers_for(ending: str) -> List[str]:
 
 
 @functools.lru_cache(maxsize=None)
-def version_of(name: str) -> str:
+def read_version(name: str) -> str:
     """Returns the version that a compiler says it has, as 12.2.0, or nothing if it says none."""
     try:
         ran = subprocess.run([name, "--version"], stdout=subprocess.PIPE, stderr=subprocess.DEVNULL, check=False, timeout=SECONDS)
     except (OSError, subprocess.TimeoutExpired):
         return ""
-    found = re.search(rb"\b\d+\.\d+\.\d+\b", ran.stdout)
-    return found[0].decode() if found else ""
+    match = re.search(rb"\b\d+\.\d+\.\d+\b", ran.stdout)
+    return match[0].decode() if match else ""
 
 
-def command_of(source: Source, words: List[str], weaker: int, folder: str) -> List[str]:
-    """The command that compiles a source, and the file that it reads, which is written."""
+def write_input_and_make_command(source: Source, arguments: list[str], weaker: int, folder: str) -> list[str]:
+    """Returns the command that compiles a source, and the file that it reads, which is written."""
     path, target = os.path.join(folder, NAME + source.ending), os.path.join(folder, NAME + ".s")
     text = source.text
     if source.is_rust:
         with open(RUST_HEADER, encoding="utf-8") as file:
-            text = file.read() + (weaker_rust(text, weaker) if weaker else text)
-        command = [*words, *RUST_FLAGS, "-o", target, path]
+            text = file.read() + (weaken_rust(text, weaker) if weaker else text)
+        command = [*arguments, *RUST_FLAGS, "-o", target, path]
     else:
         orders = ["-include", WEAKER[source.ending == ".c"], f"-DLW_WEAKER={weaker}"] if weaker else []
-        command = [*words, *FLAGS, "-I", os.path.dirname(HEADER), "-include", HEADER, *orders, "-o", target, path]
+        command = [*arguments, *FLAGS, "-I", os.path.dirname(HEADER), "-include", HEADER, *orders, "-o", target, path]
     with open(path, "w", encoding="utf-8") as file:
         file.write(text)
     return command
 
 
-def lines_before(source: Source) -> int:
-    """The lines that precede the source in the file that is compiled."""
+def count_lines_before(source: Source) -> int:
+    """Returns the lines that precede the source in the file that is compiled."""
     if not source.is_rust:
         return 0
     with open(RUST_HEADER, encoding="utf-8") as file:
         return file.read().count("\n")
 
 
-def words_of(compiler: str) -> List[str]:
-    """The words of a compiler's command."""
+def split_command(compiler: str) -> list[str]:
+    """Returns the words of a compiler's command. Raises Refused if it names no compiler, or asks for code of 32 bits."""
     try:
         words = shlex.split(compiler)
     except ValueError as why:
@@ -93,13 +94,15 @@ def words_of(compiler: str) -> List[str]:
     return words
 
 
-def assembly_of(source: Source, compiler: str, weaker: int = 0, include: Optional[str] = None) -> str:
-    """The assembly that a compiler makes of a source. `weaker` is a number of tools/c/weaker.py, `include` the folder of the reader's file."""
-    words = words_of(compiler)
+def compile_to_assembly(source: Source, compiler: str, weaker: int = 0, include: str | None = None) -> str:
+    """Returns the assembly that a compiler makes of a source. `weaker` is a number of tools/c/weaker.py, `include` the folder of the reader's file.
+    Raises Refused if the compiler does not start, takes too long or reports a fault.
+    """
+    words = split_command(compiler)
     if include and not source.is_rust:
         words += ["-I", include]
     with tempfile.TemporaryDirectory(prefix="from_c-") as folder:
-        command = command_of(source, words, weaker, folder)
+        command = write_input_and_make_command(source, words, weaker, folder)
         try:
             ran = subprocess.run(command, stdout=subprocess.PIPE, stderr=subprocess.STDOUT, check=False, timeout=SECONDS)
         except OSError as why:
@@ -107,7 +110,7 @@ def assembly_of(source: Source, compiler: str, weaker: int = 0, include: Optiona
         except subprocess.TimeoutExpired:
             raise Refused(f"the compiler takes longer than {SECONDS} seconds") from None
         if ran.returncode:
-            raise fault_of(ran.stdout.decode("utf-8", "replace"), lines_before(source))
+            raise parse_first_fault(ran.stdout.decode("utf-8", "replace"), count_lines_before(source))
         try:
             with open(os.path.join(folder, NAME + ".s"), encoding="utf-8") as file:
                 return file.read()
@@ -115,16 +118,16 @@ def assembly_of(source: Source, compiler: str, weaker: int = 0, include: Optiona
             raise Refused(f"'{compiler}' writes no assembly") from None
 
 
-def fault_of(printed: str, shift: int) -> Refused:
+def parse_first_fault(printed: str, shift: int) -> Refused:
     """Returns the first fault that a compiler reports, with its line."""
     cause = re.search(r"\berror\b(?:\[\w+\])?:\s*(.*)", printed)
-    place = re.search(rf"{NAME}\.\w+:(\d+):", printed)
+    line_match = re.search(rf"{NAME}\.\w+:(\d+):", printed)
     first = cause[1] if cause else (printed.strip().splitlines() or ["it says nothing"])[0]
-    return Refused(f"the compiler refuses it: {first}", int(place[1]) - shift if place else None)
+    return Refused(f"the compiler refuses it: {first}", int(line_match[1]) - shift if line_match else None)
 
 
-def readable(symbol: str) -> str:
-    """The last part of a name that Rust or C++ has decorated, or the name."""
+def demangle_last_part(symbol: str) -> str:
+    """Returns the last part of a name that Rust or C++ has decorated, or the name."""
     rust = re.fullmatch(r"_ZN(.*)17h[0-9a-f]{16}E(.*)", symbol)
     rest, parts = (rust[1], []) if rust else ("", [])
     while digits := re.match(r"\d+", rest):
@@ -135,11 +138,11 @@ def readable(symbol: str) -> str:
     return f"P{thread[1]}" if thread else parts[-1] if parts else symbol
 
 
-def with_readable_names(text: str) -> str:
-    """Assembly in which names are as in the source, if no two of them would be the same."""
-    found = sorted(set(re.findall(r"_ZN[\w$.]+17h[0-9a-f]{16}E[\w$.]*|_Z2P\dv", text)))
-    names: Dict[str, str] = {it: readable(it) for it in found}
-    counts: Dict[str, int] = {}
-    for it in names.values():
-        counts[it] = counts.get(it, 0) + 1
+def demangle_assembly(text: str) -> str:
+    """Returns assembly in which names are as in the source, if no two of them would be the same."""
+    symbols = sorted(set(re.findall(r"_ZN[\w$.]+17h[0-9a-f]{16}E[\w$.]*|_Z2P\dv", text)))
+    names: dict[str, str] = {it: demangle_last_part(it) for it in symbols}
+    counts: dict[str, int] = {}
+    for name in names.values():
+        counts[name] = counts.get(name, 0) + 1
     return re.sub(r"_ZN[\w$.]+17h[0-9a-f]{16}E[\w$.]*|_Z2P\dv", lambda it: names[it[0]] if counts[names[it[0]]] == 1 else it[0], text)

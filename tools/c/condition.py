@@ -1,8 +1,11 @@
 """The condition of a program, in herd's words: `exists (0:r0=0 /\\ x=&n1)`."""
-from typing import Dict, List, NamedTuple, Set, Union
+from __future__ import annotations
+
+from typing import Any, NamedTuple, Union
 
 from herd.propositions import PropositionReader
 from herd.text import Refused, TOKEN, Token
+from plain import Constant, Eq, Not, Proposition, list_parts
 
 
 class Seen(NamedTuple):
@@ -28,102 +31,102 @@ Site = Union[Seen, Global]
 
 
 class Condition(NamedTuple):
-    """A quantifier, a proposition of atoms ("is", site, word), whose words are numbers or addresses, and the text."""
+    """A quantifier, a proposition, whose sites are of the program and whose words are numbers or addresses, and the text."""
 
     quantifier: str
-    proposition: tuple
+    proposition: Proposition
     text: str
 
-    def atoms(self) -> List[tuple]:
+    def list_atoms(self) -> list[Eq]:
         """Returns the atoms of the proposition."""
-        return atoms_in(self.proposition)
+        return list_atoms(self.proposition)
 
-    def names(self) -> Dict[int, Set[str]]:
+    def collect_names(self) -> dict[int, set[str]]:
         """Returns the names that the condition mentions, by thread."""
-        made: Dict[int, Set[str]] = {}
-        for _, site, _ in self.atoms():
-            if isinstance(site, Seen):
-                made.setdefault(site.thread, set()).add(site.name)
-        return made
+        names: dict[int, set[str]] = {}
+        for atom in self.list_atoms():
+            if isinstance(atom.site, Seen):
+                names.setdefault(atom.site.thread, set()).add(atom.site.name)
+        return names
 
-    def globals(self) -> List[str]:
+    def list_globals(self) -> list[str]:
         """Returns the globals that the condition mentions, without duplicates."""
-        return list(dict.fromkeys(site.name for _, site, _ in self.atoms() if isinstance(site, Global)))
+        return list(dict.fromkeys(it.site.name for it in self.list_atoms() if isinstance(it.site, Global)))
 
 
-def atoms_in(proposition: tuple) -> List[tuple]:
+def list_atoms(proposition: Proposition) -> list[Eq]:
     """Returns the atoms of a proposition."""
-    if proposition[0] == "is":
+    if isinstance(proposition, Eq):
         return [proposition]
-    return [atom for part in proposition[1:] for atom in atoms_in(part)]
+    return [] if isinstance(proposition, Constant) else [atom for part in list_parts(proposition) for atom in list_atoms(part)]
 
 
 class ConditionReader(PropositionReader):
     """A reader of a condition whose sites have the names of the source."""
 
-    def condition(self, text: str) -> Condition:
-        """Reads the whole condition."""
-        quantifier = self.quantifier()
-        proposition = self.implied()
+    def read_condition(self, text: str) -> Condition:
+        """Reads the whole condition. Raises Refused if something follows it."""
+        quantifier = self.read_quantifier()
+        proposition = self.read_implication()
         if self.token.kind != "end":
-            raise self.misplaced("the end of the condition")
+            raise self.make_misplaced_refusal("the end of the condition")
         return Condition(quantifier, proposition, text)
 
-    def atom(self) -> tuple:
+    def read_atom(self) -> Proposition:
         """Reads a site and the word that it has, or has not."""
-        site = self.site()
-        sign = self.take("=", "==", "<>", "!=").text
-        it = ("is", site, self.word(site))
-        return it if sign in ("=", "==") else ("not", it)
+        site = self.read_site()
+        sign = self.take_token("=", "==", "<>", "!=").text
+        equation = Eq(site, self.read_word(site))
+        return equation if sign in ("=", "==") else Not(equation)
 
-    def offset_name(self) -> str:
-        """Reads a name, and a number that is added."""
+    def read_name_with_offset(self) -> str:
+        """Reads a name, and a number that is added. Raises Refused if there is no name."""
         if self.token.kind != "name":
-            raise self.misplaced("a name")
-        name = self.take().text
-        if self.take_if("+"):
-            number = self.signed()
+            raise self.make_misplaced_refusal("a name")
+        name = self.take_token().text
+        if self.take_token_if("+"):
+            number = self.read_signed()
             name += f"+{number}" if number else ""
         return name
 
-    def site(self) -> Site:
+    def read_site(self) -> Site:
         """Reads a global, or a value of a thread."""
-        if self.token.kind == "number" or self.ahead(1) == ":":
-            return self.thread_value()
-        if self.take_if("["):
-            site = Global(self.offset_name())
-            self.take("]")
+        if self.token.kind == "number" or self.peek(1) == ":":
+            return self.read_thread_value()
+        if self.take_token_if("["):
+            site = Global(self.read_name_with_offset())
+            self.take_token("]")
             return site
-        return Global(self.offset_name())
+        return Global(self.read_name_with_offset())
 
-    def thread_value(self) -> Seen:
-        """Reads a value of a thread, such as 0:r0 or P0:r0."""
-        at, digits = self.token.at, self.take().text.lstrip("P")
+    def read_thread_value(self) -> Seen:
+        """Reads a value of a thread, such as 0:r0 or P0:r0. Raises Refused if the thread or the name is none."""
+        offset, digits = self.token.offset, self.take_token().text.lstrip("P")
         if not digits.isdigit() or int(digits) > 3:
-            raise Refused(f"'{digits}' stands where the number of a thread from 0 to 3 should", at)
-        self.take(":")
+            raise Refused(f"'{digits}' stands where the number of a thread from 0 to 3 should", offset)
+        self.take_token(":")
         if self.token.kind != "name":
-            raise self.misplaced("a name")
-        return Seen(int(digits), self.take().text)
+            raise self.make_misplaced_refusal("a name")
+        return Seen(int(digits), self.take_token().text)
 
-    def word(self, _site: Site) -> Union[int, Address]:
-        """Reads a number, or the address of a global."""
-        if self.take_if("&") or self.token.kind == "name":
-            return Address(self.offset_name())
-        at, number = self.token.at, self.signed("a number or the address of a global")
+    def read_word(self, site: Any) -> Any:
+        """Reads a number, or the address of a global, as an Address. Raises Refused if a number has more than 64 bits."""
+        if self.take_token_if("&") or self.token.kind == "name":
+            return Address(self.read_name_with_offset())
+        offset, number = self.token.offset, self.read_signed("a number or the address of a global")
         if not -(2**63) <= number < 2**64:
-            raise Refused(f"{number} does not fit into a word of 64 bits", at)
+            raise Refused(f"{number} does not fit into a word of 64 bits", offset)
         return number
 
 
 def read_condition(text: str, begin: int, end: int) -> Condition:
-    """Reads the condition in a part of a text."""
-    at, tokens = begin, []
-    while at < end:
-        found = TOKEN.match(text, at, end)
-        if not found:
-            raise Refused(f"'{text[at]}' is no token of a condition", at)
-        if found.lastgroup != "blank":
-            tokens.append(Token(found.lastgroup, found[0], at))
-        at = found.end()
-    return ConditionReader([*tokens, Token("end", "", end)]).condition(" ".join(text[begin:end].split()))
+    """Reads the condition in a part of a text. Raises Refused at the first character that is no part of one."""
+    offset, tokens = begin, []
+    while offset < end:
+        match = TOKEN.match(text, offset, end)
+        if not match:
+            raise Refused(f"'{text[offset]}' is no token of a condition", offset)
+        if match.lastgroup != "blank":
+            tokens.append(Token(match.lastgroup or "", match[0], offset))
+        offset = match.end()
+    return ConditionReader([*tokens, Token("end", "", end)]).read_condition(" ".join(text[begin:end].split()))

@@ -1,9 +1,13 @@
 """Conditions, jumps and calls: where a way continues, and the stack that calls use."""
-from c.flags import Source, check_readable, condition_of, holds_of
+from __future__ import annotations
+
+from typing import Any
+
+from c.flags import Source, check_readable, evaluate_condition, parse_condition
 from c.layout import CODE, HEAP, HEAP_OF_THREAD, LARGEST_BLOCK
 from c.locked import Locked
 from c.operands import Label, Operand, Through
-from c.own_memory import own_load, own_store
+from c.own_memory import load_own, store_own
 from c.refused import Refused
 from c.values import MASK, Value
 
@@ -18,113 +22,115 @@ class Control(Locked):
 
     # Flags.
 
-    def holds(self, letters: str) -> bool:
+    def evaluate_condition(self, letters: str) -> bool:
         """Returns whether a condition holds."""
-        name, wanted = condition_of(letters)
+        name, wanted = parse_condition(letters)
         flags, way = self.way.flags, self.way
         check_readable(flags, name)
         if flags.source in (Source.EXCHANGE, Source.BIT):
-            return way.number(flags.left) == wanted
+            return way.require_number(flags.left) == wanted
         if name == "e" and flags.source is Source.DIFFERENCE:
-            return way.same(flags.left, flags.right, flags.size) == wanted
-        if name == "e" and flags.source is Source.SUM and (known := way.known(flags.right)) is not None:
-            return way.same(flags.left, -known & MASK[flags.size], flags.size) == wanted
+            return way.are_equal(flags.left, flags.right, flags.size) == wanted
+        if name == "e" and flags.source is Source.SUM and (known := way.resolve(flags.right)) is not None:
+            return way.are_equal(flags.left, -known & MASK[flags.size], flags.size) == wanted
         mask, right = MASK[flags.size], 0 if flags.right is None else flags.right
 
         def work(left: int, right: int) -> bool:
             """Returns the condition on two words."""
             if flags.source is Source.DIFFERENCE and flags.size == 8:
                 self.program.layout.check_comparable(left, right)
-            return holds_of(name, flags.source, left & mask, right & mask, flags.size)
+            return evaluate_condition(name, flags.source, left & mask, right & mask, flags.size)
 
         if flags.source in (Source.LOGIC, Source.SHIFT) and name == "e":
-            return way.same(flags.left, 0, flags.size) == wanted
+            return way.are_equal(flags.left, 0, flags.size) == wanted
         return way.apply_both(flags.left, right, work) == wanted
 
     # Jumps and calls.
 
-    def jump(self, name: str) -> None:
-        """Jumps, if the condition holds."""
+    def jump_if(self, name: str) -> None:
+        """Jumps, if the condition holds. Raises Refused for another jump."""
         if not name.startswith("jmp"):
             if "cx" in name:
                 raise Refused(f"'{name}' is not followed")
-            if not self.holds(name[1:]):
+            if not self.evaluate_condition(name[1:]):
                 return
-        self.go_to(self.target(self.it.operands[0]))
+        self.go_to(self.find_target(self.instruction.operands[0]))
 
-    def target(self, to: Operand) -> int:
-        """Returns the index of the instruction that a jump or a call targets."""
-        if isinstance(to, Through):
-            place = self.way.number(self.value_of(to.operand, 8)) - CODE
-            if not 0 <= place < len(self.program.assembly.code):
+    def find_target(self, destination: Any) -> int:
+        """Returns the index of the instruction that a jump or a call targets. Its operand is a label, or what `*` is written before. Raises Refused
+        if it is in another file, or no code.
+        """
+        if isinstance(destination, Through):
+            index = self.way.require_number(self.read_operand(destination.operand, 8)) - CODE
+            if not 0 <= index < len(self.program.assembly.code):
                 raise Refused("a jump leads to no code")
-            return place
-        label = self.program.assembly.resolved(to.name)
+            return index
+        label = self.program.assembly.resolve_alias(destination.name)
         if label not in self.program.assembly.labels:
             raise Refused(f"'{label}' is called or jumped to, and is elsewhere")
         return self.program.assembly.labels[label]
 
-    def go_to(self, place: int) -> None:
+    def go_to(self, index: int) -> None:
         """Continues elsewhere. A backward jump within a call is one more pass through a loop."""
-        if place < self.way.place and (self.way.call, place) in self.way.passes:
+        if index < self.way.place and (self.way.call, index) in self.way.passes:
             self.way.is_back = True
-        self.way.place = place
+        self.way.place = index
 
-    def call(self, to: Operand) -> None:
+    def call(self, destination: Operand) -> None:
         """Calls: the return address is pushed onto the stack."""
-        if isinstance(to, Label) and to.name in ALLOCATORS:
-            return self.allocate(to.name)
-        if isinstance(to, Label) and to.name in FREERS:
-            self.program.notes.add(f"{to.name} does nothing: memory is not given out again")
+        if isinstance(destination, Label) and destination.name in ALLOCATORS:
+            return self.call_allocator(destination.name)
+        if isinstance(destination, Label) and destination.name in FREERS:
+            self.program.notes.add(f"{destination.name} does nothing: memory is not given out again")
             return None
-        place, way = self.target(to), self.way
-        at = self.push(CODE + way.place)
-        way.callers[at] = way.call
+        index, way = self.find_target(destination), self.way
+        address = self.push(CODE + way.place)
+        way.callers[address] = way.call
         way.calls += 1
         way.call = way.calls
-        way.place = place
+        way.place = index
         return None
 
     def return_(self) -> None:
-        """Returns from a call."""
-        if self.it.operands:
+        """Returns from a call. Raises Refused if it takes arguments from the stack."""
+        if self.instruction.operands:
             raise Refused("a return that takes arguments from the stack is not followed")
         way = self.way
-        at = way.number(self.register("rsp", 8))
-        way.place = way.number(self.pop()) - CODE
-        way.call = way.callers.get(at, 0)
+        address = way.require_number(self.read_register("rsp", 8))
+        way.place = way.require_number(self.pop()) - CODE
+        way.call = way.callers.get(address, 0)
 
-    def allocate(self, name: str) -> None:
-        """Does a call of malloc or the like."""
+    def call_allocator(self, name: str) -> None:
+        """Does a call of malloc or the like. Raises Refused if the block is too large."""
         way = self.way
-        sizes = [way.number(self.register(it, 8)) for it in (("rdi", "rsi") if name == "calloc" else ("rdi",))]
+        sizes = [way.require_number(self.read_register(it, 8)) for it in (("rdi", "rsi") if name == "calloc" else ("rdi",))]
         size = sizes[0] * sizes[-1] if name == "calloc" else sizes[0]
         way.blocks += 1
         if size > LARGEST_BLOCK // 2 or way.blocks >= HEAP_OF_THREAD // LARGEST_BLOCK:
             raise Refused(f"{name} of {size} bytes is too much here")
-        for it in LEFT_OPEN:
-            way.registers[it] = (None, 0)
+        for register in LEFT_OPEN:
+            way.registers[register] = (None, 0)
         way.flags = None
         way.registers["rax"] = (HEAP + HEAP_OF_THREAD * self.thread + LARGEST_BLOCK * way.blocks, 8)
         self.program.notes.add(f"{name} succeeds, and gives memory that nobody else has and that begins with 0")
 
     def push(self, value: Value) -> int:
         """Pushes 8 bytes onto the stack. Returns their address."""
-        at = self.way.number(self.register("rsp", 8)) - 8
-        self.way.registers["rsp"] = (at, 8)
-        self.is_shared(at, 8)
-        own_store(self.way, at, 8, value)
-        return at
+        address = self.way.require_number(self.read_register("rsp", 8)) - 8
+        self.way.registers["rsp"] = (address, 8)
+        self.is_shared(address, 8)
+        store_own(self.way, address, 8, value)
+        return address
 
     def pop(self) -> Value:
         """Pops 8 bytes from the stack."""
-        at = self.way.number(self.register("rsp", 8))
-        self.is_shared(at, 8)
-        self.way.registers["rsp"] = (at + 8, 8)
-        return own_load(self.way, self.program.layout, at, 8)
+        address = self.way.require_number(self.read_register("rsp", 8))
+        self.is_shared(address, 8)
+        self.way.registers["rsp"] = (address + 8, 8)
+        return load_own(self.way, self.program.layout, address, 8)
 
-    def leave(self) -> None:
+    def execute_leave(self) -> None:
         """Does LEAVE."""
-        self.way.registers["rsp"] = (self.way.number(self.register("rbp", 8)), 8)
+        self.way.registers["rsp"] = (self.way.require_number(self.read_register("rbp", 8)), 8)
         value = self.pop()
         self.way.registers["rbp"] = (value, 8 if value is not None else 0)

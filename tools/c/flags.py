@@ -1,9 +1,11 @@
 """The flags: which instruction set them, from which values, and which conditions can be read from them."""
+from __future__ import annotations
+
 from dataclasses import dataclass
 from enum import Enum
 
 from c.refused import Refused
-from c.values import MASK, Value, signed
+from c.values import MASK, Value, to_signed
 
 
 class Source(Enum):
@@ -45,8 +47,8 @@ READABLE = {
 }
 
 
-def condition_of(letters: str) -> tuple:
-    """Returns the condition that the letters of a mnemonic name, and whether it must hold."""
+def parse_condition(letters: str) -> tuple[str, bool]:
+    """Returns the condition that the letters of a mnemonic name, and whether it must hold. Raises Refused if the letters name none."""
     name = SAME_NAMES.get(letters, letters)
     name, wanted = (OPPOSITE[name], False) if name in OPPOSITE else (name, True)
     if name not in READABLE[Source.SUM]:
@@ -62,14 +64,14 @@ def check_readable(flags: Flags, name: str) -> None:
         raise Refused(f"a flag is read that {flags.source.value} before leaves alone or undefined")
 
 
-def holds_of(name: str, source: Source, left: int, right: int, size: int) -> bool:
+def evaluate_condition(name: str, source: Source, left: int, right: int, size: int) -> bool:
     """Returns whether a condition holds after an operation on two words."""
     if source is Source.DIFFERENCE:
         result, carry = left - right & MASK[size], left < right
-        overflow = signed(left, size) - signed(right, size) != signed(result, size)
+        overflow = to_signed(left, size) - to_signed(right, size) != to_signed(result, size)
     elif source is Source.SUM:
         result, carry = left + right & MASK[size], left + right > MASK[size]
-        overflow = signed(left, size) + signed(right, size) != signed(result, size)
+        overflow = to_signed(left, size) + to_signed(right, size) != to_signed(result, size)
     else:
         result, carry, overflow = left, False, False
     sign, is_less = bool(result >> (8 * size - 1)), bool(result >> (8 * size - 1)) != overflow

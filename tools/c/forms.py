@@ -1,4 +1,6 @@
 """The operands that an instruction may have. What an assembler would refuse, and what is not known here, is refused."""
+from __future__ import annotations
+
 import re
 
 from c.assembly import Instruction
@@ -19,27 +21,28 @@ INTO_REGISTER = r"lea[wlq]?|cmov\w+|mov[sz][bwl][wlq]?|bswap[lq]?"
 WITH_REGISTER = r"(xadd|cmpxchg)[bwlq]?"
 
 
-def check_form(it: Instruction) -> None:
+def check_form(instruction: Instruction) -> None:
     """Refuses operands that an instruction cannot have."""
-    counts = next((counts for pattern, counts in COUNTS if re.fullmatch(pattern, it.mnemonic)), None)
+    counts = next((counts for pattern, counts in COUNTS if re.fullmatch(pattern, instruction.mnemonic)), None)
     if counts is None:
         return
-    operands = it.operands
+    operands = instruction.operands
     registers = [isinstance(operand, Register) for operand in operands]
     is_right = len(operands) in counts and sum(isinstance(operand, Memory) for operand in operands) <= 1
     if is_right and isinstance(operands[-1], Number):
-        is_right = it.mnemonic.startswith("push")
-    if is_right and re.fullmatch(INTO_REGISTER, it.mnemonic):
-        is_right = registers[-1] and (not it.mnemonic.startswith("lea") or isinstance(operands[0], Memory)) and not isinstance(operands[0], Number)
-    if is_right and re.fullmatch(WITH_REGISTER, it.mnemonic):
+        is_right = instruction.mnemonic.startswith("push")
+    if is_right and re.fullmatch(INTO_REGISTER, instruction.mnemonic):
+        is_right = registers[-1] and not isinstance(operands[0], Number)
+        is_right = is_right and (not instruction.mnemonic.startswith("lea") or isinstance(operands[0], Memory))
+    if is_right and re.fullmatch(WITH_REGISTER, instruction.mnemonic):
         is_right = registers[0]
-    if is_right and it.mnemonic.startswith("xchg"):
+    if is_right and instruction.mnemonic.startswith("xchg"):
         is_right = all(isinstance(operand, (Register, Memory)) for operand in operands)
-    if is_right and it.mnemonic.startswith("imul") and len(operands) > 1:
+    if is_right and instruction.mnemonic.startswith("imul") and len(operands) > 1:
         is_right = registers[-1] and (len(operands) == 2 or isinstance(operands[0], Number))
-    if is_right and re.fullmatch(r"(sh|sa|ro)[lr][bwlq]?", it.mnemonic) and len(operands) == 2:
+    if is_right and re.fullmatch(r"(sh|sa|ro)[lr][bwlq]?", instruction.mnemonic) and len(operands) == 2:
         is_right = registers[0] and operands[0].name == "rcx" or isinstance(operands[0], Number)
-    if is_right and it.is_locked:
+    if is_right and instruction.is_locked:
         is_right = any(isinstance(operand, Memory) for operand in operands)
-    if not is_right or it.mnemonic.startswith("imul") and len(operands) == 1 and isinstance(operands[0], Number):
+    if not is_right or instruction.mnemonic.startswith("imul") and len(operands) == 1 and isinstance(operands[0], Number):
         raise Refused("an instruction has operands that are not known for it")

@@ -1,5 +1,6 @@
 """The addresses of objects, stacks, the heap and code, all below 2 to the 31, and the names by which they are known."""
-from typing import Dict, List, Optional, Tuple
+from __future__ import annotations
+
 
 from c.assembly import Assembly, DataObject, Datum
 from c.refused import Refused
@@ -16,98 +17,99 @@ GAP = 64
 class Layout:
     """The addresses of a file."""
 
-    def __init__(self, assembly: Assembly):
+    def __init__(self, assembly: Assembly) -> None:
+        """Gives each object of the data sections an address."""
         self.assembly = assembly
-        self.addresses: Dict[str, int] = {}
-        at = OBJECTS
-        for name, it in sorted(assembly.objects.items()):
-            self.addresses[name] = at
-            at += (it.length + 2 * GAP - 1) // GAP * GAP
+        self.addresses: dict[str, int] = {}
+        address = OBJECTS
+        for name, data_object in sorted(assembly.objects.items()):
+            self.addresses[name] = address
+            address += (data_object.length + 2 * GAP - 1) // GAP * GAP
 
-    def address(self, symbol: Optional[str], number: int) -> int:
-        """Returns the address of a symbol, also of a function, plus a number."""
+    def find_address(self, symbol: str | None, number: int) -> int:
+        """Returns the address of a symbol, also of a function, plus a number. Raises Refused if it is defined elsewhere."""
         if symbol is None:
             return number
-        symbol = self.assembly.resolved(symbol)
+        symbol = self.assembly.resolve_alias(symbol)
         if symbol in self.addresses:
             return self.addresses[symbol] + number
         if symbol in self.assembly.labels and not number:
             return CODE + self.assembly.labels[symbol]
         raise Refused(f"'{symbol}' is defined elsewhere")
 
-    def object_at(self, at: int) -> Optional[Tuple[str, DataObject, int]]:
-        """Returns the object that contains a byte: its name, the object, and the byte's offset."""
+    def find_object(self, address: int) -> tuple[str, DataObject, int] | None:
+        """Returns the object that contains a byte: its name, the object, and the byte's offset. `None` if no object does."""
         for name, begin in self.addresses.items():
-            if begin <= at < begin + self.assembly.objects[name].length:
-                return name, self.assembly.objects[name], at - begin
+            if begin <= address < begin + self.assembly.objects[name].length:
+                return name, self.assembly.objects[name], address - begin
         return None
 
     @staticmethod
-    def is_heap(at: int) -> bool:
+    def is_heap(address: int) -> bool:
         """Returns whether a byte is in memory that a thread has allocated."""
-        return HEAP <= at < HEAP + 4 * HEAP_OF_THREAD
+        return HEAP <= address < HEAP + 4 * HEAP_OF_THREAD
 
     @staticmethod
-    def is_stack(at: int) -> bool:
+    def is_stack(address: int) -> bool:
         """Returns whether a byte is on some thread's stack."""
-        return STACKS - 4 * STACK_OF_THREAD < at <= STACKS + GAP
+        return STACKS - 4 * STACK_OF_THREAD < address <= STACKS + GAP
 
-    def first_word(self, at: int, size: int) -> int:
-        """Returns the initial word of some bytes. Allocated memory is assumed to start with 0."""
-        if self.is_heap(at):
+    def read_initial_word(self, address: int, size: int) -> int:
+        """Returns the initial word of some bytes. Allocated memory is assumed to start with 0. Raises Refused if no variable has the bytes."""
+        if self.is_heap(address):
             return 0
-        found = self.object_at(at)
-        if not found or found[2] + size > found[1].length:
-            raise Refused(f"{size} bytes at {at:#x} are accessed, which no variable has")
+        containing_object = self.find_object(address)
+        if not containing_object or containing_object[2] + size > containing_object[1].length:
+            raise Refused(f"{size} bytes at {address:#x} are accessed, which no variable has")
         word = 0
-        for it in found[1].data:
-            word |= self.part_of(it, found[2], size)
+        for datum in containing_object[1].data:
+            word |= self.extract_datum_bytes(datum, containing_object[2], size)
         return word
 
-    def part_of(self, it: Datum, begin: int, size: int) -> int:
+    def extract_datum_bytes(self, datum: Datum, begin: int, size: int) -> int:
         """Returns what a datum adds to the word of some bytes of its object."""
-        low, high = max(it.offset, begin), min(it.offset + it.size, begin + size)
+        low, high = max(datum.offset, begin), min(datum.offset + datum.size, begin + size)
         if low >= high:
             return 0
-        whole = self.address(it.symbol, it.number) & MASK[it.size]
-        return (whole >> 8 * (low - it.offset) & (1 << 8 * (high - low)) - 1) << 8 * (low - begin)
+        whole = self.find_address(datum.symbol, datum.number) & MASK[datum.size]
+        return (whole >> 8 * (low - datum.offset) & (1 << 8 * (high - low)) - 1) << 8 * (low - begin)
 
-    def alignment_at(self, at: int) -> int:
+    def compute_alignment(self, address: int) -> int:
         """Returns the alignment that a byte certainly has."""
-        found = self.object_at(at)
-        alignment, offset = (16, at - HEAP) if found is None else (found[1].alignment, found[2])
+        containing_object = self.find_object(address)
+        alignment, offset = (16, address - HEAP) if containing_object is None else (containing_object[1].alignment, containing_object[2])
         while offset % alignment:
             alignment //= 2
         return alignment
 
-    def name_of(self, at: int) -> str:
+    def name_address(self, address: int) -> str:
         """Returns the name of a byte: `x`, `x+8`, `new0_1+4`."""
-        found = self.object_at(at)
-        if found:
-            return found[0] + (f"+{found[2]}" if found[2] else "")
-        if not self.is_heap(at):
-            return hex(at)
-        thread, offset = divmod(at - HEAP, HEAP_OF_THREAD)
+        containing_object = self.find_object(address)
+        if containing_object:
+            return containing_object[0] + (f"+{containing_object[2]}" if containing_object[2] else "")
+        if not self.is_heap(address):
+            return hex(address)
+        thread, offset = divmod(address - HEAP, HEAP_OF_THREAD)
         block, offset = divmod(offset, LARGEST_BLOCK)
         return f"new{thread}_{block}" + (f"+{offset}" if offset else "")
 
-    def area_of(self, at: int) -> Optional[str]:
+    def find_area(self, address: int) -> str | None:
         """Returns the object, the allocated block or the stack that contains an address or ends at it; `None` if there is none."""
-        if not OBJECTS <= at < STACKS + GAP:
+        if not OBJECTS <= address < STACKS + GAP:
             return None
-        found = self.object_at(at) or self.object_at(at - 1)
-        if found:
-            return found[0]
-        if self.is_heap(at):
-            return f"block {(at - HEAP) // LARGEST_BLOCK}"
-        return f"stack {(STACKS - at) // STACK_OF_THREAD}" if self.is_stack(at) else None
+        containing_object = self.find_object(address) or self.find_object(address - 1)
+        if containing_object:
+            return containing_object[0]
+        if self.is_heap(address):
+            return f"block {(address - HEAP) // LARGEST_BLOCK}"
+        return f"stack {(STACKS - address) // STACK_OF_THREAD}" if self.is_stack(address) else None
 
     def check_comparable(self, left: int, right: int) -> None:
         """Refuses an order or a difference of addresses of two objects, since it depends on where a linker puts them."""
-        areas = self.area_of(left), self.area_of(right)
+        areas = self.find_area(left), self.find_area(right)
         if None not in areas and areas[0] != areas[1]:
             raise Refused(f"the order or the difference of addresses of two objects is used, '{areas[0]}' and '{areas[1]}': a linker chooses it")
 
-    def names_of_objects(self) -> List[Tuple[int, str]]:
+    def list_objects(self) -> list[tuple[int, str]]:
         """Returns the addresses of all objects, each with its name."""
-        return [(at, name) for name, at in self.addresses.items()]
+        return [(address, name) for name, address in self.addresses.items()]

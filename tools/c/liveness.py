@@ -3,7 +3,8 @@
 What cannot be read any more is forgotten on the ways through a thread, so that ways that continue in the same way are equal. If a register
 were forgotten too early, it would be one that nothing has set, and reading it is refused.
 """
-from typing import FrozenSet, List, Set, Tuple
+from __future__ import annotations
+
 
 from c.assembly import Assembly, Instruction
 from c.operands import Label, Memory, Operand, Register, Through, VECTOR, WHOLE_REGISTERS
@@ -19,41 +20,42 @@ LEAVE_FLAGS = (
 READ_CARRY = ("adc", "sbb")
 
 
-def registers_in(operand: Operand) -> Set[str]:
+def list_registers(operand: Operand) -> set[str]:
     """Returns the registers that an operand names."""
     if isinstance(operand, Register):
         return {operand.name}
     if isinstance(operand, Memory):
         return {it for it in (operand.base, operand.index) if it}
-    return registers_in(operand.operand) if isinstance(operand, Through) else set()
+    return list_registers(operand.operand) if isinstance(operand, Through) else set()
 
 
-def written_whole(it: Instruction) -> Set[str]:
+def list_overwritten(instruction: Instruction) -> set[str]:
     """Returns the registers that an instruction overwrites completely, and the flags if it sets them."""
-    name, last = it.mnemonic, it.operands[-1] if it.operands else None
-    is_vector = any(isinstance(operand, Register) and operand.size == VECTOR for operand in it.operands)
-    made = set() if name.startswith(LEAVE_FLAGS) or name[0] == "j" or is_vector else {FLAGS}
-    if name.startswith(READ_CARRY) or not it.operands or name.startswith(("call", "ret", "inc", "dec", "sh", "sa", "ro")):
-        made = set()
+    name, last = instruction.mnemonic, instruction.operands[-1] if instruction.operands else None
+    is_vector = any(isinstance(operand, Register) and operand.size == VECTOR for operand in instruction.operands)
+    written = set() if name.startswith(LEAVE_FLAGS) or name[0] == "j" or is_vector else {FLAGS}
+    if name.startswith(READ_CARRY) or not instruction.operands or name.startswith(("call", "ret", "inc", "dec", "sh", "sa", "ro")):
+        written = set()
     is_pure = name.startswith(("mov", "lea", "pop"))
-    if isinstance(last, Register) and last.size >= 4 and (is_pure or is_zero(it)):
-        made.add(last.name)
-    return made
+    if isinstance(last, Register) and last.size >= 4 and (is_pure or sets_to_zero(instruction)):
+        written.add(last.name)
+    return written
 
 
-def is_zero(it: Instruction) -> bool:
+def sets_to_zero(instruction: Instruction) -> bool:
     """Returns whether an instruction sets a register to 0 whatever its content."""
-    return it.mnemonic.startswith(("xor", "sub")) and len(it.operands) == 2 and it.operands[0] == it.operands[1]
+    operands = instruction.operands
+    return instruction.mnemonic.startswith(("xor", "sub")) and len(operands) == 2 and operands[0] == operands[1]
 
 
-def uses_and_writes(it: Instruction) -> Tuple[Set[str], Set[str]]:
+def list_reads_and_writes(instruction: Instruction) -> tuple[set[str], set[str]]:
     """Returns what an instruction reads, and what it overwrites completely. It may list too many reads, and too few writes."""
-    name, writes = it.mnemonic, written_whole(it)
+    name, writes = instruction.mnemonic, list_overwritten(instruction)
     if name.startswith("call"):
         return set(ALL), set()
-    used = set().union(*map(registers_in, it.operands))
-    if isinstance(it.operands[-1] if it.operands else None, Register) and writes - {FLAGS}:
-        used = set().union(*map(registers_in, it.operands[:-1])) if not is_zero(it) else set()
+    used = set().union(*map(list_registers, instruction.operands))
+    if isinstance(instruction.operands[-1] if instruction.operands else None, Register) and writes - {FLAGS}:
+        used = set().union(*map(list_registers, instruction.operands[:-1])) if not sets_to_zero(instruction) else set()
     if name.startswith(("push", "pop", "ret", "leave")):
         used |= {"rsp", "rbp"}
     if name[0] == "j" and not name.startswith("jmp") or name.startswith(("cmov", "set", *READ_CARRY)):
@@ -65,34 +67,36 @@ def uses_and_writes(it: Instruction) -> Tuple[Set[str], Set[str]]:
     return used, writes
 
 
-def followers_of(assembly: Assembly, at: int, after_calls: List[int]) -> List[int]:
-    """Returns the instructions that may be next. `None` is the place after the last, where everything is read."""
-    it, end = assembly.code[at], len(assembly.code)
-    if it.mnemonic.startswith("ret"):
+def list_successors(assembly: Assembly, index: int, after_calls: list[int]) -> list[int]:
+    """Returns the indices of the instructions that may be next; `after_calls` may be after a return. The index past the last represents any
+    other place, where everything is read.
+    """
+    instruction, end = assembly.code[index], len(assembly.code)
+    if instruction.mnemonic.startswith("ret"):
         return after_calls
-    made = [] if it.mnemonic.startswith("jmp") else [at + 1]
-    if it.mnemonic[0] == "j":
-        to = it.operands[0]
-        made.append(assembly.labels.get(assembly.resolved(to.name), end) if isinstance(to, Label) else end)
-    return made
+    followers = [] if instruction.mnemonic.startswith("jmp") else [index + 1]
+    if instruction.mnemonic[0] == "j":
+        target = instruction.operands[0]
+        followers.append(assembly.labels.get(assembly.resolve_alias(target.name), end) if isinstance(target, Label) else end)
+    return followers
 
 
-def live_before(assembly: Assembly) -> List[FrozenSet[str]]:
+def compute_live_sets(assembly: Assembly) -> list[frozenset[str]]:
     """Returns what may still be read before each instruction, and after the last. A return may continue after every call."""
     code = assembly.code
-    facts = [uses_and_writes(it) for it in code]
-    after_calls = [at + 1 for at, it in enumerate(code) if it.mnemonic.startswith("call")]
-    followers = [followers_of(assembly, at, after_calls) for at in range(len(code))]
-    live: List[FrozenSet[str]] = [frozenset()] * len(code) + [ALL | {FLAGS}]
+    facts = [list_reads_and_writes(it) for it in code]
+    after_calls = [index + 1 for index, it in enumerate(code) if it.mnemonic.startswith("call")]
+    followers = [list_successors(assembly, index, after_calls) for index in range(len(code))]
+    live: list[frozenset[str]] = [frozenset()] * len(code) + [ALL | {FLAGS}]
     has_changed = True
     while has_changed:
         has_changed = False
-        for at in range(len(code) - 1, -1, -1):
-            after = set().union(*(live[it] for it in followers[at])) if followers[at] else set()
-            if code[at].mnemonic.startswith("ret"):
+        for index in range(len(code) - 1, -1, -1):
+            after = set().union(*(live[it] for it in followers[index])) if followers[index] else set()
+            if code[index].mnemonic.startswith("ret"):
                 after |= {"rax"}
-            used, writes = facts[at]
-            made = frozenset(used | after - writes)
-            has_changed |= made != live[at]
-            live[at] = made
+            used, writes = facts[index]
+            needed = frozenset(used | after - writes)
+            has_changed |= needed != live[index]
+            live[index] = needed
     return live

@@ -1,7 +1,9 @@
 """The operands of instructions, as assemblers write them in AT&T's order."""
+from __future__ import annotations
+
 import re
 from dataclasses import dataclass
-from typing import Dict, List, Optional, Tuple, Union
+from typing import Union
 
 from c.refused import Refused
 
@@ -19,7 +21,7 @@ class Register:
 class Number:
     """An immediate: the address of a symbol, if there is one, plus a number."""
 
-    symbol: Optional[str]
+    symbol: str | None
     number: int
 
 
@@ -27,10 +29,10 @@ class Number:
 class Memory:
     """A place in memory: symbol + number + base + index * scale."""
 
-    symbol: Optional[str]
+    symbol: str | None
     number: int
-    base: Optional[str] = None
-    index: Optional[str] = None
+    base: str | None = None
+    index: str | None = None
     scale: int = 1
 
 
@@ -45,7 +47,7 @@ class Label:
 class Through:
     """The target of a jump or a call whose address is in a register or in memory."""
 
-    operand: Union[Register, Memory]
+    operand: Register | Memory
 
 
 @dataclass(frozen=True)
@@ -62,52 +64,52 @@ Operand = Union[Register, Number, Memory, Label, Through, Other]
 VECTOR = 16
 
 
-def all_registers() -> Dict[str, Register]:
+def list_registers() -> dict[str, Register]:
     """Returns the registers by their names in texts."""
-    made: Dict[str, Register] = {}
+    registers: dict[str, Register] = {}
     for letter in "abcd":
         whole = f"r{letter}x"
-        made.update({whole: Register(whole, 8), f"e{letter}x": Register(whole, 4), f"{letter}x": Register(whole, 2)})
-        made.update({f"{letter}l": Register(whole, 1), f"{letter}h": Register(whole, 1, 1)})
+        registers.update({whole: Register(whole, 8), f"e{letter}x": Register(whole, 4), f"{letter}x": Register(whole, 2)})
+        registers.update({f"{letter}l": Register(whole, 1), f"{letter}h": Register(whole, 1, 1)})
     for name in ("si", "di", "bp", "sp"):
         for full, size in ((f"r{name}", 8), (f"e{name}", 4), (name, 2), (f"{name}l", 1)):
-            made[full] = Register(f"r{name}", size)
+            registers[full] = Register(f"r{name}", size)
     for number in range(8, 16):
         for end, size in (("", 8), ("d", 4), ("w", 2), ("b", 1)):
-            made[f"r{number}{end}"] = Register(f"r{number}", size)
-    made.update({f"xmm{number}": Register(f"xmm{number}", VECTOR) for number in range(16)})
-    return made
+            registers[f"r{number}{end}"] = Register(f"r{number}", size)
+    registers.update({f"xmm{number}": Register(f"xmm{number}", VECTOR) for number in range(16)})
+    return registers
 
 
-REGISTERS = all_registers()
+REGISTERS = list_registers()
 WHOLE_REGISTERS = tuple(name for name, it in REGISTERS.items() if name == it.name and it.size == 8)
 VECTOR_REGISTERS = tuple(name for name, it in REGISTERS.items() if it.size == VECTOR)
 TERM = re.compile(r"([+-]?)(?:([A-Za-z_.$][\w.$]*(?:@\w+)?)|(0x[0-9a-fA-F]+|\d+))")
 
 
-def number_of(text: str) -> int:
+def parse_number(text: str) -> int:
     """Returns the number that digits represent: hexadecimal after 0x, octal after 0."""
     return int(text, 8) if re.fullmatch(r"-?0[0-7]+", text) else int(text, 0)
 
 
-def sum_of(text: str) -> Tuple[Optional[str], int]:
-    """Returns a symbol and a number, as in x+4, -4 and x-8."""
+def parse_sum(text: str) -> tuple[str | None, int]:
+    """Returns a symbol and a number, as in x+4, -4 and x-8. Raises Refused if the text is no such sum."""
     text = re.sub(r"\s", "", text)
-    symbol, number, at = None, 0, 0
-    while at < len(text):
-        found = TERM.match(text, at)
-        if not found or at and not found[1]:
+    symbol, number, offset = None, 0, 0
+    while offset < len(text):
+        match = TERM.match(text, offset)
+        if not match or offset and not match[1]:
             raise Refused(f"'{text}' is no sum of a symbol and a number")
-        sign, name, digits = found.groups()
+        sign, name, digits = match.groups()
         if name and (symbol or sign == "-"):
             raise Refused(f"'{text}' is a difference of addresses: compile with -fno-pic")
-        symbol = plain_symbol(name, text) if name else symbol
-        number += 0 if name else -number_of(digits) if sign == "-" else number_of(digits)
-        at = found.end()
+        symbol = strip_plt_suffix(name, text) if name else symbol
+        number += 0 if name else -parse_number(digits) if sign == "-" else parse_number(digits)
+        offset = match.end()
     return symbol, number
 
 
-def plain_symbol(name: str, text: str) -> str:
+def strip_plt_suffix(name: str, text: str) -> str:
     """Returns a symbol without `@PLT`. Other suffixes after `@` are refused."""
     symbol, _, suffix = name.partition("@")
     if suffix not in ("", "PLT"):
@@ -115,7 +117,7 @@ def plain_symbol(name: str, text: str) -> str:
     return symbol
 
 
-def split_operands(text: str) -> List[str]:
+def split_operands(text: str) -> list[str]:
     """Returns the parts of a text between commas outside of parentheses."""
     parts, depth, part = [], 0, ""
     for letter in text:
@@ -128,28 +130,28 @@ def split_operands(text: str) -> List[str]:
     return [*parts, part.strip()] if part.strip() else parts
 
 
-def memory_of(before: str, inside: str) -> Operand:
+def parse_memory(before: str, inside: str) -> Operand:
     """Returns a place in memory, from the text before the parentheses and that in them."""
     parts = [it.strip() for it in inside.split(",")] + ["", ""]
     names = [it[1:] for it in parts[:2]]
-    symbol, number = sum_of(before)
+    symbol, number = parse_sum(before)
     if names[0] == "rip":
         return Memory(symbol, number) if symbol and not names[1] else Other(f"{before}({inside})")
     if any(it and (it not in REGISTERS or REGISTERS[it].size != 8) for it in names):
         return Other(f"{before}({inside})")
-    return Memory(symbol, number, names[0] or None, names[1] or None, number_of(parts[2] or "1"))
+    return Memory(symbol, number, names[0] or None, names[1] or None, parse_number(parts[2] or "1"))
 
 
-def operand_of(text: str) -> Operand:
+def parse_operand(text: str) -> Operand:
     """Returns the operand that a text represents."""
     if "%fs:" in text or "%gs:" in text:
         return Other(text)
     if text.startswith("*"):
-        inner = operand_of(text[1:].strip())
+        inner = parse_operand(text[1:].strip())
         return Through(inner) if isinstance(inner, (Register, Memory)) else Other(text)
     if text.startswith("$"):
-        return Number(*sum_of(text[1:]))
+        return Number(*parse_sum(text[1:]))
     if text.startswith("%"):
         return REGISTERS.get(text[1:], Other(text))
-    found = re.fullmatch(r"([^()]*)\(([^()]*)\)", text)
-    return memory_of(found[1], found[2]) if found else Memory(*sum_of(text))
+    match = re.fullmatch(r"([^()]*)\(([^()]*)\)", text)
+    return parse_memory(match[1], match[2]) if match else Memory(*parse_sum(text))

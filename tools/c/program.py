@@ -1,10 +1,11 @@
 """A file's code and data, and what is found out about all its threads together."""
+from __future__ import annotations
+
 from dataclasses import dataclass, field
-from typing import Dict, FrozenSet, List, Optional, Set, Tuple
 
 from c.assembly import Assembly
 from c.layout import Layout
-from c.liveness import live_before
+from c.liveness import compute_live_sets
 from c.locations import Locations
 from c.refused import Refused
 
@@ -16,35 +17,36 @@ class Program:
     """
 
     assembly: Assembly
-    threads: List[str]
+    threads: list[str]
     tries: int
-    names: Dict[int, Set[str]]
-    asked_names: List[str]
+    names: dict[int, set[str]]
+    asked_names: list[str]
     layout: Layout = field(init=False)
     locations: Locations = field(init=False)
-    live: List[FrozenSet[str]] = field(init=False)
+    live: list[frozenset[str]] = field(init=False)
     # The instructions at which functions start, and those that some jump targets backward.
-    entries: Set[int] = field(init=False)
-    back_targets: Set[int] = field(init=False)
-    asked: Dict[str, int] = field(init=False)
+    entries: set[int] = field(init=False)
+    back_targets: set[int] = field(init=False)
+    asked: dict[str, int] = field(init=False)
     # The first instructions of loops that a run passes at most `tries` times, and what is assumed.
-    bounded: Set[int] = field(default_factory=set)
-    notes: Set[str] = field(default_factory=set)
+    bounded: set[int] = field(default_factory=set)
+    notes: set[str] = field(default_factory=set)
     # The words that each global can have at the end, of those that the condition names and only one thread uses.
-    own_words: Dict[str, Set[int]] = field(default_factory=dict)
+    own_words: dict[str, set[int]] = field(default_factory=dict)
     # The number of instructions followed so far, and why the ways of the last round are incomplete, if they are.
     work: int = 0
-    too_long: Optional[Refused] = None
+    too_long: Refused | None = None
 
-    def __post_init__(self):
+    def __post_init__(self) -> None:
+        """Finds what the threads start with, and what is known of each location before they are followed."""
         self.layout = Layout(self.assembly)
         self.locations = Locations(self.layout, len(self.threads))
-        self.live = live_before(self.assembly)
-        self.entries, self.back_targets = self.assembly.entries(), self.assembly.back_targets()
-        self.asked = {name: self.asked_address(name) for name in self.asked_names}
+        self.live = compute_live_sets(self.assembly)
+        self.entries, self.back_targets = self.assembly.find_function_starts(), self.assembly.find_backward_targets()
+        self.asked = {name: self.find_asked_address(name) for name in self.asked_names}
 
-    def asked_address(self, name: str) -> int:
-        """Returns the address of a global that the condition names, such as x or x+8."""
+    def find_asked_address(self, name: str) -> int:
+        """Returns the address of a global that the condition names, such as x or x+8. Raises Refused if no variable is there."""
         base, _, number = name.partition("+")
         if base not in self.layout.addresses:
             raise Refused(f"the condition names '{base}', which is no variable of the compiled file")
@@ -53,15 +55,18 @@ class Program:
             raise Refused(f"the condition names '{name}', and '{base}' has {self.assembly.objects[base].length} bytes")
         return self.layout.addresses[base] + offset
 
-    def asked_size(self, at: int) -> int:
-        """Returns the number of bytes that the condition means by an address: those that are accessed there at once, or those of the
-        object.
+    def find_asked_size(self, address: int) -> int:
+        """Returns the number of bytes that the condition means by an address: those that are accessed there at once, or those of the object. Raises
+        Refused if no object is there.
         """
-        _, it, offset = self.layout.object_at(at)
-        length = it.length - offset
-        return self.locations.widest.get(at, length if length in (1, 2, 4, 8) else 4)
+        containing_object = self.layout.find_object(address)
+        if containing_object is None:
+            raise Refused("the condition names no object")
+        _, data_object, offset = containing_object
+        length = data_object.length - offset
+        return self.locations.widest.get(address, length if length in (1, 2, 4, 8) else 4)
 
-    def own_asked(self, thread: int) -> List[Tuple[str, int]]:
+    def list_own_asked(self, thread: int) -> list[tuple[str, int]]:
         """Returns the globals that the condition names and that only this thread uses."""
         users, shared = self.locations.users, self.locations.shared
-        return [(name, at) for name, at in self.asked.items() if at not in shared and users.get(at) == {thread}]
+        return [(name, address) for name, address in self.asked.items() if address not in shared and users.get(address) == {thread}]

@@ -1,6 +1,9 @@
 """Values on a way through a thread: numbers, and symbols for what loads of shared locations find."""
+from __future__ import annotations
+
+from collections.abc import Sequence
 from dataclasses import dataclass
-from typing import Dict, FrozenSet, NamedTuple, Optional, Tuple, Union
+from typing import Any, NamedTuple, Tuple, Union
 
 MASK = {size: (1 << 8 * size) - 1 for size in (1, 2, 4, 8, 16)}
 UNSET = "a value is used that nothing has set"
@@ -17,8 +20,8 @@ class Symbol(NamedTuple):
     size: int = 8
 
 
-# `None` is a value that nothing has set.
-Value = Union[int, Symbol, None]
+# A number, a Symbol, or None, which is a value that nothing has set. Most code knows by a look at `known` which it is.
+Value = Any
 
 
 @dataclass(frozen=True)
@@ -26,8 +29,8 @@ class IsOneOf:
     """The question whether a symbol's word is one of some words. The others that it can be are recorded too."""
 
     symbol: int
-    words: Tuple[int, ...]
-    others: Tuple[int, ...]
+    words: tuple[int, ...]
+    others: tuple[int, ...]
 
 
 @dataclass(frozen=True)
@@ -46,36 +49,36 @@ Question = Union[IsOneOf, IsSame]
 class Ask(Exception):
     """The way forks here: both answers to a question are followed."""
 
-    def __init__(self, question: Question):
+    def __init__(self, question: Question) -> None:
         super().__init__(question)
         self.question = question
 
 
-def signed(word: int, size: int) -> int:
+def to_signed(word: int, size: int) -> int:
     """Returns a word as a signed number."""
     return word - (1 << 8 * size) if word >> (8 * size - 1) else word
 
 
-def later(one: Clock, other: Clock) -> Clock:
+def later_clock(first: Clock, second: Clock) -> Clock:
     """Returns the clock of what comes after both."""
-    return tuple(map(max, one, other))
+    return tuple(map(max, first, second))
 
 
-def earliest(clocks) -> Clock:
+def earliest_clock(clocks: Sequence[Clock]) -> Clock:
     """Returns the clock of what comes after one of these, whichever."""
-    return tuple(map(min, *clocks)) if len(clocks := list(clocks)) > 1 else clocks[0]
+    return tuple(map(min, *clocks)) if len(clocks) > 1 else clocks[0]
 
 
-def put_earlier(clocks: Dict[int, Clock], word: int, clock: Clock) -> None:
+def record_earlier(clocks: dict[int, Clock], word: int, clock: Clock) -> None:
     """Records that a word can come as early as a clock says."""
-    clocks[word] = earliest((clock, clocks.get(word, clock)))
+    clocks[word] = earliest_clock((clock, clocks.get(word, clock)))
 
 
-def symbols_in(value: Value) -> FrozenSet[int]:
+def symbols_in(value: Value) -> frozenset[int]:
     """Returns the symbol of a value, if it is one."""
     return frozenset((value.id,)) if isinstance(value, Symbol) else frozenset()
 
 
-def as_word(value: Optional[int]) -> int:
+def to_word(value: int) -> int:
     """Returns a number as a word of lw."""
     return value % 2**32

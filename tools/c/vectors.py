@@ -1,4 +1,8 @@
 """Vectors of 16 bytes, which compilers use to copy a thread's own memory: moves, and a vector of zeros."""
+from __future__ import annotations
+
+from typing import Any
+
 from c.access import Access
 from c.operands import Memory, Number, Register, VECTOR
 from c.refused import Refused
@@ -16,38 +20,38 @@ class Vectors(Access):
 
     def is_vector(self) -> bool:
         """Returns whether an operand is a vector."""
-        return any(isinstance(it, Register) and it.size == VECTOR for it in self.it.operands)
+        return any(isinstance(it, Register) and it.size == VECTOR for it in self.instruction.operands)
 
-    def vector(self) -> None:
-        """Moves a vector, or a part of one."""
-        name, operands = self.it.mnemonic, self.it.operands
+    def execute_vector_move(self) -> None:
+        """Moves a vector, or a part of one. Raises Refused for a vector that is not followed."""
+        name, operands = self.instruction.mnemonic, self.instruction.operands
         if name in ZEROS and operands[0] == operands[1]:
             self.way.registers[operands[1].name] = (0, VECTOR)
             return
         in_registers = len(operands) == 2 and not any(isinstance(it, Memory) for it in operands)
         if name not in MOVES or len(operands) != 2 or any(isinstance(it, Number) for it in operands) or name in ELEMENTS and in_registers:
             raise Refused(NOT_FOLLOWED)
-        size, (what, to) = MOVES[name], operands
+        size, (source, target) = MOVES[name], operands
         if name == "movd" and any(isinstance(it, Register) and it.size == 8 for it in operands):  # another name of MOVQ
             size = 8
-        value = self.moved(what, size)
-        if isinstance(to, Memory):
-            self.check_own(to, size)
-            self.store(self.address(to), size, value)
-        elif to.size == VECTOR:
-            self.way.registers[to.name] = (value, VECTOR if value is not None else 0)
+        value = self.read_moved_value(source, size)
+        if isinstance(target, Memory):
+            self.check_own(target, size)
+            self.store(self.compute_address(target), size, value)
+        elif target.size == VECTOR:
+            self.way.registers[target.name] = (value, VECTOR if value is not None else 0)
         else:
-            self.put(to, size, value)
+            self.write_register(target, size, value)
 
-    def moved(self, what, size: int) -> Value:
+    def read_moved_value(self, source: Any, size: int) -> Value:
         """Returns what is moved."""
-        if isinstance(what, Memory):
-            self.check_own(what, size)
-            return self.load(self.address(what), size)
-        return self.register(what.name, size)
+        if isinstance(source, Memory):
+            self.check_own(source, size)
+            return self.load(self.compute_address(source), size)
+        return self.read_register(source.name, size)
 
-    def check_own(self, it: Memory, size: int) -> None:
+    def check_own(self, memory: Memory, size: int) -> None:
         """Refuses a whole vector in memory to which other threads store: a processor need not access it at once."""
-        at = self.address(it)
-        if size == VECTOR and self.is_shared(at, size) and self.program.locations.writers_of(at, size):
-            raise Refused(f"16 bytes at '{self.program.layout.name_of(at)}' are accessed at once, and other threads access them too")
+        address = self.compute_address(memory)
+        if size == VECTOR and self.is_shared(address, size) and self.program.locations.find_writers(address, size):
+            raise Refused(f"16 bytes at '{self.program.layout.name_address(address)}' are accessed at once, and other threads access them too")

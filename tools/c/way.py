@@ -1,13 +1,15 @@
 """A thread on one of its ways: registers, flags, its own memory, and what is known of what its loads have found."""
+from __future__ import annotations
+
+from collections.abc import Callable, Iterable
 from dataclasses import dataclass, field, fields
-from typing import Callable, Dict, FrozenSet, Optional, Tuple
+from typing import Any
 
-from c.flags import Flags
 from c.refused import Refused
-from c.values import Ask, Clock, IsOneOf, IsSame, MASK, Question, Symbol, UNSET, Value, earliest, later
+from c.values import MASK, UNSET, Ask, Clock, IsOneOf, IsSame, Question, Symbol, Value, earliest_clock, later_clock
 
-MOST_WORDS = 40
-TOO_MANY_WORDS = f"an operation depends on a word that can be one of more than {MOST_WORDS}"
+MAX_WORDS = 40
+TOO_MANY_WORDS = f"an operation depends on a word that can be one of more than {MAX_WORDS}"
 
 
 @dataclass(frozen=True)
@@ -18,7 +20,7 @@ class Pass:
     asked_before: int = 0
     asked: int = 0
     stores: int = 0
-    state: Optional[tuple] = None
+    state: tuple | None = None
 
 
 @dataclass
@@ -27,14 +29,14 @@ class Way:
 
     place: int
     past: Clock
-    registers: Dict[str, Tuple[Value, int]] = field(default_factory=dict)
-    memory: Dict[int, Tuple[int, Value]] = field(default_factory=dict)
-    flags: Optional[Flags] = None
-    words: Dict[int, FrozenSet[int]] = field(default_factory=dict)
-    clocks: Dict[int, Dict[int, Clock]] = field(default_factory=dict)
-    facts: Dict[Question, bool] = field(default_factory=dict)
-    seen: Dict[str, Value] = field(default_factory=dict)
-    last: Dict[int, Value] = field(default_factory=dict)
+    registers: dict[str, tuple[Value, int]] = field(default_factory=dict)
+    memory: dict[int, tuple[int, Value]] = field(default_factory=dict)
+    flags: Any = None  # Flags, if an instruction has set them
+    words: dict[int, frozenset[int]] = field(default_factory=dict)
+    clocks: dict[int, dict[int, Clock]] = field(default_factory=dict)
+    facts: dict[Question, bool] = field(default_factory=dict)
+    seen: dict[str, Value] = field(default_factory=dict)
+    last: dict[int, Value] = field(default_factory=dict)
     stores: int = 0
     asked: int = 0
     guessed: int = 0
@@ -42,23 +44,23 @@ class Way:
     blocks: int = 0
     call: int = 0
     calls: int = 0
-    callers: Dict[int, int] = field(default_factory=dict)
-    passes: Dict[Tuple[int, int], Pass] = field(default_factory=dict)
+    callers: dict[int, int] = field(default_factory=dict)
+    passes: dict[tuple[int, int], Pass] = field(default_factory=dict)
     is_back: bool = False
-    pending: Optional[Tuple[Value]] = None
+    pending: tuple[Value] | None = None
 
     def copy(self) -> "Way":
         """Returns a copy of the way, which continues on its own."""
-        made = Way.__new__(Way)
+        copied = Way.__new__(Way)
         for name in NAMES:
             value = getattr(self, name)
-            setattr(made, name, value.copy() if isinstance(value, dict) else value)
-        return made
+            setattr(copied, name, value.copy() if isinstance(value, dict) else value)
+        return copied
 
     # What is known.
 
-    def known(self, value: Value) -> Optional[int]:
-        """Returns a value as a number, if it is one on this way."""
+    def resolve(self, value: Value) -> Any:
+        """Returns a value as a number, if it is one on this way. Raises Refused if the value is unset."""
         if value is None:
             raise Refused(UNSET)
         if isinstance(value, Symbol):
@@ -66,80 +68,83 @@ class Way:
             return min(words) + value.added & MASK[value.size] if len(words) == 1 else None
         return value
 
-    def words_of(self, value: Value) -> FrozenSet[int]:
+    def list_words(self, value: Value) -> frozenset[int]:
         """Returns the words that a value can be."""
         if isinstance(value, Symbol):
             return frozenset(word + value.added & MASK[value.size] for word in self.words[value.id])
-        return frozenset((self.known(value),))
+        return frozenset((self.resolve(value),))
 
-    def clocked(self, value: Value) -> Dict[int, Clock]:
+    def list_clocked_words(self, value: Value) -> dict[int, Clock]:
         """Returns the words that a value can be, with their clocks."""
         if isinstance(value, Symbol):
             return {word + value.added & MASK[value.size]: self.clocks[value.id][word] for word in self.words[value.id]}
-        return {self.known(value): (0,) * len(self.past)}
+        return {self.resolve(value): (0,) * len(self.past)}
 
-    def number(self, value: Value) -> int:
-        """Returns a value as a number. If it can be several, the way forks."""
-        known = self.known(value)
+    def require_number(self, value: Value) -> int:
+        """Returns a value as a number. If it can be several, the way forks. Raises Ask then."""
+        known = self.resolve(value)
         if known is not None:
             return known
-        first, *others = sorted(self.few_words(value))
+        first, *others = sorted(self.require_few_words(value))
         raise Ask(IsOneOf(value.id, (first,), tuple(others)))
 
-    def few_words(self, value: Symbol) -> FrozenSet[int]:
-        """Returns the words of a symbol, which are to be distinguished."""
+    def require_few_words(self, value: Symbol) -> frozenset[int]:
+        """Returns the words of a symbol, which are to be distinguished. Raises Refused if they are too many."""
         words = self.words[value.id]
-        if len(words) > MOST_WORDS:
+        if len(words) > MAX_WORDS:
             raise Refused(TOO_MANY_WORDS)
         return words
 
-    def apply(self, value: Value, work: Callable[[int], object]):
-        """Returns the result of an operation on a value. Only words with different results are distinguished."""
-        known = self.known(value)
+    def apply(self, value: Value, work: Callable[[int], object]) -> Any:
+        """Returns the result of an operation on a value. Only words with different results are distinguished: Ask is raised if there are
+        several results.
+        """
+        known = self.resolve(value)
         if known is not None:
             return work(known)
-        by: Dict[object, list] = {}
-        for word in sorted(self.few_words(value)):
-            by.setdefault(work(word + value.added & MASK[value.size]), []).append(word)
-        if len(by) == 1:
-            return next(iter(by))
-        first, *others = by.values()
+        words_by_result: dict[object, list] = {}
+        for word in sorted(self.require_few_words(value)):
+            words_by_result.setdefault(work(word + value.added & MASK[value.size]), []).append(word)
+        if len(words_by_result) == 1:
+            return next(iter(words_by_result))
+        first, *others = words_by_result.values()
         raise Ask(IsOneOf(value.id, tuple(first), tuple(word for words in others for word in words)))
 
-    def apply_both(self, left: Value, right: Value, work: Callable[[int, int], object]):
+    def apply_both(self, left: Value, right: Value, work: Callable[[int, int], object]) -> Any:
         """Returns the result of an operation on two values."""
-        known = self.known(left)
-        if known is not None:
-            return self.apply(right, lambda it: work(known, it))
-        number = self.number(right)
-        return self.apply(left, lambda it: work(it, number))
+        left_word = self.resolve(left)
+        if left_word is not None:
+            return self.apply(right, lambda it: work(left_word, it))
+        right_word = self.require_number(right)
+        return self.apply(left, lambda it: work(it, right_word))
 
-    def part(self, value: Value, size: int, offset: int = 0) -> Value:
+    def extract_bytes(self, value: Value, size: int, offset: int = 0) -> Value:
         """Returns some bytes of a value. A symbol stays one if it has no others."""
         if isinstance(value, Symbol) and not offset and (value.size if value.added else value.width) <= size:
             return value
         return None if value is None else self.apply(value, lambda it: it >> 8 * offset & MASK[size])
 
-    def same(self, left: Value, right: Value, size: int) -> bool:
+    def are_equal(self, left: Value, right: Value, size: int) -> bool:
         """Returns whether two values have the same bytes."""
-        left, right = self.part(left, size), self.part(right, size)
-        known = self.known(left), self.known(right)
+        left, right = self.extract_bytes(left, size), self.extract_bytes(right, size)
+        known = self.resolve(left), self.resolve(right)
         if None not in known:
             return known[0] == known[1]
         if left == right:
             return True
-        if not self.words_of(left) & self.words_of(right):
+        if not self.list_words(left) & self.list_words(right):
             return False
         if known[0] is None and known[1] is None:
-            return self.same_symbols(left, right)
+            return self.are_symbols_equal(left, right)
         return self.apply(*((left, lambda it: it == known[1]) if known[0] is None else (right, lambda it: it == known[0])))
 
-    def same_symbols(self, left: Symbol, right: Symbol) -> bool:
-        """Returns whether two symbols, of which neither is known, have the same word. lw compares 32 bits: that must give the same result.
+    def are_symbols_equal(self, left: Symbol, right: Symbol) -> bool:
+        """Returns whether two symbols, of which neither is known, have the same word. lw compares 32 bits: that must give the same result. Raises Ask
+        if that is not known.
         """
-        words = self.words_of(left) | self.words_of(right)
+        words = self.list_words(left) | self.list_words(right)
         if left.added or left.width != right.width or left.width < 4 or len({it % 2**32 for it in words}) != len(words):
-            return self.number(left) == self.number(right)
+            return self.require_number(left) == self.require_number(right)
         question = IsSame(left.id, right.id, right.added, left.width)
         if question not in self.facts:
             raise Ask(question)
@@ -147,10 +152,10 @@ class Way:
 
     # What is found out.
 
-    def narrow(self, symbol: int, words) -> None:
+    def narrow(self, symbol: int, possible: Iterable[int]) -> None:
         """Records that a symbol's word is one of these."""
-        self.words[symbol] = frozenset(words)
-        self.past = later(self.past, earliest(self.clocks[symbol][word] for word in words))
+        self.words[symbol] = frozenset(possible)
+        self.past = later_clock(self.past, earliest_clock([self.clocks[symbol][possible_word] for possible_word in self.words[symbol]]))
 
     def learn(self, question: Question, holds: bool) -> None:
         """Records the answer to a question."""
@@ -159,18 +164,18 @@ class Way:
         else:
             self.narrow(question.symbol, question.words if holds else question.others)
 
-    def take_symbol(self, symbol: int) -> None:
+    def begin_symbol(self, symbol: int) -> None:
         """Starts to use a symbol, of which nothing is known any more."""
         self.words.pop(symbol, None)
-        for it in [it for it in self.facts if symbol in (it.symbol, it.other)]:
-            del self.facts[it]
+        for fact in [it for it in self.facts if symbol in (it.symbol, getattr(it, "other", None))]:
+            del self.facts[fact]
 
-    def snapshot(self) -> tuple:
+    def snapshot(self) -> tuple[Any, ...]:
         """Returns all that determines how the way continues, if nothing is asked and no other thread stores anything."""
-        shown = lambda value: value if value is None or self.known(value) is None else self.known(value)
+        shown = lambda value: value if value is None or self.resolve(value) is None else self.resolve(value)
         registers = tuple((name, shown(value), size) for name, (value, size) in sorted(self.registers.items()))
-        memory = tuple((at, size, shown(value)) for at, (size, value) in sorted(self.memory.items()))
-        last = tuple((at, shown(value)) for at, value in sorted(self.last.items()))
+        memory = tuple((address, size, shown(value)) for address, (size, value) in sorted(self.memory.items()))
+        last = tuple((address, shown(value)) for address, value in sorted(self.last.items()))
         flags = self.flags and (self.flags.source, shown(self.flags.left), shown(self.flags.right), self.flags.size, self.flags.has_carry)
         return registers, memory, last, flags, tuple(sorted(self.seen.items(), key=lambda it: it[0]))
 

@@ -1,11 +1,13 @@
 """All ways through a thread as an acyclic graph: what other threads can see, and questions about what loads have found."""
+from __future__ import annotations
+
 from dataclasses import dataclass
-from typing import Dict, FrozenSet, List, Optional, Set, Tuple, Union
+from typing import Union
 
 from c.refused import Refused
 from c.values import IsSame, Question, Value, symbols_in
 
-MOST_NODES = 4000
+MAX_NODES = 4000
 
 
 @dataclass(frozen=True)
@@ -13,14 +15,14 @@ class Load:
     """A load of a location into a symbol."""
 
     symbol: int
-    at: int
+    address: int
 
 
 @dataclass(frozen=True)
 class Store:
     """A store of a value."""
 
-    at: int
+    address: int
     value: Value
 
 
@@ -29,7 +31,7 @@ class Exchange:
     """A locked instruction that stores a value, and finds the word before it."""
 
     symbol: int
-    at: int
+    address: int
     value: Value
 
 
@@ -38,7 +40,7 @@ class ExchangeAdd:
     """A locked instruction that adds a value, and finds the word before it."""
 
     symbol: int
-    at: int
+    address: int
     value: Value
 
 
@@ -71,7 +73,7 @@ class Branch:
 class End:
     """The thread's end: what the condition can mention, by name."""
 
-    seen: Tuple[Tuple[str, Value], ...]
+    seen: tuple[tuple[str, Value], ...]
 
 
 @dataclass(frozen=True)
@@ -86,16 +88,17 @@ class Ways:
     """The nodes of a thread, without duplicates, so that ways that continue in the same way meet. `lines` has the source's lines of each.
     """
 
-    def __init__(self):
-        self.nodes: List[Node] = []
-        self.lines: List[Set[int]] = []
-        self.numbers: Dict[Node, int] = {}
+    def __init__(self) -> None:
+        """Starts with no nodes."""
+        self.nodes: list[Node] = []
+        self.lines: list[set[int]] = []
+        self.numbers: dict[Node, int] = {}
         self.first = 0
 
-    def add(self, node: Node, line: Optional[int] = None) -> int:
-        """Returns the index of a node, which it adds if it is new."""
+    def intern_node(self, node: Node, line: int | None = None) -> int:
+        """Returns the index of a node, which it adds if it is new. Raises Refused if there are too many."""
         if node not in self.numbers:
-            if len(self.nodes) >= MOST_NODES:
+            if len(self.nodes) >= MAX_NODES:
                 raise Refused("the thread has too many ways")
             self.numbers[node] = len(self.nodes)
             self.nodes.append(node)
@@ -104,44 +107,44 @@ class Ways:
         self.lines[number] |= {line} if line else set()
         return number
 
-    def branch(self, question: Question, yes: int, no: int, line: Optional[int] = None) -> int:
+    def intern_branch(self, question: Question, yes: int, no: int, line: int | None = None) -> int:
         """Returns the index of a question's node, or of what follows if that does not depend on it."""
-        return yes if yes == no else self.add(Branch(question, yes, no), line)
+        return yes if yes == no else self.intern_node(Branch(question, yes, no), line)
 
-    def successors(self, number: int) -> List[int]:
+    def successors(self, number: int) -> list[int]:
         """Returns the successors of a node."""
-        it = self.nodes[number]
-        return [it.after] if isinstance(it, Do) else [it.yes, it.no] if isinstance(it, Branch) else []
+        node = self.nodes[number]
+        return [node.after] if isinstance(node, Do) else [node.yes, node.no] if isinstance(node, Branch) else []
 
-    def reached(self) -> List[int]:
+    def list_reachable(self) -> list[int]:
         """Returns the nodes that the thread can reach, each after its successors."""
-        seen, made, stack = {self.first}, [], [(self.first, iter(self.successors(self.first)))]
+        seen, ordered, stack = {self.first}, [], [(self.first, iter(self.successors(self.first)))]
         while stack:
-            at, rest = stack[-1]
-            found = next((it for it in rest if it not in seen), None)
-            if found is None:
-                made.append(at)
+            index, rest = stack[-1]
+            successor = next((it for it in rest if it not in seen), None)
+            if successor is None:
+                ordered.append(index)
                 stack.pop()
             else:
-                seen.add(found)
-                stack.append((found, iter(self.successors(found))))
-        return made
+                seen.add(successor)
+                stack.append((successor, iter(self.successors(successor))))
+        return ordered
 
-    def has(self, kind: type) -> bool:
+    def can_reach(self, kind: type) -> bool:
         """Returns whether the thread can reach a node of a kind."""
-        return any(isinstance(self.nodes[it], kind) for it in self.reached())
+        return any(isinstance(self.nodes[it], kind) for it in self.list_reachable())
 
-    def most_stores(self) -> int:
+    def count_max_stores(self) -> int:
         """Returns the maximal number of stores and locked instructions on a way."""
-        most: Dict[int, int] = {}
-        for at in self.reached():
-            it = self.nodes[at]
-            writes = isinstance(it, Do) and isinstance(it.effect, (Store, Exchange, ExchangeAdd))
-            most[at] = max((most[to] for to in self.successors(at)), default=0) + writes
-        return most[self.first]
+        max_stores: dict[int, int] = {}
+        for index in self.list_reachable():
+            node = self.nodes[index]
+            writes = isinstance(node, Do) and isinstance(node.effect, (Store, Exchange, ExchangeAdd))
+            max_stores[index] = max((max_stores[successor] for successor in self.successors(index)), default=0) + writes
+        return max_stores[self.first]
 
 
-def used_in(node: Node) -> FrozenSet[int]:
+def list_used_symbols(node: Node) -> frozenset[int]:
     """Returns the symbols that a node reads."""
     if isinstance(node, Do):
         return frozenset() if isinstance(node.effect, (Load, Fence)) else symbols_in(node.effect.value)
@@ -150,6 +153,6 @@ def used_in(node: Node) -> FrozenSet[int]:
     return frozenset().union(*(symbols_in(value) for _, value in node.seen)) if isinstance(node, End) else frozenset()
 
 
-def found_by(node: Node) -> Optional[int]:
-    """Returns the symbol that a node finds, if it finds one."""
+def find_defined_symbol(node: Node) -> int | None:
+    """Returns the symbol that a node finds, if it finds one. `None` if it finds none."""
     return node.effect.symbol if isinstance(node, Do) and not isinstance(node.effect, (Store, Fence)) else None

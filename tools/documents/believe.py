@@ -1,25 +1,27 @@
-#!/usr/bin/env python3
 """Follows the definitions on which the contract of `answer` stands, for the task `states`, and compares them with docs/BELIEVE.md.
 
-    python3 tools/documents/believe.py [--write | --print]
+    python3 tools documents.believe [--write | --print]
 
 It begins with what the clauses of the contract say and goes from name to name (tools/documents/definitions.py), not from file to file. There are
 seven sittings: what `made` and `machine` say, on the flat machine; what the laws of lw_axiomatic have in place of the machine, AXIOMS;
 what `caches` adds; the limits and texts, which the first reaches by way of LAST alone; what the lists of `beyond` add, SEARCH; what the
 contract of the whole command adds, COMMAND; and other forms of the machine and the axioms, FORMS. It prints, step by step as the page has
 them, each file with the lines that are reached in it and their number. It fails where a definition is reached that no step has,
-where a step has other lines or another number, where the first sitting has more lines of definitions than MOST_LINES, and where the page's Notation
+where a step has other lines or another number, where the first sitting has more lines of definitions than MAX_LINES, and where the page's Notation
 lacks a name of the standard library that a definition uses. With --write the page's lines and numbers are written anew; with --print
 the contracts and all these lines are printed, block by block, in the page's order.
 tools/check_documents.py calls it. The last line is 'N passed, M failed'.
 """
-import os
+from __future__ import annotations
+
 import re
 import sys
+from collections.abc import Iterable, Iterator, Sequence
+from typing import NamedTuple
 
-sys.dont_write_bytecode = True
-sys.path.insert(0, os.path.dirname(os.path.dirname(os.path.abspath(__file__))))
 from documents import definitions
+from documents.definitions import Definition
+from shared import command, start
 from shared.home import HOME
 
 PAGE = f"{HOME}/docs/BELIEVE.md"
@@ -56,177 +58,197 @@ CONTRACTS = (
 # The comment, the head and the clauses of a public function.
 CONTRACT = re.compile(r"^(?:///.*\n)*pub fn (\w+)(?:.*\n)+?(?=\{)", re.M)
 NOTATION = "## Notation"
-MOST_LINES = 800
+MAX_LINES = 800
 FIRST_SITTING = r"has \d+ lines of definitions, and \d+ of comments on them"
 COMMENTS = "--", "//"
 ROW = re.compile(r"^\| `(\S+)` \|\s*([\d, -]*?)\s*\|\s*(\d*)\s*\| (.*) \|$")
 OF_STD = re.compile(r"^(?:pub )?use (?:Rattle\.std|Prim)\.[\w.]+?\.\{([^}]*)\}", re.M)
 
 
-def reached():
+def find_definition(all_definitions: definitions.Definitions, crate: str, module: str, name: str) -> Definition:
+    """Returns a definition that is known to exist."""
+    definition = all_definitions.find_definition(crate, module, name)
+    assert definition is not None, f"there is no {name} in {module} of {crate}"
+    return definition
+
+
+def list_sittings() -> list[list[Definition]]:
     """Returns the definitions that each sitting reaches and none before it: on the flat machine, by axioms, over caches, those reached only
     through LAST, by the search, by the whole command, and by other forms.
     """
     all_definitions = definitions.Definitions()
-    starts_of = [[all_definitions.find(*start) for start in starts] for starts in (MADE, AXIOMS, CACHES, SEARCH, COMMAND, FORMS)]
-    made, axioms, caches, search, command, forms = starts_of
-    found, keys = [], set()
-    for starts, but in (made, LAST), (axioms, LAST), (caches, LAST), (made + caches, ()), (search, ()), (command, ()), (forms, ()):
-        new = [it for it in all_definitions.reached(starts, but) if it.key() not in keys]
+    starts_of = [[find_definition(all_definitions, *start) for start in starts] for starts in (MADE, AXIOMS, CACHES, SEARCH, COMMAND, FORMS)]
+    of_flat_machine, axioms, caches, search, command, forms = starts_of
+    sittings, keys = [], set()
+    for starts, excluded in (of_flat_machine, LAST), (axioms, LAST), (caches, LAST), (of_flat_machine + caches, ()), (search, ()), (command, ()), (forms, ()):
+        new = [it for it in all_definitions.list_reached(starts, excluded) if it.key() not in keys]
         keys |= {it.key() for it in new}
-        found.append(new)
-    return found
+        sittings.append(new)
+    return sittings
 
 
-def by_file(made):
+def group_lines_by_file(definitions_reached: Iterable[Definition]) -> dict[str, set[int]]:
     """Returns the line numbers of definitions, by file."""
-    found = {}
-    for it in made:
-        found.setdefault(it.path.removeprefix("crates/"), set()).update(range(it.first, it.last + 1))
-    return found
+    lines_by_file: dict[str, set[int]] = {}
+    for definition in definitions_reached:
+        lines_by_file.setdefault(definition.path[len("crates/") :], set()).update(range(definition.first, definition.last + 1))
+    return lines_by_file
 
 
-def names_of_std(made):
+def list_std_names(definitions_reached: Iterable[Definition]) -> set[str]:
     """Returns the names of the standard library that definitions use."""
-    found = set()
-    for it in made:
-        if it.path.endswith(".antt"):
-            named = OF_STD.findall("\n".join(definitions.lines_of(it.path)))
+    std_names = set()
+    for definition in definitions_reached:
+        if definition.path.endswith(".antt"):
+            named = OF_STD.findall("\n".join(definitions.read_lines(definition.path)))
             for name in re.split(r",\s*", ", ".join(named)):
                 name = name.partition(" as ")[0].strip()
                 parts = [re.escape(part) for part in name.split("◌") if part]
                 whole = parts if "◌" in name else [rf"(?<![\w'.]){re.escape(name)}(?![\w'])"]
-                if name and all(re.search(part, it.text) for part in whole):
-                    found.add(name)
-    return found
+                if name and all(re.search(part, definition.text) for part in whole):
+                    std_names.add(name)
+    return std_names
 
 
-def spans(path, numbers):
+def format_spans(path: str, numbers: set[int]) -> str:
     """Returns line numbers as ranges; blank lines do not split a range."""
-    lines, found = definitions.lines_of(f"crates/{path}"), []
+    lines = definitions.read_lines(f"crates/{path}")
+    spans: list[list[int]] = []
     for number in sorted(numbers):
-        if found and not "".join(lines[found[-1][1] : number - 1]).strip():
-            found[-1][1] = number
+        if spans and not "".join(lines[spans[-1][1] : number - 1]).strip():
+            spans[-1][1] = number
         else:
-            found.append([number, number])
-    return ", ".join(f"{first}-{last}" for first, last in found)
+            spans.append([number, number])
+    return ", ".join(f"{first}-{last}" for first, last in spans)
 
 
-def told(path, numbers):
-    """Returns what a row says of a file."""
-    return spans(path, numbers), str(len(numbers))
+def format_cells(path: str, numbers: set[int]) -> tuple[str, str]:
+    """Returns the cells of a file's row: the ranges of its lines, and their number."""
+    return format_spans(path, numbers), str(len(numbers))
 
 
-def steps(text):
-    """Returns the page's rows: each with its heading, its sitting's lines by file, and what it says."""
-    found, heading, sitting = [], "", 0
+class Step(NamedTuple):
+    """A row of the page: its line's index, its heading, the index of its sitting, and the match of ROW."""
+
+    line_index: int
+    heading: str
+    sitting: int
+    row: re.Match[str]
+
+
+def find_rows(text: str) -> list[Step]:
+    """Returns the page's rows."""
+    rows, heading, sitting = [], "", 0
     for number, line in enumerate(text.split("\n")):
         if line.startswith("## "):
             heading = line
             sitting += any(line.startswith(it) for it in LATER_SITTINGS)
         row = ROW.match(line)
         if row:
-            found.append((number, heading, sitting, row))
-    return found
+            rows.append(Step(number, heading, sitting, row))
+    return rows
 
 
-def written_anew(text, files):
+def update_page(text: str, files: list[dict[str, set[int]]]) -> str:
     """Returns the page with the present lines and numbers of its rows."""
     lines = text.split("\n")
-    for number, _, sitting, row in steps(text):
+    for number, _, sitting, row in find_rows(text):
         if row[1] in files[sitting]:
-            where, count = told(row[1], files[sitting][row[1]])
+            where, count = format_cells(row[1], files[sitting][row[1]])
             lines[number] = f"| `{row[1]}` | {where} | {count} | {row[4]} |"
-    return re.sub(FIRST_SITTING, size_of(files[0]), "\n".join(lines))
+    return re.sub(FIRST_SITTING, format_size(files[0]), "\n".join(lines))
 
 
-def count_of(files):
+def count_lines(files: dict[str, set[int]]) -> int:
     """Returns the number of lines of a sitting."""
     return sum(map(len, files.values()))
 
 
-def comments_in(files):
+def count_comment_lines(files: dict[str, set[int]]) -> int:
     """Returns the number of lines of a sitting that are comments only."""
-    lines = (definitions.lines_of(f"crates/{path}")[number - 1] for path, numbers in files.items() for number in numbers)
+    lines = (definitions.read_lines(f"crates/{path}")[number - 1] for path, numbers in files.items() for number in numbers)
     return sum(line.lstrip().startswith(COMMENTS) for line in lines)
 
 
-def size_of(files):
+def format_size(files: dict[str, set[int]]) -> str:
     """Returns the page's words on the size of a sitting."""
-    comments = comments_in(files)
-    return f"has {count_of(files) - comments} lines of definitions, and {comments} of comments on them"
+    comments = count_comment_lines(files)
+    return f"has {count_lines(files) - comments} lines of definitions, and {comments} of comments on them"
 
 
-def faults(text, made):
+def find_faults(text: str, sittings: list[list[Definition]]) -> list[str]:
     """Returns what is wrong with the page, a line each."""
-    files = [by_file(it) for it in made]
-    found, met = [], [set() for _ in files]
-    for _, _, sitting, row in steps(text):
+    files = [group_lines_by_file(it) for it in sittings]
+    faults: list[str] = []
+    met: list[set[str]] = [set() for _ in files]
+    for _, _, sitting, row in find_rows(text):
         path = row[1]
         met[sitting].add(path)
         if path not in files[sitting]:
-            found.append(f"docs/BELIEVE.md has {path}, where nothing is reached")
-        elif (row[2], row[3]) != told(path, files[sitting][path]):
-            found.append(f"docs/BELIEVE.md says of {path} {row[2]} ({row[3]}), and it is {' ('.join(told(path, files[sitting][path]))})")
-    for sitting, it in enumerate(files):
-        found += [f"docs/BELIEVE.md lacks {path}, lines {spans(path, lines)}" for path, lines in it.items() if path not in met[sitting]]
-    if count_of(files[0]) - comments_in(files[0]) > MOST_LINES:
-        found.append(f"the first sitting {size_of(files[0])}, which is more than {MOST_LINES} lines")
-    if size_of(files[0]) not in text:
-        found.append(f"docs/BELIEVE.md does not say that its first sitting {size_of(files[0])}")
-    return found + untold_names(text, made)
+            faults.append(f"docs/BELIEVE.md has {path}, where nothing is reached")
+        elif (row[2], row[3]) != format_cells(path, files[sitting][path]):
+            faults.append(f"docs/BELIEVE.md says of {path} {row[2]} ({row[3]}), and it is {' ('.join(format_cells(path, files[sitting][path]))})")
+    for sitting, spans_by_path in enumerate(files):
+        lacking = {path: lines for path, lines in spans_by_path.items() if path not in met[sitting]}
+        faults += [f"docs/BELIEVE.md lacks {path}, lines {format_spans(path, lines)}" for path, lines in lacking.items()]
+    if count_lines(files[0]) - count_comment_lines(files[0]) > MAX_LINES:
+        faults.append(f"the first sitting {format_size(files[0])}, which is more than {MAX_LINES} lines")
+    if format_size(files[0]) not in text:
+        faults.append(f"docs/BELIEVE.md does not say that its first sitting {format_size(files[0])}")
+    return faults + find_unexplained_names(text, sittings)
 
 
-def untold_names(text, made):
+def find_unexplained_names(text: str, sittings: list[list[Definition]]) -> list[str]:
     """Returns the names of the standard library that the page's Notation lacks, a line each."""
     notation = text.partition(NOTATION)[2].partition("\n## ")[0]
-    names = set().union(*map(names_of_std, made))
-    return [f"docs/BELIEVE.md's Notation lacks {name}" for name in sorted(names) if not is_told(name, notation)]
+    names = set().union(*map(list_std_names, sittings))
+    return [f"docs/BELIEVE.md's Notation lacks {name}" for name in sorted(names) if not is_explained(name, notation)]
 
 
-def is_told(name, notation):
+def is_explained(name: str, notation: str) -> bool:
     """Returns whether the Notation has a name in backticks: a sign between two arguments, as `a ≡ b`, or a word."""
     parts = [re.escape(part) for part in name.split("◌") if part]
     inside = r"[^`\n]*?".join(parts) if "◌" in name else rf"(?<![\w'.]){re.escape(name)}(?![\w'])"
     return re.search(rf"`[^`\n]*?{inside}[^`\n]*?`", notation) is not None
 
 
-def read_page():
-    with open(PAGE, encoding="utf-8") as it:
-        return it.read()
+def read_page() -> str:
+    """Returns the text of docs/BELIEVE.md."""
+    with open(PAGE, encoding="utf-8") as file:
+        return file.read()
 
 
-def told_faults():
+def find_page_faults() -> list[str]:
     """Returns what is wrong, a line each, for tools/check_documents.py."""
-    return faults(read_page(), reached())
+    return find_faults(read_page(), list_sittings())
 
 
-def contracts_of(path, names):
+def list_contracts(path: str, names: Sequence[str]) -> Iterator[str]:
     """Yields the comment, the head and the clauses of the functions of a file that are named, or of all public ones if none is."""
-    for found in CONTRACT.finditer("\n".join(definitions.lines_of(f"crates/{path}"))):
-        if not names or found[1] in names:
-            yield found[0].rstrip()
+    for match in CONTRACT.finditer("\n".join(definitions.read_lines(f"crates/{path}"))):
+        if not names or match[1] in names:
+            yield match[0].rstrip()
 
 
-def print_contracts(sitting):
+def print_contracts(sitting: int) -> None:
     """Prints the contracts that a sitting is about."""
     for path, names in CONTRACTS[sitting]:
         print(f"\n-- ---- {path}: contracts")
-        for text in contracts_of(path, names):
+        for text in list_contracts(path, names):
             print(f"\n{text}")
 
 
-def print_blocks(text, files):
+def print_blocks(text: str, files: list[dict[str, set[int]]]) -> None:
     """Prints the contracts of each sitting, and the lines of all its definitions in the page's order, each file under its name."""
     last, sitting_before = "", -1
-    for _, heading, sitting, row in steps(text):
+    for _, heading, sitting, row in find_rows(text):
         if sitting != sitting_before:
             sitting_before = sitting
             print_contracts(sitting)
         if heading != last:
             last = heading
             print(f"\n{heading}")
-        lines = definitions.lines_of(f"crates/{row[1]}")
+        lines = definitions.read_lines(f"crates/{row[1]}")
         print(f"\n-- ---- {row[1]}: {row[4]}")
         before = 0
         for number in sorted(files[sitting].get(row[1], ())):
@@ -236,29 +258,35 @@ def print_blocks(text, files):
             before = number
 
 
-def main():
-    text, made = read_page(), reached()
-    files = [by_file(it) for it in made]
-    if "--print" in sys.argv[1:]:
+def main() -> int:
+    """Runs the command that the arguments describe. Returns the exit status."""
+    reader = command.Reader(__doc__)
+    what = reader.add_mutually_exclusive_group()
+    what.add_argument("--write", action="store_true")
+    what.add_argument("--print", action="store_true")
+    arguments = reader.read()
+    text, sittings = read_page(), list_sittings()
+    files = [group_lines_by_file(it) for it in sittings]
+    if arguments.print:
         print_blocks(text, files)
         return 0
-    if "--write" in sys.argv[1:]:
-        text = written_anew(text, files)
-        with open(PAGE, "w", encoding="utf-8") as it:
-            it.write(text)
+    if arguments.write:
+        text = update_page(text, files)
+        with open(PAGE, "w", encoding="utf-8") as file:
+            file.write(text)
     last = ""
-    for _, heading, _, row in steps(text):
+    for _, heading, _, row in find_rows(text):
         if heading != last:
             last = heading
-            print(heading.removeprefix("## "))
+            print(heading[len("## ") :])
         print(f"{row[3]:>5} crates/{row[1]} {row[2]}")
-    print(" lines, ".join(str(count_of(it)) for it in files) + " lines in the seven sittings")
-    found = faults(text, made)
-    for fault in found:
+    print(" lines, ".join(str(count_lines(it)) for it in files) + " lines in the seven sittings")
+    faults = find_faults(text, sittings)
+    for fault in faults:
         print(fault)
-    print(f"{0 if found else 1} passed, {len(found)} failed")
-    return 1 if found else 0
+    print(f"{0 if faults else 1} passed, {len(faults)} failed")
+    return 1 if faults else 0
 
 
 if __name__ == "__main__":
-    sys.exit(main())
+    sys.exit(start.run(main))

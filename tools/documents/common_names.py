@@ -1,7 +1,6 @@
-#!/usr/bin/env python3
 """Gathers what the proofs of each crate name: of std, of lower crates, and of the crate's own definitions.
 
-    python3 tools/documents/common_names.py [--write]
+    python3 tools documents.common_names [--write]
 
 A crate's `proofs/Common.antt` passes these names on, and its other proofs import them from there, in lines of at most 110 columns;
 lower crates' definitions come by the lower crate's own Common. What is generated from the code (`specs.declared`, `specs.contracts`)
@@ -13,15 +12,17 @@ one that stands nowhere, or in several modules, it says so, and the exit status 
 
 Without --write it tells what would change.
 """
+from __future__ import annotations
+
 import os
 import re
 import subprocess
 import sys
 from collections import Counter
+from collections.abc import Iterator
 
-sys.dont_write_bytecode = True
-sys.path.insert(0, os.path.dirname(os.path.dirname(os.path.abspath(__file__))))
-from documents.missing_names import USE, Missing, names_of
+from documents.missing_names import USE, Missing, split_names
+from shared import command, start
 from shared.home import HOME
 
 WIDTH = 110
@@ -32,34 +33,39 @@ PASSES = re.compile(r"^(?:unfoldable )?pub use ([\w.+'-]+)\.\{([^}]*)\}", re.M)
 WITHOUT = ("lw", "lw_test_reader", "lw_tso_caches", "lw_source", "lw_outcome_map", "lw_arena", "lw_library")
 
 
-def read(path):
+def read_text(path: str) -> str:
+    """Returns the text of a file; an empty text if there is none."""
     if not os.path.exists(path):
         return ""
-    with open(path, encoding="utf-8") as it:
-        return it.read()
+    with open(path, encoding="utf-8") as file:
+        return file.read()
 
 
 class Crates:
     """The crates, lowest first, what each one's Common exports now, and the texts of proofs, with missing imports added."""
 
-    def __init__(self):
-        self.completed = {}
-        text = re.sub(r"#.*", "", read(f"{HOME}/crates.txt"))
+    def __init__(self) -> None:
+        """Reads the names that each Common exports."""
+        self.completed: dict[str, str] = {}  # of each proof its text with the imports that it lacked
+        text = re.sub(r"#.*", "", read_text(f"{HOME}/crates.txt"))
         self.order = re.findall(r"^(\w+)[^:\n]*:", text, re.M)
-        self.passed = {it: self.passed_by(self.path(it)) for it in self.order}
+        self.passed = {it: self.read_passed_names(self.make_module_path(it)) for it in self.order}
 
     @staticmethod
-    def path(crate):
+    def make_module_path(crate: str) -> str:
+        """Returns the path of a crate's Common."""
         return f"{HOME}/crates/{crate}/proofs/Common.antt"
 
     @staticmethod
-    def passed_by(path):
-        return {name: module for module, group in PASSES.findall(read(path)) for name in names_of(group)}
+    def read_passed_names(path: str) -> dict[str, str]:
+        """Returns the names that a Common exports again, each with its module."""
+        return {name: module for module, group in PASSES.findall(read_text(path)) for name in split_names(group)}
 
-    def has_common(self, crate):
-        return crate in self.order and crate not in WITHOUT and not crate.endswith("_tests")
+    def has_common(self, crate: str | None) -> bool:
+        """Returns whether a crate has a Common."""
+        return crate is not None and crate in self.order and crate not in WITHOUT and not crate.endswith("_tests")
 
-    def origin(self, module, name):
+    def find_origin(self, module: str, name: str) -> str:
         """Returns the module that defines a name, whatever exports it again."""
         while True:
             common = re.match(r"Rattle\.(\w+)\.proofs\.Common$", module)
@@ -67,45 +73,49 @@ class Crates:
                 return module
             module = self.passed[common[1]][name]
 
-    def files(self, crate):
-        for at, _, names in sorted(os.walk(f"{HOME}/crates/{crate}/proofs")):
+    def list_proofs(self, crate: str) -> Iterator[str]:
+        """Yields the proofs of a crate, except its Common."""
+        for folder, _, names in sorted(os.walk(f"{HOME}/crates/{crate}/proofs")):
             for name in sorted(names):
-                if name.endswith(".antt") and f"{at}/{name}" != self.path(crate):
-                    yield f"{at}/{name}"
+                if name.endswith(".antt") and f"{folder}/{name}" != self.make_module_path(crate):
+                    yield f"{folder}/{name}"
 
-    def text(self, path):
-        return self.completed.get(path, read(path))
+    def read_proof(self, path: str) -> str:
+        """Returns the text of a proof, with the imports that it lacked."""
+        return self.completed.get(path, read_text(path))
 
-    def complete(self, missing):
+    def add_missing_imports(self, missing: Missing) -> tuple[bool, list[str]]:
         """Adds the imports that each proof lacks. Returns whether each name has one origin, and a line for each that was missing."""
-        self.completed = {path: missing.completed(path) for crate in self.order for path in self.files(crate)}
-        return all(is_found for is_found, _ in missing.told), [line for _, line in missing.told]
+        self.completed = {path: missing.complete_imports(path) for crate in self.order for path in self.list_proofs(crate)}
+        return all(is_found for is_found, _ in missing.reports), [line for _, line in missing.reports]
 
 
-def unfolded_in(text):
+def find_unfolded_names(text: str) -> set[str]:
+    """Returns the names that a proof unfolds."""
     return {word for line in re.findall(r"^\s*unfolding (.*)$", text, re.M) for word in line.split()}
 
 
-def unfoldable_in(crates):
+def find_unfoldable_definitions(crates: Crates) -> set[tuple[str, str]]:
     """Returns definitions that are unfolded by name, which no other module can export."""
-    found = set()
+    unfoldable_definitions = set()
     for crate in crates.order:
-        for at, _, names in os.walk(f"{HOME}/crates/{crate}/specs"):
+        for folder, _, names in os.walk(f"{HOME}/crates/{crate}/specs"):
             for name in names:
-                module = "Rattle." + os.path.relpath(f"{at}/{name}", f"{HOME}/crates")[: -len(".antt")].replace("/", ".")
-                found |= {(module, it) for it in re.findall(r"^\s*unfoldable pub ([^\s:]+)", read(f"{at}/{name}"), re.M)}
-    return found
+                module = "Rattle." + os.path.relpath(f"{folder}/{name}", f"{HOME}/crates")[: -len(".antt")].replace("/", ".")
+                unfoldable_definitions |= {(module, it) for it in re.findall(r"^\s*unfoldable pub ([^\s:]+)", read_text(f"{folder}/{name}"), re.M)}
+    return unfoldable_definitions
 
 
-def passes_between(module):
-    """Returns the crate whose Common exports a definition to other crates."""
-    at = re.match(r"Rattle\.(\w+)\.specs\b", module)
-    return at[1] if at and ".declared." not in module and ".contracts." not in module else None
+def find_passing_crate(module: str) -> str | None:
+    """Returns the crate whose Common exports a definition to other crates. `None` if no Common does."""
+    match = re.match(r"Rattle\.(\w+)\.specs\b", module)
+    return match[1] if match and ".declared." not in module and ".contracts." not in module else None
 
 
-def packed(head, names):
+def pack_names(head: str, names: list[str]) -> list[str]:
     """Returns lines of at most WIDTH columns."""
-    lines, line = [], []
+    lines: list[str] = []
+    line: list[str] = []
     for name in names:
         if line and len(f"{head}.{{{', '.join([*line, name])}}}") > WIDTH:
             lines.append(f"{head}.{{{', '.join(line)}}}")
@@ -117,111 +127,124 @@ def packed(head, names):
 class Names:
     """Which names each Common exports, and from where."""
 
-    def __init__(self, crates, in_std):
-        self.crates, self.in_std, self.opened = crates, in_std, unfoldable_in(crates)
-        wanted = {it: self.wanted_by(it) for it in crates.order}
-        self.passed = {}
+    def __init__(self, crates: Crates, in_std: set[str]) -> None:
+        """Finds what each crate's proofs import, and takes for each name the module that most of them import it from. Goes from the highest
+        crate down, since what a Common takes from a lower crate's, that one must export. `in_std` has the names of std's Common.
+        """
+        self.crates, self.in_std, self.opened = crates, in_std, find_unfoldable_definitions(crates)
+        wanted = {it: self.count_imports(it) for it in crates.order}
+        # Of each crate the names that its Common exports, each with its module.
+        self.passed: dict[str, dict[str, str]] = {}
         for crate in reversed(crates.order):
-            best = {}
+            best: dict[str, str] = {}
             for module, name in sorted(wanted[crate], key=lambda it: (-wanted[crate][it], it)):
                 best.setdefault(name, module)
             self.passed[crate] = best
             for name, module in best.items():
-                below = passes_between(module)
+                below = find_passing_crate(module)
                 if below != crate and crates.has_common(below):
                     wanted[below].setdefault((module, name), 1)
 
-    def module_of(self, module, name):
-        module = self.crates.origin(module, name)
+    def find_module(self, module: str, name: str) -> str:
+        """Returns the module that declares a name, or std's Common if that exports it."""
+        module = self.crates.find_origin(module, name)
         return STD if module.startswith("Rattle.std.") and name in self.in_std else module
 
-    def imports(self, text):
+    def list_imports(self, text: str) -> Iterator[tuple[str, str]]:
+        """Yields the imports of a proof, each a module and a name."""
         for line in text.split("\n"):
             use = USE.match(line)
             if use:
-                yield from ((use[1], name) for name in names_of(use[2]))
+                yield from ((use[1], name) for name in split_names(use[2]))
 
-    def wanted_by(self, crate):
-        wanted = Counter()
-        for path in self.crates.files(crate) if self.crates.has_common(crate) else ():
-            text = self.crates.text(path)
-            kept = unfolded_in(text)
-            for module, name in self.imports(text):
-                module = self.module_of(module, name)
+    def count_imports(self, crate: str) -> dict[tuple[str, str], int]:
+        """Counts the imports of each module and name in a crate's proofs."""
+        wanted: dict[tuple[str, str], int] = Counter()
+        for path in self.crates.list_proofs(crate) if self.crates.has_common(crate) else ():
+            text = self.crates.read_proof(path)
+            kept = find_unfolded_names(text)
+            for module, name in self.list_imports(text):
+                module = self.find_module(module, name)
                 own = module.startswith(f"Rattle.{crate}.proofs")
                 if " as " not in name and name not in kept and not own and (module, name) not in self.opened:
                     wanted[module, name] += 1
         return wanted
 
-    def common_of(self, crate):
+    def make_common(self, crate: str) -> str:
         """Returns the text of a crate's Common."""
-        by_module = {}
+        by_module: dict[str, list[str]] = {}
         for name, module in self.passed[crate].items():
-            below = passes_between(module)
+            below = find_passing_crate(module)
             if below != crate and below in self.passed and self.passed[below].get(name) == module:
                 module = f"Rattle.{below}.proofs.Common"
             by_module.setdefault(module, []).append(name)
         order = self.crates.order
 
-        def rank(module):
-            at = re.match(r"Rattle\.(\w+)", module)
-            return (module != STD, order.index(at[1]) if at and at[1] in order else -1, module)
+        def sort_key(module: str) -> tuple[bool, int, str]:
+            """Returns the key of the order of imports: std first, then lower crates, then higher ones."""
+            match = re.match(r"Rattle\.(\w+)", module)
+            return (module != STD, order.index(match[1]) if match and match[1] in order else -1, module)
 
-        lines = [it for module in sorted(by_module, key=rank) for it in packed(f"pub use {module}", sorted(by_module[module]))]
+        lines = [it for module in sorted(by_module, key=sort_key) for it in pack_names(f"pub use {module}", sorted(by_module[module]))]
         return HEAD + "\n".join(lines) + "\n"
 
-    def rewritten(self, crate, text):
+    def rewrite_proof(self, crate: str, text: str) -> str:
         """Returns a proof's text with its imports gathered."""
-        kept = unfolded_in(text)
-        common, others = [], {}
-        for module, name in self.imports(text):
+        kept = find_unfolded_names(text)
+        common: list[str] = []
+        others: dict[str, list[str]] = {}
+        for module, name in self.list_imports(text):
             if name not in kept:
-                module = self.module_of(module, name.split(" as ")[0])
+                module = self.find_module(module, name.split(" as ")[0])
             if " as " not in name and name not in kept and self.passed[crate].get(name) == module:
                 common.append(name)
             else:
                 others.setdefault(module, []).append(name)
-        new = packed(f"use Rattle.{crate}.proofs.Common", list(dict.fromkeys(common)))
+        new = pack_names(f"use Rattle.{crate}.proofs.Common", list(dict.fromkeys(common)))
         for module, names in others.items():
-            new += packed(f"use {module}", list(dict.fromkeys(names)))
+            new += pack_names(f"use {module}", list(dict.fromkeys(names)))
         lines = text.split("\n")
-        first = next((at for at, line in enumerate(lines) if USE.match(line)), len(lines))
+        first = next((index for index, line in enumerate(lines) if USE.match(line)), len(lines))
         return "\n".join([*lines[:first], *new, *(it for it in lines[first:] if not USE.match(it))])
 
 
-def wanted_texts(crates, names):
+def list_wanted_texts(crates: Crates, names: Names) -> Iterator[tuple[str, str]]:
     """Returns the files as they should be, by path."""
     for crate in crates.order:
         if not names.passed[crate]:
-            yield from ((path, crates.text(path)) for path in crates.files(crate))
+            yield from ((path, crates.read_proof(path)) for path in crates.list_proofs(crate))
             continue
-        yield crates.path(crate), names.common_of(crate)
+        yield crates.make_module_path(crate), names.make_common(crate)
         library = f"{HOME}/crates/{crate}/proofs/Lib.antt"
-        if "mod Common\n" not in read(library):
-            yield library, "pub mod Common\n" + read(library)
-        for path in crates.files(crate):
+        if "mod Common\n" not in read_text(library):
+            yield library, "pub mod Common\n" + read_text(library)
+        for path in crates.list_proofs(crate):
             if path != library:
-                yield path, names.rewritten(crate, crates.text(path))
+                yield path, names.rewrite_proof(crate, crates.read_proof(path))
 
 
-def main():
+def main() -> int:
+    """Runs the command that the arguments describe. Returns the exit status."""
+    reader = command.Reader(__doc__)
+    reader.add_argument("--write", action="store_true")
+    is_writing = reader.read().write
     doc = subprocess.run(["rt", "doc"], stdout=subprocess.PIPE, text=True, check=True).stdout.strip()
     kit = os.path.dirname(doc)
-    in_std = set(Crates.passed_by(f"{kit}/rattle/std/proofs/Common.antt"))
+    in_std = set(Crates.read_passed_names(f"{kit}/rattle/std/proofs/Common.antt"))
     crates = Crates()
-    is_complete, lacking = crates.complete(Missing(crates, STD, in_std))
-    changed = [(path, text) for path, text in wanted_texts(crates, Names(crates, in_std)) if read(path) != text]
+    is_complete, lacking = crates.add_missing_imports(Missing(crates, STD, in_std))
+    changed = [(path, text) for path, text in list_wanted_texts(crates, Names(crates, in_std)) if read_text(path) != text]
     for path, text in changed:
         print(os.path.relpath(path, HOME))
-        if "--write" in sys.argv[1:]:
+        if is_writing:
             os.makedirs(os.path.dirname(path), exist_ok=True)
-            with open(path, "w", encoding="utf-8") as it:
-                it.write(text)
+            with open(path, "w", encoding="utf-8") as file:
+                file.write(text)
     for line in lacking:
         print(line)
-    print(f"{len(changed)} files {'written' if '--write' in sys.argv[1:] else 'would change'}")
+    print(f"{len(changed)} files {'written' if is_writing else 'would change'}")
     return 0 if is_complete else 1
 
 
 if __name__ == "__main__":
-    sys.exit(main())
+    sys.exit(start.run(main))

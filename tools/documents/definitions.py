@@ -1,12 +1,14 @@
-#!/usr/bin/env python3
 """Follows definitions by name, from the contract of a public call down, for docs/BELIEVE.md.
 
 A definition is a block of lines of a file of `specs/`: its name with its type, its clauses or fields, and the comment above it. It
 stands on the names that it cites: those that its file imports from a crate of the workbench, those that are defined in its file,
 and types that code declares, whose block is the declaration in `src/`. What the standard library defines is not followed.
 """
+from __future__ import annotations
+
 import os
 import re
+from collections.abc import Iterable, Sequence
 
 from shared.home import HOME
 
@@ -19,62 +21,70 @@ WORD = re.compile(r"[^\W\d][\w']*(?:\.[^\W\d][\w']*)*")
 class Definition:
     """A definition: its name, its file, and the numbers of its first and last line, counted from 1."""
 
-    def __init__(self, name, path, first, last, text):
+    def __init__(self, name: str, path: str, first: int, last: int, text: str) -> None:
         self.name, self.path, self.first, self.last, self.text = name, path, first, last, text
 
-    def lines(self):
+    def count_lines(self) -> int:
+        """Returns the number of lines."""
         return self.last - self.first + 1
 
-    def key(self):
+    def key(self) -> tuple[str, int]:
+        """Returns what distinguishes a definition from all others."""
         return self.path, self.first
 
 
-def lines_of(path):
-    with open(f"{HOME}/{path}", encoding="utf-8") as it:
-        return it.read().split("\n")
+def read_lines(path: str) -> list[str]:
+    """Returns the lines of a file of the repository."""
+    with open(f"{HOME}/{path}", encoding="utf-8") as file:
+        return file.read().split("\n")
 
 
-def paragraphs(lines):
+def split_paragraphs(lines: list[str]) -> list[tuple[int, list[str]]]:
     """Returns the runs of lines between blank lines, each with the number of its first line."""
-    found, start = [], None
+    paragraphs, start = [], None
     for number, line in enumerate([*lines, ""], 1):
         if line.strip() and start is None:
             start = number
         if not line.strip() and start is not None:
-            found.append((start, lines[start - 1 : number - 1]))
+            paragraphs.append((start, lines[start - 1 : number - 1]))
             start = None
-    return found
+    return paragraphs
 
 
-def without_comments(block):
+def remove_comments(block: list[str]) -> list[str]:
+    """Returns the lines of a block without their comments."""
     return [re.sub(r"\s*--.*$", "", line) for line in block]
 
 
 class SpecFile:
     """A file of definitions: what it imports, and what it defines, by name."""
 
-    def __init__(self, path):
+    def __init__(self, path: str) -> None:
+        """Reads a file of the repository."""
         self.path = path
-        self.imports, self.aliases, self.defined = {}, {}, {}
-        for start, block in paragraphs(lines_of(path)):
+        self.imports: dict[str, tuple[str, str, str]] = {}
+        self.aliases: dict[str, tuple[str, str]] = {}
+        self.defined: dict[str, Definition] = {}
+        for start, block in split_paragraphs(read_lines(path)):
             if any(IMPORT.match(line) or line.startswith("use ") for line in block):
                 self.read_imports(block)
             else:
                 self.read_definition(start, block)
 
-    def read_imports(self, block):
+    def read_imports(self, block: list[str]) -> None:
+        """Reads a block of `use` lines."""
         for line in block:
             named = IMPORT.match(line)
             if named and named[3]:
-                for it in re.split(r",\s*", named[3]):
-                    name, _, other = it.partition(" as ")
+                for entry in re.split(r",\s*", named[3]):
+                    name, _, other = entry.partition(" as ")
                     self.imports[(other or name).strip()] = (named[1], named[2], name.strip())
             elif named and named[4]:
                 self.aliases[named[4]] = (named[1], named[2])
 
-    def read_definition(self, start, block):
+    def read_definition(self, start: int, block: list[str]) -> None:
         """Reads a block that defines something; a comment by itself is none. A line that opens a module belongs to what follows it."""
-        code = without_comments(block)
+        code = remove_comments(block)
         opens = [number for number, line in enumerate(code) if re.match(r"^\s*module\b", line)]
         body = [line for line in code[opens[-1] + 1 if opens else 0 :] if line.strip()]
         if not body:
@@ -82,26 +92,26 @@ class SpecFile:
         depth = len(body[0]) - len(body[0].lstrip())
         at_depth = [line for line in body if len(line) - len(line.lstrip()) == depth]
         names = [found[1] for found in map(DEFINED.match, at_depth) if found]
-        made = Definition(names[0], self.path, start, start + len(block) - 1, "\n".join(code))
+        definition = Definition(names[0], self.path, start, start + len(block) - 1, "\n".join(code))
         for name in names:
-            self.defined.setdefault(name, made)
+            self.defined.setdefault(name, definition)
         if re.match(r"^\s*(?:abbrev )?(?:pub )?data ", body[0]):
-            for found in filter(None, map(DEFINED.match, body[1:])):
-                self.defined.setdefault(found[1], made)
+            for match in filter(None, map(DEFINED.match, body[1:])):
+                self.defined.setdefault(match[1], definition)
 
 
-def declared(crate, names):
-    """Returns the declaration in src/ of a type, of which `names` is the path after `declared`."""
+def find_declaration(crate: str, names: list[str]) -> Definition | None:
+    """Returns the declaration in src/ of a type, of which `names` is the path after `declared`. `None` if there is none."""
     names = [it for it in names if it != "TheVariants"]
     path = f"crates/{crate}/src/{'/'.join(names[:-1])}.rt"
-    for start, block in paragraphs(lines_of(path)):
+    for start, block in split_paragraphs(read_lines(path)):
         for number, line in enumerate(block):
             if re.match(rf"^pub(\(crate\))? (enum|struct) {names[-1]}\b", line):
-                return whole_item(path, names[-1], start, block, number)
+                return read_item(path, names[-1], start, block, number)
     return None
 
 
-def whole_item(path, name, start, block, number):
+def read_item(path: str, name: str, start: int, block: list[str], number: int) -> Definition:
     """Returns the item that starts at a line of a block of code, with the comments and attributes above it."""
     first = number
     while first and re.match(r"^\s*(///|#\[)", block[first - 1]):
@@ -116,64 +126,66 @@ def whole_item(path, name, start, block, number):
 class Definitions:
     """All definitions that were read, by file."""
 
-    def __init__(self):
-        self.files = {}
+    def __init__(self) -> None:
+        self.files: dict[str, SpecFile] = {}
 
-    def file(self, path):
+    def read_file(self, path: str) -> SpecFile:
+        """Returns a file, which is read once."""
         if path not in self.files:
             self.files[path] = SpecFile(path)
         return self.files[path]
 
-    def path_of(self, crate, module):
-        """Returns the file of a module of a crate's specs, through what the crate exports."""
+    def find_path(self, crate: str, module: str) -> str | None:
+        """Returns the file of a module of a crate's specs, through what the crate exports; `None` if there is none."""
         path = f"crates/{crate}/specs/{module.replace('.', '/')}.antt"
         if os.path.exists(f"{HOME}/{path}"):
             return path
-        for line in lines_of(f"crates/{crate}/specs/Lib.antt"):
+        for line in read_lines(f"crates/{crate}/specs/Lib.antt"):
             named = re.match(rf"^pub use Rattle\.(lw_\w+)\.specs\.(?:[\w.]*\.)?{module}$", line)
             if named:
-                return self.path_of(named[1], module)
+                return self.find_path(named[1], module)
         return None
 
-    def find(self, crate, module, name):
-        """Returns the definition of a name in a module."""
+    def find_definition(self, crate: str, module: str, name: str) -> Definition | None:
+        """Returns the definition of a name in a module, or `None`."""
         parts = module.split(".")
         if parts[0] == "declared":
-            return declared(crate, parts[1:])
-        path = self.path_of(crate, module)
+            return find_declaration(crate, parts[1:])
+        path = self.find_path(crate, module)
         if path is None:
             return None
-        file = self.file(path)
+        file = self.read_file(path)
         if name in file.defined:
             return file.defined[name]
         if name in file.imports:
-            return self.find(*file.imports[name])
+            return self.find_definition(*file.imports[name])
         return None
 
-    def cited(self, made):
+    def list_cited(self, definition: Definition) -> list[Definition]:
         """Returns the definitions that one mentions, in the order in which it does."""
-        if not made.path.endswith(".antt"):
+        if not definition.path.endswith(".antt"):
             return []
-        file, found = self.file(made.path), []
-        for word in WORD.findall(made.text):
+        file, cited = self.read_file(definition.path), []
+        for word in WORD.findall(definition.text):
             head, _, rest = word.partition(".")
-            it = None
+            cited_definition = None
             if head in file.aliases and rest:
-                it = self.find(*file.aliases[head], rest.split(".")[0])
+                crate, module = file.aliases[head]
+                cited_definition = self.find_definition(crate, module, rest.split(".")[0])
             elif head in file.imports:
-                it = self.find(*file.imports[head])
+                cited_definition = self.find_definition(*file.imports[head])
             elif head in file.defined:
-                it = file.defined[head]
-            if it is not None and it.key() != made.key() and it not in found:
-                found.append(it)
-        return found
+                cited_definition = file.defined[head]
+            if cited_definition is not None and cited_definition.key() != definition.key() and cited_definition not in cited:
+                cited.append(cited_definition)
+        return cited
 
-    def reached(self, starts, but=()):
-        """Returns all definitions on which some depend, themselves among them; not those reached only through the names of `but`."""
-        found, waiting = {}, [*starts]
+    def list_reached(self, starts: Iterable[Definition], excluded: Sequence[str] = ()) -> list[Definition]:
+        """Returns all definitions on which some depend, themselves among them; not those reached only through the excluded names."""
+        reached, waiting = {}, [*starts]
         while waiting:
-            made = waiting.pop(0)
-            if made.key() not in found and made.name not in but:
-                found[made.key()] = made
-                waiting += self.cited(made)
-        return [*found.values()]
+            definition = waiting.pop(0)
+            if definition.key() not in reached and definition.name not in excluded:
+                reached[definition.key()] = definition
+                waiting += self.list_cited(definition)
+        return [*reached.values()]

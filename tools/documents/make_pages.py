@@ -1,20 +1,21 @@
-#!/usr/bin/env python3
 """Writes the page NAME.page of each test of examples/ and examples/beyond/, by tools/plain.py alone: `./lw` and `./beyond` have no part in it.
 
-    python3 tools/documents/make_pages.py
+    python3 tools documents.make_pages
 
 A page has the test's report (for a test past the limits of lists, that of `./beyond`), the replay of the schedule that its comment tells, the replays of FURTHER below, and of a source test
 what it is compiled to.
 """
+from __future__ import annotations
+
 import glob
 import os
 import re
 import sys
 
-sys.dont_write_bytecode = True
-sys.path.insert(0, os.path.dirname(os.path.dirname(os.path.abspath(__file__))))
+from shared import command
 from shared.home import HOME
 import plain
+from shared.matches import require_match
 
 # The folder of tests that only `./beyond` lists.
 PAST_LIMITS = "beyond/"
@@ -40,43 +41,44 @@ FIXED_WORDS = re.compile(
 )
 
 
-def fixed_words(text):
-    """Returns what the fixed words of a test's comment say."""
-    return FIXED_WORDS.search(" ".join(text.split()))
+def match_fixed_words(text: str) -> re.Match[str]:
+    """Returns the match of FIXED_WORDS in a test's comment."""
+    return require_match(FIXED_WORDS.search(" ".join(text.split())))
 
 
-def commands_on(name, text):
+def list_page_commands(name: str, text: str) -> list[list[str]]:
     """Returns the commands of a test's page, each a list of words."""
-    words = fixed_words(text)
+    words = match_fixed_words(text)
     replays = [["replay", words["telling"] or words["run"]]]
     for further, protocol in FURTHER.get(name, []):
         replays.append(["replay", further] + (["--protocol", protocol] if protocol else []))
     return [["states"], *replays] + ([["compile"]] if text.startswith("SRC") else [])
 
 
-def page_of(name, text):
+def make_page(name: str, text: str) -> str:
     """Returns the page of a test, which is named by its path in examples/."""
     page = ""
-    for words in commands_on(name, text):
+    for words in list_page_commands(name, text):
         program = "beyond" if name.startswith(PAST_LIMITS) and words == ["states"] else "lw"
-        shown = " ".join(f'"{word}"' if at == 1 else word for at, word in enumerate(words))
-        told, status = plain.answer(words, text)
-        page += f"$ ./{program} {shown} < examples/{name}.litmus\n{told}" + (f"[status {status}]\n" if status else "")
+        shown = " ".join(f'"{word}"' if index == 1 else word for index, word in enumerate(words))
+        printed, status = plain.answer_command(words, text)
+        page += f"$ ./{program} {shown} < examples/{name}.litmus\n{printed}" + (f"[status {status}]\n" if status else "")
     return page
 
 
-def names():
+def list_test_names() -> list[str]:
     """Returns the names of all tests: their paths in examples/, without the suffix."""
     paths = glob.glob(f"{HOME}/examples/*.litmus") + glob.glob(f"{HOME}/examples/{PAST_LIMITS}*.litmus")
-    return sorted(os.path.relpath(it, f"{HOME}/examples").removesuffix(".litmus") for it in paths)
+    return sorted(os.path.relpath(it, f"{HOME}/examples")[: -len(".litmus")] for it in paths)
 
 
-def main():
-    for name in names():
+def main() -> None:
+    """Runs the command that the arguments describe."""
+    for name in list_test_names():
         path = f"{HOME}/examples/{name}"
         with open(f"{path}.litmus", encoding="utf-8") as test, open(f"{path}.page", "w", encoding="utf-8") as page:
-            page.write(page_of(name, test.read()))
+            page.write(make_page(name, test.read()))
 
 
 if __name__ == "__main__":
-    main()
+    sys.exit(command.run_command(main, __doc__))

@@ -1,20 +1,21 @@
-#!/usr/bin/env python3
 """Writes the list of files into the README.md of each crate: each file with the first sentence of its head comment.
 
-python3 tools/documents/make_readmes.py
+    python3 tools documents.make_readmes
 
 What precedes the list is written by hand: the crate's job, its place in the proof, its main types and calls, its main definitions, and its
 main lemmas. The list has the sources, the definitions and the proofs, without those of one function, which are in the folders that are
 named for it. After it come the commands with which one works on the crate. tools/check_documents.py checks that each crate has a README.md
 with the present list, and that a file declares each name that links to it. The last line is 'N passed, M failed'.
 """
+from __future__ import annotations
+
 import os
 import re
 import sys
+from collections.abc import Iterator
 
-sys.dont_write_bytecode = True
-sys.path.insert(0, os.path.dirname(os.path.dirname(os.path.abspath(__file__))))
-from shared.home import HOME, close, crates
+from shared import command
+from shared.home import HOME, close_check, read_crates
 
 BEGIN, END = "<!-- The files, made by tools/documents/make_readmes.py -->\n", "<!-- The end of the list -->\n"
 # The folders of a crate, with the suffix of their files, and what they have.
@@ -25,11 +26,11 @@ PASSING_ON = ("Lib.antt", "Common.antt", "lib.rt")
 NAME_LINK = re.compile(r"\[`([\w'+-]+)`\]\(([^)\s]+)\)")
 
 
-def first_sentence(path):
+def read_first_sentence(path: str) -> str:
     """Returns the first sentence of a file's head comment."""
     words = []
-    with open(path, encoding="utf-8") as it:
-        for line in it:
+    with open(path, encoding="utf-8") as file:
+        for line in file:
             comment = re.match(r"(//!|--)\s?(.*)", line)
             if not comment or not comment[2]:
                 break
@@ -38,98 +39,98 @@ def first_sentence(path):
     return re.split(r"(?<=[.:])\s+(?=[A-Z0-9`])", whole)[0].rstrip(".:")
 
 
-def files_of(crate, folder, suffix):
+def list_files(crate: str, folder: str, suffix: str) -> Iterator[tuple[str, str]]:
     """Yields the files of a crate's folder, each with its first sentence. Of proofs, those of one function are left out."""
     top = f"{HOME}/crates/{crate}/{folder}"
-    for at, folders, names in os.walk(top):
+    for path, folders, names in os.walk(top):
         folders.sort()
-        inside = os.path.relpath(at, top)
+        inside = os.path.relpath(path, top)
         if folder == "proofs" and inside not in (".", "api"):
             continue
         for name in sorted(names):
             if name.endswith(suffix) and name not in PASSING_ON:
-                yield os.path.normpath(os.path.join(inside, name)), first_sentence(f"{at}/{name}")
+                yield os.path.normpath(os.path.join(inside, name)), read_first_sentence(f"{path}/{name}")
 
 
-def tests_of(crate):
+def list_test_crates(crate: str) -> list[str]:
     """Returns the crates of tests that depend on a crate."""
-    return [name for name, below in crates_below() if name.endswith("_tests") and crate in below]
+    return [name for name, below in read_dependencies() if name.endswith("_tests") and crate in below]
 
 
-def crates_below():
+def read_dependencies() -> list[tuple[str, list[str]]]:
     """Returns the crates of crates.txt, each with those on which it depends."""
-    return [(name, below) for name, (_, below) in crates().items()]
+    return [(name, used) for name, (_, used) in read_crates().items()]
 
 
-def list_of(crate):
+def make_list(crate: str) -> str:
     """Returns a crate's list as it should be."""
     lines = [BEGIN]
-    for folder, suffix, what in FOLDERS:
-        rows = [*files_of(crate, folder, suffix)]
+    for folder, suffix, title in FOLDERS:
+        rows = [*list_files(crate, folder, suffix)]
         if rows:
-            lines.append(f"\n| {what}: `{folder}/` | |\n|---|---|\n")
+            lines.append(f"\n| {title}: `{folder}/` | |\n|---|---|\n")
             lines += [f"| {name} | {says.replace('|', chr(92) + '|')} |\n" for name, says in rows]
     commands = [f"`python3 tools/check_up.py {crate}` proves the crate and all above it"]
     if os.path.isdir(f"{HOME}/crates/{crate}/must-fail"):
         commands.append("`rt must-fail` in its folder tries its wrong bodies")
-    tests = tests_of(crate)
+    tests = list_test_crates(crate)
     if tests:
         commands.append("its tests are in " + ", ".join(tests))
     lines.append("\nTo work on it: " + "; ".join(commands) + ". docs/CONTRIBUTING.md has the recipes.\n")
     return "".join(lines) + END
 
 
-def readme(crate):
+def read_readme(crate: str) -> str:
     """Returns the text of a crate's README.md, or an empty text if there is none."""
     path = f"{HOME}/crates/{crate}/README.md"
     if not os.path.exists(path):
         return ""
-    with open(path, encoding="utf-8") as it:
-        return it.read()
+    with open(path, encoding="utf-8") as file:
+        return file.read()
 
 
-def with_list(text, made):
+def replace_list(text: str, file_list: str) -> str:
     """Returns a text with its list replaced, or with the list appended if it has none."""
     before, _, rest = text.partition(BEGIN)
     after = rest.partition(END)[2]
-    return before.rstrip("\n") + "\n\n" + made + after
+    return before.rstrip("\n") + "\n\n" + file_list + after
 
 
-def declares(text, name):
+def declares(text: str, name: str) -> bool:
     """Returns whether a file's text declares a name, outside of comments."""
     code = "\n".join(line for line in text.split("\n") if not line.lstrip().startswith("--"))
     return re.search(rf"(?:^|\s)(?:fn |struct |enum |trait |record |data |abbrev |pub |unfoldable )*{re.escape(name)}(?=\s*[:(]|\s)", code) is not None
 
 
-def link_faults(crate, text):
+def find_link_faults(crate: str, text: str) -> Iterator[str]:
     """Yields the names of a README.md whose file does not declare them."""
     for name, path in NAME_LINK.findall(text):
         whole = f"{HOME}/crates/{crate}/{path}"
         if not os.path.exists(whole):
             yield f"{crate}/README.md links to {path}"
             continue
-        with open(whole, encoding="utf-8") as it:
-            if not declares(it.read(), name):
+        with open(whole, encoding="utf-8") as file:
+            if not declares(file.read(), name):
                 yield f"{crate}/README.md links {name} to {path}, which does not declare it"
 
 
-def comparisons():
+def comparisons() -> Iterator[tuple[str, object, object]]:
     """Yields what tools/check_documents.py compares: what is compared, what is expected, and what was found."""
-    for crate, _ in crates_below():
-        text = readme(crate)
-        yield f"the list of files in crates/{crate}/README.md", True, text == with_list(text, list_of(crate)) and text != ""
-        yield f"the links of names in crates/{crate}/README.md", [], [*link_faults(crate, text)]
+    for crate, _ in read_dependencies():
+        text = read_readme(crate)
+        yield f"the list of files in crates/{crate}/README.md", True, text == replace_list(text, make_list(crate)) and text != ""
+        yield f"the links of names in crates/{crate}/README.md", [], [*find_link_faults(crate, text)]
 
 
-def main():
+def main() -> int:
     """Writes all lists. Returns the exit status."""
-    for crate, _ in crates_below():
+    for crate, _ in read_dependencies():
         path = f"{HOME}/crates/{crate}/README.md"
-        text = readme(crate) or f"# {crate}\n"
-        with open(path, "w", encoding="utf-8") as it:
-            it.write(with_list(text, list_of(crate)))
-    return close(comparisons())
+        text = read_readme(crate) or f"# {crate}\n"
+        with open(path, "w", encoding="utf-8") as file:
+            file.write(replace_list(text, make_list(crate)))
+    return close_check(comparisons())
 
 
 if __name__ == "__main__":
-    sys.exit(main())
+    sys.exit(command.run_command(main, __doc__))

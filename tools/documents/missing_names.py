@@ -9,36 +9,41 @@ A name is looked for, in the crate of the proof and in those that it stands on, 
 
 One place is an answer. With none, or with several, the name is told and nothing is imported. How names are read: shared/antt_free.py.
 """
+from __future__ import annotations
+
 import os
 import re
 import subprocess
 from collections import defaultdict
+from collections.abc import Iterator
+from typing import Any
 
-from shared.antt_free import free_in, head_of
-from shared.antt_names import MARKS, Files, words_of
-from shared.home import HOME, crates as lines_of_crates
+from shared.antt_free import list_free_names, split_head
+from shared.antt_names import MARKS, File, Files, read_words
+from shared.home import HOME, read_crates as lines_of_crates
 
 USE = re.compile(r"use ([\w.+'-]+)\.\{([^}]*)\}$")
 FOUND = re.compile(r"^use ([\w.+'-]+)\.\{([^}]*)\}", re.M)
 
 
-def names_of(group):
+def split_names(group: str) -> list[str]:
+    """Returns the names in the braces of an import."""
     return [it.strip() for it in group.split(",")]
 
 
-def offered_by(file):
+def list_offered_names(file: File) -> set[str]:
     """Returns what a file declares that others can import: public names, and the constructors of its types."""
-    found = set()
-    for it in file.declarations:
-        if it.owner is None and not it.scope:
-            if it.is_public:
-                found.add(it.name)
-            if "data" in words_of(it.head)[:3]:
-                found.update(word for part in it.parts for word in head_of(words_of(part))[0] if word not in MARKS)
-    return found
+    offered_names = set()
+    for declaration in file.declarations:
+        if declaration.owner is None and not declaration.scope:
+            if declaration.is_public:
+                offered_names.add(declaration.name)
+            if "data" in read_words(declaration.head)[:3]:
+                offered_names.update(word for part in declaration.parts for word in split_head(read_words(part))[0] if word not in MARKS)
+    return offered_names
 
 
-def keys_of(name):
+def list_search_words(name: str) -> list[str]:
     """Returns the words by which a name is used: itself, or the signs of an operator."""
     return [it for it in name.split("◌") if it]
 
@@ -46,40 +51,44 @@ def keys_of(name):
 class Missing:
     """The names that proofs lack, and where they are defined. `crates` is that of common_names.py, `std` the module of std's Common."""
 
-    def __init__(self, crates, std, in_std):
-        self.crates, self.std, self.told = crates, std, []
+    def __init__(self, crates: Any, std: str, in_std: set[str]) -> None:
+        """Finds where each name is defined. `in_std` are the names that std's Common exports."""
+        self.crates, self.std = crates, std
+        self.reports: list[tuple[bool, str]] = []  # of each missing name whether it has one origin, and a line
         self.files = Files()
         self.by_path = {it.path: it for it in self.files.all}
-        self.below = {}
+        self.below: dict[str, set[str]] = {}
         for crate, (_, names) in lines_of_crates().items():
             self.below[crate] = {crate}.union(*(self.below[it] for it in names if it in self.below))
-        self.places = defaultdict(set)
+        self.places: dict[str, set[tuple[str, str, str]]] = defaultdict(set)  # of each word names, each with a crate and a module
         for file in self.files.all:
-            for name in offered_by(file):
+            for name in list_offered_names(file):
                 self.add(name, file.crate, file.module)
             for short, (module, name) in file.brings.items():
-                module, name = self.files.origin(module, name)
+                module, name = self.files.find_origin(module, name)
                 if module not in self.files.by_module and short == name:
                     self.add(name, file.crate, std if module.startswith("Rattle.std.") and name in in_std else module)
-        self.passed_by_std = {key: name for name in in_std for key in keys_of(name)}
+        self.passed_by_std = {key: name for name in in_std for key in list_search_words(name)}
 
-    def add(self, name, crate, module):
-        for key in keys_of(name):
+    def add(self, name: str, crate: str, module: str) -> None:
+        """Records a module that has a name."""
+        for key in list_search_words(name):
             self.places[key].add((name, crate, module))
 
-    def is_open_to(self, file, crate, module):
+    def is_open_to(self, file: File, crate: str, module: str) -> bool:
         """Returns whether a proof may use a module that a crate has or imports."""
-        there = self.files.by_module.get(module)
-        if crate not in self.below[file.crate] or there is file:
+        imported = self.files.by_module.get(module)
+        if crate not in self.below[file.crate] or imported is file:
             return False
-        if there is None or "/specs/" in there.path:
+        if imported is None or "/specs/" in imported.path:
             return True
-        is_near = there.crate == file.crate or "/proofs/api/" in there.path
-        return is_near and not self.stands_on(there, file)
+        is_near = imported.crate == file.crate or "/proofs/api/" in imported.path
+        return is_near and not self.imports_file(imported, file)
 
-    def stands_on(self, upper, lower):
+    def imports_file(self, upper: File, lower: File) -> bool:
         """Returns whether a file imports another, directly or not."""
-        seen, waiting = set(), [upper]
+        seen: set[str] = set()
+        waiting = [upper]
         while waiting:
             file = waiting.pop()
             if file is lower:
@@ -89,54 +98,55 @@ class Missing:
                 waiting += [self.files.by_module[module]] if module in self.files.by_module else []
         return False
 
-    def found(self, file, word):
+    def find_modules(self, file: File, word: str) -> set[tuple[str, str]]:
         """Returns the modules that define a word, each with the name that it has there."""
-        passed = {key: name for name in self.crates.passed[file.crate] for key in keys_of(name)}
+        passed = {key: name for name in self.crates.passed[file.crate] for key in list_search_words(name)}
         if word in passed:
             return {(f"Rattle.{file.crate}.proofs.Common", passed[word])}
-        found = {(module, name) for name, crate, module in self.places[word] if self.is_open_to(file, crate, module)}
+        modules = {(module, name) for name, crate, module in self.places[word] if self.is_open_to(file, crate, module)}
         if word in self.passed_by_std:
-            found.add((self.std, self.passed_by_std[word]))
-        return found or self.found_by_rt(file.crate, word)
+            modules.add((self.std, self.passed_by_std[word]))
+        return modules or self.find_by_rt(file.crate, word)
 
     @staticmethod
-    def found_by_rt(crate, word):
-        told = subprocess.run(["rt", "lemma", word], cwd=f"{HOME}/crates/{crate}", capture_output=True, text=True, check=False).stdout
-        return {(module, name) for module, group in FOUND.findall(told) for name in names_of(group) if word in keys_of(name)}
+    def find_by_rt(crate: str, word: str) -> set[tuple[str, str]]:
+        """Returns what `rt lemma` finds by a word."""
+        printed = subprocess.run(["rt", "lemma", word], cwd=f"{HOME}/crates/{crate}", capture_output=True, text=True, check=False).stdout
+        return {(module, name) for module, group in FOUND.findall(printed) for name in split_names(group) if word in list_search_words(name)}
 
-    def has(self, module, name):
+    def module_has(self, module: str, name: str) -> bool:
         """Returns whether a module has a name; nothing is known of modules outside of the repository."""
-        there = self.files.by_module.get(module)
+        file = self.files.by_module.get(module)
         name = name.split(" as ")[0]
-        return there is None or "." in name or name in there.own or name in there.brings or name in offered_by(there)
+        return file is None or "." in name or name in file.own or name in file.brings or name in list_offered_names(file)
 
-    def without_false_imports(self, file):
+    def remove_false_imports(self, file: File) -> Iterator[str]:
         """Returns the lines of a file without imports of names that their module lacks."""
         for line in file.text.split("\n"):
             use = USE.match(line)
-            lacking = [it for it in names_of(use[2]) if it and not self.has(use[1], it)] if use else []
-            if not lacking:
+            lacking = [it for it in split_names(use[2]) if it and not self.module_has(use[1], it)] if use else []
+            if not use or not lacking:
                 yield line
                 continue
             for name in lacking:
                 file.brings.pop(name.split(" as ")[-1], None)
-            kept = [it for it in names_of(use[2]) if it not in lacking]
+            kept = [it for it in split_names(use[2]) if it not in lacking]
             if kept:
                 yield f"use {use[1]}.{{{', '.join(kept)}}}"
 
-    def completed(self, path):
+    def complete_imports(self, path: str) -> str:
         """Returns a proof's text with missing imports added. Prints for each name from where it is imported, or that it has no unique
         origin.
         """
         file = self.by_path[path]
-        lines, added = list(self.without_false_imports(file)), []
-        for word in free_in(file):
-            found = sorted(self.found(file, word))
-            where = ", ".join(module for module, _ in found)
-            says = f"is imported from {where}" if len(found) == 1 else f"stands in several modules: {where}" if found else "stands nowhere"
-            self.told.append((len(found) == 1, f"{os.path.relpath(path, HOME)}: {word} {says}"))
-            added += ["use {}.{{{}}}".format(*it) for it in found if len(found) == 1]
-        first = next((at for at, line in enumerate(lines) if USE.match(line)), None)
+        lines, added = list(self.remove_false_imports(file)), []
+        for word in list_free_names(file):
+            modules = sorted(self.find_modules(file, word))
+            where = ", ".join(module for module, _ in modules)
+            says = f"is imported from {where}" if len(modules) == 1 else f"stands in several modules: {where}" if modules else "stands nowhere"
+            self.reports.append((len(modules) == 1, f"{os.path.relpath(path, HOME)}: {word} {says}"))
+            added += ["use {}.{{{}}}".format(*it) for it in modules if len(modules) == 1]
+        first = next((index for index, line in enumerate(lines) if USE.match(line)), None)
         if first is None:
-            first = next((at for at, line in enumerate(lines) if not line.startswith("--")), len(lines))
+            first = next((index for index, line in enumerate(lines) if not line.startswith("--")), len(lines))
         return "\n".join([*lines[:first], *dict.fromkeys(added), *lines[first:]])

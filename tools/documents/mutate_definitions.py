@@ -1,9 +1,8 @@
-#!/usr/bin/env python3
 """Changes the definitions that must be believed, one row at a time, and says which proofs notice.
 
-    python3 tools/documents/mutate_definitions.py [--only TITLE-PART] [--from TITLE-PART] [--jobs N] [--minutes N] [--built FOLDER]
-                                                  [--work FOLDER] [--results FILE]
-    python3 tools/documents/mutate_definitions.py --list | --table [--results FILE]
+    python3 tools documents.mutate_definitions [--only TITLE-PART] [--from TITLE-PART] [--jobs N] [--minutes N] [--built FOLDER]
+                                                [--work FOLDER] [--results FILE]
+    python3 tools documents.mutate_definitions --list | --table [--results FILE]
 
 A definition can't be proved right; but a wrong row is to contradict something else that was said: the code, a lemma, a law, or an
 example. The mutations are those of tools/documents/definition_mutations.txt, a block of lines each: a title, and then of each edit the
@@ -26,7 +25,8 @@ Results are appended to the file --results, a line of JSON each. --table prints 
 mutation has changed since. A mutation takes about a minute; one that nothing notices takes as long as the proof of all crates above it.
 The exit status is 0 if each mutation was noticed, 1 if one was not, and 2 if a crate is not proved with nothing mutated.
 """
-import argparse
+from __future__ import annotations
+
 import json
 import os
 import re
@@ -36,12 +36,12 @@ import subprocess
 import sys
 import tempfile
 import time
+from argparse import Namespace
+from typing import Any, Dict
 
-sys.dont_write_bytecode = True
-sys.path.insert(0, os.path.dirname(os.path.dirname(os.path.abspath(__file__))))
 import check_up
 from documents.definitions import SpecFile
-from shared import start
+from shared import command, start
 from shared.home import HOME
 
 MUTATIONS = f"{HOME}/tools/documents/definition_mutations.txt"
@@ -64,52 +64,55 @@ class Unusable(Exception):
 class Edit:
     """A change of one line of a file: the file, the old text and the new one."""
 
-    def __init__(self, file, old, new):
+    def __init__(self, file: str, old: str, new: str) -> None:
         self.file, self.old, self.new = file, old, new
 
-    def text(self, home):
+    def read_file(self, home: str) -> str:
         """Returns what the file has in a checkout."""
-        with open(f"{home}/{self.file}", encoding="utf-8") as it:
-            return it.read()
+        with open(f"{home}/{self.file}", encoding="utf-8") as file:
+            return file.read()
 
-    def write(self, home, text):
+    def write_file(self, home: str, text: str) -> None:
         """Writes the file of a checkout."""
-        with open(f"{home}/{self.file}", "w", encoding="utf-8") as it:
-            it.write(text)
+        with open(f"{home}/{self.file}", "w", encoding="utf-8") as file:
+            file.write(text)
 
 
 class Mutation:
     """A changed definition: its title and its edits. The first edit is of the definition, further ones are of code that goes with it."""
 
-    def __init__(self, title, edits):
+    def __init__(self, title: str, edits: list[Edit]) -> None:
+        """Makes a mutation of a title and of edits."""
         self.title, self.edits = title, edits
         self.first = edits[0]
         self.crate = self.first.file.split("/")[1]
 
-    def definition(self):
+    def find_definition(self) -> str:
         """Returns the name of the definition that has the old text."""
-        text = self.first.text(HOME)
+        text = self.first.read_file(HOME)
         number = text[: text.index(self.first.old)].count("\n") + 1
-        found = [it.name for it in SpecFile(self.first.file).defined.values() if it.first <= number <= it.last]
-        return found[0] if found else "?"
+        definition = [it.name for it in SpecFile(self.first.file).defined.values() if it.first <= number <= it.last]
+        return definition[0] if definition else "?"
 
-    def place(self):
+    def format_place(self) -> str:
         """Returns the definition with its crate and file, as a cell of the table has it."""
-        return f"{self.crate} `{os.path.basename(self.first.file).removesuffix('.antt')}.{self.definition()}`"
+        return f"{self.crate} `{os.path.splitext(os.path.basename(self.first.file))[0]}.{self.find_definition()}`"
 
-    def key(self):
+    def list_texts(self) -> list[str]:
         """Returns the title and all texts, by which a result is known to be of this mutation."""
         return [self.title, *(text for it in self.edits for text in (it.file, it.old, it.new))]
 
 
-def mutations():
+def list_mutations() -> list[Mutation]:
     """Returns the mutations, in their order."""
-    with open(MUTATIONS, encoding="utf-8") as it:
-        return [mutation_of(block) for block in it.read().split("\n\n") if block.strip()]
+    with open(MUTATIONS, encoding="utf-8") as file:
+        return [parse_mutation(block) for block in file.read().split("\n\n") if block.strip()]
 
 
-def mutation_of(block):
-    """Returns the mutation of a block of lines: a title, and for each edit a file, an old text and a new one."""
+def parse_mutation(block: str) -> Mutation:
+    """Returns the mutation of a block of lines: a title, and for each edit a file, an old text and a new one. Raises Unusable if the block has
+    another form.
+    """
     lines = re.findall(r"^(\w+): (.*)$", block, re.M)
     names, texts = [name for name, _ in lines], [text for _, text in lines]
     count = len(lines) // 3
@@ -118,55 +121,62 @@ def mutation_of(block):
     return Mutation(texts[0], [Edit(*texts[1 + 3 * number : 4 + 3 * number]) for number in range(count)])
 
 
-def faults_of(listed):
+def find_faults(listed: list[Mutation]) -> list[str]:
     """Returns what is wrong with the mutations, a line each."""
-    counts = [(it.title, edit.file, edit.text(HOME).count(edit.old)) for it in listed for edit in it.edits]
+    counts = [(it.title, edit.file, edit.read_file(HOME).count(edit.old)) for it in listed for edit in it.edits]
     titles = [it.title for it in listed]
-    found = [f"{title}: `old` is {count} times in {file}" for title, file, count in counts if count != 1]
-    return found + [f"{it}: two mutations have this title" for it in sorted(set(titles)) if titles.count(it) > 1]
+    faults = [f"{title}: `old` is {count} times in {file}" for title, file, count in counts if count != 1]
+    return faults + [f"{it}: two mutations have this title" for it in sorted(set(titles)) if titles.count(it) > 1]
+
+
+# What is known of a mutation that was made, as it is written to the file of results.
+Result = Dict[str, Any]
 
 
 class Copy:
     """A copy of the last commit, in which mutations are made. `kept` has what was built of each crate with nothing mutated."""
 
-    def __init__(self, work, built, jobs):
+    def __init__(self, work: str, built: str, jobs: str) -> None:
+        """Copies the last commit into a folder of `work`. `built` is the repository of which what is built is taken."""
         os.makedirs(work, exist_ok=True)
         self.folder = tempfile.mkdtemp(dir=work)
         self.tree, self.kept, self.built, self.jobs = f"{self.folder}/tree", f"{self.folder}/kept", built, jobs
-        self.below = check_up.of_repository()
+        self.below = check_up.read_dependencies()
         # The crates that are proved with nothing mutated, and those checked since a mutation was made.
-        self.sound, self.touched = set(), set()
+        self.sound: set[str] = set()
+        self.touched: set[str] = set()
         os.makedirs(self.tree)
         packed = subprocess.run(["git", "-C", HOME, "archive", "HEAD"], stdout=subprocess.PIPE, check=True)
         subprocess.run(["tar", "x", "-C", self.tree], input=packed.stdout, check=True)
 
-    def remove(self):
+    def remove(self) -> None:
         """Removes the copy."""
         shutil.rmtree(self.folder, ignore_errors=True)
 
-    def out(self, crate):
+    def make_out_path(self, crate: str) -> str:
+        """Returns the folder of what is built of a crate."""
         return f"{self.tree}/crates/{crate}/out"
 
-    def run(self, crate, words, seconds):
+    def run_rt(self, crate: str, arguments: list[str], seconds: float | None) -> tuple[int | None, str]:
         """Runs `rt` in a crate of the copy. Returns its status and what it printed; the status is `None` if the seconds were too few."""
-        words = ["nice", "rt", *words, "--jobs", self.jobs]
+        arguments = ["nice", "rt", *arguments, "--jobs", self.jobs]
         home = f"{self.tree}/crates/{crate}"
-        with subprocess.Popen(words, cwd=home, stdout=subprocess.PIPE, stderr=subprocess.STDOUT, text=True, start_new_session=True) as ran:
+        with subprocess.Popen(arguments, cwd=home, stdout=subprocess.PIPE, stderr=subprocess.STDOUT, text=True, start_new_session=True) as ran:
             try:
-                told, _ = ran.communicate(timeout=seconds)
+                printed, _ = ran.communicate(timeout=seconds)
             except BaseException as why:
                 # (The provers that `rt` starts are of its process group.)
                 os.killpg(ran.pid, signal.SIGKILL)
                 if not isinstance(why, subprocess.TimeoutExpired):
                     raise
                 return None, ran.communicate()[0]
-        return ran.returncode, told
+        return ran.returncode, printed
 
-    def word_for(self, crate):
+    def choose_command(self, crate: str) -> str:
         """Returns the command that proves a crate, and builds it for those above."""
-        return check_up.command_of(crate, self.below, False)[1]
+        return check_up.make_command(crate, self.below, False)[1]
 
-    def fetch(self, crate):
+    def copy_built(self, crate: str) -> None:
         """Copies what was built of a crate, if that is not done already."""
         if not os.path.exists(f"{self.kept}/{crate}"):
             source = f"{self.built}/crates/{crate}/out"
@@ -174,94 +184,98 @@ class Copy:
                 shutil.copytree(source, f"{self.kept}/{crate}", symlinks=True)
             else:
                 os.makedirs(f"{self.kept}/{crate}")
-            self.reset(crate)
+            self.restore_built(crate)
 
-    def reset(self, crate):
+    def restore_built(self, crate: str) -> None:
         """Puts what was built of a crate with nothing mutated into the copy."""
-        shutil.rmtree(self.out(crate), ignore_errors=True)
-        shutil.copytree(f"{self.kept}/{crate}", self.out(crate), symlinks=True)
+        shutil.rmtree(self.make_out_path(crate), ignore_errors=True)
+        shutil.copytree(f"{self.kept}/{crate}", self.make_out_path(crate), symlinks=True)
 
-    def prepare(self, crate):
-        """Proves a crate and those below it with nothing mutated."""
-        lower = sorted(check_up.all_below(crate, self.below), key=lambda it: len(check_up.all_below(it, self.below)))
-        for it in [*lower, crate]:
-            if it not in self.sound:
-                self.fetch(it)
-                status, told = self.run(it, [self.word_for(it)], None)
+    def prove_unmutated(self, crate: str) -> None:
+        """Proves a crate and those below it with nothing mutated. Raises Unusable if one is not proved."""
+        lower = sorted(check_up.list_dependencies(crate, self.below), key=lambda it: len(check_up.list_dependencies(it, self.below)))
+        for needed in [*lower, crate]:
+            if needed not in self.sound:
+                self.copy_built(needed)
+                status, printed = self.run_rt(needed, [self.choose_command(needed)], None)
                 if status != 0:
-                    raise Unusable(f"{it} is not proved with nothing mutated:\n{check_up.without_notes(told)}")
-                shutil.rmtree(f"{self.kept}/{it}")
-                shutil.copytree(self.out(it), f"{self.kept}/{it}", symlinks=True)
-                self.sound.add(it)
+                    raise Unusable(f"{needed} is not proved with nothing mutated:\n{check_up.remove_notes(printed)}")
+                shutil.rmtree(f"{self.kept}/{needed}")
+                shutil.copytree(self.make_out_path(needed), f"{self.kept}/{needed}", symlinks=True)
+                self.sound.add(needed)
 
-    def check(self, crate, seconds):
+    def check_crate(self, crate: str, seconds: float) -> tuple[int | None, str]:
         """Checks a crate, and builds it if it is proved. Returns the status, which is 0 if it is proved, and what was printed."""
-        self.fetch(crate)
+        self.copy_built(crate)
         self.touched.add(crate)
-        status, told = self.run(crate, ["check", "--allow-holes"], seconds)
-        if status == 0 and re.search(r"^holes=0$", told, re.M):
-            return self.run(crate, [self.word_for(crate)], seconds)
-        return (1 if status == 0 else status), told
+        status, printed = self.run_rt(crate, ["check", "--allow-holes"], seconds)
+        if status == 0 and re.search(r"^holes=0$", printed, re.M):
+            return self.run_rt(crate, [self.choose_command(crate)], seconds)
+        return (1 if status == 0 else status), printed
 
 
-def notices_in(told):
+def parse_notices(printed: str) -> dict[str, list[Any]]:
     """Returns what a check that fails says: the lemmas, the goals of functions, and the functions that are not proved."""
-    lemmas, functions, goals = [], [], []
-    for path, line, name, why in ERROR.findall(told):
+    lemmas: list[list] = []
+    functions: list[str] = []
+    goals: list[list] = []
+    for path, line, name, why in ERROR.findall(printed):
         if [path, name] not in [it[:2] for it in lemmas]:
             lemmas.append([path, name, int(line), why[:200]])
-    for function, why in FUNCTION.findall(told):
+    for function, why in FUNCTION.findall(printed):
         functions.append(function)
         goals += [[function, goal] for named in GOAL.findall(why) for goal in re.findall(r"`([^`]+)`", named)]
     return {"lemmas": lemmas, "goals": goals, "functions": functions}
 
 
-def outcome_of(status, found):
+def describe_outcome(status: int | None, notices: dict[str, list[Any]]) -> str:
     """Returns how a check that is not proved ended."""
-    if status is None or status > 1 or not any(found.values()):
+    if status is None or status > 1 or not any(notices.values()):
         return "open"
-    return "bad" if any(DEFINITION.match(path) for path, *_ in found["lemmas"]) else "noticed"
+    return "bad" if any(DEFINITION.match(path) for path, *_ in notices["lemmas"]) else "noticed"
 
 
-def tried(mutation, copy, minutes):
-    """Makes a mutation in the copy, checks upwards, and undoes the mutation. Returns the result."""
-    copy.prepare(mutation.crate)
+def try_mutation(mutation: Mutation, copy: Copy, minutes: float) -> Result:
+    """Makes a mutation in the copy, checks upwards, and undoes the mutation. Returns the result. Raises Unusable if the old text is not exactly once
+    in its file.
+    """
+    copy.prove_unmutated(mutation.crate)
     begun, proved = time.monotonic(), []
-    result = {"key": mutation.key(), "place": mutation.place(), "outcome": "nothing", "crate": ""}
-    texts = [it.text(copy.tree) for it in mutation.edits]
+    result: Result = {"key": mutation.list_texts(), "place": mutation.format_place(), "outcome": "nothing", "crate": ""}
+    texts = [it.read_file(copy.tree) for it in mutation.edits]
     for edit in mutation.edits:
-        now = edit.text(copy.tree)
+        now = edit.read_file(copy.tree)
         if now.count(edit.old) != 1:
             raise Unusable(f"{mutation.title}: `old` is {now.count(edit.old)} times in {edit.file} of the last commit")
-        edit.write(copy.tree, now.replace(edit.old, edit.new))
-    for crate in check_up.from_here_up([mutation.crate], copy.below):
+        edit.write_file(copy.tree, now.replace(edit.old, edit.new))
+    for crate in check_up.list_dependents([mutation.crate], copy.below):
         if crate.endswith("_tests"):
             continue
-        left = minutes * 60 - (time.monotonic() - begun)
-        status, told = copy.check(crate, left) if left > 0 else (None, "")
+        remaining_seconds = minutes * 60 - (time.monotonic() - begun)
+        status, printed = copy.check_crate(crate, remaining_seconds) if remaining_seconds > 0 else (None, "")
         if status != 0:
-            found = notices_in(told)
-            result |= {"outcome": outcome_of(status, found), "crate": crate, **found, "end": told[-2000:]}
+            notices = parse_notices(printed)
+            result.update(outcome=describe_outcome(status, notices), crate=crate, **notices, end=printed[-2000:])
             break
         proved.append(crate)
-    result |= {"proved": proved, "seconds": round(time.monotonic() - begun)}
+    result.update(proved=proved, seconds=round(time.monotonic() - begun))
     for edit, text in zip(mutation.edits, texts):
-        edit.write(copy.tree, text)
+        edit.write_file(copy.tree, text)
     for crate in copy.touched:
-        copy.reset(crate)
+        copy.restore_built(crate)
     copy.touched = set()
     if result["outcome"] == "noticed":
-        copy.prepare(result["crate"])
+        copy.prove_unmutated(result["crate"])
     return result
 
 
-def shown(names):
+def format_names(names: list[str]) -> str:
     """Returns some names in backticks, and how many there are beyond those."""
     more = f" and {len(names) - SHOWN} more" if len(names) > SHOWN else ""
     return ", ".join(f"`{it}`" for it in names[:SHOWN]) + more
 
 
-def told_of(result):
+def format_cells(result: Result) -> tuple[str, str]:
     """Returns what noticed, as two cells of the table: the proofs that fail, and the laws and the functions that depend on them."""
     crate, proved = result["crate"], ", ".join(result["proved"])
     if result["outcome"] == "nothing":
@@ -269,74 +283,75 @@ def told_of(result):
     if result["outcome"] != "noticed":
         return f"{result['outcome']} at {crate}" + (f"; {proved} is proved" if proved else ""), ""
     goals = [f"{'::'.join(function.split('::')[-2:])} {goal}" for function, goal in result["goals"]]
-    lemmas = [f"{os.path.splitext(path)[0].removeprefix('proofs/')}.{name}" for path, name, *_ in result["lemmas"]]
+    lemmas = [f"{re.sub('^proofs/', '', os.path.splitext(path)[0])}.{name}" for path, name, *_ in result["lemmas"]]
     # (The laws of a module `laws` first; the others are of examples, of herd's form, of programs and of locks.)
     laws = sorted(filter(LAW.match, result["functions"]), key=lambda it: it.split("::")[1] != "laws")
     laws = [it.split("::")[-1] for it in laws]
     code = ["::".join(it.split("::")[-2:]) for it in result["functions"] if not LAW.match(it)]
-    return f"{crate}: {in_kinds(('proofs', lemmas), ('goals', goals))}", in_kinds(("laws", laws), ("code", code))
+    return f"{crate}: {format_kinds(('proofs', lemmas), ('goals', goals))}", format_kinds(("laws", laws), ("code", code))
 
 
-def in_kinds(*kinds):
+def format_kinds(*kinds: tuple[str, list[str]]) -> str:
     """Returns the names of some kinds, without the kinds that have none."""
-    return "; ".join(f"{kind} {shown(names)}" for kind, names in kinds if names)
+    return "; ".join(f"{kind} {format_names(names)}" for kind, names in kinds if names)
 
 
-def read_results(path):
+def read_results(path: str) -> dict[tuple[str, ...], Result]:
     """Returns the last result of each mutation, by its key."""
     if not os.path.exists(path):
         return {}
-    with open(path, encoding="utf-8") as it:
-        return {tuple(result["key"]): result for result in map(json.loads, it)}
+    with open(path, encoding="utf-8") as file:
+        return {tuple(result["key"]): result for result in map(json.loads, file)}
 
 
-def print_table(listed, results):
+def print_table(listed: list[Mutation], results: dict[tuple[str, ...], Result]) -> None:
     """Prints the results of the mutations as a table in Markdown."""
     print("| Definition | Change | What fails | What depends on it |\n|---|---|---|---|")
     for mutation in listed:
-        result = results.get(tuple(mutation.key()))
+        result = results.get(tuple(mutation.list_texts()))
         if result:
-            print(f"| {result['place']} | {mutation.title} | {' | '.join(told_of(result))} |")
+            print(f"| {result['place']} | {mutation.title} | {' | '.join(format_cells(result))} |")
 
 
-def chosen(listed, words):
+def choose_mutations(listed: list[Mutation], arguments: Namespace) -> list[Mutation]:
     """Returns the mutations that are to be made."""
-    after = next((number for number, it in enumerate(listed) if words.begin in it.title), len(listed))
-    return [it for it in listed[after:] if any(part in it.title for part in words.only or [""])]
+    after = next((number for number, it in enumerate(listed) if arguments.begin in it.title), len(listed))
+    return [it for it in listed[after:] if any(part in it.title for part in arguments.only or [""])]
 
 
-def run_all(listed, words):
+def run_mutations(listed: list[Mutation], arguments: Namespace) -> int:
     """Makes the mutations one by one, and appends each result to the file. Returns the number of those that were not noticed."""
-    copy, missed = Copy(words.work, words.built, words.jobs), 0
+    copy, missed = Copy(arguments.work, arguments.built, arguments.jobs), 0
     try:
         for mutation in listed:
-            result = tried(mutation, copy, words.minutes)
-            with open(words.results, "a", encoding="utf-8") as it:
-                it.write(json.dumps(result, ensure_ascii=False) + "\n")
+            result = try_mutation(mutation, copy, arguments.minutes)
+            with open(arguments.results, "a", encoding="utf-8") as file:
+                file.write(json.dumps(result, ensure_ascii=False) + "\n")
             missed += result["outcome"] != "noticed"
-            print(f"{mutation.title}: {result['outcome']}, {result['seconds']} s: {' | '.join(told_of(result))}", flush=True)
+            print(f"{mutation.title}: {result['outcome']}, {result['seconds']} s: {' | '.join(format_cells(result))}", flush=True)
     finally:
         copy.remove()
     return missed
 
 
-def words_of():
-    """Returns the words of the command line."""
-    parser = argparse.ArgumentParser(usage=__doc__.split("\n\n")[1], add_help=False)
-    parser.add_argument("--list", action="store_true")
-    parser.add_argument("--table", action="store_true")
-    parser.add_argument("--only", action="append")
+def parse_arguments() -> Namespace:
+    """Parses the arguments of the command line, and returns them."""
+    reader = command.Reader(__doc__)
+    reader.add_argument("--list", action="store_true")
+    reader.add_argument("--table", action="store_true")
+    reader.add_argument("--only", action="append", metavar="TITLE-PART")
     for name, default in ("--built", HOME), ("--work", "/tmp/mutate_definitions"), ("--results", "/tmp/mutate_definitions.jsonl"):
-        parser.add_argument(name, default=default)
-    parser.add_argument("--from", dest="begin", default="")
-    parser.add_argument("--jobs", default="2")
-    parser.add_argument("--minutes", type=float, default=20)
-    return parser.parse_args()
+        reader.add_argument(name, default=default, metavar="FILE" if name == "--results" else "FOLDER")
+    reader.add_argument("--from", dest="begin", default="", metavar="TITLE-PART")
+    reader.add_argument("--jobs", default="2", metavar="N")
+    reader.add_argument("--minutes", type=float, default=20, metavar="N")
+    return reader.read()
 
 
-def main():
-    words, listed = words_of(), mutations()
-    faults = faults_of(listed)
+def main() -> int:
+    """Runs the command that the arguments describe. Returns the exit status."""
+    words, listed = parse_arguments(), list_mutations()
+    faults = find_faults(listed)
     for fault in faults:
         print(fault)
     if faults:
@@ -345,18 +360,18 @@ def main():
         print_table(listed, read_results(words.results))
         return 0
     if words.list:
-        for it in listed:
-            print(f"{it.place()}: {it.title}")
+        for mutation in listed:
+            print(f"{mutation.format_place()}: {mutation.title}")
         print(f"{len(listed)} mutations")
         return 0
     # (The copy is removed also if the command is ended.)
     signal.signal(signal.SIGTERM, lambda *_: sys.exit(1))
     try:
-        return 1 if run_all(chosen(listed, words), words) else 0
+        return 1 if run_mutations(choose_mutations(listed, words), words) else 0
     except Unusable as why:
         print(why, file=sys.stderr)
         return 2
 
 
 if __name__ == "__main__":
-    sys.exit(start.run(main, __doc__))
+    sys.exit(start.run(main))

@@ -1,29 +1,30 @@
-#!/usr/bin/env python3
 """Says on which functions of a crate the last check from nothing spent its time.
 
-    python3 tools/documents/proof_times.py CRATE [N]
+    python3 tools documents.proof_times CRATE [N]
 
 It reads when the files below crates/CRATE/out/incremental were written, each as soon as it was checked, one behind another: so it is
 right only after a check of the whole crate from nothing at one job (`rt check --jobs 1` in a folder without out/). It prints the N
 dearest functions (20), each with the seconds of its parts: `Lts` is the model of the function's steps, `Tie` ties it to the contract,
 `Proof` is the search for proofs of the goals that no answer is given for, `Answers` the answers that are given.
 """
+from __future__ import annotations
+
 import collections
 import os
 import re
 import sys
+from typing import Any
 
-sys.dont_write_bytecode = True
-sys.path.insert(0, os.path.dirname(os.path.dirname(os.path.abspath(__file__))))
+from shared import command, start
 from shared.home import HOME
 
 MODULE = re.compile(r"Rattle-lw_\w+?-(?:proofs|specs)\.(.*)\.oantt$")
 
 
-def parts_of(folder):
+def measure_parts(folder: str) -> dict[str, Any]:
     """Returns the seconds of each part of each function, from the times between one file and the next."""
     files = sorted((os.stat(f"{folder}/{name}").st_mtime_ns, name) for name in os.listdir(folder) if name.endswith(".oantt"))
-    parts = collections.defaultdict(collections.Counter)
+    parts: dict[str, Any] = collections.defaultdict(collections.Counter)
     for (before, _), (written, name) in zip(files, files[1:]):
         module = MODULE.search(name)
         function, _, part = (module[1] if module else name).rpartition(".")
@@ -31,17 +32,20 @@ def parts_of(folder):
     return parts
 
 
-def main(crate, most=20):
-    base = f"{HOME}/crates/{crate}/out/incremental"
+def main() -> None:
+    """Runs the command that the arguments describe."""
+    reader = command.Reader(__doc__)
+    reader.add_argument("crate", metavar="CRATE")
+    reader.add_argument("most", nargs="?", type=command.make_number_parser(0), default=20, metavar="N")
+    arguments = reader.read()
+    base = f"{HOME}/crates/{arguments.crate}/out/incremental"
     folder = max((f"{base}/{name}" for name in os.listdir(base)), key=os.path.getmtime)
-    parts = parts_of(folder)
+    parts = measure_parts(folder)
     print(f"{sum(part.total() for part in parts.values()):7.1f} seconds in all")
-    for function, part in sorted(parts.items(), key=lambda it: -it[1].total())[: int(most)]:
+    for function, part in sorted(parts.items(), key=lambda it: -it[1].total())[: arguments.most]:
         dearest = ", ".join(f"{name} {seconds:.1f}" for name, seconds in part.most_common(4))
         print(f"{part.total():7.1f} {function}: {dearest}")
 
 
 if __name__ == "__main__":
-    if len(sys.argv) not in (2, 3):
-        sys.exit(__doc__.strip())
-    main(*sys.argv[1:])
+    sys.exit(start.run(main))

@@ -1,26 +1,26 @@
-#!/usr/bin/env python3
 """Lists the definitions on which the meaning of a test depends, and counts them. tools/check_documents.py calls it.
 
-    python3 tools/documents/semantic_core.py
+    python3 tools documents.semantic_core
 
 They are the files of definitions on which `OutcomeOf` and `IsProgramOf` of lw_bench depend, by what each file imports: what a
 reader must believe of the outcomes that `lw states` lists. Texts, reports and laws are not among them. Types that the code
 declares are in src/, and are not counted. Lines of comments are counted apart. It fails if there are more files or lines of definitions
-than MOST_FILES and MOST_LINES, or if docs/MAP.md says other numbers. The last line is 'N passed, M failed'.
+than MAX_FILES and MAX_LINES, or if docs/MAP.md says other numbers. The last line is 'N passed, M failed'.
 """
+from __future__ import annotations
+
 import os
 import re
 import sys
 
-sys.dont_write_bytecode = True
-sys.path.insert(0, os.path.dirname(os.path.dirname(os.path.abspath(__file__))))
+from shared import command
 from shared.home import HOME
 
 START = "lw_bench/specs/Outcomes.antt"
-MOST_FILES, MOST_LINES = 35, 1200
+MAX_FILES, MAX_LINES = 35, 1200
 
 
-def file_of(crate, names):
+def find_file(crate: str, names: list[str]) -> str | None:
     """Returns the file of definitions of a path of names, or `None` if the code declares what is named."""
     for many in range(len(names), 0, -1):
         path = f"{crate}/specs/{'/'.join(names[:many])}.antt"
@@ -29,67 +29,68 @@ def file_of(crate, names):
     return None
 
 
-def imported(path):
+def list_imports(path: str) -> list[str]:
     """Returns the files of definitions that a file imports."""
-    with open(f"{HOME}/crates/{path}", encoding="utf-8") as it:
-        named = re.findall(r"^(?:pub )?use Rattle\.(lw_\w+)\.specs\.([\w.]+)", it.read(), re.M)
-    found = [file_of(crate, names.rstrip(".").split(".")) for crate, names in named]
-    return [it for it in found if it]
+    with open(f"{HOME}/crates/{path}", encoding="utf-8") as file:
+        named = re.findall(r"^(?:pub )?use Rattle\.(lw_\w+)\.specs\.([\w.]+)", file.read(), re.M)
+    paths = [find_file(crate, names.rstrip(".").split(".")) for crate, names in named]
+    return [it for it in paths if it]
 
 
-def closure(start):
+def list_dependencies(start: str) -> list[str]:
     """Returns a file with all on which it depends, without duplicates, dependencies first."""
-    found = []
+    dependencies = []
 
-    def visit(path):
-        if path not in found:
-            for below in imported(path):
-                visit(below)
-            found.append(path)
+    def add_file(path: str) -> None:
+        """Adds a file after those that it imports."""
+        if path not in dependencies:
+            for below in list_imports(path):
+                add_file(below)
+            dependencies.append(path)
 
-    visit(start)
-    return found
+    add_file(start)
+    return dependencies
 
 
-def lines_of(path):
+def count_lines(path: str) -> tuple[int, int]:
     """Returns the numbers of a file's lines of definitions and of its lines of comments."""
-    with open(f"{HOME}/crates/{path}", encoding="utf-8") as it:
-        lines = it.read().splitlines()
+    with open(f"{HOME}/crates/{path}", encoding="utf-8") as file:
+        lines = file.read().splitlines()
     comments = sum(line.lstrip().startswith("--") for line in lines)
     return len(lines) - comments, comments
 
 
-def size_of(files):
+def format_size(files: list[str]) -> str:
     """Returns the numbers of files, of their lines of definitions and of their lines of comments, in words."""
-    lines, comments = map(sum, zip(*map(lines_of, files)))
+    lines, comments = map(sum, zip(*map(count_lines, files)))
     return f"{len(files)} files with {lines:,} lines of definitions and {comments:,} of comments"
 
 
-def told():
+def find_faults() -> list[str]:
     """Returns what is wrong, a line each."""
-    core = closure(START)
-    found = []
-    if len(core) > MOST_FILES or sum(lines_of(it)[0] for it in core) > MOST_LINES:
-        found.append(f"more than {MOST_FILES} files or {MOST_LINES:,} lines of definitions")
-    with open(f"{HOME}/docs/MAP.md", encoding="utf-8") as it:
-        if size_of(core) not in " ".join(it.read().split()):
-            found.append(f"docs/MAP.md does not say that these are {size_of(core)}")
-    return found
+    core = list_dependencies(START)
+    faults = []
+    if len(core) > MAX_FILES or sum(count_lines(it)[0] for it in core) > MAX_LINES:
+        faults.append(f"more than {MAX_FILES} files or {MAX_LINES:,} lines of definitions")
+    with open(f"{HOME}/docs/MAP.md", encoding="utf-8") as file:
+        if format_size(core) not in " ".join(file.read().split()):
+            faults.append(f"docs/MAP.md does not say that these are {format_size(core)}")
+    return faults
 
 
-def main():
+def main() -> int:
     """Prints the files, and what is wrong. Returns the exit status."""
-    core = closure(START)
+    core = list_dependencies(START)
     for path in core:
-        lines, comments = lines_of(path)
+        lines, comments = count_lines(path)
         print(f"{lines:5} {comments:5} crates/{path}")
-    print(size_of(core))
-    found = told()
-    for fault in found:
+    print(format_size(core))
+    faults = find_faults()
+    for fault in faults:
         print(fault)
-    print(f"{0 if found else 1} passed, {len(found)} failed")
-    return 1 if found else 0
+    print(f"{0 if faults else 1} passed, {len(faults)} failed")
+    return 1 if faults else 0
 
 
 if __name__ == "__main__":
-    sys.exit(main())
+    sys.exit(command.run_command(main, __doc__))

@@ -3,7 +3,11 @@
 A grammar of this form knows no more than a line and what is open: so the language of a test is open from its heading to the end of the text,
 and a note `Key=value` is one before the initial block only. A text that is no test is shown in colours too: nothing is concluded from them.
 """
+from __future__ import annotations
+
 import json
+from collections.abc import Iterable
+from typing import Any, Dict
 
 from editor import words
 from interpreter.tests import REGISTERS
@@ -15,88 +19,97 @@ NAME = "[A-Za-z_][A-Za-z0-9_]*"
 NEVER = "(?!)"
 
 
-def rule(scope, pattern, **captures):
-    """A rule that gives a scope to what a pattern matches. A capture is named `group1`, with the scope of that group."""
-    made = {"match": pattern}
+# A rule of the grammar, as a value of JSON.
+Rule = Dict[str, Any]
+
+
+def make_rule(scope: str | None, pattern: str, **captures: str) -> Rule:
+    """Returns a rule that gives a scope to what a pattern matches. A capture is named `group1`, with the scope of that group."""
+    new_rule: Rule = {"match": pattern}
     if scope:
-        made["name"] = f"{scope}.lw"
+        new_rule["name"] = f"{scope}.lw"
     if captures:
-        made["captures"] = {it[len("group") :]: {"name": f"{named}.lw"} for it, named in captures.items()}
-    return made
+        new_rule["captures"] = {it[len("group") :]: {"name": f"{named}.lw"} for it, named in captures.items()}
+    return new_rule
 
 
-def span(scope, begin, end, patterns, captures=None):
-    """A rule for what is between two patterns, with rules for what is in it."""
-    made = {"name": f"{scope}.lw", "begin": begin, "end": end, "patterns": patterns}
+def make_span(scope: str, begin: str, end: str, patterns: list[Rule], captures: dict[int, str] | None = None) -> Rule:
+    """Returns a rule for what is between two patterns, with rules for what is in it."""
+    new_rule: Rule = {"name": f"{scope}.lw", "begin": begin, "end": end, "patterns": patterns}
     if captures:
-        made["beginCaptures"] = {str(number): {"name": f"{named}.lw"} for number, named in captures.items()}
-    return made
+        new_rule["beginCaptures"] = {str(number): {"name": f"{named}.lw"} for number, named in captures.items()}
+    return new_rule
 
 
-def included(*names):
-    """Rules of the repository."""
+def include_rules(*names: str) -> list[Rule]:
+    """Returns rules of the repository."""
     return [{"include": f"#{name}"} for name in names]
 
 
-def word(alternatives, in_any_case=False):
-    """The pattern of a word that is one of some."""
-    return f"\\b{'(?i:' if in_any_case else '(?:'}{words.pattern_of(alternatives)})\\b"
+def make_word_pattern(alternatives: Iterable[str], in_any_case: bool = False) -> str:
+    """Returns the pattern of a word that is one of some."""
+    return f"\\b{'(?i:' if in_any_case else '(?:'}{words.make_pattern(alternatives)})\\b"
 
 
-def statements(language):
-    """The rules for the registers and the words of a language. A name with `=` after it is a location, also if it is a word of instructions."""
+def make_statement_rules(language: str) -> list[Rule]:
+    """Returns the rules for the registers and the words of a language. A name with `=` after it is a location, also if it is a word of
+    instructions.
+    """
     is_x86 = language == "X86"
     plain, whole = (words.X86, words.X86_WAITING) if is_x86 else (words.SOURCE, words.SOURCE_WHOLE)
     return [
-        rule("variable.language", word(REGISTERS[language], is_x86)),
-        rule("variable.other", rf"\b{NAME}(?=[ \t]*=)"),
-        rule("keyword.other.fence", word(whole, is_x86)),
-        rule("keyword.control", word(plain, is_x86)),
+        make_rule("variable.language", make_word_pattern(REGISTERS[language], is_x86)),
+        make_rule("variable.other", rf"\b{NAME}(?=[ \t]*=)"),
+        make_rule("keyword.other.fence", make_word_pattern(whole, is_x86)),
+        make_rule("keyword.control", make_word_pattern(plain, is_x86)),
     ]
 
 
-def body(language):
-    """The rules for a test of a language, after its notes."""
+def make_test_rules(language: str) -> list[Rule]:
+    """Returns the rules for a test of a language, after its notes."""
     parts = {"group1": "punctuation.section", "group2": "variable.other", "group3": "punctuation.section"}
-    address = [rule(None, rf"(\[)[ \t]*({NAME})[ \t]*(\])", **parts)]
-    return [*(address if language == "X86" else []), *included("common"), *statements(language), *included("rest")]
+    address = [make_rule(None, rf"(\[)[ \t]*({NAME})[ \t]*(\])", **parts)]
+    return [*(address if language == "X86" else []), *include_rules("common"), *make_statement_rules(language), *include_rules("rest")]
 
 
-def test_of(language):
-    """The rule for a whole test of a language: its heading with its notes, up to the initial block, and the rest."""
+def test_of(language: str) -> Rule:
+    """Returns the rule for a whole test of a language: its heading with its notes, up to the initial block, and the rest."""
     heading = {1: "storage.type", 2: "entity.name.type"}
-    notes = included("comment", "quoted", "note")
-    head = span("meta.heading", rf"\b({language})[ \t]+(?!:=)([!-~]+)", r"(?=\{)", notes, heading)
-    return span(f"meta.test.{language.lower()}", rf"(?=\b{language}[ \t]+[!-~])", NEVER, [head, *body(language)])
+    notes = include_rules("comment", "quoted", "note")
+    head = make_span("meta.heading", rf"\b({language})[ \t]+(?!:=)([!-~]+)", r"(?=\{)", notes, heading)
+    return make_span(f"meta.test.{language.lower()}", rf"(?=\b{language}[ \t]+[!-~])", NEVER, [head, *make_test_rules(language)])
 
 
-def repository():
-    """The rules that both languages share."""
-    questions = [rule("keyword.control.question", word(words.QUESTIONS)), rule("keyword.operator.logical", word(words.NEGATION))]
-    labels = [rule("entity.name.function", rf"\b{NAME}(?=[ \t]*:(?!=))"), rule("entity.name.section", r"\bP[0-3]\b(?=[ \t]*(?:[|;]|$))")]
-    numbers = rule("constant.numeric", r"\$?\b(?:0x[0-9a-fA-F]+|[0-9]+)\b")
-    thread = rule(None, r"\b([0-9]+)[ \t]*(:)(?!=)", group1="entity.name.section", group2="punctuation.separator")
-    constants = rule("constant.language", word(words.CONSTANTS))
-    operators = rule("keyword.operator", r":=|!=|/\\|\\/|[=+~$]")
-    separators = rule("punctuation.separator", r"[|;:,]")
+def make_shared_rules() -> dict[str, Rule]:
+    """Returns the rules that both languages share."""
+    questions = [
+        make_rule("keyword.control.question", make_word_pattern(words.QUESTIONS)),
+        make_rule("keyword.operator.logical", make_word_pattern(words.NEGATION)),
+    ]
+    labels = [make_rule("entity.name.function", rf"\b{NAME}(?=[ \t]*:(?!=))"), make_rule("entity.name.section", r"\bP[0-3]\b(?=[ \t]*(?:[|;]|$))")]
+    numbers = make_rule("constant.numeric", r"\$?\b(?:0x[0-9a-fA-F]+|[0-9]+)\b")
+    thread = make_rule(None, r"\b([0-9]+)[ \t]*(:)(?!=)", group1="entity.name.section", group2="punctuation.separator")
+    constants = make_rule("constant.language", make_word_pattern(words.CONSTANTS))
+    operators = make_rule("keyword.operator", r":=|!=|/\\|\\/|[=+~$]")
+    separators = make_rule("punctuation.separator", r"[|;:,]")
     return {
-        "comment": span("comment.block", r"\(\*", r"\*\)", included("comment")),
+        "comment": make_span("comment.block", r"\(\*", r"\*\)", include_rules("comment")),
         "quoted": {"name": "string.quoted.double.lw", "begin": '"', "end": '"'},
-        "note": rule(None, r"([A-Za-z0-9_-]+)[ \t]*(=)(.*)$", group1="variable.parameter", group2="keyword.operator", group3="string.unquoted"),
-        "common": {"patterns": [*included("comment"), *questions, constants, thread, *labels]},
-        "rest": {"patterns": [rule("variable.other", rf"\b{NAME}\b"), numbers, operators, separators]},
+        "note": make_rule(None, r"([A-Za-z0-9_-]+)[ \t]*(=)(.*)$", group1="variable.parameter", group2="keyword.operator", group3="string.unquoted"),
+        "common": {"patterns": [*include_rules("comment"), *questions, constants, thread, *labels]},
+        "rest": {"patterns": [make_rule("variable.other", rf"\b{NAME}\b"), numbers, operators, separators]},
     }
 
 
-def grammar():
-    """The grammar, as a value of JSON."""
+def make_grammar() -> dict[str, Any]:
+    """Returns the grammar, as a value of JSON."""
     comment = "Written by tools/documents/make_grammar.py, from the table of tools/editor/words.py."
-    patterns = [*included("comment"), *map(test_of, words.LANGUAGES)]
-    return {"name": "lw", "scopeName": SCOPE, "fileTypes": ["litmus"], "comment": comment, "patterns": patterns, "repository": repository()}
+    patterns = [*include_rules("comment"), *map(test_of, words.LANGUAGES)]
+    return {"name": "lw", "scopeName": SCOPE, "fileTypes": ["litmus"], "comment": comment, "patterns": patterns, "repository": make_shared_rules()}
 
 
-def extension():
-    """The description of the extension of VS Code."""
+def make_extension() -> dict[str, Any]:
+    """Returns the description of the extension of VS Code."""
     language = {"id": "lw", "aliases": ["lw litmus test"], "extensions": [".litmus"], "configuration": "./language-configuration.json"}
     colours = {"language": "lw", "scopeName": SCOPE, "path": "./lw.tmLanguage.json"}
     return {
@@ -110,14 +123,14 @@ def extension():
     }
 
 
-def configuration():
-    """How editors treat comments and brackets of tests."""
+def make_configuration() -> dict[str, Any]:
+    """Returns how editors treat comments and brackets of tests."""
     pairs = [["{", "}"], ["[", "]"], ["(", ")"]]
     return {"comments": {"blockComment": ["(*", "*)"]}, "brackets": pairs, "autoClosingPairs": [*pairs, ['"', '"']]}
 
 
-def files():
-    """Of each file that is made its text."""
-    made = {"lw.tmLanguage.json": grammar(), "package.json": extension(), "language-configuration.json": configuration()}
-    written = {f"{FOLDER}/{name}": json.dumps(it, indent=1, ensure_ascii=False) + "\n" for name, it in made.items()}
-    return {**written, "web/words.js": words.javascript()}
+def make_files() -> dict[str, str]:
+    """Returns of each file that is made its text."""
+    values = {"lw.tmLanguage.json": make_grammar(), "package.json": make_extension(), "language-configuration.json": make_configuration()}
+    written = {f"{FOLDER}/{name}": json.dumps(it, indent=1, ensure_ascii=False) + "\n" for name, it in values.items()}
+    return {**written, "web/words.js": words.make_javascript()}

@@ -2,6 +2,10 @@
 
 tools/gate/test_editor.py compares it with docs/FORMAT.md, and with what tools/plain.py reads.
 """
+from __future__ import annotations
+
+from collections.abc import Iterable
+
 from interpreter.tests import REGISTERS
 
 # Of both languages: what is asked, and what a proposition has.
@@ -19,26 +23,26 @@ OTHER_REGISTERS = ("EBP", "ESP")
 LANGUAGES = tuple(REGISTERS)
 
 
-def pattern_of(words):
-    """The pattern of one of some words."""
+def make_pattern(words: Iterable[str]) -> str:
+    """Returns the pattern of one of some words."""
     return "|".join(words)
 
 
-def javascript():
-    """The text of web/words.js."""
-    exact = pattern_of((*QUESTIONS, *CONSTANTS, *NEGATION, *SOURCE, *SOURCE_WHOLE))
+def make_javascript() -> str:
+    """Returns the text of web/words.js."""
+    exact = make_pattern((*QUESTIONS, *CONSTANTS, *NEGATION, *SOURCE, *SOURCE_WHOLE))
     return f"""// The words of tests that are shown in colours. Written by tools/documents/make_grammar.py, from the table of tools/editor/words.py.
 
 const EXACT = /^(?:{exact})$/;
-const IN_ANY_CASE = /^(?:{pattern_of((*X86, *X86_WAITING))})$/i;
-const REGISTER_OF_SOURCE = /^(?:{pattern_of(REGISTERS["SRC"])})$/;
-const REGISTER_OF_X86 = /^(?:{pattern_of(REGISTERS["X86"])})$/i;
+const IN_ANY_CASE = /^(?:{make_pattern((*X86, *X86_WAITING))})$/i;
+const REGISTER_OF_SOURCE = /^(?:{make_pattern(REGISTERS["SRC"])})$/;
+const REGISTER_OF_X86 = /^(?:{make_pattern(REGISTERS["X86"])})$/i;
 
 /** Whether a word is one of a test's own. */
 export const KEYWORDS = {{ test: (word) => EXACT.test(word) || IN_ANY_CASE.test(word) }};
 
 /** Whether a word is one of an access that is done at once, or of a fence. */
-export const FENCES = {{ test: (word) => /^(?:{pattern_of(SOURCE_WHOLE)})$/.test(word) || /^(?:{pattern_of(X86_WAITING)})$/i.test(word) }};
+export const FENCES = {{ test: (word) => /^(?:{make_pattern(SOURCE_WHOLE)})$/.test(word) || /^(?:{make_pattern(X86_WAITING)})$/i.test(word) }};
 
 /** Whether a word is a register. */
 export const REGISTER = {{ test: (word) => REGISTER_OF_SOURCE.test(word) || REGISTER_OF_X86.test(word) }};

@@ -4,8 +4,11 @@ before a branch with two such loads behind it.
 A fence elsewhere does no more: it may be moved on, over stores and what is the thread's own, to the next load or branch, where it holds back
 what it held back before, and perhaps more. So some smallest set of places is among these.
 """
+from __future__ import annotations
+
+from collections.abc import Sequence
 from dataclasses import replace
-from typing import List, Set, Tuple
+from typing import Tuple
 
 import plain
 from plain import Statement, Test
@@ -14,56 +17,56 @@ Place = Tuple[int, int]
 WAITS = ("mfence", "xchg", "xadd")
 
 
-def behind_stores(code: Tuple[Statement, ...]) -> Set[int]:
-    """The positions that some way reaches from a store, with nothing between that waits for it."""
-    seen: Set[int] = set()
-    waiting = [after for at, it in enumerate(code) if it.kind == "store" for after in plain.followers(it, at)]
+def find_positions_after_stores(code: Sequence[Statement]) -> set[int]:
+    """Returns the positions that some way reaches from a store, with nothing between that waits for it."""
+    seen: set[int] = set()
+    waiting = [after for position, it in enumerate(code) if it.kind == "store" for after in plain.list_successors(it, position)]
     while waiting:
-        at = waiting.pop()
-        if at < len(code) and at not in seen:
-            seen.add(at)
-            waiting += plain.followers(code[at], at) if code[at].kind not in WAITS else []
+        position = waiting.pop()
+        if position < len(code) and position not in seen:
+            seen.add(position)
+            waiting += plain.list_successors(code[position], position) if code[position].kind not in WAITS else []
     return seen
 
 
-def next_loads(code: Tuple[Statement, ...], at: int) -> Set[int]:
-    """The loads that are the first from a position on, on some way with nothing before them that waits."""
-    if at == len(code) or code[at].kind in WAITS:
+def find_next_loads(code: Sequence[Statement], position: int) -> set[int]:
+    """Returns the loads that are the first from a position on, on some way with nothing before them that waits."""
+    if position == len(code) or code[position].kind in WAITS:
         return set()
-    if code[at].kind == "load":
-        return {at}
-    return set().union(*(next_loads(code, after) for after in plain.followers(code[at], at)))
+    if code[position].kind == "load":
+        return {position}
+    return set().union(*(find_next_loads(code, after) for after in plain.list_successors(code[position], position)))
 
 
-def places_of(test: Test) -> List[Place]:
-    """All places where a fence may help: a thread, and the number of the instruction behind it."""
+def list_fence_places(test: Test) -> list[Place]:
+    """Returns all places where a fence may help: a thread, and the index of the instruction after it."""
     places = []
     for thread, code in enumerate(test.threads):
-        for at in sorted(behind_stores(code)):
-            is_branch = code[at].kind in ("je", "jne") and len(next_loads(code, at)) > 1
-            places += [(thread, at)] * (code[at].kind == "load" or is_branch)
+        for position in sorted(find_positions_after_stores(code)):
+            is_branch = code[position].kind in ("je", "jne") and len(find_next_loads(code, position)) > 1
+            places += [(thread, position)] * (code[position].kind == "load" or is_branch)
     return places
 
 
-def without(test: Test, left_out: List[Place]) -> Test:
-    """A test without some of its fences. A jump to one of them leads to what stands behind it."""
+def remove_fences(test: Test, left_out: list[Place]) -> Test:
+    """Returns a test without some of its fences. A jump to one of them leads to what follows it."""
     threads = []
     for thread, code in enumerate(test.threads):
-        gone = [at for of, at in left_out if of == thread]
-        moved = lambda target, gone=gone: target - sum(at < target for at in gone)
-        kept = [it for at, it in enumerate(code) if at not in gone]
+        gone = [position for other_thread, position in left_out if other_thread == thread]
+        moved = lambda target, gone=gone: target - sum(position < target for position in gone)
+        kept = [it for position, it in enumerate(code) if position not in gone]
         threads.append(tuple(it if it.target is None else replace(it, target=moved(it.target)) for it in kept))
     return replace(test, threads=threads)
 
 
-def with_fences(test: Test, places: List[Place]) -> Test:
-    """A test with a fence before each of some instructions. A jump to one of them leads to its fence."""
+def insert_fences(test: Test, places: list[Place]) -> Test:
+    """Returns a test with a fence before each of some instructions. A jump to one of them leads to its fence."""
     threads = []
     for thread, code in enumerate(test.threads):
-        added = [at for of, at in places if of == thread]
-        new: List[Statement] = []
-        for at, it in enumerate(code):
-            target = None if it.target is None else it.target + sum(place < it.target for place in added)
-            new += [Statement("mfence")] * (at in added) + [it if target is None else replace(it, target=target)]
+        added = [position for other_thread, position in places if other_thread == thread]
+        new: list[Statement] = []
+        for position, statement in enumerate(code):
+            target = None if statement.target is None else statement.target + sum(place < statement.target for place in added)
+            new += [Statement("mfence")] * (position in added) + [statement if target is None else replace(statement, target=target)]
         threads.append(tuple(new))
     return replace(test, threads=threads)

@@ -1,45 +1,48 @@
 """The smallest sufficient sets of fences. A fence only removes outcomes: so each superset of a sufficient set is sufficient, and each
 subset of an insufficient one is not. That cuts the search.
 """
+from __future__ import annotations
+
+from collections.abc import Callable, Sequence
 from itertools import combinations
-from typing import Callable, FrozenSet, Hashable, List, Sequence
+from typing import Hashable, TypeVar
 
-Fence = Hashable
+Fence = TypeVar("Fence", bound=Hashable)
 
 
-def smallest_sets(fences: Sequence[Fence], is_enough: Callable[[FrozenSet[Fence]], bool]) -> List[List[Fence]]:
+def find_smallest_sets(fences: Sequence[Fence], is_enough: Callable[[frozenset[Fence]], bool]) -> list[list[Fence]]:
     """Returns all smallest sufficient sets, each in the order of the fences; none if all fences together are not sufficient."""
     whole = frozenset(fences)
     if not is_enough(whole):
         return []
     needed = frozenset(it for it in fences if not is_enough(whole - {it}))
     if is_enough(needed):
-        return [in_order(needed, fences)]
+        return [sort_set(needed, fences)]
     others = [it for it in fences if it not in needed]
-    too_few: List[FrozenSet[Fence]] = []
+    too_few: list[frozenset[Fence]] = []
     for size in range(1, len(others) + 1):
-        found = []
+        smallest_sets = []
         for more in combinations(others, size):
             tried = needed.union(more)
             if any(tried <= known for known in too_few):
                 continue
             if is_enough(tried):
-                found.append(in_order(tried, fences))
+                smallest_sets.append(sort_set(tried, fences))
             else:
-                too_few.append(grown(tried, others, is_enough))
-        if found:
-            return found
+                too_few.append(grow_insufficient_set(tried, others, is_enough))
+        if smallest_sets:
+            return smallest_sets
     return []
 
 
-def grown(tried: FrozenSet[Fence], others: Sequence[Fence], is_enough: Callable[[FrozenSet[Fence]], bool]) -> FrozenSet[Fence]:
+def grow_insufficient_set(tried: frozenset[Fence], others: Sequence[Fence], is_enough: Callable[[frozenset[Fence]], bool]) -> frozenset[Fence]:
     """Returns an insufficient set, enlarged as long as it stays insufficient."""
-    for it in others:
-        if it not in tried and not is_enough(tried | {it}):
-            tried |= {it}
+    for fence in others:
+        if fence not in tried and not is_enough(tried | {fence}):
+            tried |= {fence}
     return tried
 
 
-def in_order(chosen: FrozenSet[Fence], fences: Sequence[Fence]) -> List[Fence]:
+def sort_set(chosen: frozenset[Fence], fences: Sequence[Fence]) -> list[Fence]:
     """Returns a set in the order of the fences."""
     return [it for it in fences if it in chosen]

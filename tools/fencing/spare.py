@@ -5,28 +5,31 @@ before it and each later load that it separates are separated by another fence o
 instruction that writes what the load reads. So only stores count that some way leads from to the fence with nothing between that waits, and
 only loads that some way leads to from it so. That the code here is as the law has it is tested and not proved.
 """
-from typing import Set, Tuple
+from __future__ import annotations
+
+from collections.abc import Sequence
+
 
 import plain
-from fencing.places import WAITS, Place, behind_stores
+from fencing.places import WAITS, Place, find_positions_after_stores
 from plain import Statement, Test
 
 WRITES = ("store", "xchg", "xadd")
 
 
-def loads_behind(code: Tuple[Statement, ...], at: int) -> Set[int]:
+def find_loads_after(code: Sequence[Statement], position: int) -> set[int]:
     """Returns the loads that some way reaches from a position, with nothing between that waits."""
-    found, seen, waiting = set(), set(), list(plain.followers(code[at], at))
+    loads_after, seen, waiting = set(), set(), list(plain.list_successors(code[position], position))
     while waiting:
-        here = waiting.pop()
-        if here < len(code) and here not in seen and code[here].kind not in WAITS:
-            seen.add(here)
-            found |= {here} if code[here].kind == "load" else set()
-            waiting += plain.followers(code[here], here)
-    return found
+        reached = waiting.pop()
+        if reached < len(code) and reached not in seen and code[reached].kind not in WAITS:
+            seen.add(reached)
+            loads_after |= {reached} if code[reached].kind == "load" else set()
+            waiting += plain.list_successors(code[reached], reached)
+    return loads_after
 
 
-def is_own(test: Test, thread: int, location: int) -> bool:
+def is_only_written_by(test: Test, thread: int, location: int) -> bool:
     """Returns whether no other thread has an instruction that writes a location."""
     others = (code for other, code in enumerate(test.threads) if other != thread)
     return not any(it.kind in WRITES and it.location == location for code in others for it in code)
@@ -34,8 +37,8 @@ def is_own(test: Test, thread: int, location: int) -> bool:
 
 def is_spare(test: Test, place: Place) -> bool:
     """Returns whether the law says that an x86 test has the same outcomes without the fence at a place."""
-    thread, at = place
+    thread, position = place
     code = test.threads[thread]
-    if at not in behind_stores(code):
+    if position not in find_positions_after_stores(code):
         return True
-    return all(is_own(test, thread, code[load].location) for load in loads_behind(code, at))
+    return all(is_only_written_by(test, thread, code[load].location) for load in find_loads_after(code, position))

@@ -5,17 +5,28 @@ A file `test_X.py` here has a class for each subject, and a method for each of i
 assertion that holds, and each rule, or case of a rule (`subTest`), that doesn't. A method that compares nothing fails, so that a loop
 over no cases shows nothing.
 """
+from __future__ import annotations
+
 import sys
 import unittest
+from collections.abc import Callable, Iterator
+from types import ModuleType
+from typing import Any, Tuple
 
 import given
-from shared.home import close
+from shared import command
+from shared.home import close_check
 
 
-def counted(name):
+# What is compared, what is expected, and what was found.
+Comparison = Tuple[str, object, object]
+
+
+def make_counted_assertion(name: str) -> Callable[..., None]:
     """Returns an assertion of `unittest` that is counted."""
 
-    def compare(self, *values, **more):
+    def compare(self: Case, *values: object, **more: object) -> None:
+        """Compares by the assertion of `unittest`, and counts it."""
         self.made += 1
         getattr(unittest.TestCase, name)(self, *values, **more)
         self.held += 1
@@ -28,9 +39,10 @@ class Case(unittest.TestCase):
 
     maxDiff = None
     made = held = 0
-    assertEqual, assertTrue, assertFalse, assertIn = map(counted, ("assertEqual", "assertTrue", "assertFalse", "assertIn"))
+    assertEqual, assertTrue, assertFalse, assertIn = map(make_counted_assertion, ("assertEqual", "assertTrue", "assertFalse", "assertIn"))
 
-    def tearDown(self):
+    def tearDown(self) -> None:
+        """Fails a method that has compared nothing."""
         if not self.made:
             self.fail("nothing was compared")
 
@@ -40,17 +52,18 @@ class Count(unittest.TestResult):
 
     held = 0
 
-    def stopTest(self, test):
+    def stopTest(self, test: Any) -> None:
+        """Adds the assertions of a test that has ended."""
         super().stopTest(test)
         self.held += test.held
 
 
-def comparisons(module):
+def comparisons(module: ModuleType) -> Iterator[Comparison]:
     """Returns all comparisons of a module's tests, for tools/check_documents.py: what is compared, what is expected, and what was found."""
-    yield from compared(unittest.defaultTestLoader.loadTestsFromModule(module))
+    yield from run_suite(unittest.defaultTestLoader.loadTestsFromModule(module))
 
 
-def compared(suite):
+def run_suite(suite: unittest.TestSuite) -> Iterator[Comparison]:
     """Returns the same for some tests."""
     count = Count()
     suite.run(count)
@@ -59,7 +72,13 @@ def compared(suite):
         yield f"{test.id()}\n{why}", "holds", "fails"
 
 
-def main():
-    """Runs the tests of the file that is run."""
-    given.print_as_lw()
-    return close(comparisons(sys.modules["__main__"]))
+def main(skipped: Callable[[], str | None] = lambda: None) -> int:
+    """Runs the tests of the file that is run, a command without words. `skipped` returns the line that says what is left out, or None."""
+    module = sys.modules["__main__"]
+
+    def run() -> int:
+        """Runs all tests. Returns the exit status."""
+        given.set_output_encoding()
+        return close_check(comparisons(module), skipped=skipped)
+
+    return command.run_command(run, module.__doc__)

@@ -1,12 +1,13 @@
-#!/usr/bin/env python3
 """Runs ./lw and ./beyond in a copy of the repository with a stand-in for `rt` that builds nothing and keeps a record of what it was asked to do.
 
-    python3 tools/gate/check_build.py
+    python3 tools gate.check_build
 
 Looked at are: which crates are built and in which order, what a second call does, what a changed crate has built, a build that
 fails or is ended, two builds at once, and the first answer, which is for terminals alone; that ./lw builds no crate of ./beyond's, and
 ./beyond no crate twice; and the file that ./beyond reads. tools/check_documents.py calls it.
 """
+from __future__ import annotations
+
 import os
 import pty
 import re
@@ -16,10 +17,12 @@ import subprocess
 import sys
 import tempfile
 import time
+from collections.abc import Iterator, Sequence
+from typing import Any
 
-sys.dont_write_bytecode = True
-sys.path.insert(0, os.path.dirname(os.path.dirname(os.path.abspath(__file__))))
+from gate.cases import Comparison
 from program import build
+from shared import command
 from shared.home import HOME
 
 CHANGED = "lw_fence"
@@ -59,142 +62,151 @@ esac
 class Place:
     """A copy of what ./lw consists of, with the stand-in first on PATH."""
 
-    def __init__(self, room):
-        self.home, self.kit = f"{room}/home", f"{room}/kit"
+    def __init__(self, folder: str) -> None:
+        """Copies what ./lw consists of into a folder."""
+        self.home, self.kit = f"{folder}/home", f"{folder}/kit"
         os.makedirs(f"{self.kit}/bin")
-        self.write(f"{self.kit}/KIT-ID", "a stand-in\n")
-        self.write(f"{self.kit}/bin/rt", RT)
+        self.write_file(f"{self.kit}/KIT-ID", "a stand-in\n")
+        self.write_file(f"{self.kit}/bin/rt", RT)
         os.chmod(f"{self.kit}/bin/rt", 0o755)
-        for it in ("tools", "docs"):
-            shutil.copytree(f"{HOME}/{it}", f"{self.home}/{it}")
-        for it in ("crates.txt", "lw", "beyond"):
-            shutil.copy(f"{HOME}/{it}", f"{self.home}/{it}")
-        self.crates = [it.name for it in build.crates_of_program()]
+        for name in ("tools", "docs"):
+            shutil.copytree(f"{HOME}/{name}", f"{self.home}/{name}")
+        for name in ("crates.txt", "lw", "beyond"):
+            shutil.copy(f"{HOME}/{name}", f"{self.home}/{name}")
+        self.crates = [it.name for it in build.list_crates()]
         # Those on which only the other program depends.
-        self.further = [it.name for it in build.crates_of_program(build.BEYOND) if it.name not in self.crates]
-        for it in self.crates + self.further:
-            os.makedirs(f"{self.home}/crates/{it}/src")
-            self.write(f"{self.home}/crates/{it}/src/lib.rt", f"// {it}\n")
+        self.further = [it.name for it in build.list_crates(build.BEYOND) if it.name not in self.crates]
+        for name in self.crates + self.further:
+            os.makedirs(f"{self.home}/crates/{name}/src")
+            self.write_file(f"{self.home}/crates/{name}/src/lib.rt", f"// {name}\n")
         self.environment = {**os.environ, "KIT": self.kit, "PATH": f"{self.kit}/bin:{os.environ['PATH']}"}
 
     @staticmethod
-    def write(path, text):
-        with open(path, "w", encoding="utf-8") as it:
-            it.write(text)
+    def write_file(path: str, text: str) -> None:
+        """Writes a file."""
+        with open(path, "w", encoding="utf-8") as file:
+            file.write(text)
 
-    def start(self, words=("lw", "states"), **more):
-        how = {"stdin": subprocess.PIPE, "stdout": subprocess.PIPE, "stderr": subprocess.PIPE, "env": self.environment}
-        return subprocess.Popen([f"{self.home}/{words[0]}", *words[1:]], start_new_session=True, **{**how, **more})
+    def start_command(self, arguments: Sequence[str] = ("lw", "states"), **more: Any) -> Any:
+        """Starts ./lw, or a command."""
+        how: dict[str, Any] = {"stdin": subprocess.PIPE, "stdout": subprocess.PIPE, "stderr": subprocess.PIPE, "env": self.environment}
+        return subprocess.Popen([f"{self.home}/{arguments[0]}", *arguments[1:]], start_new_session=True, **{**how, **more})
 
-    def run(self, *words):
+    def run_command(self, *arguments: str) -> tuple[bytes, str, list[str]]:
         """Returns what ./lw, or a command, prints on both streams, and what it has asked the stand-in to do."""
-        told = self.start(words or ("lw", "states")).communicate(b"text\n", timeout=60)
-        return told[0], told[1].decode(), self.record()
+        streams = self.start_command(arguments or ("lw", "states")).communicate(b"text\n", timeout=60)
+        return streams[0], streams[1].decode(), self.take_record()
 
-    def record(self):
+    def take_record(self) -> list[str]:
         """Returns the record since the last call."""
         path = f"{self.kit}/record"
         if not os.path.exists(path):
             return []
-        with open(path, encoding="utf-8") as it:
-            lines = it.read().split("\n")[:-1]
+        with open(path, encoding="utf-8") as file:
+            lines = file.read().split("\n")[:-1]
         os.remove(path)
         return lines
 
-    def change(self, crate):
-        self.write(f"{self.home}/crates/{crate}/src/lib.rt", f"// {crate}, changed at {time.time()}\n")
+    def change_source(self, crate: str) -> None:
+        """Changes a source of a crate."""
+        self.write_file(f"{self.home}/crates/{crate}/src/lib.rt", f"// {crate}, changed at {time.time()}\n")
 
 
 ANSWER = b"proved: states\ntext\n"
 
 
-def begun(record):
+def list_begun_crates(record: list[str]) -> list[str]:
+    """Returns the crates whose builds a record has, sorted."""
     return sorted(it.split()[1] for it in record if it.startswith("begins"))
 
 
-def is_in_order(record):
+def is_in_order(record: list[str]) -> bool:
     """Returns whether each crate started after the ends of those on which it depends."""
-    below = {it.name: [other.name for other in it.below] for it in build.crates_of_program()}
+    below = {it.name: [other.name for other in it.below] for it in build.list_crates()}
     return all(
-        f"ends {it}" in record[:at] or f"begins {it}" not in record
-        for at, line in enumerate(record)
+        f"ends {it}" in record[:index] or f"begins {it}" not in record
+        for index, line in enumerate(record)
         if line.startswith("begins")
         for it in below[line.split()[1]]
     )
 
 
-def above(crate):
+def list_dependents(crate: str) -> list[str]:
     """Returns the crate, and all crates of the program that depend on it."""
-    return sorted(it.name for it in build.crates_of_program() if it.name == crate or crate in [other.name for other in it.all_below()])
+    return sorted(it.name for it in build.list_crates() if it.name == crate or crate in [other.name for other in it.list_dependencies()])
 
 
-def check_builds(place):
-    out, said, record = place.run()
+def check_builds(place: Place) -> Iterator[Comparison]:
+    """Compares what builds ask the stand-in to do: all of the program, what has changed, and nothing."""
+    out, errors, record = place.run_command()
     yield "the first call answers by the program", ANSWER, out
-    first, *others = said.splitlines()
+    first, *others = errors.splitlines()
     pattern = rf"lw: crates to prove: {len(place.crates)}; on \d+ processors that takes \d+ to \d+ minutes, by docs/TIMES\.md"
     yield "the first line gives bounds of the minutes", True, bool(re.fullmatch(pattern, first))
     proved = [it for it in others if re.fullmatch(r"lw: \w+ is proved \(\d+ of \d+\), (\d+ to \d+|about \d+) minutes? to go", it)]
     yield "so does each crate that is proved, but the last", len(place.crates) - 1, len(proved)
-    yield "the first call builds each crate once", sorted(place.crates), begun(record)
+    yield "the first call builds each crate once", sorted(place.crates), list_begun_crates(record)
     yield "each crate begins behind those that it stands on", True, is_in_order(record)
     yield "crates are built beside each other", True, record.index("begins lw_memory") < record.index("ends lw_text")
-    yield "the second call builds nothing", (ANSWER, "", []), place.run()
-    place.change(CHANGED)
-    out, _, record = place.run()
-    yield "a changed crate has those above it built", (ANSWER, above(CHANGED)), (out, begun(record))
+    yield "the second call builds nothing", (ANSWER, "", []), place.run_command()
+    place.change_source(CHANGED)
+    out, _, record = place.run_command()
+    yield "a changed crate has those above it built", (ANSWER, list_dependents(CHANGED)), (out, list_begun_crates(record))
 
 
-def check_copies(place, room):
+def check_copies(place: Place, folder: str) -> Iterator[Comparison]:
     """Checks that a tree with the same content answers at once: at other times, with other modes, elsewhere, without rt, and read-only."""
     os.utime(f"{place.home}/crates/{CHANGED}/src/lib.rt")
-    yield "a file of another time with the same content has nothing built", (ANSWER, "", []), place.run()
+    yield "a file of another time with the same content has nothing built", (ANSWER, "", []), place.run_command()
     subprocess.run(["chmod", "-R", "go-rwx", place.home], check=True)
-    yield "other modes have nothing built", (ANSWER, "", []), place.run()
+    yield "other modes have nothing built", (ANSWER, "", []), place.run_command()
     without_rt = {**place.environment, "PATH": os.environ["PATH"].replace(os.path.dirname(shutil.which("rt") or "/none/rt"), "/none")}
     for how in ("-a", "-r"):
-        copy = f"{room}/copy{how}"
+        copy = f"{folder}/copy{how}"
         subprocess.run(["cp", how, place.home, copy], check=True)
-        subprocess.run(["chmod", "-R", "a+rX", room], check=True)
-        for who in [{}] + [{"user": 65534, "group": 65534, "extra_groups": []}] * (os.geteuid() == 0):
+        subprocess.run(["chmod", "-R", "a+rX", folder], check=True)
+        nobody: dict[str, Any] = {"user": 65534, "group": 65534, "extra_groups": []}
+        users: list[dict[str, Any]] = [{}, nobody] if os.geteuid() == 0 else [{}]
+        for who in users:
             ran = subprocess.run([f"{copy}/lw", "states"], input=b"text\n", capture_output=True, env=without_rt, check=False, **who)
-            told = ran.stdout, ran.stderr, ran.returncode
-            yield f"a copy by cp {how} answers without rt{', read only' if who else ''}", (ANSWER, b"", 3), told
-    place.change(CHANGED)
+            printed = ran.stdout, ran.stderr, ran.returncode
+            yield f"a copy by cp {how} answers without rt{', read only' if who else ''}", (ANSWER, b"", 3), printed
+    place.change_source(CHANGED)
     os.utime(f"{place.home}/crates/{CHANGED}/src/lib.rt", (0, 0))
-    yield "a changed file of an old time has those above it built", above(CHANGED), begun(place.run()[2])
+    yield "a changed file of an old time has those above it built", list_dependents(CHANGED), list_begun_crates(place.run_command()[2])
 
 
-def check_failures(place):
-    place.change(CHANGED)
-    place.write(f"{place.kit}/fails-{CHANGED}", "")
-    ran = place.start()
+def check_failures(place: Place) -> Iterator[Comparison]:
+    """Compares what builds print that fail."""
+    place.change_source(CHANGED)
+    place.write_file(f"{place.kit}/fails-{CHANGED}", "")
+    ran = place.start_command()
     out, err = ran.communicate(b"text\n", timeout=60)
     yield "a build that fails prints nothing", (b"", 5), (out, ran.returncode)
-    told = f"the log of {CHANGED}\nlw: the build failed at {CHANGED}\n"
-    yield "a build that fails says where", True, err.decode().endswith(told)
-    yield "a build that fails goes no further", [CHANGED], begun(place.record())
+    message = f"the log of {CHANGED}\nlw: the build failed at {CHANGED}\n"
+    yield "a build that fails says where", True, err.decode().endswith(message)
+    yield "a build that fails goes no further", [CHANGED], list_begun_crates(place.take_record())
     os.remove(f"{place.kit}/fails-{CHANGED}")
-    yield "the next call goes on", above(CHANGED), begun(place.run()[2])
-    place.change(CHANGED)
-    place.write(f"{place.kit}/hangs-{CHANGED}", "")
-    ran = place.start()
-    while not begun(place.record()):
+    yield "the next call goes on", list_dependents(CHANGED), list_begun_crates(place.run_command()[2])
+    place.change_source(CHANGED)
+    place.write_file(f"{place.kit}/hangs-{CHANGED}", "")
+    ran = place.start_command()
+    while not list_begun_crates(place.take_record()):
         time.sleep(0.1)
     os.killpg(ran.pid, signal.SIGINT)
     out, _ = ran.communicate(timeout=60)
-    left = subprocess.run(["pgrep", "-f", f"{place.kit}/bin/rt"], capture_output=True, check=False).stdout
-    yield "a build that is ended prints nothing, and leaves nothing running", (b"", b""), (out, left)
+    leftover_processes = subprocess.run(["pgrep", "-f", f"{place.kit}/bin/rt"], capture_output=True, check=False).stdout
+    yield "a build that is ended prints nothing, and leaves nothing running", (b"", b""), (out, leftover_processes)
     os.remove(f"{place.kit}/hangs-{CHANGED}")
-    both = [place.start(), place.start()]
+    both = [place.start_command(), place.start_command()]
     yield "two calls at once both answer", [ANSWER] * 2, [it.communicate(b"text\n", timeout=60)[0] for it in both]
-    yield "two calls at once build each crate once", above(CHANGED), begun(place.record())
+    yield "two calls at once build each crate once", list_dependents(CHANGED), list_begun_crates(place.take_record())
 
 
-def on_terminal(place, output):
+def run_on_terminal(place: Place, output: Any) -> tuple[str, bytes | None, int]:
     """Returns what a call shows on a terminal, standard error, and what it writes to standard output."""
     ours, theirs = pty.openpty()
-    ran = place.start(stdin=subprocess.PIPE, stdout=output, stderr=theirs)
+    ran = place.start_command(stdin=subprocess.PIPE, stdout=output, stderr=theirs)
     os.close(theirs)
     ran.stdin.write(b"text\n")
     ran.stdin.close()
@@ -207,61 +219,63 @@ def on_terminal(place, output):
     return shown.decode(), ran.stdout.read() if output == subprocess.PIPE else None, ran.wait(60)
 
 
-def check_first_answer(place, room):
+def check_first_answer(place: Place, folder: str) -> Iterator[Comparison]:
+    """Compares the first answer, which is given before the proof."""
     for answer, is_told in (("proved", False), ("another", True)):
-        place.change(CHANGED)
-        place.write(f"{place.kit}/answers", answer)
-        with open(f"{room}/written", "w+b") as output:
-            shown, _, status = on_terminal(place, output)
+        place.change_source(CHANGED)
+        place.write_file(f"{place.kit}/answers", answer)
+        with open(f"{folder}/written", "w+b") as output:
+            shown, _, status = run_on_terminal(place, output)
             output.seek(0)
             yield "standard output has the proved answer alone", (ANSWER, 3), (output.read(), status)
         unproved = f"lw: unproved, so only a first look (the proved answer follows):\r\n{answer}: states\r\ntext\r\n"
         yield "a terminal shows the first answer, as unproved", True, unproved in shown
         yield "an answer that differs is told", is_told, "lw: the first answer was another" in shown
-    place.change(CHANGED)
-    shown, out, status = on_terminal(place, subprocess.PIPE)
+    place.change_source(CHANGED)
+    shown, out, status = run_on_terminal(place, subprocess.PIPE)
     yield "in a pipe nothing unproved is shown", (False, ANSWER, 3), ("unproved" in shown, out, status)
 
 
-def check_other_program(place, room):
+def check_other_program(place: Place, folder: str) -> Iterator[Comparison]:
     """Checks ./beyond, when ./lw is built."""
-    place.run()
-    file = f"{room}/a test"
-    place.write(file, "in a file\n")
-    out, said, record = place.run("beyond", "states")
+    place.run_command()
+    file = f"{folder}/a test"
+    place.write_file(file, "in a file\n")
+    out, errors, record = place.run_command("beyond", "states")
     yield "./beyond answers by its program", ANSWER, out
-    yield "./beyond says which program it builds", {"beyond"}, {it.partition(":")[0] for it in said.splitlines()}
-    yield "./beyond builds what ./lw has not built, and nothing else", sorted(place.further), begun(record)
-    yield "the second ./beyond builds nothing", (ANSWER, "", []), place.run("beyond", "states")
+    yield "./beyond says which program it builds", {"beyond"}, {it.partition(":")[0] for it in errors.splitlines()}
+    yield "./beyond builds what ./lw has not built, and nothing else", sorted(place.further), list_begun_crates(record)
+    yield "the second ./beyond builds nothing", (ANSWER, "", []), place.run_command("beyond", "states")
     for words in (["states"], ["--budget", "7", "--method", "schedules"], ["--search", "--budget", "states", "states"]):
-        wanted = f"proved: {' '.join(words)}\nin a file\n".encode(), "", []
-        yield f"./beyond {' '.join(words)} FILE", wanted, place.run("beyond", *words, file)
+        wanted: tuple[bytes, str, list[str]] = f"proved: {' '.join(words)}\nin a file\n".encode(), "", []
+        yield f"./beyond {' '.join(words)} FILE", wanted, place.run_command("beyond", *words, file)
     for words in (["states", file, file], ["--budget", "states"], [file], ["states", ""]):
         wanted = f"proved: {' '.join(words)}\ntext\n".encode(), "", []
-        yield f"./beyond {' '.join(words)}, which names no file", wanted, place.run("beyond", *words)
-    told = place.run("beyond", "states", f"{room}/none")
-    yield "./beyond of a file that isn't there", (b"", f"beyond: {room}/none can't be opened\n", []), told
-    place.change("lw_search")
-    yield "./lw takes no notice of a crate of ./beyond's", (ANSWER, "", []), place.run()
-    yield "./beyond does", sorted(place.further), begun(place.run("beyond", "states")[2])
+        yield f"./beyond {' '.join(words)}, which names no file", wanted, place.run_command("beyond", *words)
+    printed = place.run_command("beyond", "states", f"{folder}/none")
+    yield "./beyond of a file that isn't there", (b"", f"beyond: {folder}/none can't be opened\n", []), printed
+    place.change_source("lw_search")
+    yield "./lw takes no notice of a crate of ./beyond's", (ANSWER, "", []), place.run_command()
+    yield "./beyond does", sorted(place.further), list_begun_crates(place.run_command("beyond", "states")[2])
 
 
-def comparisons():
-    """Returns all comparisons: what is compared, what is expected, and what was found."""
-    with tempfile.TemporaryDirectory() as room:
-        place = Place(room)
-        checks = check_builds(place), check_copies(place, room), check_failures(place), check_first_answer(place, room)
-        for check in (*checks, check_other_program(place, room)):
-            for what, wanted, told in check:
-                yield f"with a stand-in for rt: {what}", wanted, told
+def comparisons() -> Iterator[Comparison]:
+    """Yields all comparisons: what is compared, what is expected, and what was found."""
+    with tempfile.TemporaryDirectory() as folder:
+        place = Place(folder)
+        checks = check_builds(place), check_copies(place, folder), check_failures(place), check_first_answer(place, folder)
+        for check in (*checks, check_other_program(place, folder)):
+            for what, wanted, found in check:
+                yield f"with a stand-in for rt: {what}", wanted, found
 
 
-def main():
+def main() -> int:
+    """Runs the command that the arguments describe. Returns the exit status."""
     wrong = [it for it in comparisons() if it[1] != it[2]]
-    for what, wanted, told in wrong:
-        print(f"{what}\n  wanted: {wanted!r}\n  told:   {told!r}")
+    for what, wanted, found in wrong:
+        print(f"{what}\n  wanted: {wanted!r}\n  told:   {found!r}")
     return 1 if wrong else 0
 
 
 if __name__ == "__main__":
-    sys.exit(main())
+    sys.exit(command.run_command(main, __doc__))

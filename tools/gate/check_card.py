@@ -1,7 +1,6 @@
-#!/usr/bin/env python3
 """Looks whether the program reads and refuses what docs/CARD.md says. The last line is 'N passed, M failed'.
 
-    python3 tools/gate/check_card.py
+    python3 tools gate.check_card
 
 - The two tests of the card are read, and each statement in its tables is, in place of the first row.
 - Each fault of the card is told by the program where it is written so, and what was meant in its place is read.
@@ -9,16 +8,18 @@
 
 tools/check_documents.py calls this; the program has to be there.
 """
-import os
+from __future__ import annotations
+
 import re
 import subprocess
 import sys
+from collections.abc import Iterator
 
-sys.dont_write_bytecode = True
-sys.path.insert(0, os.path.dirname(os.path.dirname(os.path.abspath(__file__))))
+from gate.cases import Comparison
 from lab import markdown
-from lab.tests import read
-from shared.home import PROGRAM, close
+from lab.tests import read_file
+from shared import command
+from shared.home import PROGRAM, close_check
 
 FIRST_ROW, QUESTION = 3, -1
 FAULTS = 10
@@ -26,59 +27,61 @@ LIMITS = (("four threads", "one to four of them"), ("eight locations", "There ar
           ("16 statements or 32 instructions", "at most 16 statements in a source test and at most 32 instructions"))
 
 
-def ask(lines):
+def ask_program(lines: list[str]) -> tuple[str, int]:
     """Returns what the program prints about a test when it compiles it, which reads all of it, and the exit status."""
     ran = subprocess.run([PROGRAM, "compile"], input="".join(f"{it}\n" for it in lines).encode(), capture_output=True, check=False)
     return ran.stderr.decode(), ran.returncode
 
 
-def tests_of(card):
+def read_tests(card: str) -> dict[str, list[str]]:
     """Returns the lines of the two tests, which are next to each other."""
-    block = next(lines for kind, lines in markdown.blocks(card) if kind == "fence")
-    at = block[0].index("X86")
-    return {"SRC": [it[:at].rstrip() for it in block], "X86": [it[at:].rstrip() for it in block]}
+    block = next(lines for kind, lines in markdown.split_blocks(card) if kind == "fence")
+    column = block[0].index("X86")
+    return {"SRC": [it[:column].rstrip() for it in block], "X86": [it[column:].rstrip() for it in block]}
 
 
-def put(test, written):
+def replace_rows(test: list[str], written: str) -> list[str]:
     """Returns a test with rows in place of its first row, or with a question in place of its question."""
     if written.startswith(" "):
         return [*test[:FIRST_ROW], *written.split("\n"), *test[FIRST_ROW + 1 :]]
     return [*test[:QUESTION], written]
 
 
-def tables_of(card):
+def read_tables(card: str) -> list[list[list[str]]]:
     """Returns the rows of the tables, each with its cells, without their headers."""
-    return [[markdown.cells(it) for it in lines[2:]] for kind, lines in markdown.blocks(card) if kind == "table"]
+    return [[markdown.split_cells(it) for it in lines[2:]] for kind, lines in markdown.split_blocks(card) if kind == "table"]
 
 
-def spans(cell):
+def list_code_spans(cell: str) -> list[str]:
+    """Returns what a cell has in backticks."""
     return re.findall(r"`([^`]*)`", cell)
 
 
-def comparisons():
-    """Returns all comparisons: what is compared, what is expected, and what was found."""
-    card, form = read("docs/CARD.md"), " ".join(read("docs/FORMAT.md").split())
-    tests = tests_of(card)
-    statements, faults = tables_of(card)
+def comparisons() -> Iterator[Comparison]:
+    """Yields all comparisons: what is compared, what is expected, and what was found."""
+    card, form = read_file("docs/CARD.md"), " ".join(read_file("docs/FORMAT.md").split())
+    tests = read_tests(card)
+    statements, faults = read_tables(card)
     for language, test in tests.items():
-        yield f"docs/CARD.md, the test in {language}", ("", 0), ask(test)
+        yield f"docs/CARD.md, the test in {language}", ("", 0), ask_program(test)
     for source, x86, what in statements:
         for language, cell in (("SRC", source), ("X86", x86)):
-            rows = [] if cell.startswith("none") else [f" {it} | ;" for it in spans(cell)]
-            yield f"docs/CARD.md, {what} in {language}", ("", 0), ask(put(tests[language], "\n".join(rows) or " | ;"))
+            rows = [] if cell.startswith("none") else [f" {it} | ;" for it in list_code_spans(cell)]
+            yield f"docs/CARD.md, {what} in {language}", ("", 0), ask_program(replace_rows(tests[language], "\n".join(rows) or " | ;"))
     yield "docs/CARD.md has ten faults", FAULTS, len(faults)
     for language, *cells in faults:
-        (written,), (meant,), (told,) = map(spans, cells)
-        line, status = ask(put(tests[language], written))
-        yield f"docs/CARD.md, the fault of {written}", (f"lw: {told} at", 1), (line.rpartition(" ")[0], status)
-        yield f"docs/CARD.md, what is meant: {meant}", ("", 0), ask(put(tests[language], meant))
+        (written,), (meant,), (fault_name,) = map(list_code_spans, cells)
+        line, status = ask_program(replace_rows(tests[language], written))
+        yield f"docs/CARD.md, the fault of {written}", (f"lw: {fault_name} at", 1), (line.rpartition(" ")[0], status)
+        yield f"docs/CARD.md, what is meant: {meant}", ("", 0), ask_program(replace_rows(tests[language], meant))
     for limit, source in LIMITS:
         yield f"docs/CARD.md, the limit of {limit}", (True, True), (limit in card, source in form)
 
 
-def main():
-    return close(comparisons())
+def main() -> int:
+    """Runs the command that the arguments describe. Returns the exit status."""
+    return close_check(comparisons())
 
 
 if __name__ == "__main__":
-    sys.exit(main())
+    sys.exit(command.run_command(main, __doc__))

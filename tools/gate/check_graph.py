@@ -1,8 +1,7 @@
-#!/usr/bin/env python3
 """Compares the axioms of tools/executions.py with the machine, and looks at what tools/graph.py draws. The last line is
 'N passed, M failed'.
 
-    python3 tools/gate/check_graph.py
+    python3 tools gate.check_graph
 
 - Of each listed state of each example: the execution of its schedule keeps the axioms, and what it reads, its registers and its memory
   are those of tools/plain.py's replay of the schedule.
@@ -11,37 +10,43 @@
   of the relations that the axiom is about; and no state that the machine has is called forbidden.
 - Each row of docs/FAMILIES.md: the execution that its test asks about has the row's cycle, and where x86-TSO forbids it that is a cycle
   of global happens-before.
-- In the picture of each of these executions no arrow crosses a box, and no label lies over a box, over another label or out of it.
+- In the picture of each of these executions no arrow crosses a box, no label lies over a box, over another label or out of it, and at most
+  one lies over an arrow of another edge.
 - No fence is missed between two events that have a fence or a locked instruction between them.
 - What the tool prints and refuses.
 
 Where the program is built, it lists the states, else tools/plain.py. tools/check_documents.py calls this.
 """
+from __future__ import annotations
+
 import glob
 import os
 import re
 import subprocess
 import sys
 import xml.etree.ElementTree
+from collections.abc import Callable, Iterable, Iterator
 from concurrent.futures import ProcessPoolExecutor
 
-sys.dont_write_bytecode = True
-sys.path.insert(0, os.path.dirname(os.path.dirname(os.path.abspath(__file__))))
-from shared.home import HOME, PROGRAM, close
+from shared import command
+from shared.home import HOME, PROGRAM, close_check
 import executions
 import graph
 import plain
 import random_tests
-from shared.graph_layout import on_curve
+from gate.cases import Comparison
+from shared.graph_layout import find_curve_point
 
 # The most candidate executions of a test whose outcomes are compared, and the number of random tests.
-MOST = 1500
+MAX_CANDIDATES = 1500
 RANDOM = 150
+# The most labels of a picture that lie over an arrow of another edge.
+MAX_CROSSING = 1
 WAITING = ("mfence", "xchg", "xadd")
 SVG = {"svg": "http://www.w3.org/2000/svg"}
 SB = f"{HOME}/examples/SB-x86.litmus"
 SOURCE = f"{HOME}/examples/SB.litmus"
-REFUSED = (
+REFUSED: tuple[tuple[list[str], int], ...] = (
     ([], 2),
     (["--text"], 2),
     (["P0 P0 P1 P1 D0 D0", SB], 1),
@@ -57,114 +62,127 @@ REFUSED = (
 )
 
 
-def compiled(path):
-    """The x86 program of a test in a file."""
-    with open(path, encoding="utf-8") as it:
-        return plain.compiled(plain.read_test(it.read()))
+def read_compiled(path: str) -> plain.Test:
+    """Returns the x86 program of a test in a file."""
+    with open(path, encoding="utf-8") as file:
+        return plain.compile_test(plain.read_test(file.read()))
 
 
-def listed(path, test):
-    """The schedules that lead to a test's states."""
+def list_schedules(path: str, test: plain.Test) -> list[str]:
+    """Returns the schedules that lead to a test's states."""
     if os.path.exists(PROGRAM):
-        with open(path, "rb") as it:
-            told = subprocess.run([PROGRAM, "schedules"], stdin=it, capture_output=True, check=False).stdout.decode()
+        with open(path, "rb") as file:
+            printed = subprocess.run([PROGRAM, "schedules"], stdin=file, capture_output=True, check=False).stdout.decode()
     else:
-        told = plain.schedules(test)
-    return [line.strip() for line in told.splitlines() if line.startswith(" ")]
+        printed = plain.format_schedules(test)
+    return [line.strip() for line in printed.splitlines() if line.startswith(" ")]
 
 
-def check_schedules(path):
-    """Of each listed state its execution."""
-    test, found = compiled(path), []
-    name = os.path.basename(path)
-    for schedule in listed(path, test):
-        execution = executions.execution_of(test, schedule)
-        run, read = plain.start_replay(test, "mesi"), {}
+def check_schedules(path: str) -> list[Comparison]:
+    """Returns of each listed state its execution."""
+    test, name = read_compiled(path), os.path.basename(path)
+    results: list[Comparison] = []
+    for schedule in list_schedules(path, test):
+        execution = executions.make_execution(test, schedule)
+        run, read = plain.X86Replay(test, "mesi"), {}
         for kind, cpu, location in plain.read_schedule(schedule, test.locations):
-            at = run.processors[cpu].at
-            run.do(kind, cpu, location)
-            it = test.threads[cpu][at] if kind == "P" else None
-            if it and it.kind in executions.READS:
-                read[executions.Event(cpu, at)] = run.processors[cpu].registers[it.register]
-        found.append((f"{name}, {schedule}: the axioms", None, execution.broken()))
-        found.append((f"{name}, {schedule}: what is read", read, {it: word for it, word in execution.read.items() if it in execution.rf}))
-        found.append((f"{name}, {schedule}: its outcome", run.outcome(), execution.outcome()))
-        found.append((f"{name}, {schedule}: what lies over something in its picture", [], picture_faults(graph.picture_of(execution, name))))
-        words = graph.text_of(execution)
+            position = run.processors[cpu].position
+            run.execute_event(kind, cpu, location)
+            event = test.threads[cpu][position] if kind == "P" else None
+            if event and event.kind in executions.READS:
+                read[executions.Event(cpu, position)] = run.processors[cpu].registers[event.register]
+        results.append((f"{name}, {schedule}: the axioms", None, execution.find_broken_axiom()))
+        results.append((f"{name}, {schedule}: what is read", read, {it: word for it, word in execution.read.items() if it in execution.rf}))
+        results.append((f"{name}, {schedule}: its outcome", run.make_outcome(), execution.make_outcome()))
+        picture = graph.draw_execution(execution, name)
+        results.append((f"{name}, {schedule}: what lies over something in its picture", [], find_picture_faults(picture)))
+        results.append((f"{name}, {schedule}: few labels lie over arrows of other edges", True, count_crossing_labels(picture) <= MAX_CROSSING))
+        words = graph.format_execution(execution)
         is_weak = any(it.startswith("No run of interleaving") for it in words)
-        found.append((f"{name}, {schedule}: a cycle is told where interleaving has no such run", bool(execution.cycle()), is_weak))
-        found.append((f"{name}, {schedule}: a fence is missed where one is", [], fenced_pairs(test, execution, words)))
-    return found
+        results.append((f"{name}, {schedule}: a cycle is told where interleaving has no such run", bool(execution.find_cycle()), is_weak))
+        results.append((f"{name}, {schedule}: a fence is missed where one is", [], find_fenced_pairs(test, execution, words)))
+    return results
 
 
-def fenced_pairs(test, execution, words):
-    """The pairs of events between which an MFENCE is missed, though a fence or a locked instruction is between them on the path."""
+def find_fenced_pairs(test: plain.Test, execution: executions.Execution, words: list[str]) -> list[tuple[str, str]]:
+    """Returns the pairs of events between which an MFENCE is missed, though a fence or a locked instruction is between them on the path."""
     events = {letter: event for event, letter in graph.Names(execution).letters.items()}
     pairs = re.findall(r"^An MFENCE between (\w+) and (\w+) would keep their order\.$", "\n".join(words), re.M)
-    return [pair for pair in pairs if any(test.threads[events[pair[0]].thread][at].kind in WAITING for at in between(execution, events, pair))]
+    return [pair for pair in pairs if any(test.threads[events[pair[0]].thread][position].kind in WAITING for position in list_positions_between(execution, events, pair))]
 
 
-def between(execution, events, pair):
-    """The positions of a path between two of its events."""
+def list_positions_between(execution: executions.Execution, events: dict[str, executions.Event], pair: tuple[str, str]) -> list[int]:
+    """Returns the positions of a path between two of its events."""
     first, second = (events[it] for it in pair)
-    return [at for at in execution.paths[first.thread] if first.position < at < second.position]
+    return [position for position in execution.paths[first.thread] if first.position < position < second.position]
 
 
-def picture_faults(picture):
-    """What is covered in a picture of an execution: arrows that cross boxes, labels that lie over boxes or over each other, or out of it."""
+def find_picture_faults(picture: str) -> list[str]:
+    """Returns what is covered in a picture of an execution: arrows that cross boxes, labels that lie over boxes or over each other, or out of it.
+    """
     root = xml.etree.ElementTree.fromstring(picture)
     number = lambda it, key: float(it.get(key))
     boxes = [tuple(number(it, key) for key in ("x", "y", "width", "height")) for it in root.iterfind("./svg:g/svg:rect", SVG)]
     labels = [it for it in root.iterfind("./svg:text", SVG) if it.get("class") == "relation"]
-    at = [(number(it, "x"), number(it, "y") - 12, 7.9 * len(it.text), 14) for it in labels]
+    places = [(number(it, "x"), number(it, "y") - 12, 7.9 * len(it.text or ""), 14) for it in labels]
     overlap = lambda a, b: a[0] < b[0] + b[2] and b[0] < a[0] + a[2] and a[1] < b[1] + b[3] and b[1] < a[1] + a[3]
-    faults = [f"{it.text} over a box" for it, place in zip(labels, at) if any(overlap(place, box) for box in boxes)]
-    faults += [f"{one.text} over {other.text}" for n, one in enumerate(labels) for m, other in enumerate(labels[:n]) if overlap(at[n], at[m])]
-    faults += [f"{it.text} out of the picture" for it, place in zip(labels, at) if place[0] < 0 or place[0] + place[2] > number(root, "width")]
+    faults = [f"{it.text} over a box" for it, place in zip(labels, places) if any(overlap(place, box) for box in boxes)]
+    faults += [f"{label.text} over {other_label.text}" for n, label in enumerate(labels) for m, other_label in enumerate(labels[:n]) if overlap(places[n], places[m])]
+    faults += [f"{it.text} out of the picture" for it, place in zip(labels, places) if place[0] < 0 or place[0] + place[2] > number(root, "width")]
     for path in root.iterfind("./svg:path", SVG):
-        inside = [box for point in points_of(path.get("d")) for box in boxes if is_inside(point, box)]
+        inside = [box for point in list_curve_points(path.attrib["d"]) for box in boxes if is_inside(point, box)]
         faults += [f"an arrow {path.get('class')} over a box"] * bool(inside)
     return faults
 
 
-def is_inside(point, box):
-    """Whether a point is well inside a box."""
+def count_crossing_labels(picture: str) -> int:
+    """Returns the number of labels in a picture that lie over more than one arrow."""
+    root = xml.etree.ElementTree.fromstring(picture)
+    arrows = [list(list_curve_points(it.attrib["d"])) for it in root.iterfind("./svg:path", SVG)]
+    labels = [it for it in root.iterfind("./svg:text", SVG) if it.get("class") == "relation"]
+    places = [(float(it.attrib["x"]), float(it.attrib["y"]) - 12, 7.9 * len(it.text or ""), 14) for it in labels]
+    return sum(sum(any(is_inside(point, place) for point in arrow) for arrow in arrows) > 1 for place in places)
+
+
+def is_inside(point: tuple[float, float], box: tuple[float, ...]) -> bool:
+    """Returns whether a point is well inside a box."""
     (x, y), (left, top, width, height) = point, box
     return left + 1 < x < left + width - 1 and top + 1 < y < top + height - 1
 
 
-def points_of(path):
-    """Points along the curves of a path."""
+def list_curve_points(path: str) -> Iterator[tuple[float, float]]:
+    """Yields points along the curves of a path."""
     numbers = [float(it) for it in re.findall(r"-?[0-9.]+", path)]
     ends = list(zip(numbers[::2], numbers[1::2]))
-    for at in range(0, len(ends) - 1, 3):
+    for index in range(0, len(ends) - 1, 3):
         for part in range(21):
-            yield on_curve(ends[at : at + 4], part / 20)
+            yield find_curve_point(ends[index : index + 4], part / 20)
 
 
-def compare_outcomes(name, test):
-    """The outcomes by the axioms, and why others are none."""
+def compare_outcomes(name: str, test: plain.Test) -> list[Comparison]:
+    """Returns the outcomes by the axioms, and why others are none."""
     try:
-        allowed = executions.allowed_outcomes(test, MOST)
+        allowed = executions.list_allowed_outcomes(test, MAX_CANDIDATES)
     except executions.TooMany:
         return []
-    found = [(f"{name}: the outcomes by the axioms", plain.outcomes(test), allowed)]
-    states = {words for words, _ in plain.states_of(test, allowed)}
-    listed_too, broken = graph.forbidden_states(test, None, 2 * MOST)
-    found.append((f"{name}: the states by the axioms", states, listed_too))
-    found.append((f"{name}: no state that the test has is forbidden", [], [it for it in broken if it in states]))
-    found.append((f"{name}: each other state has a cycle", True, all(ways and all(cycle for _, cycle, _ in ways) for ways in broken.values())))
-    return found
+    results: list[Comparison] = [(f"{name}: the outcomes by the axioms", plain.list_outcomes(test), allowed)]
+    states = {words for words, _ in plain.collect_states(test, allowed)}
+    listed_too, broken = graph.list_forbidden_states(test, None, 2 * MAX_CANDIDATES)
+    results.append((f"{name}: the states by the axioms", states, listed_too))
+    results.append((f"{name}: no state that the test has is forbidden", [], [it for it in broken if it in states]))
+    results.append((f"{name}: each other state has a cycle", True, all(ways and all(cycle for _, cycle, _ in ways) for ways in broken.values())))
+    return results
 
 
-def check_example(path):
-    return compare_outcomes(os.path.basename(path), compiled(path))
+def check_example(path: str) -> list[Comparison]:
+    """Returns the comparisons of an example: its schedules, and its outcomes by the axioms."""
+    return compare_outcomes(os.path.basename(path), read_compiled(path))
 
 
-def check_random(seed):
-    """A random x86 test."""
+def check_random(seed: int) -> list[Comparison]:
+    """Returns a random x86 test."""
     try:
-        test = plain.read_test(random_tests.Writer("X86", seed).test())
+        test = plain.read_test(random_tests.Writer("X86", seed).draw_test())
     except plain.NoTest:
         return []
     return compare_outcomes(f"random test {seed}", test)
@@ -174,52 +192,55 @@ RELATIONS = {"Pod": "po", "Rfe": "rf", "Rfi": "own rf", "Fre": "fr", "Coe": "co"
 TIMES = {"": 1, "three times": 3, "four times": 4}
 
 
-def families():
-    """The rows of docs/FAMILIES.md: a test's name, the relations of its cycle, and the verdict of x86-TSO."""
-    with open(f"{HOME}/docs/FAMILIES.md", encoding="utf-8") as it:
-        rows = re.findall(r"^\| (\S+) \| [^|]* \| ([^|]*?) \| \w+ \| (allowed|forbidden) \| \d \|", it.read(), re.M)
+def read_families() -> Iterator[tuple[str, list[str], str]]:
+    """Returns the rows of docs/FAMILIES.md: a test's name, the relations of its cycle, and the verdict of x86-TSO."""
+    with open(f"{HOME}/docs/FAMILIES.md", encoding="utf-8") as file:
+        rows = re.findall(r"^\| (\S+) \| [^|]* \| ([^|]*?) \| \w+ \| (allowed|forbidden) \| \d \|", file.read(), re.M)
     for name, cycle, verdict in rows:
         letters, _, often = cycle.partition(", ")
         yield name, [RELATIONS[it[:3]] for it in letters.split()] * TIMES[often], verdict
 
 
-def turns_of(relations):
-    """A cycle from each of its events on. (A read of the thread's own store and program order behind it are program order.)"""
+def list_rotations(relations: Iterable[str]) -> list[list[str]]:
+    """Returns a cycle from each of its events on. (A read of the thread's own store and program order after it are program order.)"""
     text = " ".join(relations).replace("own rf po", "po").split()
-    return [text[at:] + text[:at] for at in range(len(text))]
+    return [text[index:] + text[:index] for index in range(len(text))]
 
 
-def asked_words(proposition):
-    """The words that a conjunction asks for, by site."""
-    if proposition[0] == "is":
-        return {proposition[1]: proposition[2]}
-    return {**asked_words(proposition[1]), **asked_words(proposition[2])}
+def list_asked_words(proposition: plain.Proposition) -> dict[plain.Site, int]:
+    """Returns the words that a conjunction asks for, by site."""
+    if isinstance(proposition, plain.Eq):
+        return {proposition.site: proposition.word}
+    assert isinstance(proposition, plain.And)
+    return {**list_asked_words(proposition.left), **list_asked_words(proposition.right)}
 
 
-def bare(name):
-    """The x86 form of a source test: what it is compiled to, without fences."""
-    with open(f"{HOME}/examples/{name}.litmus", encoding="utf-8") as it:
-        return plain.compiled(plain.read_test(it.read()), with_fences=False)
+def make_bare_program(name: str) -> plain.Test:
+    """Returns the x86 form of a source test: what it is compiled to, without fences."""
+    with open(f"{HOME}/examples/{name}.litmus", encoding="utf-8") as file:
+        return plain.compile_test(plain.read_test(file.read()), with_fences=False)
 
 
-def check_family(name, relations, verdict):
-    """The execution that a test of a family asks about; reads that go against coherence are left out."""
-    test = bare(name)
-    wanted = asked_words(test.proposition)
-    found = []
-    for it in executions.candidates(test, MOST):
-        outcome = it.outcome()
-        if all(plain.word_at(site, outcome) == word for site, word in wanted.items()) and not executions.cycle_in(it.coherence()):
-            found.append(it)
-    yield f"{name}: candidate executions with its outcome", 1, len(found)
-    broken = found[0].broken()
+def check_family(name: str, relations: list[str], verdict: str) -> Iterator[Comparison]:
+    """Compares the execution that a test of a family asks about with its row. Reads that go against coherence are left out."""
+    test = make_bare_program(name)
+    wanted = list_asked_words(test.proposition)
+    matching = []
+    for execution in executions.list_candidates(test, MAX_CANDIDATES):
+        outcome = execution.make_outcome()
+        if all(
+            plain.read_word(site, outcome) == word for site, word in wanted.items()
+        ) and not executions.find_shortest_cycle(execution.list_coherence_edges()):
+            matching.append(execution)
+    yield f"{name}: candidate executions with its outcome", 1, len(matching)
+    broken = matching[0].find_broken_axiom()
     yield f"{name}: the axiom that forbids it", "global happens-before" if verdict == "forbidden" else None, broken and broken[0]
-    cycle = [it.kind for it in (broken[1] if broken else found[0].cycle())]
-    yield f"{name}: its cycle", True, cycle in turns_of(relations)
+    cycle = [it.kind for it in (broken[1] if broken else matching[0].find_cycle()) or []]
+    yield f"{name}: its cycle", True, cycle in list_rotations(relations)
 
 
-def check_tool():
-    """What the tool prints."""
+def check_tool() -> Iterator[Comparison]:
+    """Compares what the tool prints."""
     tool = [sys.executable, f"{HOME}/tools/graph.py"]
     run = lambda *words: subprocess.run([*tool, *words], capture_output=True, text=True, check=False, stdin=subprocess.DEVNULL)
     for words, status in REFUSED:
@@ -242,26 +263,30 @@ def check_tool():
     picture = run("P0 P0 P1 P1 D0 D1", SB).stdout
     yield "SB's picture marks its cycle", 4, picture.count(' marked"')
     for path, *what in graph.DOCUMENTS:
-        with open(f"{HOME}/{path}", encoding="utf-8") as it:
-            yield path, graph.document_picture(*what), it.read()
+        with open(f"{HOME}/{path}", encoding="utf-8") as file:
+            yield path, graph.draw_document_picture(*what), file.read()
 
 
-def comparisons():
-    """All comparisons: what is compared, what is wanted, and what is told."""
+def comparisons() -> Iterator[Comparison]:
+    """Yields all comparisons: what is compared, what is expected, and what was found."""
     paths = sorted(glob.glob(f"{HOME}/examples/*.litmus"))
     in_x86 = [it for it in paths if it.endswith("-x86.litmus")]
     yield from check_tool()
-    for row in families():
+    for row in read_families():
         yield from check_family(*row)
     with ProcessPoolExecutor() as pool:
-        for check, given in ((check_schedules, paths), (check_example, in_x86), (check_random, range(1, RANDOM + 1))):
-            for found in pool.map(check, given, chunksize=4):
-                yield from found
+        checks: tuple[tuple[Callable[..., list[Comparison]], Iterable[object]], ...] = (
+            (check_schedules, paths), (check_example, in_x86), (check_random, range(1, RANDOM + 1))
+        )
+        for check, cases in checks:
+            for results in pool.map(check, cases, chunksize=4):
+                yield from results
 
 
-def main():
-    return close(comparisons())
+def main() -> int:
+    """Runs the command that the arguments describe. Returns the exit status."""
+    return close_check(comparisons())
 
 
 if __name__ == "__main__":
-    sys.exit(main())
+    sys.exit(command.run_command(main, __doc__))

@@ -1,7 +1,6 @@
-#!/usr/bin/env python3
 """Looks whether tools/make_lab.py makes of docs/LAB.md what a class needs. The last line is 'N passed, M failed'.
 
-    python3 tools/gate/check_lab.py
+    python3 tools gate.check_lab
 
 - The program reads each test on the sheet, and lists the states of its example. The name says nothing, there is no comment, and all tests
   ask the same. A link on the sheet has the test's text.
@@ -17,6 +16,8 @@
 
 tools/check_documents.py calls all this; the program has to be there.
 """
+from __future__ import annotations
+
 import base64
 import functools
 import io
@@ -27,20 +28,22 @@ import subprocess
 import sys
 import tempfile
 import zipfile
+from collections.abc import Iterator
 from html import unescape
 from urllib.parse import parse_qs
 
-sys.dont_write_bytecode = True
-sys.path.insert(0, os.path.dirname(os.path.dirname(os.path.abspath(__file__))))
 import given
 import make_lab
 from gate.browser import user
+from gate.cases import Comparison
 from gate.examples import run
 from lab import sheets
-from lab.markdown import blocks, section
-from lab.tests import examples_of, read, tests_of
+from lab.markdown import find_section, split_blocks
+from lab.tests import list_examples, make_tests, read_file
 from page import web_files
-from shared.home import HOME, PROGRAM, close
+from shared import command
+from shared.home import HOME, PROGRAM, close_check
+from shared.matches import require_match
 
 SMALLEST = b"\0asm\1\0\0\0"
 VERDICTS = r"\b(?:allowed|forbidden|required|sometimes|never|always|positive|negative|observation)\b"
@@ -67,88 +70,89 @@ SAID = (
 )
 
 
-def ask(words, text):
-    """What the program prints, and its exit status."""
-    ran = subprocess.run([PROGRAM, *words], input=text.encode(), stdout=subprocess.PIPE, stderr=subprocess.STDOUT, check=False)
+def ask_program(arguments: list[str], text: str) -> tuple[str, int]:
+    """Returns what the program prints, and its exit status."""
+    ran = subprocess.run([PROGRAM, *arguments], input=text.encode(), stdout=subprocess.PIPE, stderr=subprocess.STDOUT, check=False)
     return ran.stdout.decode(), ran.returncode
 
 
-def states_of(text):
-    """The states that the program lists."""
-    out, status = ask(["states"], text)
+def list_states(text: str) -> list[str] | str:
+    """Returns the states that the program lists."""
+    out, status = ask_program(["states"], text)
     return re.findall(r"^.*;$", out, re.M) if status == 0 else out
 
 
-def prose(text):
-    """The words of a document's paragraphs, without code blocks and tables."""
-    return " ".join(" ".join(lines) for kind, lines in blocks(text) if kind in ("paragraph", "item"))
+def extract_prose(text: str) -> str:
+    """Returns the words of a document's paragraphs, without code blocks and tables."""
+    return " ".join(" ".join(lines) for kind, lines in split_blocks(text) if kind in ("paragraph", "item"))
 
 
-def rows_of_words(text):
-    """All rows of so many words that a text has, in small letters."""
+def list_word_rows(text: str) -> set[str]:
+    """Returns all rows of so many words that a text has, in small letters."""
     words = re.findall(r"[\w=]+", text.lower())
-    return {" ".join(words[at : at + WORDS_IN_A_ROW]) for at in range(len(words) - WORDS_IN_A_ROW + 1)}
+    return {" ".join(words[index : index + WORDS_IN_A_ROW]) for index in range(len(words) - WORDS_IN_A_ROW + 1)}
 
 
-def seen(page):
-    """What a reader sees of a page."""
+def extract_visible_text(page: str) -> str:
+    """Returns what a reader sees of a page."""
     return unescape(re.sub(r"<style>.*?</style>|<[^>]*>", " ", page, flags=re.S))
 
 
-def check_tests(lab, tests):
-    """The tests, each beside its example."""
+def check_tests(lab: str, tests: dict[str, str]) -> Iterator[Comparison]:
+    """Compares the tests with their examples."""
     yield "how many tests the lab has", True, len(tests) >= LEAST_TESTS
-    rows = re.findall(r"^\| ([A-Z]\d) \| \S+ \| ([\d, ]+) \|$", section(lab, "For the teacher"), re.M)
-    used = {name: [int(number) for number, *_, text in tasks_of(section(lab, "The sheet")) if name in tests_in(text)] for name in tests}
+    rows = re.findall(r"^\| ([A-Z]\d) \| \S+ \| ([\d, ]+) \|$", find_section(lab, "For the teacher"), re.M)
+    used = {name: [int(number) for number, *_, text in read_tasks(find_section(lab, "The sheet")) if name in find_tests(text)] for name in tests}
     yield "tasks name the tests that the table says", used, {name: [int(it) for it in numbers.split(", ")] for name, numbers in rows}
-    for name, example in examples_of(lab).items():
+    for name, example in list_examples(lab).items():
         text = tests[name]
-        yield f"{name} is read by the program", 0, ask(["compile"], text)[1]
-        yield f"{name} has the states of {example}", states_of(read(f"examples/{example}.litmus")), states_of(text)
+        yield f"{name} is read by the program", 0, ask_program(["compile"], text)[1]
+        yield f"{name} has the states of {example}", list_states(read_file(f"examples/{example}.litmus")), list_states(text)
         yield f"{name} has a neutral name, no comment, and asks `exists`", True, bool(re.match(rf"(SRC|X86) {name}\n[^\"*~]*\nexists [^~\"*]*\n\Z", text))
 
 
-def tests_in(text):
-    """The tests that a task shows: of each whether it is played by hand."""
+def find_tests(text: str) -> dict[str, bool]:
+    """Returns the tests that a task shows: of each whether it is played by hand."""
     lines = re.findall(r"^Tests( by hand)?: (.*)$", text, re.M)
     return {name: bool(by_hand) for by_hand, names in lines for name in names.split()}
 
 
-def comments_of(lab):
-    """Of each example of the lab its comment."""
-    return {it: re.search(r"\(\*(.*?)\*\)", read(f"examples/{it}.litmus"), re.S)[1] for it in examples_of(lab).values()}
+def read_comments(lab: str) -> dict[str, str]:
+    """Returns of each example of the lab its comment."""
+    return {it: require_match(re.search(r"\(\*(.*?)\*\)", read_file(f"examples/{it}.litmus"), re.S))[1] for it in list_examples(lab).values()}
 
 
-def check_silence(lab, page, tests):
-    """Nothing on the sheet or in the tests tells an answer."""
-    told = seen(page) + "\n".join(tests.values())
-    yield "the sheet says no verdict", [], re.findall(VERDICTS, told, re.I)
-    bases = {it.replace("-x86", "") for it in examples_of(lab).values()}
-    yield "the sheet names no example", [], sorted(it for it in bases if re.search(rf"(?<![\w+]){re.escape(it)}(?![\w+])", told))
-    for name, comment in comments_of(lab).items():
-        schedule = re.search(r"A (?:telling schedule|run): ([\w\s:]*)", comment)[1].split()
-        yield f"the sheet has not the schedule of {name}", False, len(schedule) > 5 and " ".join(schedule) in " ".join(told.split())
+def check_silence(lab: str, page: str, tests: dict[str, str]) -> Iterator[Comparison]:
+    """Checks that nothing on the sheet or in the tests gives an answer away."""
+    visible_text = extract_visible_text(page) + "\n".join(tests.values())
+    yield "the sheet says no verdict", [], re.findall(VERDICTS, visible_text, re.I)
+    bases = {it.replace("-x86", "") for it in list_examples(lab).values()}
+    yield "the sheet names no example", [], sorted(it for it in bases if re.search(rf"(?<![\w+]){re.escape(it)}(?![\w+])", visible_text))
+    for name, comment in read_comments(lab).items():
+        schedule = require_match(re.search(r"A (?:telling schedule|run): ([\w\s:]*)", comment))[1].split()
+        yield f"the sheet has not the schedule of {name}", False, len(schedule) > 5 and " ".join(schedule) in " ".join(visible_text.split())
         about = comment.partition("Interleaving: ")[0]
-        yield f"the sheet says nothing of the comment of {name}", set(), rows_of_words(told) & rows_of_words(about)
-    answers = prose(section(read("docs/SOLUTIONS.md"), "The lab"))
-    yield "the sheet says nothing of the answers", set(), rows_of_words(told) & rows_of_words(answers)
+        yield f"the sheet says nothing of the comment of {name}", set(), list_word_rows(visible_text) & list_word_rows(about)
+    answers = extract_prose(find_section(read_file("docs/SOLUTIONS.md"), "The lab"))
+    yield "the sheet says nothing of the answers", set(), list_word_rows(visible_text) & list_word_rows(answers)
     yield "the sheet and the tests name no other site", [], re.findall(r"https?:|//\w", page + "".join(tests.values()))
 
 
-def check_words(page):
-    """The sheet says what its words mean on the page."""
-    told = " ".join(re.sub(r"</?em>", "", page).replace("<", " <").split())
-    told = " ".join(seen(told).split())
-    for it in SAID:
-        yield f"the sheet says: {it}", 1, told.count(it)
+def check_words(page: str) -> Iterator[Comparison]:
+    """Checks that the sheet says what its words mean on the page."""
+    shown_words = " ".join(re.sub(r"</?em>", "", page).replace("<", " <").split())
+    shown_words = " ".join(extract_visible_text(shown_words).split())
+    for sentence in SAID:
+        yield f"the sheet says: {sentence}", 1, shown_words.count(sentence)
 
 
-def check_links(tests):
-    """A link on the sheet opens the test that stands below it in one tab for all of them, where it is played by hand at that, and asks for a
-    prediction first."""
-    lab = read("docs/LAB.md")
-    page = sheets.sheet(lab, tests, True)
-    shown = [it for *_, text in tasks_of(section(lab, "The sheet")) for it in tests_in(text).items()]
+def check_links(tests: dict[str, str]) -> Iterator[Comparison]:
+    """Checks that a link on the sheet opens the test below it in one tab for all of them, at By hand if it is played by hand, and asks for a
+    prediction first.
+    """
+    lab = read_file("docs/LAB.md")
+    page = sheets.make_sheet(lab, tests, "site/index.html")
+    shown = [it for *_, text in read_tasks(find_section(lab, "The sheet")) for it in find_tests(text).items()]
     links = re.findall(r'<figcaption>(\w+) <a class="screen" target="lw" href="site/index\.html#([^"]*)">', page)
     yield "each test has a link where it is used", [name for name, _ in shown], [name for name, _ in links]
     for (name, by_hand), (_, link) in zip(shown, links):
@@ -157,17 +161,17 @@ def check_links(tests):
     yield "the card has a link", 1, page.count('<a href="card.html" target="_blank">')
 
 
-def tasks_of(text):
-    """The tasks of a text: of each its number its title, minutes and points, with what stands below its heading."""
-    found = list(TASK.finditer(text))
-    ends = [it.start() for it in found[1:]] + [len(text)]
-    return [(it[1], it[2], int(it[3]), int(it[4]), text[it.end() : end].partition("\n### ")[0]) for it, end in zip(found, ends)]
+def read_tasks(text: str) -> list[tuple[str, str, int, int, str]]:
+    """Returns the tasks of a text: of each its number its title, minutes and points, with what is below its heading."""
+    matches = list(TASK.finditer(text))
+    ends = [it.start() for it in matches[1:]] + [len(text)]
+    return [(it[1], it[2], int(it[3]), int(it[4]), text[it.end() : end].partition("\n### ")[0]) for it, end in zip(matches, ends)]
 
 
-def check_points(lab):
+def check_points(lab: str) -> Iterator[Comparison]:
     """Points and minutes."""
-    tasks = tasks_of(section(lab, "The sheet"))
-    solved = tasks_of(section(read("docs/SOLUTIONS.md"), "The lab"))
+    tasks = read_tasks(find_section(lab, "The sheet"))
+    solved = read_tasks(find_section(read_file("docs/SOLUTIONS.md"), "The lab"))
     yield "docs/SOLUTIONS.md has the tasks", [it[:4] for it in tasks], [it[:4] for it in solved]
     items = {number: ITEM.findall(text) for number, _, _, _, text in tasks}
     yield "how many items there are", True, sum(map(len, items.values())) >= LEAST_ITEMS
@@ -176,7 +180,7 @@ def check_points(lab):
         yield f"each item of task {number} has points", numbered, [it for it, _, _ in items[number]]
         yield f"the points of task {number}", points, sum(int(it) for _, it, _ in items[number])
         yield f"the answers to task {number}", numbered, re.findall(r"^(\d)\. ", answers, re.M)
-    times = [(int(begin), int(end), what, points) for begin, end, what, points in TIME.findall(section(lab, "For the teacher"))]
+    times = [(int(begin), int(end), what, points) for begin, end, what, points in TIME.findall(find_section(lab, "For the teacher"))]
     yield "the timetable has no gap", [0, *(it[1] for it in times)], [*(it[0] for it in times), 90]
     yield "the timetable has 75 minutes of work", True, any(it[1] == 75 for it in times)
     for number, title, minutes, points, _ in tasks[:-1]:
@@ -184,22 +188,22 @@ def check_points(lab):
         yield f"task {number} in the timetable", (minutes, str(points)), row and (row[1] - row[0], row[3])
 
 
-def check_cache_lines():
-    """The table of cache lines, by the program."""
-    rows = re.findall(r"^\| `(\S+)` \| (.*) \|$", section(read("docs/SOLUTIONS.md"), "The lab"), re.M)
+def check_cache_lines() -> Iterator[Comparison]:
+    """Compares the table of cache lines with the program."""
+    rows = re.findall(r"^\| `(\S+)` \| (.*) \|$", find_section(read_file("docs/SOLUTIONS.md"), "The lab"), re.M)
     yield "the table has five events", 5, len(rows)
-    for at, (_, letters) in enumerate(rows):
-        schedule, replayed = " ".join(event for event, _ in rows[: at + 1]), []
+    for index, (_, letters) in enumerate(rows):
+        schedule, replayed = " ".join(event for event, _ in rows[: index + 1]), []
         for protocol in ("mesi", "moesi"):
-            out, _ = ask(["replay", schedule, "--protocol", protocol], read("examples/Cache-x86.litmus"))
+            out, _ = ask_program(["replay", schedule, "--protocol", protocol], read_file("examples/Cache-x86.litmus"))
             replayed += [*re.findall(r"lines y=(\w)", out), *re.findall(r"^Memory y=(\d+)$", out, re.M)]
         yield f"the cache lines after {schedule}", letters.split(" | "), replayed
 
 
-def check_bytes():
-    """The same sources give the same bytes, with modules and without."""
-    files, bare = make_lab.contents([SMALLEST], "slides"), make_lab.contents([], None)
-    yield "the same bytes again", True, files == make_lab.contents([SMALLEST], "slides")
+def check_bytes() -> Iterator[Comparison]:
+    """Checks that the same sources give the same bytes, with modules and without."""
+    files, bare = make_lab.make_files([SMALLEST], "slides"), make_lab.make_files([], None)
+    yield "the same bytes again", True, files == make_lab.make_files([SMALLEST], "slides")
     left_out = sorted(it for it in files if "/site/" not in it and it != "teacher/slides.html")
     yield "what is left out without modules and program", left_out, sorted(bare)
     yield "the site is there with modules", True, "students/site/index.html" in files
@@ -213,52 +217,52 @@ def check_bytes():
     yield "the solutions for the teacher", True, b"FenceWaits" in files["teacher/solutions.html"]
 
 
-def check_paper(room):
-    """On paper task 1 is one page, of A4 and of Letter, and the rest at most seven; and a phone shows all of the sheet."""
+def check_paper(folder: str) -> Iterator[Comparison]:
+    """Checks that on paper task 1 is one page, of A4 and of Letter, and the rest at most seven; and that a phone shows all of the sheet."""
     if not user.is_there():
         return
-    driver = user.start_chromium(f"{room}/paper")
+    driver = user.start_chromium(f"{folder}/paper")
     try:
-        driver.get(f"file://{room}/students/sheet.html")
+        driver.get(f"file://{folder}/students/sheet.html")
         for what, width, height in (("A4", 8.27, 11.69), ("Letter", 8.5, 11)):
-            yield f"the sheet, on {what}: its pages", True, pages_of(driver, width, height) <= 8
+            yield f"the sheet, on {what}: its pages", True, count_paper_pages(driver, width, height) <= 8
         driver.execute_cdp_cmd("Emulation.setDeviceMetricsOverride", {"width": 360, "height": 740, "deviceScaleFactor": 2, "mobile": True})
         for name in ("sheet", "card"):
-            driver.get(f"file://{room}/students/{name}.html")
+            driver.get(f"file://{folder}/students/{name}.html")
             wide = driver.execute_script("return document.documentElement.scrollWidth")
             yield f"{name}.html fits a phone", 360, wide
         driver.execute_cdp_cmd("Emulation.clearDeviceMetricsOverride", {})
-        driver.get(f"file://{room}/students/sheet.html")
+        driver.get(f"file://{folder}/students/sheet.html")
         driver.execute_script(FIRST_TASK)
         for what, width, height in (("A4", 8.27, 11.69), ("Letter", 8.5, 11)):
-            yield f"task 1, on {what}: its pages", 1, pages_of(driver, width, height)
+            yield f"task 1, on {what}: its pages", 1, count_paper_pages(driver, width, height)
     finally:
         driver.quit()
 
 
-def pages_of(driver, width, height):
-    """How many pages of paper of a size, in inches, what is shown takes."""
+def count_paper_pages(driver: user.Driver, width: float, height: float) -> int:
+    """Returns how many pages of paper of a size, in inches, what is shown takes."""
     printed = driver.execute_cdp_cmd("Page.printToPDF", {"paperWidth": width, "paperHeight": height})
     return len(PAGE.findall(base64.b64decode(printed["data"])))
 
 
-def check_command():
-    """The command."""
-    with tempfile.TemporaryDirectory(prefix="lw-lab-") as room:
-        yield "make_lab.py FOLDER", ("", 0), run(["make_lab.py", room])[::2]
-        made = sorted(it for it in os.listdir(room))
+def check_command() -> Iterator[Comparison]:
+    """Runs the command, and looks at its statuses."""
+    with tempfile.TemporaryDirectory(prefix="lw-lab-") as folder:
+        yield "make_lab.py FOLDER", ("", 0), run(["make_lab.py", folder])[::2]
+        made = sorted(it for it in os.listdir(folder))
         yield "what it makes", ["students", "students.zip", "teacher"], made
-        yield "what the teacher has", ["glossary.html", "slides.html", "solutions.html", "timetable.html"], sorted(os.listdir(f"{room}/teacher"))
-        yield "a folder that can't be made", 1, run(["make_lab.py", f"{room}/students.zip/in"])[2]
-        yield from check_paper(room)
-        yield from check_played(room)
+        yield "what the teacher has", ["glossary.html", "slides.html", "solutions.html", "timetable.html"], sorted(os.listdir(f"{folder}/teacher"))
+        yield "a folder that can't be made", 1, run(["make_lab.py", f"{folder}/students.zip/in"])[2]
+        yield from check_paper(folder)
+        yield from check_played(folder)
     yield "no words", 2, run(["make_lab.py"])[2]
     yield "--help", 0, run(["make_lab.py", "--help"])[2]
 
 
 @functools.lru_cache(maxsize=None)
-def without_network():
-    """The words that run a command in a namespace without a network, as root or as its owner; None where that is not permitted."""
+def find_offline_wrapper() -> list[str] | None:
+    """Returns the words that run a command in a namespace without a network, as root or as its owner; None where that is not permitted."""
     for words in (["unshare", "-n"], ["unshare", "-rn"]):
         try:
             if subprocess.run([*words, "true"], capture_output=True, check=False).returncode == 0:
@@ -268,37 +272,37 @@ def without_network():
     return None
 
 
-def lacking():
-    """What is missing to play the lab."""
-    needed = {"Chromium with its driver and selenium": user.is_there(), "a permission for unshare": without_network()}
-    needed["the module of the sources as they are"] = web_files.module()
+def list_missing() -> list[str]:
+    """Returns what is missing to play the lab."""
+    needed: dict[str, object] = {"Chromium with its driver and selenium": user.is_there(), "a permission for unshare": find_offline_wrapper()}
+    needed["the module of the sources as they are"] = web_files.read_module()
     return [what for what, is_there in needed.items() if not is_there]
 
 
-def check_played(room):
-    """The lab is played in a browser without a network, in a folder that was made for it."""
-    if missing := lacking():
-        if os.environ.get("CI") == "true" and len(missing) == 1 and not web_files.module():
+def check_played(folder: str) -> Iterator[Comparison]:
+    """Plays the lab in a browser without a network, in a folder that is made for it."""
+    if missing := list_missing():
+        if os.environ.get("CI") == "true" and len(missing) == 1 and not web_files.read_module():
             yield "where CI=true the lab is played", [], missing
         return
-    words = [*without_network(), sys.executable, f"{HOME}/tools/gate/check_lab_browser.py", room]
+    words = [*(find_offline_wrapper() or []), sys.executable, f"{HOME}/tools", "gate.check_lab_browser", folder]
     ran = subprocess.run(words, capture_output=True, text=True, timeout=900, check=False)
-    yield from ((f"the lab, {what}", wanted, told) for what, wanted, told in map(json.loads, ran.stdout.splitlines()))
+    yield from ((f"the lab, {what}", wanted, found) for what, wanted, found in map(json.loads, ran.stdout.splitlines()))
     yield "the lab is played to its end", (0, ""), (ran.returncode, ran.stderr[-2000:])
     yield "how much of the lab is played", True, len(ran.stdout.splitlines()) >= LEAST_PLAYED
 
 
-def skipped():
-    """The line that tells what was left out, or None."""
-    missing = lacking()
+def skipped() -> str | None:
+    """Returns the line that says what was left out, or None if nothing was."""
+    missing = list_missing()
     return f"the lab: it was not played in a browser, since this is missing: {', '.join(missing)}" if missing else None
 
 
-def comparisons():
-    """All comparisons: what is compared, what is wanted, and what is told."""
-    lab = read("docs/LAB.md")
-    tests = tests_of(lab)
-    page = sheets.sheet(lab, tests, False) + sheets.document("CARD")
+def comparisons() -> Iterator[Comparison]:
+    """Yields all comparisons: what is compared, what is expected, and what was found."""
+    lab = read_file("docs/LAB.md")
+    tests = make_tests(lab)
+    page = sheets.make_sheet(lab, tests, None) + sheets.render_document("CARD")
     yield from check_tests(lab, tests)
     yield from check_silence(lab, page, tests)
     yield from check_words(page)
@@ -309,10 +313,11 @@ def comparisons():
     yield from check_command()
 
 
-def main():
-    given.print_as_lw()
-    return close(comparisons(), skipped=skipped)
+def main() -> int:
+    """Runs the command that the arguments describe. Returns the exit status."""
+    given.set_output_encoding()
+    return close_check(comparisons(), skipped=skipped)
 
 
 if __name__ == "__main__":
-    sys.exit(main())
+    sys.exit(command.run_command(main, __doc__))

@@ -1,7 +1,6 @@
-#!/usr/bin/env python3
 """Plays the lab of docs/LAB.md as a student does, in a browser that has no network. For tools/gate/check_lab.py.
 
-    unshare -n python3 tools/gate/check_lab_browser.py FOLDER
+    unshare -n python3 tools gate.check_lab_browser FOLDER
 
 FOLDER is what tools/make_lab.py writes, with the site. Each item of tasks 2 to 6 that is done on the page is done as the sheet says: the link
 beside the test is clicked, then what the page has, and texts are typed. What the page shows is compared with docs/SOLUTIONS.md where a
@@ -10,21 +9,24 @@ wanted, and what is told.
 
 The namespace that `unshare -n` makes has a loopback alone, over which the browser is driven; it is taken up here.
 """
+from __future__ import annotations
+
 import fcntl
 import json
-import os
 import re
 import socket
 import struct
 import sys
 import tempfile
+from collections.abc import Iterator, Sequence
 
-sys.dont_write_bytecode = True
-sys.path.insert(0, os.path.dirname(os.path.dirname(os.path.abspath(__file__))))
-from gate.check_lab import tasks_of
-from gate.browser.user import User
-from lab.markdown import section
-from lab.tests import read
+from gate.check_lab import read_tasks
+from gate.browser.user import Element, User
+from gate.cases import Comparison
+from lab.markdown import find_section
+from lab.tests import read_file
+from shared import command, start
+from shared.matches import require_match
 
 # Of <net/if.h> and <linux/sockios.h>.
 SIOCSIFFLAGS, IFF_UP = 0x8914, 1
@@ -63,18 +65,19 @@ it.setSelectionRange(at, at);
 class Solutions:
     """What docs/SOLUTIONS.md says of the lab."""
 
-    def __init__(self):
-        text = section(read("docs/SOLUTIONS.md"), "The lab")
-        self.tasks = {int(number): answers for number, *_, answers in tasks_of(text)}
+    def __init__(self) -> None:
+        """Reads the solutions."""
+        text = find_section(read_file("docs/SOLUTIONS.md"), "The lab")
+        self.tasks = {int(number): answers for number, *_, answers in read_tasks(text)}
         lists = re.findall(r"^Observation (\S+) \w+ (\d+) (\d+)$", text, re.M)
         self.true_of = {name: [int(positive), int(positive) + int(negative)] for name, positive, negative in lists}
 
-    def item(self, task, number):
-        """The answer to an item."""
-        return re.search(rf"^{number}\. (.*?)(?=^\d\. |\Z)", self.tasks[task], re.M | re.S)[1]
+    def find_answer(self, task: int, number: int) -> str:
+        """Returns the answer to an item."""
+        return require_match(re.search(rf"^{number}\. (.*?)(?=^\d\. |\Z)", self.tasks[task], re.M | re.S))[1]
 
-    def places(self):
-        """Of each test of the repair shop the places that tools/fences.py tells, without their numbers."""
+    def list_places(self) -> list[list[str]]:
+        """Returns of each test of the repair shop the places that tools/fences.py prints, without their numbers."""
         lines = re.findall(r"^  (P\d at .*)$", self.tasks[5], re.M)
         return [[re.sub(r" at \d+", "", it) for it in line.split("; ")] for line in lines]
 
@@ -82,19 +85,21 @@ class Solutions:
 class Student(User):
     """Somebody who has the sheet and the page."""
 
-    def __init__(self, folder, room):
-        super().__init__(SHEET.format(folder), room)
+    def __init__(self, folder: str, temporary_folder: str) -> None:
+        """Opens the sheet."""
+        super().__init__(SHEET.format(folder), temporary_folder)
         self.driver.get(self.address)
         self.sheet, self.card = self.driver.current_window_handle, None
-        found = self.driver.find_elements("css selector", "h3, figure")
-        self.tests, task = {}, None
-        for it in found:
-            if it.tag_name == "h3":
-                task = it.text[:1]
+        elements = self.driver.find_elements("css selector", "h3, figure")
+        self.tests: dict[tuple[int, str], tuple[Element, str]] = {}
+        task = ""
+        for element in elements:
+            if element.tag_name == "h3":
+                task = element.text[:1]
             else:
-                self.tests[int(task), it.text.split()[0]] = (it.find_element("css selector", "a"), it.find_element("css selector", "pre").text)
+                self.tests[int(task), element.text.split()[0]] = (element.find_element("css selector", "a"), element.find_element("css selector", "pre").text)
 
-    def open_test(self, task, name):
+    def open_test(self, task: int, name: str) -> None:
         """Opens a test of a task by its link on the sheet. All links have one tab."""
         link, text = self.tests[task, name]
         self.driver.switch_to.window(self.sheet)
@@ -102,31 +107,31 @@ class Student(User):
         tabs = self.wait(lambda: [it for it in self.driver.window_handles if it not in (self.sheet, self.card)], "a tab of its own")
         self.driver.switch_to.window(tabs[0])
         self.wait(lambda: self.run("return document.body?.dataset.ready") and self.run(TEXT).strip() == text, f"{name} is there")
-        self.settle()
+        self.wait_for_answer()
 
-    def settle(self):
+    def wait_for_answer(self) -> None:
         """Waits till what is asked is answered."""
         stale = "return document.getElementById('answers').classList.contains('stale') || document.querySelector('.asking') !== null"
         self.wait(lambda: not self.run(stale), "an answer")
 
-    def states(self, guess=None):
-        """In how many states the condition holds, and of how many, once the guess is made."""
+    def guess_and_count_states(self, guess: str | None = None) -> list[int]:
+        """Returns in how many states the condition holds, and of how many, once the guess is made."""
         if guess:
             self.click(f"#{guess}")
-        self.settle()
+        self.wait_for_answer()
         self.click("#tab-states")
-        told = self.soon("#outcome .asked", "final state")
-        holding, number = re.search(r"holds in (\d+|all|none)(?: of)? (\d+) final", told).groups()
+        sentence = self.text_with("#outcome .asked", "final state")
+        holding, number = require_match(re.search(r"holds in (\d+|all|none)(?: of)? (\d+) final", sentence)).groups()
         return [int({"all": number, "none": "0"}.get(holding, holding)), int(number)]
 
-    def begin(self, guess):
+    def begin_by_hand(self, guess: str) -> None:
         """Begins by hand, with a guess."""
         self.click("#tab-hand")
         self.click(f"#{guess}")
-        self.soon("#outcome .found", "Found 0 of ")
+        self.text_with("#outcome .found", "Found 0 of ")
         self.find("#watching [data-event=P0]")
 
-    def play(self, schedule):
+    def play_schedule(self, schedule: Sequence[str]) -> tuple[list[str], bool]:
         """Makes a run by hand, and tells of its end."""
         self.click(".transport [aria-label='To the start']")
         self.wait(lambda: self.done() == "", "the start")
@@ -134,19 +139,19 @@ class Student(User):
         ended = len(schedule) > 1 and "The run has ended" in self.says("The run has ended")
         return self.run(REGISTERS), ended
 
-    def by_hand(self):
+    def return_to_by_hand(self) -> None:
         """Goes back to running by hand."""
         self.click("#tab-hand")
-        self.soon("#outcome .found", "Found ")
+        self.text_with("#outcome .found", "Found ")
 
-    def type_behind(self, line, row):
+    def type_row_after(self, line: int, row: str) -> None:
         """Types a row behind a line of the test, and waits for the answer."""
         self.run(GO_BEHIND, line)
         self.press(self.keys.ENTER, row)
-        self.settle()
+        self.wait_for_answer()
 
-    def which_fences(self):
-        """Which fences there are, and what is said of them."""
+    def list_fences(self) -> tuple[list[str], str]:
+        """Returns which fences there are, and what is said of them."""
         self.click("#tab-fences")
         verdict = self.text("#fences .verdict")
         return self.texts("#fences tbody th"), verdict
@@ -155,99 +160,99 @@ class Student(User):
 # The tasks.
 
 
-def by_hand(student, answers):
-    """2. Store buffering by hand."""
+def check_by_hand(student: Student, answers: Solutions) -> Iterator[Comparison]:
+    """Plays task 2: store buffering by hand."""
     student.open_test(2, "A1")
     yield "2.1: the page opens at By hand", "true", student.find("#tab-hand").get_attribute("aria-selected")
-    student.begin("yes")
-    told = student.texts("#outcome .verdicts:not(.veiled) .verdict, .said"), student.texts("table.strip .holds")
-    yield "2.1: no state and no verdict is shown with the guess", ([], []), told
-    schedule = re.search(r"`(P0[^`]*)`", answers.item(2, 1))[1]
-    yield "2.1", (["EAX=0", "EAX=0"], True), student.play(schedule.split())
-    told = answers.item(2, 2)
-    ends = re.findall(r"^P\d at \d (EAX=\d)$", told, re.M)
-    for at, one in enumerate(re.findall(r'"(P[^"]*)"', told)):
-        yield f"2.2, {one}", (ends[2 * at : 2 * at + 2], True), student.play(one.split())
-    yield "2.2: all are found", "Found 4 of 4 states. These are all: no run ends otherwise.", student.soon("#outcome .found", "4 of 4")
-    yield "2.2: the list of A1, and the guess", ([1, 4], ["✓ As you said."]), (student.states(), student.texts(".said"))
+    student.begin_by_hand("yes")
+    seen = student.texts("#outcome .verdicts:not(.veiled) .verdict, .said"), student.texts("table.strip .holds")
+    yield "2.1: no state and no verdict is shown with the guess", ([], []), seen
+    schedule = require_match(re.search(r"`(P0[^`]*)`", answers.find_answer(2, 1)))[1]
+    yield "2.1", (["EAX=0", "EAX=0"], True), student.play_schedule(schedule.split())
+    answer = answers.find_answer(2, 2)
+    ends = re.findall(r"^P\d at \d (EAX=\d)$", answer, re.M)
+    for index, run in enumerate(re.findall(r'"(P[^"]*)"', answer)):
+        yield f"2.2, {run}", (ends[2 * index : 2 * index + 2], True), student.play_schedule(run.split())
+    yield "2.2: all are found", "Found 4 of 4 states. These are all: no run ends otherwise.", student.text_with("#outcome .found", "4 of 4")
+    yield "2.2: the list of A1, and the guess", ([1, 4], ["✓ As you said. Predict again Surprise me"]), (student.guess_and_count_states(), student.texts(".said"))
     student.open_test(2, "B1")
-    student.begin("no")
+    student.begin_by_hand("no")
     student.click("#watching .menu summary")
     student.find("#written").send_keys(schedule)
     student.click("#follow")
-    at = int(re.search(r"^End Stopped at (\d+) by \d+ \w+$", answers.item(2, 3), re.M)[1])
+    index = int(require_match(re.search(r"^End Stopped at (\d+) by \d+ \w+$", answers.find_answer(2, 3), re.M))[1])
     waits = "P0 can't go on: MFENCE waits for the processor's store buffer to be empty."
-    refused = f"Event {at + 1} of the schedule, {schedule.split()[at]}, is refused. {waits}"
-    yield "2.3", refused, student.soon(".menu .notice", refused)
-    student.play(["P0"])
+    refused = f"Event {index + 1} of the schedule, {schedule.split()[index]}, is refused. {waits}"
+    yield "2.3", refused, student.text_with(".menu .notice", refused)
+    student.play_schedule(["P0"])
     student.wait(lambda: student.find("#watching [data-event=P0]").get_attribute("aria-disabled") == "true", "the fence waits")
     student.click("#watching [data-event=P0]")
     yield "2.3: by a click", True, waits in student.says(waits)
     student.open_test(2, "B2")
-    yield "2.4", answers.true_of["SB+mfence-x86"], student.states("yes")
+    yield "2.4", answers.true_of["SB+mfence-x86"], student.guess_and_count_states("yes")
     student.click(".transport [aria-label='To the end']")
     yield "2.4: its run", True, "The run has ended" in student.says("The run has ended")
 
 
-def queue(student, answers):
-    """3. The queue."""
+def check_queue(student: Student, answers: Solutions) -> Iterator[Comparison]:
+    """Plays task 3: the queue."""
     student.open_test(3, "A2")
-    student.begin("no")
-    student.play(["P0", "P0"])
-    first = re.search(r"`D0` takes `(\S+)`", answers.item(3, 1))[1]
+    student.begin_by_hand("no")
+    student.play_schedule(["P0", "P0"])
+    first = require_match(re.search(r"`D0` takes `(\S+)`", answers.find_answer(3, 1)))[1]
     drain = student.find("#watching [data-event=D0]").get_attribute("aria-label")
     yield "3.1: what D0 takes", f"P0: the oldest entry, {first}, leaves the store buffer for memory", drain
     runs = ("P0 P0 D0 D0 P1 P1", "P0 P0 D0 P1 D0 P1", "P0 P0 P1 D0 D0 P1", "P0 P0 P1 P1 D0 D0")
-    ends = [student.play(it.split())[0] for it in runs]
+    ends = [student.play_schedule(it.split())[0] for it in runs]
     yield "3.1: nobody sees y without x", [["EAX=1", "EBX=1"], ["EAX=0", "EBX=1"], ["EAX=0", "EBX=1"], ["EAX=0", "EBX=0"]], ends
     student.open_test(3, "C1")
-    yield "3.2", answers.true_of["2+2W-x86"], student.states("no")
+    yield "3.2", answers.true_of["2+2W-x86"], student.guess_and_count_states("no")
     student.open_test(3, "C2")
-    student.begin("yes")
-    told = answers.item(3, 3)
-    schedule = re.search(r'"(P[^"]*)"', told)[1].split()
-    yield "3.3", (re.findall(r"^P\d at \d (EAX=\d)", told, re.M), True), student.play(schedule)
-    yield "3.3: the list", [1, 9], student.states()
+    student.begin_by_hand("yes")
+    answer = answers.find_answer(3, 3)
+    schedule = require_match(re.search(r'"(P[^"]*)"', answer))[1].split()
+    yield "3.3", (re.findall(r"^P\d at \d (EAX=\d)", answer, re.M), True), student.play_schedule(schedule)
+    yield "3.3: the list", [1, 9], student.guess_and_count_states()
     for name, example in {"A2": "MP", "A3": "LB", "A4": "R", "A5": "WRC", "A6": "IRIW"}.items():
         student.open_test(1, name)
         positive, number = answers.true_of[f"{example}-x86"]
         # Of A2 the guess was made in task 3, and is not asked for again.
         guess = None if name == "A2" else "yes" if positive else "no"
-        yield f"3.4, the last column: {name}", [positive, number], student.states(guess)
-        yield f"3.4, the guess on {name}", ["✓ As you said."], student.texts(".said")
+        yield f"3.4, the last column: {name}", [positive, number], student.guess_and_count_states(guess)
+        yield f"3.4, the guess on {name}", ["✓ As you said. Predict again Surprise me"], student.texts(".said")
 
 
-def own_store(student, answers):
-    """4. The own store."""
+def check_own_store(student: Student, answers: Solutions) -> Iterator[Comparison]:
+    """Plays task 4: the own store."""
     student.open_test(4, "D1")
-    yield "4.1", answers.true_of["SB+own-x86"], student.states("yes")
+    yield "4.1", answers.true_of["SB+own-x86"], student.guess_and_count_states("yes")
     student.open_test(4, "D2")
-    student.states("yes")
-    told = answers.item(4, 2)
-    schedule = re.search(r"^ (P0 .*)$", told, re.M)[1].split()
+    student.guess_and_count_states("yes")
+    actual = answers.find_answer(4, 2)
+    schedule = require_match(re.search(r"^ (P0 .*)$", actual, re.M))[1].split()
     yield "4.2: the schedule", True, student.is_soon(lambda: student.schedule().split() == schedule)
     student.click(".transport [aria-label='To the start']")
     student.says("Step 0 of")
     steps = [student.run(SEEN)]
-    for at, _ in enumerate(schedule, 1):
+    for index, _ in enumerate(schedule, 1):
         student.click("#forward")
-        student.says(f"Step {at} of")
+        student.says(f"Step {index} of")
         steps.append(student.run(SEEN))
-    found = lambda entries, words: next((it for it in [*reversed(entries), *words] if it.startswith("x=")), None)
-    differing = [at for at, (buffers, words) in enumerate(steps) if len({found(it, words) for it in buffers}) > 1]
-    first, last = map(int, re.search(r"From step (\d+) to step (\d+)", told).groups())
+    find_x = lambda entries, words: next((it for it in [*reversed(entries), *words] if it.startswith("x=")), None)
+    differing = [index for index, (buffers, words) in enumerate(steps) if len({find_x(it, words) for it in buffers}) > 1]
+    first, last = map(int, require_match(re.search(r"From step (\d+) to step (\d+)", actual)).groups())
     yield "4.2: where they disagree", [*range(first, last + 1)], differing
-    shown = {name: words.split() for name, words in re.findall(r"^(P\d buffer|Content)(.*)$", told, re.M)}
+    shown = {name: words.split() for name, words in re.findall(r"^(P\d buffer|Content)(.*)$", actual, re.M)}
     yield "4.2: before the last drain", [[shown["P0 buffer"], shown["P1 buffer"]], shown["Content"]], steps[last]
     student.open_test(4, "D3")
-    yield "4.3", answers.true_of["n7-x86"], student.states("yes")
-    student.type_behind(4, " MFENCE | MFENCE | ;")
-    yield "4.3: by interleaving, with fences", answers.true_of["n7"], student.states()
+    yield "4.3", answers.true_of["n7-x86"], student.guess_and_count_states("yes")
+    student.type_row_after(4, " MFENCE | MFENCE | ;")
+    yield "4.3: by interleaving, with fences", answers.true_of["n7"], student.guess_and_count_states()
 
 
-def repair_shop(student, answers):
-    """5. A repair shop."""
-    places = dict(zip(("A4", "E1", "E2"), answers.places()))
+def check_repair_shop(student: Student, answers: Solutions) -> Iterator[Comparison]:
+    """Plays task 5: a repair shop."""
+    places = dict(zip(("A4", "E1", "E2"), answers.list_places()))
     # Of each test the list as it is, a row behind a line that repairs it, one that does not, and how each row ends.
     tests = {
         "A4": ("R-x86", (4, " | MFENCE ;", "R+mfence-x86"), (4, " MFENCE | ;", "R-x86")),
@@ -256,85 +261,90 @@ def repair_shop(student, answers):
     }
     for name, (example, *rows) in tests.items():
         student.open_test(5, name)
-        yield f"5, {name} as it is", answers.true_of[example], student.states(None if name == "A4" else "yes")
+        yield f"5, {name} as it is", answers.true_of[example], student.guess_and_count_states(None if name == "A4" else "yes")
         for line, row, wanted in rows:
             student.open_test(5, name)
-            student.type_behind(line, row)
+            student.type_row_after(line, row)
             positive, number = answers.true_of[wanted]
-            yield f"5, {name} with {row} behind line {line}, and no second guess", [positive, number], student.states()
-            fences, told = student.which_fences()
+            yield f"5, {name} with {row} behind line {line}, and no second guess", [positive, number], student.guess_and_count_states()
+            fences, verdict = student.list_fences()
             is_it = f"the condition holds in none of {number} states." if not positive else f"in the same {number} states, and the condition holds in 1 of them."
-            yield f"5, {name} with {row} behind line {line}: Fences", True, told.endswith(is_it) or told
+            yield f"5, {name} with {row} behind line {line}: Fences", True, verdict.endswith(is_it) or verdict
             if not positive:
                 yield f"5, {name}: the place", places[name], fences
     student.open_test(5, "E3")
-    student.states("yes")
+    student.guess_and_count_states("yes")
     for line in (8, 4, 3):
-        student.type_behind(line, " MFENCE | MFENCE ;")
-    yield "5.4, E3 with fences", answers.true_of["TestThenSet-x86"], student.states()
+        student.type_row_after(line, " MFENCE | MFENCE ;")
+    yield "5.4, E3 with fences", answers.true_of["TestThenSet-x86"], student.guess_and_count_states()
     nothing = "The fences change nothing: with all of them and with none the test ends in the same 3 states, and the condition holds in 1 of them."
-    yield "5.4, E3: Fences", nothing, student.which_fences()[1]
+    yield "5.4, E3: Fences", nothing, student.list_fences()[1]
     student.open_test(5, "E4")
     yield "5.4, E4: what is asked", True, "by interleaving, in which the threads take turns," in student.text("#outcome .predict")
-    yield "5.4, E4", answers.true_of["TestThenSet"], student.states("yes")
+    yield "5.4, E4", answers.true_of["TestThenSet"], student.guess_and_count_states("yes")
     yield "5.4, E4: by interleaving", True, "There is a run by interleaving" in student.text("#outcome .verdict")
 
 
-def caches(student, answers):
-    """6. Caches."""
+def check_caches(student: Student, answers: Solutions) -> Iterator[Comparison]:
+    """Plays task 6: caches."""
     rows = re.findall(r"^\| `(\S+)` \| (.*) \|$", answers.tasks[6], re.M)
     schedule = [event for event, _ in rows]
     student.open_test(6, "F1")
-    student.begin("yes")
+    student.begin_by_hand("yes")
     student.click("#caches")
     student.find("#watching .cacheline")
-    for at, (event, letters) in enumerate(rows, 1):
+    for step_number, (event, letters) in enumerate(rows, 1):
         student.carry_out(event)
-        yield f"6.1, row {at}", letters.split(" | ")[:3], student.run(LINES)
+        yield f"6.1, row {step_number}", letters.split(" | ")[:3], student.run(LINES)
     student.choose("#protocol", "moesi")
     student.wait(lambda: student.run("return document.querySelector('#protocol')?.value") == "moesi", "MOESI")
-    for at, (_, letters) in reversed([*enumerate(rows, 1)]):
+    for step_number, (_, letters) in reversed([*enumerate(rows, 1)]):
         wanted = letters.split(" | ")[3:]
         student.is_soon(lambda: student.run(LINES) == wanted)
-        yield f"6.2, row {at}", wanted, student.run(LINES)
+        yield f"6.2, row {step_number}", wanted, student.run(LINES)
         student.click("#back")
-        student.wait(lambda: student.done() == " ".join(schedule[: at - 1]), "a step back")
-    yield "6.3: the list", [1, 3], student.states()
+        student.wait(lambda: student.done() == " ".join(schedule[: step_number - 1]), "a step back")
+    yield "6.3: the list", [1, 3], student.guess_and_count_states()
 
 
-def comparisons(folder):
-    """All comparisons: what is compared, what is wanted, and what is told."""
-    with tempfile.TemporaryDirectory(prefix="lw-student-") as room:
-        student = Student(folder, room)
+def comparisons(folder: str) -> Iterator[Comparison]:
+    """Yields all comparisons: what is compared, what is expected, and what was found."""
+    with tempfile.TemporaryDirectory(prefix="lw-student-") as temporary_folder:
+        student = Student(folder, temporary_folder)
         student.driver.set_script_timeout(30)
         try:
             student.driver.find_element("link text", "A card").click()
-            student.card = student.wait(lambda: student.driver.window_handles[1:], "the card")[0]
+            student.wait(lambda: len(student.driver.window_handles) > 1, "the card")
+            student.card = student.driver.window_handles[1]
             student.driver.switch_to.window(student.card)
             yield "the sheet has a link to the card", "The syntax, on one card", student.text("h1")
-            for task in (by_hand, queue, own_store, repair_shop, caches):
+            for task in (check_by_hand, check_queue, check_own_store, check_repair_shop, check_caches):
                 yield from task(student, Solutions())
             yield "the browser complains of nothing", [], [it for it in student.complaints() if not it.startswith("chrome:")]
             yield "from the page nothing foreign is reached", "not reached", student.driver.execute_async_script(FETCH)
             student.driver.switch_to.window(student.sheet)
-            told = student.driver.execute_async_script(FETCH), any("net::ERR_" in it for it in student.complaints())
-            yield "nor from the sheet, since there is no network", ("not reached", True), told
+            found = student.driver.execute_async_script(FETCH), any("net::ERR_" in it for it in student.complaints())
+            yield "nor from the sheet, since there is no network", ("not reached", True), found
         finally:
             student.driver.quit()
 
 
-def take_up_loopback():
-    """Without it nothing is reached, not even the browser's driver."""
-    with socket.socket(socket.AF_INET, socket.SOCK_DGRAM) as it:
-        fcntl.ioctl(it, SIOCSIFFLAGS, struct.pack("16sH14x", b"lo", IFF_UP))
+def enable_loopback() -> None:
+    """Takes up the loopback, without which nothing is reached, not even the browser's driver."""
+    with socket.socket(socket.AF_INET, socket.SOCK_DGRAM) as probe:
+        fcntl.ioctl(probe, SIOCSIFFLAGS, struct.pack("16sH14x", b"lo", IFF_UP))
 
 
-def main():
-    take_up_loopback()
-    for it in comparisons(sys.argv[1]):
-        print(json.dumps(it), flush=True)
+def main() -> int:
+    """Runs the command that the arguments describe. Returns the exit status."""
+    reader = command.Reader(__doc__)
+    reader.add_argument("folder", metavar="FOLDER")
+    folder = reader.read().folder
+    enable_loopback()
+    for comparison in comparisons(folder):
+        print(json.dumps(comparison), flush=True)
     return 0
 
 
 if __name__ == "__main__":
-    sys.exit(main())
+    sys.exit(start.run(main))

@@ -1,7 +1,6 @@
-#!/usr/bin/env python3
 """Looks which lemmas and definitions of proofs nothing names, and which statements stand twice.
 
-    python3 tools/gate/check_lemmas.py
+    python3 tools gate.check_lemmas
 
 - What proofs/ declares is named somewhere: in its file beside its own clauses, by a file that imports it, or in a .rt file. What
   answers a goal, in Answers, Invariants and Proof, is named by the prover.
@@ -11,15 +10,19 @@
 
 ALLOWED has what is right all the same, each with its reason. The last line is 'N passed, M failed'.
 """
+from __future__ import annotations
+
 import os
 import re
 import sys
 from collections import defaultdict
+from collections.abc import Iterable, Iterator
 
-sys.dont_write_bytecode = True
-sys.path.insert(0, os.path.dirname(os.path.dirname(os.path.abspath(__file__))))
-from shared.antt_names import MARKS, Files, words_of
-from shared.antt_terms import Group, grouped, index_of
+from gate.cases import Comparison
+from shared import command
+from shared.antt import Sentence
+from shared.antt_names import MARKS, Declaration, File, Files, read_words
+from shared.antt_terms import Group, Node, find_index, group_tokens, require_index
 from shared.home import HOME
 
 IMPORTS = re.compile(r"\s*(unfoldable )?(pub )?use ")
@@ -35,11 +38,12 @@ ALLOWED = {
 }
 
 
-def is_proof(file):
-    return "/proofs/" in file.path
+def is_proof(file: File) -> bool:
+    """Returns whether a file is one of proofs."""
+    return "/proofs/" in os.path.relpath(file.path, HOME)
 
 
-def answers(declaration):
+def is_answer(declaration: Declaration) -> bool:
     """Returns whether a declaration answers a goal."""
     return declaration.is_public and os.path.basename(declaration.file.path) in ANSWERS and not declaration.scope
 
@@ -47,7 +51,7 @@ def answers(declaration):
 # What nothing names.
 
 
-def first_words(word):
+def list_name_candidates(word: str) -> set[str]:
     """Returns a word of a text, and what it may be the field or the module of."""
     parts = word.split(".")
     return {word, *(".".join(parts[:many]) for many in range(1, len(parts)))}
@@ -56,67 +60,70 @@ def first_words(word):
 class Named:
     """Which names are used, and where."""
 
-    def __init__(self, files):
-        self.files, self.abroad = files, set()
+    def __init__(self, files: Files) -> None:
+        """Gathers all names that files use of others."""
+        self.files = files
+        self.abroad: set[tuple[str, str]] = set()  # the modules and names that are used in other files
         for file in files.all:
             self.read_imports(file)
-        self.code = code_names()
+        self.code = list_code_names()
 
-    def read_imports(self, file):
+    def read_imports(self, file: File) -> None:
         """Reads what a file uses of others: each name that it imports, except those that it only exports again, and what it names by a
         path.
         """
         bodies = [it for it in file.sentences if not IMPORTS.match(it.text)]
-        words = {part for it in bodies for word in words_of(it) for part in first_words(word)}
-        for name, (module, there) in file.brings.items():
+        words = {part for it in bodies for word in read_words(it) for part in list_name_candidates(word)}
+        for name, (module, name_there) in file.brings.items():
             if name not in file.passes or name in words:
-                self.abroad.add(self.files.origin(module, there))
+                self.abroad.add(self.files.find_origin(module, name_there))
         for word in words:
-            module, _, name = self.files.meaning(file, word).rpartition(".")
+            module, _, name = self.files.find_meaning(file, word).rpartition(".")
             if module and module != file.module:
                 self.abroad.add((module, name))
 
-    def is_named(self, declaration):
+    def is_named(self, declaration: Declaration) -> bool:
+        """Returns whether something names a declaration."""
         file, name = declaration.file, declaration.name
         if declaration.owner is None:
             if (file.module, name) in self.abroad or (file.module, name) in self.code:
                 return True
             around = file.sentences
         else:
-            around = sentences_under(declaration)
+            around = list_sentences(declaration)
         own = {id(it) for it in (declaration.head, *declaration.parts)}
         return any(is_in(name, it) for it in around if id(it) not in own)
 
 
-def is_in(name, sentence):
+def is_in(name: str, sentence: Sentence) -> bool:
     """Returns whether a sentence names a name, or a field of it."""
-    return any(it == name or it.startswith(f"{name}.") for it in words_of(sentence))
+    return any(it == name or it.startswith(f"{name}.") for it in read_words(sentence))
 
 
-def sentences_under(declaration):
+def list_sentences(declaration: Declaration) -> list[Sentence]:
     """Returns the sentence that contains a declaration, and all that it contains."""
-    sentences = declaration.file.sentences
-    at = sentences.index(declaration.owner)
-    found = [declaration.owner]
-    for it in sentences[at + 1 :]:
-        if it.indent <= declaration.owner.indent:
+    sentences, owner = declaration.file.sentences, declaration.owner
+    assert owner is not None  # only declarations inside a `where` are looked at
+    contained = [owner]
+    for sentence in sentences[sentences.index(owner) + 1 :]:
+        if sentence.indent <= owner.indent:
             break
-        found.append(it)
-    return found
+        contained.append(sentence)
+    return contained
 
 
-def code_names():
+def list_code_names() -> set[tuple[str, str]]:
     """Returns the names of proofs in .rt files, as a module and a name."""
-    found = set()
+    code_names: set[tuple[str, str]] = set()
     for crate in sorted(os.listdir(f"{HOME}/crates")):
-        for at, _, names in os.walk(f"{HOME}/crates/{crate}/src"):
+        for folder, _, names in os.walk(f"{HOME}/crates/{crate}/src"):
             for name in names:
-                with open(f"{at}/{name}", encoding="utf-8") as it:
-                    found.update(names_of_code(crate, it.read()))
-    return found
+                with open(f"{folder}/{name}", encoding="utf-8") as file:
+                    code_names.update(find_code_names(crate, file.read()))
+    return code_names
 
 
-def names_of_code(crate, text):
+def find_code_names(crate: str, text: str) -> Iterator[tuple[str, str]]:
     """Returns the names of proofs in the text of a crate's file: in attributes, and in `ghost use` items."""
     for home, path in re.findall(r"\b(\w+)::proofs::([\w:'-]+)", text):
         yield split_path(crate if home == "crate" else home, path.replace("::", "."))
@@ -125,18 +132,19 @@ def names_of_code(crate, text):
             yield split_path(home, f"{path}.{name.split(' as ')[0].strip()}".rstrip("."))
 
 
-def split_path(crate, path):
+def split_path(crate: str, path: str) -> tuple[str, str]:
+    """Returns a module of a crate's proofs, and a name in it, by the path of both."""
     module, _, name = path.rpartition(".")
     return f"Rattle.{crate}.proofs" + (f".{module}" if module else ""), name
 
 
-def unnamed(files):
+def list_unnamed(files: Files) -> Iterator[Declaration]:
     """Returns what nothing names."""
     named = Named(files)
     for file in filter(is_proof, files.all):
-        for it in file.declarations:
-            if not answers(it) and not named.is_named(it):
-                yield it
+        for declaration in file.declarations:
+            if not is_answer(declaration) and not named.is_named(declaration):
+                yield declaration
 
 
 # What appears twice.
@@ -145,41 +153,47 @@ def unnamed(files):
 class Statement:
     """Words in which bound variables have numbers, and other names their meaning."""
 
-    def __init__(self, files, file):
-        self.files, self.file, self.bound, self.words = files, file, {}, []
+    def __init__(self, files: Files, file: File) -> None:
+        """Starts a statement of a file."""
+        self.files, self.file = files, file
+        self.bound: dict[str, str] = {}  # of each bound variable its number
+        self.words: list[str] = []
 
-    def bind(self, names):
-        for it in names:
-            self.bound[it] = f"?{len(self.bound)}"
+    def bind_names(self, names: Iterable[str]) -> None:
+        """Gives bound variables their numbers."""
+        for name in names:
+            self.bound[name] = f"?{len(self.bound)}"
 
-    def add_word(self, word):
+    def add_word(self, word: str) -> None:
+        """Adds a word, by its number or its meaning."""
         first, dot, rest = word.partition(".")
         if first in self.bound:
             word = self.bound[first] + dot + rest
         else:
-            word = self.files.meaning(self.file, word)
+            word = self.files.find_meaning(self.file, word)
         self.words.append(word)
 
-    def add(self, nodes):
+    def add(self, nodes: list[Node]) -> None:
         """Adds words and groups, in their order: binders one by one, without arrows after them."""
-        for at, node in enumerate(nodes):
+        for index, node in enumerate(nodes):
             if isinstance(node, Group):
                 self.add_group(node)
             elif node == "λ":
-                end = index_of(nodes[at:], ".")
-                self.bind(it for it in nodes[at + 1 : at + (end or 0)] if not isinstance(it, Group))
+                end = find_index(nodes[index:], ".")
+                self.bind_names(it for it in nodes[index + 1 : index + (end or 0)] if not isinstance(it, Group))
                 self.words.append(node)
             elif not (node == "→" and self.words[-1:] == ["end of a binder"]):
                 self.add_word(node)
 
-    def add_group(self, group):
-        colon = index_of(group.inner, ":")
-        names = group.inner[:colon] if colon else []
+    def add_group(self, group: Group) -> None:
+        """Adds a group: its binders one by one, or its content in brackets."""
+        colon = find_index(group.inner, ":") or 0
+        names = group.inner[:colon]
         if names and not any(isinstance(it, Group) for it in names) and group.opening in "({" and names[0] not in ("let", "λ"):
             for name in names:
                 self.words.append("binder")
                 self.add(group.inner[colon + 1 :])
-                self.bind([name])
+                self.bind_names([str(name)])
                 self.words.append("end of a binder")
             return
         self.words.append("(" if group.opening == "(" else group.opening)
@@ -187,144 +201,149 @@ class Statement:
         self.words.append(")" + group.suffix)
 
 
-def parameters(declaration):
+def list_parameters(declaration: Declaration) -> list[Group]:
     """Returns the binders of the modules around a declaration."""
-    found = []
+    binders = []
     for head in declaration.scope:
-        found += [it for it in grouped(words_of(head)) if isinstance(it, Group)]
-    return found
+        binders += [it for it in group_tokens(read_words(head)) if isinstance(it, Group)]
+    return binders
 
 
-def binder_names(group):
-    colon = index_of(group.inner, ":")
+def list_binder_names(group: Group) -> list[str]:
+    """Returns the names that a group binds."""
+    colon = find_index(group.inner, ":")
     return [it for it in group.inner[:colon] if not isinstance(it, Group)] if colon else []
 
 
-def names_in(nodes):
+def list_names(nodes: list[Node]) -> Iterator[str]:
+    """Yields the words of nodes, up to their first dot."""
     for node in nodes:
         if isinstance(node, Group):
-            yield from names_in(node.inner)
+            yield from list_names(node.inner)
         else:
             yield node.split(".")[0]
 
 
-def bound_by_modules(declaration, nodes):
+def list_module_binders(declaration: Declaration, nodes: list[Node]) -> list[Group]:
     """Returns the binders of modules on which a statement depends: those whose names it has, and premises about these."""
-    groups = parameters(declaration)
-    wanted = set(names_in(nodes))
-    told = None
-    while told != len(wanted):
-        told = len(wanted)
+    groups = list_parameters(declaration)
+    wanted = set(list_names(nodes))
+    count = None
+    while count != len(wanted):
+        count = len(wanted)
         for group in groups:
-            kind = set(names_in(group.inner[index_of(group.inner, ":") + 1 :])) if binder_names(group) else set()
-            bound = {name for it in groups for name in binder_names(it)}
-            if wanted & (set(binder_names(group)) | kind & bound):
-                wanted |= set(binder_names(group)) | kind
-    return [it for it in groups if wanted & set(binder_names(it))]
+            kind = set(list_names(group.inner[require_index(group.inner, "a binder", ":") + 1 :])) if list_binder_names(group) else set()
+            bound = {name for it in groups for name in list_binder_names(it)}
+            if wanted & (set(list_binder_names(group)) | kind & bound):
+                wanted |= set(list_binder_names(group)) | kind
+    return [it for it in groups if wanted & set(list_binder_names(it))]
 
 
-def is_definition(declaration):
+def is_definition(declaration: Declaration) -> bool:
     """Returns whether a declaration says what something is, and not that something holds."""
-    first = [it for it in words_of(declaration.head)[:3] if it not in MARKS][0]
-    return declaration.is_definition or first in ("record", "data") or not is_proof(declaration.file) and "/laws/" not in declaration.file.path
+    first = [it for it in read_words(declaration.head)[:3] if it not in MARKS][0]
+    return declaration.is_definition or first in ("record", "data") or not is_proof(declaration.file) and "/laws/" not in os.path.relpath(declaration.file.path, HOME)
 
 
-def statement_of(files, declaration):
+def make_statement(files: Files, declaration: Declaration) -> tuple[str, ...]:
     """Returns what a declaration says, as words."""
-    nodes = grouped(words_of(declaration.head))
+    nodes = group_tokens(read_words(declaration.head))
     if is_definition(declaration):
         for part in declaration.parts:
-            nodes += [";", *grouped(words_of(part))]
+            nodes += [";", *group_tokens(read_words(part))]
     else:
-        nodes = nodes[index_of(nodes, ":") + 1 :]
-    told = Statement(files, declaration.file)
-    told.bind([declaration.name] if is_definition(declaration) else [])
-    told.add(bound_by_modules(declaration, nodes) + nodes)
+        nodes = nodes[require_index(nodes, "a signature", ":") + 1 :]
+    statement = Statement(files, declaration.file)
+    statement.bind_names([declaration.name] if is_definition(declaration) else [])
+    statement.add([*list_module_binders(declaration, nodes), *nodes])
     if is_definition(declaration):
-        bind_patterns(declaration, told)
-    return tuple(told.words)
+        bind_patterns(declaration, statement)
+    return tuple(statement.words)
 
 
-def bind_patterns(declaration, told):
+def bind_patterns(declaration: Declaration, statement: Statement) -> None:
     """Numbers the variables of a definition's clauses."""
-    own = {name for part in declaration.parts for name in names_in(before_equals(part))}
-    free = [it for it in told.words if it in own and "." not in it]
-    numbers = {it: f"?{len(told.bound) + at}" for at, it in enumerate(dict.fromkeys(free))}
-    told.words = [numbers.get(it.split(".")[0], it.split(".")[0]) + it[len(it.split(".")[0]) :] for it in told.words]
+    own = {name for part in declaration.parts for name in list_names(list_patterns(part))}
+    free = [it for it in statement.words if it in own and "." not in it]
+    numbers = {it: f"?{len(statement.bound) + index}" for index, it in enumerate(dict.fromkeys(free))}
+    statement.words = [numbers.get(it.split(".")[0], it.split(".")[0]) + it[len(it.split(".")[0]) :] for it in statement.words]
 
 
-def before_equals(part):
-    nodes = grouped(words_of(part))
-    at = index_of(nodes, "=")
-    return nodes[1:at] if at else []
+def list_patterns(part: Sentence) -> list[Node]:
+    """Returns the patterns of a clause: what is between its name and its sign of equality."""
+    nodes = group_tokens(read_words(part))
+    equals = find_index(nodes, "=")
+    return nodes[1:equals] if equals else []
 
 
-def is_compared(declaration):
+def is_compared(declaration: Declaration) -> bool:
     """Returns whether a declaration may not appear twice: it is not a module's own abbreviation, a number, or without a premise and a
     claim.
     """
-    if declaration.owner is not None or answers(declaration):
+    if declaration.owner is not None or is_answer(declaration):
         return False
     if is_definition(declaration):
         is_number = re.search(r"= [0-9_]+$", " ".join(it.text for it in declaration.parts))
         return not is_number and not (declaration.scope and not declaration.is_public)
-    return bool(CLAIMS & set(words_of(declaration.head)))
+    return bool(CLAIMS & set(read_words(declaration.head)))
 
 
-def twice(files):
+def group_duplicates(files: Files) -> list[list[Declaration]]:
     """Returns the declarations that say the same, in groups."""
     groups = defaultdict(list)
     for file in files.all:
-        for it in filter(is_compared, file.declarations):
-            groups[statement_of(files, it)].append(it)
+        for declaration in filter(is_compared, file.declarations):
+            groups[make_statement(files, declaration)].append(declaration)
     return [it for it in groups.values() if len(it) > 1]
 
 
 # Comments.
 
 
-def uncommented(files):
+def list_uncommented(files: Files) -> Iterator[Declaration]:
     """Returns the `pub` lemmas of proofs/api/ without a comment above them."""
     for file in files.all:
         if "/proofs/api/" in file.path:
             lines = file.text.split("\n")
-            for it in file.declarations:
-                if it.is_public and it.owner is None and not lines[it.number - 2].lstrip().startswith("--"):
-                    yield it
+            for declaration in file.declarations:
+                if declaration.is_public and declaration.owner is None and not lines[declaration.number - 2].lstrip().startswith("--"):
+                    yield declaration
 
 
-def full_name(declaration):
+def format_full_name(declaration: Declaration) -> str:
+    """Returns the name of a declaration with its module."""
     return f"{declaration.file.module}.{declaration.name}"
 
 
-def faults(files):
+def find_faults(files: Files) -> Iterator[str]:
     """Returns a line for each fault."""
-    for it in unnamed(files):
-        if full_name(it) not in ALLOWED:
-            yield f"{it.place}: nothing names {it.name}"
-    for first, *others in twice(files):
-        for it in others:
-            if full_name(it) not in ALLOWED:
-                yield f"{it.place}: {it.name} says what {first.name} says, {first.place}"
-    for it in uncommented(files):
-        yield f"{it.place}: no comment says what {it.name} is for"
+    for declaration in list_unnamed(files):
+        if format_full_name(declaration) not in ALLOWED:
+            yield f"{declaration.place}: nothing names {declaration.name}"
+    for first, *others in group_duplicates(files):
+        for declaration in others:
+            if format_full_name(declaration) not in ALLOWED:
+                yield f"{declaration.place}: {declaration.name} says what {first.name} says, {first.place}"
+    for declaration in list_uncommented(files):
+        yield f"{declaration.place}: no comment says what {declaration.name} is for"
 
 
-def comparisons():
+def comparisons() -> Iterator[Comparison]:
     """Returns all comparisons, for tools/check_documents.py."""
     files = Files()
     yield "there are lemmas to look at", True, sum(len(it.declarations) for it in files.all) > 5000
-    yield "lemmas: what nothing names, what stands twice, what has no comment (tools/gate/check_lemmas.py)", [], list(faults(files))
+    yield "lemmas: what nothing names, what stands twice, what has no comment (tools/gate/check_lemmas.py)", [], list(find_faults(files))
 
 
-def main():
+def main() -> int:
+    """Runs the command that the arguments describe. Returns the exit status."""
     files = Files()
-    told = list(faults(files))
-    for line in told:
+    faults = list(find_faults(files))
+    for line in faults:
         print(line)
-    print(f"{sum(len(it.declarations) for it in files.all) - len(told)} passed, {len(told)} failed")
-    return 1 if told else 0
+    print(f"{sum(len(it.declarations) for it in files.all) - len(faults)} passed, {len(faults)} failed")
+    return 1 if faults else 0
 
 
 if __name__ == "__main__":
-    sys.exit(main())
+    sys.exit(command.run_command(main, __doc__))

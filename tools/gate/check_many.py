@@ -1,7 +1,6 @@
-#!/usr/bin/env python3
 """Looks at tools/run_all.py and tools/beyond.py, as their head comments say. The last line is 'N passed, M failed'.
 
-    python3 tools/gate/check_many.py
+    python3 tools gate.check_many
 
 - The table of run_all.py over examples/ and examples/beyond/ has what the pages of the examples have, in all forms, and says how each list was
   made; faults have their places; an earlier run and a log in herd's lines are compared.
@@ -12,37 +11,43 @@
 
 tools/check_documents.py calls all this.
 """
+from __future__ import annotations
+
 import csv
 import glob
 import io
 import json
 import os
 import re
+import resource
 import subprocess
 import sys
 import tempfile
 import time
+from collections.abc import Iterator
 from unittest import mock
 
-sys.dont_write_bytecode = True
-sys.path.insert(0, os.path.dirname(os.path.dirname(os.path.abspath(__file__))))
 import beyond
 import given
 import plain
 import random_tests
+from gate.cases import Comparison
 from gate.examples import TOOLS, examples, read, run
 from many import lists
 from many import rows as methods
 from search.explore import Search
-from shapes.edges import critical_cycles, cycle_of
-from shapes.families import name_of
-from shapes.tests import X86, shape_of, text_of
-from shared import answers, logs, spawn
-from shared.home import HOME, close
+from shapes.edges import list_critical_cycles, make_cycle
+from shapes.families import make_name
+from shapes.tests import X86, format_test, make_shape
+from shared import answers, command, logs, spawn
+from shared.home import HOME, close_check
+from shared.matches import require_match
 
 CYCLES = 1000
-MOST_SECONDS = 10
-MOST_TIMES = 1.5
+MAX_SECONDS = 10
+MAX_TIME_RATIO = 1.5
+# Other checks run beside this one and lengthen single tries.
+TRIES = 9
 LOG_OF_HERD = """Test SB-x86 Allowed
 Histogram (3 states)
 499   *>0:rax=0; 1:rax=0;
@@ -58,18 +63,18 @@ TOLD_OF_LOG = """SB-x86: missing 1, too much 2
 """
 
 
-def observation_on_page(name):
+def read_page_observation(name: str) -> tuple[str, str]:
     """Returns the states and the observation of an example's page."""
     page = read(f"examples/{name}.page")
     observation = rf"^Observation {re.escape(os.path.basename(name))} (.*)$"
-    return re.search(r"^States (\d+)$", page, re.M)[1], re.search(observation, page, re.M)[1]
+    return require_match(re.search(r"^States (\d+)$", page, re.M))[1], require_match(re.search(observation, page, re.M))[1]
 
 
-def check_tables():
+def check_tables() -> Iterator[Comparison]:
     """Checks the tables of run_all.py."""
-    wanted = {name: observation_on_page(name) for name, _ in examples()}
-    told, _, status = run(["run_all.py", "examples", "--as", "csv"])
-    rows = list(csv.DictReader(io.StringIO(told)))
+    wanted = {name: read_page_observation(name) for name, _ in examples()}
+    printed, _, status = run(["run_all.py", "examples", "--as", "csv"])
+    rows = list(csv.DictReader(io.StringIO(printed)))
     yield "run_all.py --as csv", (wanted, 0), ({it["name"]: (it["states"], it["observation"]) for it in rows}, status)
     rows = json.loads(run(["run_all.py", "--as", "json", "examples"])[0])
     yield "run_all.py --as json", wanted, {it["name"]: (str(it["states"]), it["observation"]) for it in rows}
@@ -80,136 +85,139 @@ def check_tables():
     yield "run_all.py of a list, its length", 3, len(text)
 
 
-def check_past_limits():
+def check_past_limits() -> Iterator[Comparison]:
     """Checks tests that lw refuses for their size: by the program beyond, and by the search that is not proved."""
     if not spawn.is_current():
         return
     files = sorted(glob.glob(f"{HOME}/examples/beyond/*.litmus"))
     names = [os.path.basename(it)[: -len(".litmus")] for it in files]
-    pages = [observation_on_page(f"beyond/{name}") for name in names]
+    pages = [read_page_observation(f"beyond/{name}") for name in names]
     for is_built, method in ((True, methods.SEARCHED), (False, methods.SEARCHED_UNPROVED)):
-        told = io.StringIO()
-        with mock.patch.object(spawn, "is_current", lambda name="lw": is_built or name == "lw"), mock.patch.object(sys, "stderr", told):
-            rows = [it.row for it in lists.all_answers(files, lists.Choices(1, None, None), lambda _file: None)]
+        errors = io.StringIO()
+        with mock.patch.object(spawn, "is_current", lambda name="lw": is_built or name == "lw"), mock.patch.object(sys, "stderr", errors):
+            rows = [it.row for it in lists.answer_all(files, lists.Choices(1, None, None), lambda _file: None)]
         wanted = [(name, *page, method) for name, page in zip(names, pages)]
         yield f"run_all.py past the limits, {method}", wanted, [(it.name, str(it.states), it.observation, it.method) for it in rows]
-        yield f"run_all.py past the limits, {method}: said", not is_built, "listed by tools/beyond.py, not proved\n" in told.getvalue()
+        yield f"run_all.py past the limits, {method}: said", not is_built, "listed by tools/beyond.py, not proved\n" in errors.getvalue()
 
 
-def check_faults():
+def check_faults() -> Iterator[Comparison]:
     """Checks files without a report."""
     out, err, status = run(["run_all.py", "tools/herd/tests/Less.litmus", "nowhere", "examples/SB.litmus"])
     wanted = "tools/herd/tests/Less.litmus:6:2: 'JL' is no instruction that is read"
-    told = [line.partition(";")[0] for line in err.splitlines() if not line.startswith("run_all:")]
-    yield "run_all.py, faults", (4, [wanted, "nowhere: No such file or directory"], 1), (len(out.splitlines()), told, status)
+    fault_lines = [line.partition(";")[0] for line in err.splitlines() if not line.startswith("run_all:")]
+    yield "run_all.py, faults", (4, [wanted, "nowhere: No such file or directory"], 1), (len(out.splitlines()), fault_lines, status)
     out, err, status = run(["run_all.py", "--as", "csv", "tools/search/tests/TryLock3.litmus"])
-    told = out.splitlines()[-1].split(",")
-    yield "run_all.py, a limit", (["TryLock3", "Never 0 7"], False, 0), ([told[1], told[4]], "TooManyOrders" in err, status)
+    fault_lines = out.splitlines()[-1].split(",")
+    yield "run_all.py, a limit", (["TryLock3", "Never 0 7"], False, 0), ([fault_lines[1], fault_lines[4]], "TooManyOrders" in err, status)
     for words in (["--as", "xml"], ["--all"], ["--against"]):
         yield f"run_all.py {' '.join(words)}", 2, run(["run_all.py", *words])[2]
     yield "run_all.py --help", 0, run(["run_all.py", "--help"])[2]
 
 
-def check_against():
+def check_against() -> Iterator[Comparison]:
     """Checks comparisons with an earlier run, and with a log of herd's."""
-    with tempfile.TemporaryDirectory(prefix="lw-many-") as room:
-        log = os.path.join(room, "log")
-        with open(log, "w", encoding="utf-8") as it:
-            it.write(run(["run_all.py", "--as", "log", "examples"])[0])
+    with tempfile.TemporaryDirectory(prefix="lw-many-") as folder:
+        log = os.path.join(folder, "log")
+        with open(log, "w", encoding="utf-8") as log_file:
+            log_file.write(run(["run_all.py", "--as", "log", "examples"])[0])
         _, err, status = run(["run_all.py", "--as", "json", "examples", "--against", log])
         wanted = f"{len(examples())} tests against {len(examples())} of {log}: 0 differ"
         yield "run_all.py against itself", (wanted, 0), (err.splitlines()[-1], status)
-        report = run(["to_herd.py", "--report", "--form", "X86_64"], plain.report(plain.read_test(read("examples/SB-x86.litmus"))))[0]
-        yield "a report in herd's lines", {"SB-x86": 4}, {name: len(states) for name, states in logs.states_in(report.splitlines()).items()}
-        for text, wanted in ((report, (f"1 tests against 1 of {log}: 0 differ\n", 0)), (LOG_OF_HERD, (TOLD_OF_LOG.format(log=log), 1))):
-            with open(log, "w", encoding="utf-8") as it:
-                it.write(text)
+        report = run(["to_herd.py", "--report", "--form", "X86_64"], plain.make_report(plain.read_test(read("examples/SB-x86.litmus"))))[0]
+        yield "a report in herd's lines", {"SB-x86": 4}, {name: len(states) for name, states in logs.read_states(report.splitlines()).items()}
+        for text, said in ((report, (f"1 tests against 1 of {log}: 0 differ\n", 0)), (LOG_OF_HERD, (TOLD_OF_LOG.format(log=log), 1))):
+            with open(log, "w", encoding="utf-8") as log_file:
+                log_file.write(text)
             _, err, status = run(["run_all.py", "examples/SB-x86.litmus", "--against", log])
-            told = "".join(it for it in err.splitlines(True) if not it.startswith("run_all"))
-            yield "run_all.py against a log of herd's", wanted, (told, status)
+            errors = "".join(it for it in err.splitlines(True) if not it.startswith("run_all"))
+            yield "run_all.py against a log of herd's", said, (errors, status)
 
 
-def seconds_of(words, text=""):
+def measure_seconds(arguments: list[str], text: str = "") -> tuple[float, float]:
     """Returns the processor time of a command of tools/ and of what it starts, and the sum of the times in its table."""
-    before = os.times()
-    ran = subprocess.run([sys.executable, "-S", *words], input=text.encode(), capture_output=True, cwd=TOOLS)
-    after = os.times()
-    used = after.children_user + after.children_system - before.children_user - before.children_system
+    before = resource.getrusage(resource.RUSAGE_CHILDREN)
+    ran = subprocess.run([sys.executable, "-S", *arguments], input=text.encode(), capture_output=True, cwd=TOOLS)
+    after = resource.getrusage(resource.RUSAGE_CHILDREN)
+    used = after.ru_utime + after.ru_stime - before.ru_utime - before.ru_stime
     return used, sum(float(line.split()[7]) for line in ran.stdout.decode().splitlines()[1:]) / 1000
 
 
-def times_of(words, text=""):
+def measure_time_ratio(arguments: list[str], text: str = "") -> float:
     """Returns how many times the processor time of the programs a command takes, at the best of several tries."""
-    start = "import sys; sys.path.insert(0, '.'); from shared import spawn; spawn.is_current()"
-    look = min(seconds_of(["-c", start])[0] - seconds_of(["-c", "import sys"])[0] for _ in range(3))
-    return min(used / (programs + max(0.0, look)) for used, programs in (seconds_of(words, text) for _ in range(3)))
+    start = "import sys; from shared import spawn; spawn.is_current()"
+    look = min(measure_seconds(["-c", start])[0] - measure_seconds(["-c", "import sys"])[0] for _ in range(TRIES))
+    return min(used / (programs + max(0.0, look)) for used, programs in (measure_seconds(arguments, text) for _ in range(TRIES)))
 
 
-def check_times():
+def check_times() -> Iterator[Comparison]:
     """Compares the processor time of run_all.py with that of the program."""
     if not spawn.is_current():
         return
-    with tempfile.TemporaryDirectory(prefix="lw-many-") as room:
+    with tempfile.TemporaryDirectory(prefix="lw-many-") as temporary_folder:
         files = []
-        for names in list(critical_cycles(8, 4, ("Pod", "MFenced", "LockXchgd")))[:CYCLES]:
-            name = name_of(cycle_of(list(names)))
-            files.append(os.path.join(room, f"{name}.litmus"))
-            with open(files[-1], "w", encoding="utf-8") as it:
-                it.write(text_of(shape_of(cycle_of(list(names))), name, X86))
-        for what, words, text in (("examples", ["../examples"], ""), (f"{len(files)} cycles", [], "\n".join(files))):
-            times = times_of(["run_all.py", *words], text)
-            yield f"run_all.py over {what}: {times:.2f} times the time of the programs", True, times <= MOST_TIMES
+        for names in list(list_critical_cycles(8, 4, ("Pod", "MFenced", "LockXchgd")))[:CYCLES]:
+            name = make_name(make_cycle(list(names)))
+            files.append(os.path.join(temporary_folder, f"{name}.litmus"))
+            with open(files[-1], "w", encoding="utf-8") as file:
+                file.write(format_test(make_shape(make_cycle(list(names))), name, X86))
+        for what, folder, text in (("examples", "../examples", ""), (f"{len(files)} cycles", "", "\n".join(files))):
+            times = measure_time_ratio(["run_all.py", *folder.split()], text)
+            yield f"run_all.py over {what}: {times:.2f} times the time of the programs", True, times <= MAX_TIME_RATIO
 
 
-def check_search():
+def check_search() -> Iterator[Comparison]:
     """Checks the states that beyond.py finds within the limits."""
-    made = [(f"random {language} {seed}", random_tests.Writer(language, seed).test()) for language, seed in random_tests.jobs(60)]
+    made = [(f"random {language} {seed}", random_tests.Writer(language, seed).draw_test()) for language, seed in random_tests.list_jobs(60)]
     for name, text in [*examples(), *made]:
         test = plain.read_test(text)
-        for it in [test] if test.language == "X86" else [test, plain.compiled(test), plain.compiled(test, with_fences=False)]:
-            found = Search(it).run(answers.MOST_STATES, beyond.tell_progress)
-            yield f"the search on {name}", [words for words, _ in plain.states_of(it, plain.outcomes(it))], sorted(found.schedules)
-            ends = [random_tests.end_of(it, schedule) for schedule in found.schedules.values()]
-            shown = [tuple(plain.word_at(site, outcome) for site in plain.observed(it)) for is_final, outcome in ends if is_final]
-            yield f"the schedules of the search on {name}", list(found.schedules), shown
+        for variant in [test] if test.language == "X86" else [test, plain.compile_test(test), plain.compile_test(test, with_fences=False)]:
+            exploration = Search(variant).explore(answers.MAX_STATES, beyond.show_progress)
+            yield f"the search on {name}", [
+                words for words, _ in plain.collect_states(variant, plain.list_outcomes(variant))
+            ], sorted(exploration.schedules)
+            ends = [random_tests.find_end(variant, schedule) for schedule in exploration.schedules.values()]
+            shown = [tuple(plain.read_word(site, outcome) for site in plain.list_observed_sites(variant)) for is_final, outcome in ends if is_final]
+            yield f"the schedules of the search on {name}", list(exploration.schedules), shown
 
 
-def check_beyond():
+def check_beyond() -> Iterator[Comparison]:
     """Checks tests past the limits."""
     by = "lw" if os.path.exists(spawn.PROGRAM) else "tools/plain.py"
     for path in sorted(glob.glob(f"{TOOLS}/search/tests/*.litmus")):
         name, test = os.path.basename(path), plain.read_test(read(path))
-        yield f"{name} is beyond the limits", True, plain.orders_of(test)[1] > 2**20
+        yield f"{name} is beyond the limits", True, plain.count_orders(test)[1] > 2**20
         begin = time.monotonic()
-        Search(test).run(answers.MOST_STATES, beyond.tell_progress)
-        yield f"{name} is searched in {MOST_SECONDS} seconds", True, time.monotonic() - begin < MOST_SECONDS
-        told = run(["beyond.py", path])[0]
+        Search(test).explore(answers.MAX_STATES, beyond.show_progress)
+        yield f"{name} is searched in {MAX_SECONDS} seconds", True, time.monotonic() - begin < MAX_SECONDS
+        printed = run(["beyond.py", path])[0]
         last = f"Listed by tools/beyond.py and not claimed complete; each state is replayed by {by}\n"
-        yield f"beyond.py {name}", plain.report(test) + last, told
-    told = run(["beyond.py", "--max-states", "50", f"{TOOLS}/search/tests/TryLock3.litmus"])[0]
-    yield "beyond.py --max-states", True, "; the search ended at " in told.splitlines()[-1]
+        yield f"beyond.py {name}", plain.make_report(test) + last, printed
+    printed = run(["beyond.py", "--max-states", "50", f"{TOOLS}/search/tests/TryLock3.litmus"])[0]
+    yield "beyond.py --max-states", True, "; the search ended at " in printed.splitlines()[-1]
     for question, asked in (("exists", "Allowed"), ("forall", "Required")):
         text = read("examples/SB-x86.litmus").replace("exists", question)
-        told = run(["beyond.py", "--max-states", "1"], text)
+        out, *ending = run(["beyond.py", "--max-states", "1"], text)
         why = "None: the search came to no final state, so nothing is said of the condition"
-        yield f"beyond.py without a state, {question}", [f"Test SB-x86 {asked}", "States 0", why], told[0].splitlines()[:3]
-        yield f"beyond.py without a state, {question}: status", ("", answers.NO_VERDICT), told[1:]
+        yield f"beyond.py without a state, {question}", [f"Test SB-x86 {asked}", "States 0", why], out.splitlines()[:3]
+        yield f"beyond.py without a state, {question}: status", ["", answers.NO_VERDICT], ending
     yield "beyond.py --max-states 0", 2, run(["beyond.py", "--max-states", "0", "examples/SB-x86.litmus"])[2]
-    told = run(["beyond.py", "--schedules", "examples/SB-x86.litmus"])[0]
-    yield "beyond.py --schedules", ["Test SB-x86", "States 4", "0:EAX=0; 1:EAX=0;"], told.splitlines()[:3]
+    printed = run(["beyond.py", "--schedules", "examples/SB-x86.litmus"])[0]
+    yield "beyond.py --schedules", ["Test SB-x86", "States 4", "0:EAX=0; 1:EAX=0;"], printed.splitlines()[:3]
     yield "beyond.py, a fault", ("", "-:1:1: 'X86_64' stands where 'SRC' or 'X86' should\n", 1), run(["beyond.py"], "X86_64 A\n")
 
 
-def comparisons():
-    """Returns all comparisons: what is compared, what is expected, and what was found."""
+def comparisons() -> Iterator[Comparison]:
+    """Yields all comparisons: what is compared, what is expected, and what was found."""
     for check in (check_tables, check_past_limits, check_faults, check_against, check_times, check_search, check_beyond):
         yield from check()
 
 
-def main():
-    given.print_as_lw()
-    return close(comparisons())
+def main() -> int:
+    """Runs the checks. Returns the exit status."""
+    given.set_output_encoding()
+    return close_check(comparisons())
 
 
 if __name__ == "__main__":
-    sys.exit(main())
+    sys.exit(command.run_command(main, __doc__))

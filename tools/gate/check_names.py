@@ -1,8 +1,7 @@
-#!/usr/bin/env python3
 """Looks that what the documents name is there: each crate, file, call, clause and definition that docs/THEOREMS.md, BELIEVE.md, AXIOMS.md,
-DECISIONS.md, MAP.md, PROOF.md and TRUSTED.md have in backticks. tools/check_documents.py calls it.
+DECISIONS.md, MAP.md, PROOF.md, TRUSTED.md and CONTRIBUTING.md have in backticks. tools/check_documents.py calls it.
 
-    python3 tools/gate/check_names.py
+    python3 tools gate.check_names
 
 - `lw_x`, and a path: a crate, and a file or folder of it, with its ending or without; a path that begins with a crate or a folder of the
   repository is there as a whole; another one is of some crate.
@@ -14,24 +13,28 @@ What is no name (a command, a text, a number) is not looked at, but for the path
 
 - The files that README.md and all pages of docs/ link to, and the paths of files that stand in them without backticks, are there.
 - A link from a name in backticks to a file of a crate, as docs/PROOF.md has for lemmas: the file declares the name.
+- A path below a crate, such as `specs/Limits.antt`: the crate named last before it in its paragraph, item or row has it; if none is named, some
+  crate. `specs/laws/Cases.written` means a declaration of that file.
 - docs/MAP.md has a row for each crate of crates.txt and for no other, with the crates that its line there names.
 - README.md names the logic that `rt version` prints, if there is an `rt`.
 - docs/TRUSTED.md says what the verdict of the built program says, if there is one (tools/gate/check_trusted.py).
 
 The last line is 'N passed, M failed'.
 """
+from __future__ import annotations
+
 import glob
 import os
 import re
 import subprocess
 import sys
+from collections.abc import Callable, Iterator
 
-sys.dont_write_bytecode = True
-sys.path.insert(0, os.path.dirname(os.path.dirname(os.path.abspath(__file__))))
 from gate import check_trusted, check_wings
+from shared import command
 from shared.home import HOME
 
-DOCUMENTS = "THEOREMS", "BELIEVE", "AXIOMS", "DECISIONS", "MAP", "PROOF", "TRUSTED"
+DOCUMENTS = "THEOREMS", "BELIEVE", "AXIOMS", "DECISIONS", "MAP", "PROOF", "TRUSTED", "CONTRIBUTING"
 ENDINGS = "", ".antt", ".rt", ".py", ".md", ".txt", ".litmus"
 WORD = re.compile(r"[^\W\d][\w'-]*")
 PATH = re.compile(r"^(?:[\w.+-]+/)+[\w.*+-]*$")
@@ -40,74 +43,82 @@ QUALIFIED = re.compile(r"^(?:(lw_\w+)::)?(\w+(?:::\w+)*)$")
 PLACEHOLDER = re.compile(r"\b(NAME|CRATE|NN|FILE|WORD|KIT)")
 # A link from a name to a file of a crate.
 LINKED_NAME = re.compile(r"\[`([\w'+-]+)`\]\(\.\./(crates/[^)\s]+)\)")
+# A path below a crate, in backticks, with the crate before it or after it; or a crate.
+BELOW_CRATE = re.compile(r"`(?:(lw_\w+)/)?((?:src|specs|proofs|must-fail)/[\w.+/-]*)`(?: of (lw_\w+))?|\b(lw_\w+)")
+# Where a paragraph, an item of a list or a row of a table begins.
+BLOCK = re.compile(r"\n\s*\n|\n(?=\s*(?:-|\d+\.) |\|)")
 # A function of the toolchain's crates; check_trusted compares those of docs/TRUSTED.md.
 OF_KIT = re.compile(r"(libc|os)::[\w:]+")
 # Words of the language, of std and of the format, which no file of the repository declares.
 COMMON = {"where", "impl", "Vec", "String", "Option", "Err", "Ok", "Some", "None", "malloc", "rt", "fn", "dyn", "data", "module", "record"}
 
 
-def files(*patterns):
-    """Returns the files of some patterns, without what is built."""
-    found = [it for pattern in patterns for it in glob.glob(f"{HOME}/{pattern}", recursive=True)]
-    return [it for it in found if os.path.isfile(it) and "/out/" not in it]
+def list_files(*patterns: str) -> list[str]:
+    """Returns the files of some patterns, without what is built, and without Python's."""
+    paths = [it for pattern in patterns for it in glob.glob(f"{HOME}/{pattern}", recursive=True)]
+    return [it for it in paths if os.path.isfile(it) and "/out/" not in it and "/__pycache__/" not in it]
 
 
-def read(path):
-    with open(path, encoding="utf-8") as it:
-        return it.read()
+def read_file(path: str) -> str:
+    """Returns the text of a file."""
+    with open(path, encoding="utf-8") as file:
+        return file.read()
 
 
 class Names:
     """The names of the repository: of each crate's code, and all words of code, definitions, proofs, tools and pages."""
 
-    def __init__(self):
+    def __init__(self) -> None:
+        """Reads all files that declare names."""
         self.crates = sorted(os.path.basename(os.path.dirname(it)) for it in glob.glob(f"{HOME}/crates/*/src"))
-        self.code = {it: [read(path) for path in files(f"crates/{it}/src/**/*.rt")] for it in self.crates}
-        specs = "\n".join(map(read, files("crates/*/specs/**/*.antt")))
+        self.code = {it: [read_file(path) for path in list_files(f"crates/{it}/src/**/*.rt")] for it in self.crates}
+        specs = "\n".join(map(read_file, list_files("crates/*/specs/**/*.antt")))
         code = "\n".join(text for texts in self.code.values() for text in texts)
-        self.files = {os.path.basename(it).partition(".")[0] for it in files("crates/*/specs/**/*.antt", "crates/*/src/**/*.rt")}
-        others = "\n".join(map(read, files("crates/*/proofs/**/*.antt", "tools/*", "tools/*/*", "web/*", "crates/*/must-fail/*", "*.sh", "lw", "page")))
+        self.files = {os.path.basename(it).partition(".")[0] for it in list_files("crates/*/specs/**/*.antt", "crates/*/src/**/*.rt")}
+        others = "\n".join(
+            map(read_file, list_files("crates/*/proofs/**/*.antt", "tools/*", "tools/*/*", "web/*", "crates/*/must-fail/*", "*.sh", "lw", "page"))
+        )
         self.words = set(WORD.findall(specs + code + others)) | COMMON
         declared = r"(?:fn|struct|enum|trait|type|ensures|requires|ghost|const|mod)\s+(\w+)"
         fields = r"^\s*(?:abbrev )?(?:pub )?(?:data |record )?(\w[\w']*)\s*(?:[:({]|$)"
         self.declared = set(re.findall(declared, code)) | set(re.findall(fields, specs + "\n" + code, re.M)) | COMMON
 
-    def has_path(self, path):
+    def has_path(self, path: str) -> bool:
         """Returns whether a path means a file or folder of the repository, of a crate or of some crate."""
         places = [path, f"crates/{path}", f"crates/*/{path}", f"crates/*/specs/{path}", f"crates/*/proofs/{path}", f"docs/{path}"]
         return any(glob.glob(f"{HOME}/{place.rstrip('/')}{ending}") for place in places for ending in ENDINGS)
 
-    def members(self, name):
+    def find_members(self, name: str) -> str:
         """Returns the code of all types, traits and impls of a name."""
         opening = re.compile(rf"^(?:pub(?:\(crate\))? )?(?:impl|trait|enum|struct)\b[^\n]*\b{name}\b")
-        found = []
+        lines = []
         for text in (text for texts in self.code.values() for text in texts):
             inside = False
             for line in text.split("\n"):
                 inside = inside or bool(opening.match(line))
                 if inside:
-                    found.append(line)
+                    lines.append(line)
                 inside = inside and not line.startswith("}")
-        return "\n".join(found)
+        return "\n".join(lines)
 
-    def has_call(self, crate, parts):
+    def has_call(self, crate: str | None, parts: list[str]) -> bool:
         """Returns whether a crate, or some crate, declares what the parts of a qualified name say."""
         if crate and crate not in self.crates:
             return False
         *types, last = parts
         if types:
             declared = rf"(?:fn|ghost|const|type) {last}\b|^\s+(?:pub )?{last}\b\s*[,:({{]"
-            return re.search(declared, self.members(types[-1]), re.M) is not None
-        whole = "\n".join(self.code[crate])
+            return re.search(declared, self.find_members(types[-1]), re.M) is not None
+        whole = "\n".join(self.code[crate or ""])
         return re.search(rf"(?:fn|struct|enum|trait|const) {last}\b|pub use [^;]*\b{last}\b", whole) is not None
 
-    def is_there(self, name, in_contracts):
+    def exists(self, name: str, in_contracts: bool) -> bool | None:
         """Returns whether a name exists; `None` if it is no name that is checked."""
         if name in self.crates or PLACEHOLDER.search(name):
             return True
         if OF_KIT.fullmatch(name):
             return None
-        if "/out/" in name:
+        if "/out/" in f"/{name}":
             return None
         if PATH.match(name):
             return self.has_path(name) if re.search(r"[A-Za-z]", name) else None
@@ -121,46 +132,51 @@ class Names:
         return None
 
 
-def named(text):
+def list_quoted(text: str) -> list[tuple[str, bool]]:
     """Returns what a document has in backticks, each with whether it is in a column of contracts."""
-    found, contracts = [], False
+    quoted, contracts = [], False
     for line in text.split("\n"):
         if line.startswith("|"):
             cells = re.split(r"(?<!\\)\|", line)[1:-1]
             contracts = (contracts or cells[-1].strip() == "Contract") and len(cells) == 2
             for number, cell in enumerate(cells):
-                found += [(it, contracts and number == 1) for it in re.findall(r"`([^`\n]+)`", cell)]
+                quoted += [(it, contracts and number == 1) for it in re.findall(r"`([^`\n]+)`", cell)]
         else:
             contracts = False
-            found += [(it, False) for it in re.findall(r"`([^`\n]+)`", line)]
-    return found
+            quoted += [(it, False) for it in re.findall(r"`([^`\n]+)`", line)]
+    return quoted
 
 
-def paths_of(text):
+def list_paths(text: str) -> list[str]:
     """Returns the whole paths of files of the repository in a text, in commands and sentences: those that start with one of its folders."""
     folders = "|".join(sorted(it for it in os.listdir(HOME) if os.path.isdir(f"{HOME}/{it}") and not it.startswith(".")))
     return re.findall(rf"(?<![\w./<-])(?:{folders})/[\w.+/-]*\w(?![\w*/$%{{}}<>])", text)
 
 
-def path_faults(page, text):
+def list_commands(text: str) -> list[str]:
+    """Returns the paths, without endings, of the modules that a text runs by `python3 tools MODULE`."""
+    return [f"tools/{it.replace('.', '/')}" for it in re.findall(r"python3 tools ([a-z]\w*(?:\.\w+)*)", text)]
+
+
+def find_path_faults(page: str, text: str) -> Iterator[str]:
     """Returns the broken links and whole paths of a page, README.md or one of docs/."""
     folder = os.path.dirname(page)
     for link in dict.fromkeys(re.findall(r"\]\(([^)#:\s]+)(?:#[^)]*)?\)", text)):
         if not os.path.exists(os.path.join(HOME, folder, link)):
             yield f"{page} links to {link}, which is not there"
-    for path in dict.fromkeys(paths_of(text)):
+    for path in dict.fromkeys(list_paths(text) + list_commands(text)):
         if not PLACEHOLDER.search(path) and "/out/" not in path and not any(glob.glob(f"{HOME}/{path}{it}") for it in ENDINGS):
             yield f"{page} names {path}, which is not there"
 
 
-def declares(text, name):
+def declares(text: str, name: str) -> bool:
     """Returns whether a file of code, definitions or proofs declares a name."""
     in_code = rf"\b(?:fn|ensures|struct|enum|trait|const) {re.escape(name)}\b"
     in_logic = rf"^\s*(?:abbrev )?(?:pub )?(?:data |record )?{re.escape(name)} *(?:[:({{]|$)"
     return re.search(f"{in_code}|{in_logic}", text, re.M) is not None
 
 
-def linked_name_faults(page, text, read_file):
+def find_linked_name_faults(page: str, text: str, read_file: Callable[[str], str | None]) -> Iterator[str]:
     """Yields the names of a page that link to a file of a crate which does not declare them. `read_file` returns a file's text, or None."""
     for name, path in dict.fromkeys(LINKED_NAME.findall(text)):
         code = read_file(path)
@@ -168,37 +184,58 @@ def linked_name_faults(page, text, read_file):
             yield f"{page} says that {path} declares {name}, which it does not"
 
 
-def text_of(path):
+def is_below(crate: str, path: str) -> bool:
+    """Returns whether a crate has a file or folder, or a file with a declaration whose name follows a dot."""
+    whole = f"{HOME}/crates/{crate}/{path}"
+    if any(os.path.exists(f"{whole}{it}") for it in (*ENDINGS, ".edit")):
+        return True
+    file, _, name = whole.rpartition(".")
+    return os.path.isfile(f"{file}.antt") and declares(read_file(f"{file}.antt"), name)
+
+
+def find_crate_path_faults(page: str, text: str, crates: list[str]) -> Iterator[str]:
+    """Yields the paths of a page that its sentences place below a crate, and that are not there."""
+    for block in BLOCK.split(text):
+        last = None
+        for before, path, after, crate in BELOW_CRATE.findall(block):
+            if before or crate in crates:
+                last = before or crate
+            where = after or last
+            if path and not PLACEHOLDER.search(path) and not any(is_below(it, path) for it in ([where] if where else crates)):
+                yield f"{page} names {path} of {where or 'a crate'}, which is not there"
+
+
+def read_repository_file(path: str) -> str | None:
     """Returns the text of a file of the repository, or None if there is none."""
-    return read(f"{HOME}/{path}") if os.path.isfile(f"{HOME}/{path}") else None
+    return read_file(f"{HOME}/{path}") if os.path.isfile(f"{HOME}/{path}") else None
 
 
-def crate_rows(text):
+def read_crate_rows(text: str) -> dict[str, str]:
     """Returns the rows of docs/MAP.md's table of crates: each crate with those that it names, in words."""
     return dict(re.findall(r"^\| [\w ]+ \| (?!Crate )(\w+) \| [^|]* \| ([^|]*?) \|$", text, re.M))
 
 
-def table_faults(rows, lines):
+def find_table_faults(rows: dict[str, str], lines: dict[str, list[str]]) -> Iterator[str]:
     """Returns where the table of crates differs from crates.txt. `lines` has the dependencies of each crate there."""
     for crate in sorted({*rows} ^ {*lines}):
         yield f"docs/MAP.md has {'a' if crate in rows else 'no'} row for {crate}, which crates.txt has{'' if crate in lines else ' not'}"
-    above = []
+    above: list[str] = []
     for crate, words in rows.items():
         but = re.fullmatch(r"all of the above but ([\w, ]+)", words)
-        told = [it for it in above if it not in but[1].split(", ")] if but else [it for it in words.split(", ") if it != "std"]
-        if crate in lines and sorted(told) != sorted(lines[crate]):
-            yield f"docs/MAP.md says that {crate} names {', '.join(told)}, and crates.txt {', '.join(lines[crate])}"
+        on_page = [it for it in above if it not in but[1].split(", ")] if but else [it for it in words.split(", ") if it != "std"]
+        if crate in lines and sorted(on_page) != sorted(lines[crate]):
+            yield f"docs/MAP.md says that {crate} names {', '.join(on_page)}, and crates.txt {', '.join(lines[crate])}"
         above.append(crate)
 
 
-def logic_faults(text, told):
+def find_logic_faults(text: str, version_text: str) -> Iterator[str]:
     """Returns where README.md names another logic than what `rt version` prints."""
-    named_here, there = (re.search(r"\blogic [0-9a-f]{16}\b", it) for it in (text, told))
-    if not named_here or there and named_here[0] != there[0]:
-        yield f"README.md names '{named_here and named_here[0]}', and `rt version` '{there and there[0]}'"
+    named_here, by_rt = (re.search(r"\blogic [0-9a-f]{16}\b", it) for it in (text, version_text))
+    if not named_here or by_rt and named_here[0] != by_rt[0]:
+        yield f"README.md names '{named_here and named_here[0]}', and `rt version` '{by_rt and by_rt[0]}'"
 
 
-def version():
+def read_version() -> str:
     """Returns what `rt version` prints, or nothing if there is none."""
     try:
         return subprocess.run(["rt", "version"], capture_output=True, text=True, check=False).stdout
@@ -206,31 +243,36 @@ def version():
         return ""
 
 
-def name_faults(names):
+def find_name_faults(names: Names) -> Iterator[str]:
     """Returns the names that do not exist, a line each."""
     for document in DOCUMENTS:
-        for name, in_contracts in dict.fromkeys(named(read(f"{HOME}/docs/{document}.md"))):
-            if names.is_there(name, in_contracts) is False:
+        for name, in_contracts in dict.fromkeys(list_quoted(read_file(f"{HOME}/docs/{document}.md"))):
+            if names.exists(name, in_contracts) is False:
                 yield f"docs/{document}.md names `{name}`, which is not there"
 
 
-def faults():
+def find_faults() -> list[str]:
     """Returns all that documents name and that does not exist, a line each."""
-    found = list(name_faults(Names()))
+    names = Names()
+    faults = list(find_name_faults(names))
     for path in ("README.md", *sorted(os.path.relpath(it, HOME) for it in glob.glob(f"{HOME}/docs/*.md"))):
-        text = read(f"{HOME}/{path}")
-        found += [*path_faults(path, text), *linked_name_faults(path, text, text_of)]
-    found += table_faults(crate_rows(read(f"{HOME}/docs/MAP.md")), check_wings.lines_of_crates())
-    return [*found, *logic_faults(read(f"{HOME}/README.md"), version()), *check_trusted.faults()]
+        text = read_file(f"{HOME}/{path}")
+        faults += [
+            *find_path_faults(path, text), *find_linked_name_faults(path, text, read_repository_file),
+            *find_crate_path_faults(path, text, names.crates),
+        ]
+    faults += find_table_faults(read_crate_rows(read_file(f"{HOME}/docs/MAP.md")), check_wings.read_dependencies())
+    return [*faults, *find_logic_faults(read_file(f"{HOME}/README.md"), read_version()), *check_trusted.find_faults()]
 
 
-def main():
-    found = faults()
-    for fault in found:
+def main() -> int:
+    """Runs the command that the arguments describe. Returns the exit status."""
+    fault_lines = find_faults()
+    for fault in fault_lines:
         print(fault)
-    print(f"{0 if found else 1} passed, {len(found)} failed")
-    return 1 if found else 0
+    print(f"{0 if fault_lines else 1} passed, {len(fault_lines)} failed")
+    return 1 if fault_lines else 0
 
 
 if __name__ == "__main__":
-    sys.exit(main())
+    sys.exit(command.run_command(main, __doc__))

@@ -1,12 +1,13 @@
-#!/usr/bin/env python3
 """Looks whether a pack runs where there is no toolchain and no checkout. The last line is 'N passed, M failed'.
 
-    python3 tools/gate/check_pack.py
+    python3 tools gate.check_pack
 
 It makes a pack of the built tree, unpacks it in a folder that may only be read, and runs it without rt: the programs, the tools, the
 page's server, and the library from Python. As root it does the same in a container of files with glibc, a shell and Python alone.
 tools/check_documents.py calls this.
 """
+from __future__ import annotations
+
 import os
 import re
 import shutil
@@ -15,14 +16,17 @@ import sys
 import tarfile
 import tempfile
 import urllib.request
+from collections.abc import Iterator
+from typing import Any
 from unittest import mock
 
-sys.dont_write_bytecode = True
-sys.path.insert(0, os.path.dirname(os.path.dirname(os.path.abspath(__file__))))
 import pack
 from gate import check_library, check_page, container
+from gate.cases import Comparison
 from page import web_files
-from shared.home import HOME, close
+from shared import command
+from shared.home import HOME, close_check
+from shared.matches import require_match
 
 GATE = "1 passed, 0 failed"
 TEST = "examples/SB-x86.litmus"
@@ -43,134 +47,156 @@ CALLS = (
 )
 BY_LIBRARY = """
 import sys
-sys.path.insert(0, "python")
 import lw
 bench = lw.Workbench("python/liblw.so")
 sys.stdout.buffer.write(bench.run("states", open(sys.argv[1], "rb").read())[1])
 """
-# What tools/make_lab.py makes, each file by a sum of its bytes.
+# What tools/make_lab.py makes, each file by a sum of its bytes, without where it comes from, which an archive knows by its PACK.txt.
 BY_LAB = """
 import hashlib, sys
 sys.dont_write_bytecode = True
-sys.path.insert(0, "tools")
+from page import origin
+origin.read_origin = lambda: origin.Origin(None, False, None)
 import make_lab
+import make_slides
 from page import web_files
-for name, it in sorted(make_lab.contents(web_files.modules(), make_lab.slides_if_built()).items()):
+for name, it in sorted(make_lab.make_files(web_files.read_modules(), make_slides.make_page_if_built()).items()):
     print(hashlib.sha256(it).hexdigest(), name)
 """
 
 
-class Here:
+class HostSystem:
     """Where a pack runs: this system, without rt."""
 
-    def start(self, words, folder, **streams):
+    def start_command(self, words: list[str], folder: str, **streams: Any) -> subprocess.Popen:
+        """Starts a command in a folder of this system."""
         return subprocess.Popen(words, cwd=folder, env={"PATH": PATH}, **streams)
 
 
-def run(words, text, home, system):
-    """What a command prints with a file as its input, and its exit status."""
-    with open(f"{HOME}/{text}", "rb") as it:
-        with system.start(words, home, stdin=it, stdout=subprocess.PIPE, stderr=subprocess.STDOUT) as ran:
+def make_script_command(folder: str, text: str, *arguments: str) -> list[str]:
+    """Returns the command that runs a script of Python, which imports the modules of a folder."""
+    return ["sh", "-c", f'PYTHONPATH={folder} exec python3 -c "$@"', "sh", text, *arguments]
+
+
+def run_command(arguments: list[str], path: str, home: str, system: Any) -> tuple[int, bytes]:
+    """Runs a command with a file of the repository as its input. Returns its exit status, and what it prints."""
+    with open(f"{HOME}/{path}", "rb") as file:
+        with system.start_command(arguments, home, stdin=file, stdout=subprocess.PIPE, stderr=subprocess.STDOUT) as ran:
             out = ran.communicate(timeout=300)[0]
     return ran.returncode, out
 
 
-def unpacked(room):
+def make_and_unpack(folder: str) -> tuple[str, dict[str, bytes]]:
     """Makes a pack, and unpacks it in a folder that may only be read. Returns the folder, and the names in it."""
-    files = pack.contents("0" * 40, GATE)
-    pack.write(f"{room}/pack.tar.gz", "lw-packed", files)
-    pack.write(f"{room}/again.tar.gz", "lw-packed", files)
-    with tarfile.open(f"{room}/pack.tar.gz") as tar:
-        tar.extractall(room)
-    subprocess.run(["chmod", "-R", "a-w", f"{room}/lw-packed"], check=True)
-    return f"{room}/lw-packed", files
+    files = pack.make_contents("0" * 40, GATE)
+    pack.write_pack(f"{folder}/pack.tar.gz", "lw-packed", files)
+    pack.write_pack(f"{folder}/again.tar.gz", "lw-packed", files)
+    with tarfile.open(f"{folder}/pack.tar.gz") as tar:
+        tar.extractall(folder)
+    subprocess.run(["chmod", "-R", "a-w", f"{folder}/lw-packed"], check=True)
+    return f"{folder}/lw-packed", files
 
 
-def check_contents(home, files, room):
-    told = files["PACK.txt"].decode()
-    yield "its commit, its toolchain and its gate", True, all(it in told for it in ("0" * 40, "rattle-kit", GATE))
+def check_contents(home: str, files: dict[str, bytes], folder: str) -> Iterator[Comparison]:
+    """Compares what a pack holds with what it should."""
+    description = files["PACK.txt"].decode()
+    yield "its commit, its toolchain and its gate", True, all(it in description for it in ("0" * 40, "rattle-kit", GATE))
     yield "no sources", [], [it for it in files if it.endswith((".rt", ".antt")) or it == "crates.txt"]
-    with mock.patch.multiple(pack, taken=lambda: {}, made=lambda: {}):
-        told = pack.contents("0" * 40, pack.NO_GATE)["PACK.txt"].decode()
-    yield "without a gate it says so, and of the library", True, pack.NO_GATE in told and pack.NO_LIBRARY in told
+    with mock.patch.multiple(pack, read_taken_files=lambda: {}, make_files=lambda: {}):
+        description = pack.make_contents("0" * 40, pack.NO_GATE)["PACK.txt"].decode()
+    yield "without a gate it says so, and of the library", True, pack.NO_GATE in description and pack.NO_LIBRARY in description
     licences = {it.split("/")[1] for it in files if it.startswith("licences/")}
     yield "licences of the crates that are linked in", {"circular_buffer", "indexmap"}, licences
     summed = subprocess.run(["sha256sum", "--quiet", "-c", "SHA256SUMS"], cwd=home, capture_output=True, text=True, check=False)
     yield "its checksums", (0, ""), (summed.returncode, summed.stdout)
-    with open(f"{room}/pack.tar.gz", "rb") as one, open(f"{room}/again.tar.gz", "rb") as other:
-        yield "the same bytes when it is made again", True, one.read() == other.read()
+    with open(f"{folder}/pack.tar.gz", "rb") as first, open(f"{folder}/again.tar.gz", "rb") as second:
+        yield "the same bytes when it is made again", True, first.read() == second.read()
 
 
-def check_calls(home, system):
+BY_ORIGIN = """
+import sys
+sys.dont_write_bytecode = True
+from page.origin import read_origin
+print(*read_origin())
+"""
+
+
+def check_calls(home: str, system: Any) -> Iterator[Comparison]:
+    """Compares what commands of a pack print with what they print here."""
     for words, text in CALLS:
-        yield " ".join(words), run(words, text, HOME, Here()), run(words, text, home, system)
-    words = ["python3", "-c", BY_LAB]
-    yield "what a class needs", run(words, TEST, HOME, Here()), run(words, TEST, home, system)
-    words = ["python3", "-c", BY_LIBRARY, TEST]
-    yield "the library from Python", run(["./lw", "states"], TEST, HOME, Here()), run(words, TEST, home, system)
+        yield " ".join(words), run_command(words, text, HOME, HostSystem()), run_command(words, text, home, system)
+    words = make_script_command("tools", BY_LAB)
+    yield "what a class needs", run_command(words, TEST, HOME, HostSystem()), run_command(words, TEST, home, system)
+    printed = run_command(make_script_command("tools", BY_ORIGIN), TEST, home, system)
+    yield "where it comes from", (0, f"{'0' * 40} False {GATE}\n".encode()), printed
+    words = make_script_command("python", BY_LIBRARY, TEST)
+    yield "the library from Python", run_command(["./lw", "states"], TEST, HOME, HostSystem()), run_command(words, TEST, home, system)
 
 
-def check_server(home, system):
-    with system.start(["python3", "page"], home, stdout=subprocess.PIPE, text=True) as server:
+def check_server(home: str, system: Any) -> Iterator[Comparison]:
+    """Compares what the page of a pack answers."""
+    with system.start_command(["./page"], home, stdout=subprocess.PIPE, text=True) as server:
         try:
-            address = re.search(r"http://\S+", server.stdout.readline())[0]
-            with urllib.request.urlopen(f"{address}lw.wasm") as it:
-                yield "its page has the module", True, it.read() == web_files.module()
+            address = require_match(re.search(r"http://\S+", server.stdout.readline()))[0]
+            with urllib.request.urlopen(f"{address}lw.wasm") as answer:
+                yield "its page has the module", True, answer.read() == web_files.read_module()
         finally:
             server.terminate()
 
 
-def check_in_container(home):
-    """The same where there is nothing but glibc, a shell and Python."""
+def check_in_container(home: str) -> Iterator[Comparison]:
+    """Compares the same in a container, where there is nothing but glibc, a shell and Python."""
     if not container.can_be_made():
         return
     with container.Container() as system:
-        system.put(home, "/lw-packed")
+        system.copy_in(home, "/lw-packed")
         for check in (check_calls("/lw-packed", system), check_server("/lw-packed", system)):
-            yield from ((f"in a container, {what}", wanted, told) for what, wanted, told in check)
+            yield from ((f"in a container, {what}", wanted, found) for what, wanted, found in check)
 
 
-def check_refusals():
-    """What is told where no pack can be made."""
+def check_refusals() -> Iterator[Comparison]:
+    """Compares what is said if no pack can be made."""
     tool = [sys.executable, f"{HOME}/tools/pack.py"]
     yield "no folder", 2, subprocess.run(tool, capture_output=True, check=False).returncode
     with mock.patch.object(pack, "OUT", "/nowhere"):
-        gate = pack.ending_of_gate()
+        gate = pack.describe_gate()
     yield "no gate", pack.NO_GATE, gate
-    yield "no gate is told", True, "in this checkout" in "".join(pack.warning(gate))
-    yield "a gate that has passed is not told", [], pack.warning(GATE)
+    yield "no gate is told", True, "in this checkout" in "".join(pack.make_warning(gate))
+    yield "a gate that has passed is not told", [], pack.make_warning(GATE)
 
 
-def skipped():
-    """The line that tells what was left out, or None."""
-    lacking = None if check_library.is_there() and web_files.module() else "the library, its module or cc is missing"
+def skipped() -> str | None:
+    """Returns the line that says what was left out, or None if nothing was."""
+    lacking = None if check_library.is_built() and web_files.read_module() else "the library, its module or cc is missing"
     return lacking and f"the pack: checks were skipped, since {lacking}"
 
 
-def comparisons():
-    """All comparisons: what is compared, what is wanted, and what is told. With CI=true nothing may be missing."""
+def comparisons() -> Iterator[Comparison]:
+    """Yields all comparisons: what is compared, what is expected, and what was found. With CI=true nothing may be missing."""
     if not skipped():
         yield from all_comparisons()
     elif os.environ.get("CI") == "true":
         yield "the pack: where CI=true, all is there", None, skipped()
 
 
-def all_comparisons():
-    yield from ((f"the pack: {what}", wanted, told) for what, wanted, told in check_refusals())
-    room = tempfile.mkdtemp(prefix="lw-packed-")
+def all_comparisons() -> Iterator[Comparison]:
+    """Yields all comparisons of a pack that is made here."""
+    yield from ((f"the pack: {what}", wanted, found) for what, wanted, found in check_refusals())
+    folder = tempfile.mkdtemp(prefix="lw-packed-")
     try:
-        home, files = unpacked(room)
-        checks = check_contents(home, files, room), check_calls(home, Here()), check_server(home, Here()), check_in_container(home)
+        home, files = make_and_unpack(folder)
+        checks = check_contents(home, files, folder), check_calls(home, HostSystem()), check_server(home, HostSystem()), check_in_container(home)
         for check in checks:
-            yield from ((f"the pack: {what}", wanted, told) for what, wanted, told in check)
+            yield from ((f"the pack: {what}", wanted, found) for what, wanted, found in check)
     finally:
-        subprocess.run(["chmod", "-R", "u+w", room], check=False)
-        shutil.rmtree(room)
+        subprocess.run(["chmod", "-R", "u+w", folder], check=False)
+        shutil.rmtree(folder)
 
 
-def main():
-    return close(comparisons(), check_page.told_of)
+def main() -> int:
+    """Runs the command that the arguments describe. Returns the exit status."""
+    return close_check(comparisons(), check_page.format_fault)
 
 
 if __name__ == "__main__":
-    sys.exit(main())
+    sys.exit(command.run_command(main, __doc__))

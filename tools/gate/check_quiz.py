@@ -1,7 +1,6 @@
-#!/usr/bin/env python3
 """Looks whether tools/make_quiz.py makes a quiz, and whether tools/read_codes.py reads its codes. The last line is 'N passed, M failed'.
 
-    python3 tools/gate/check_quiz.py
+    python3 tools gate.check_quiz
 
 - The same seed gives the same bytes, by the program and by tools/plain.py. The page names no other site and loads nothing.
 - Each verdict is the program's: the x86 test's report, and that of its source form, which has the test's accesses and no fence. That the
@@ -13,6 +12,8 @@
 
 tools/check_documents.py calls all this; the program has to be there.
 """
+from __future__ import annotations
+
 import json
 import os
 import re
@@ -20,16 +21,18 @@ import shutil
 import subprocess
 import sys
 import tempfile
+from collections.abc import Iterator
 
-sys.dont_write_bytecode = True
-sys.path.insert(0, os.path.dirname(os.path.dirname(os.path.abspath(__file__))))
 import given
 import make_quiz
 import plain
 from gate.browser import user as users
+from gate.cases import Comparison
 from gate.examples import run
 from lab import codes, quiz, reasons
-from shared.home import close
+from shared import command
+from shared.home import close_check
+from shared.matches import require_match
 
 SEEDS = ("1", "2", "autumn26")
 TESTS = 10
@@ -40,122 +43,128 @@ HEADING = ["Line", "Student", "Right", "Wrong"]
 NODE = shutil.which("node")
 
 
-def data_in(page):
-    """What a page holds of its quiz."""
-    return json.loads(re.search(r"^const quiz = (\{.*\});$", page, re.M)[1])
+def read_data(page: str) -> quiz.Data:
+    """Returns what a page holds of its quiz."""
+    return json.loads(require_match(re.search(r"^const quiz = (\{.*\});$", page, re.M))[1])
 
 
-def accesses(text):
-    """The threads of a test by tools/plain.py, each access by what it stores, loads and names, without fences."""
+def list_accesses(text: str) -> list[list[list[str]]]:
+    """Returns the threads of a test by tools/plain.py, each access by what it stores, loads and names, without fences."""
     cells = [re.split(r" *\| *", line.strip(" ;")) for line in text.splitlines()[3:-1]]
     columns = list(zip(*(row + [""] * (len(cells[0]) - len(row)) for row in cells)))
     return [[re.findall(r"\b[a-z]\b(?!\d)|(?<=\$)\d|(?<=:= )\d", cell) for cell in column if cell not in ("", "MFENCE")] for column in columns]
 
 
-def check_verdicts(seed):
-    """The tests of a seed, and what is said of them."""
-    tests = quiz.tests_of(TESTS, seed, quiz.report_by_program)
-    yield f"the tests of {seed}, by the program and by tools/plain.py", tests, quiz.tests_of(TESTS, seed, quiz.report_by_plain)
+def check_verdicts(seed: str) -> Iterator[Comparison]:
+    """Checks the tests of a seed, and what is said of them."""
+    tests = quiz.make_tests(TESTS, seed, quiz.make_report_by_program)
+    yield f"the tests of {seed}, by the program and by tools/plain.py", tests, quiz.make_tests(TESTS, seed, quiz.make_report_by_plain)
     yield f"the tests of {seed} differ", TESTS, len({it.text.partition("\n")[2] for it in tests})
     yield f"how many ends of {seed} are possible by interleaving", TESTS // 3, sum(it.interleaved for it in tests)
     yield f"what is possible by interleaving is on x86, {seed}", [], [it.text for it in tests if it.interleaved and not it.on_x86]
-    for at, it in enumerate(tests, 1):
-        source = quiz.source_form(it.text)
-        by_program = [re.search(r"^Positive: (\d+)", quiz.report_by_program(text), re.M)[1] != "0" for text in (source, it.text)]
-        yield f"the verdicts of test {at} of {seed}", [it.interleaved, it.on_x86], by_program
-        words = ["allowed" if verdict else "forbidden" for verdict in (it.interleaved, it.on_x86)]
-        yield f"the verdicts of test {at} of {seed}, by the x86 test alone", words, list(plain.words_on(plain.read_test(it.text)))
-        yield f"the source form of test {at} of {seed}", accesses(it.text), accesses(source)
+    for index, test in enumerate(tests, 1):
+        source = quiz.make_source_form(test.text)
+        by_program = [
+            require_match(re.search(r"^Positive: (\d+)", quiz.make_report_by_program(text), re.M))[1] != "0" for text in (source, test.text)
+        ]
+        yield f"the verdicts of test {index} of {seed}", [test.interleaved, test.on_x86], by_program
+        words = ["allowed" if verdict else "forbidden" for verdict in (test.interleaved, test.on_x86)]
+        yield f"the verdicts of test {index} of {seed}, by the x86 test alone", words, list(plain.find_verdicts(plain.read_test(test.text)))
+        yield f"the source form of test {index} of {seed}", list_accesses(test.text), list_accesses(source)
 
 
-def check_page(page, tests):
-    """The page as a whole."""
-    data = data_in(page)
-    yield "the same bytes again", True, page == make_quiz.page(TESTS, "1", quiz.report_by_program)
-    yield "the same bytes by tools/plain.py", True, page == make_quiz.page(TESTS, "1", quiz.report_by_plain)
-    yield "the same bytes for another seed", False, page == make_quiz.page(TESTS, "2", quiz.report_by_program)
+def check_page(page: str, tests: list[quiz.Asked]) -> Iterator[Comparison]:
+    """Checks the page as a whole."""
+    data = read_data(page)
+    yield "the same bytes again", True, page == make_quiz.make_page(TESTS, "1", quiz.make_report_by_program)
+    yield "the same bytes by tools/plain.py", True, page == make_quiz.make_page(TESTS, "1", quiz.make_report_by_plain)
+    yield "the same bytes for another seed", False, page == make_quiz.make_page(TESTS, "2", quiz.make_report_by_program)
     yield "the page loads nothing and names no other site", [], OUTWARD.findall(page)
     yield "nothing of the template is left", [], re.findall(r"@[A-Z]+@", page)
     yield "the page holds the seed, a mark, the tests, and what is hidden", ["hidden", "mark", "reasons", "seed", "tests"], sorted(data)
     yield from check_reasons(data, tests)
     yield "the page has the tests", [it.text for it in tests], data["tests"]
-    yield "what is hidden is found again", [it.answer() for it in tests], quiz.answers_in(data)
-    symbols = {(it.answer(), symbol) for it, symbol in zip(tests, data["hidden"])}
-    yield "no answer has a symbol of its own", True, len(symbols) > len({it.answer() for it in tests})
+    yield "what is hidden is found again", [it.encode_answers() for it in tests], quiz.read_answers(data)
+    symbols = {(it.encode_answers(), symbol) for it, symbol in zip(tests, data["hidden"])}
+    yield "no answer has a symbol of its own", True, len(symbols) > len({it.encode_answers() for it in tests})
 
 
-def check_reasons(data, tests):
-    """Why each test can end so or can't: a run where it can, which ends so, and a cycle where it can't; none is in plain sight."""
-    for at, (it, found) in enumerate(zip(tests, quiz.reasons_in(data)), 1):
-        kinds = ["run" if verdict else "cycle" for verdict in (it.interleaved, it.on_x86)]
-        yield f"the reasons on test {at}", kinds, [reason["kind"] for reason in found]
-        yield f"the reasons on test {at} have events", True, all(len(reason.get("steps") or reason["events"]) > 1 for reason in found)
-        test = plain.read_test(it.text)
-        ways = [reasons.asked_finals(test, plain.x86_start, moves) for moves in (plain.interleaved_moves, plain.x86_moves)]
-        yield f"runs by tools/plain.py that end as test {at} asks", [it.interleaved, it.on_x86], [bool(way) for way in ways]
+def check_reasons(data: quiz.Data, tests: list[quiz.Asked]) -> Iterator[Comparison]:
+    """Checks why each test can end so or can't: a run if it can, which ends so, and a cycle if it can't. None is in plain sight."""
+    for index, (other_reason, found) in enumerate(zip(tests, quiz.read_reasons(data)), 1):
+        kinds = ["run" if verdict else "cycle" for verdict in (other_reason.interleaved, other_reason.on_x86)]
+        yield f"the reasons on test {index}", kinds, [reason["kind"] for reason in found]
+        yield f"the reasons on test {index} have events", True, all(len(reason.get("steps") or reason["events"]) > 1 for reason in found)
+        test = plain.read_test(other_reason.text)
+        ways = [reasons.list_asked_schedules(test, plain.make_x86_start, moves) for moves in (plain.list_interleaved_moves, plain.list_x86_moves)]
+        yield f"runs by tools/plain.py that end as test {index} asks", [other_reason.interleaved, other_reason.on_x86], [bool(way) for way in ways]
     words = ("store buffer", "steps", "events", "memory")
     yield "no reason is in plain sight", [], [word for word in words if word in json.dumps(data)]
 
 
-def answered(rights, wrong):
+def make_answers(rights: list[int], wrong: dict[int, int]) -> list[int]:
     """Answers of which some are wrong: of each test what differs from the right answer."""
-    return [right ^ wrong.get(at, 0) for at, right in enumerate(rights, 1)]
+    return [right ^ wrong.get(index, 0) for index, right in enumerate(rights, 1)]
 
 
 WRONG = {2: 1, 5: 2, 9: 3}
 ROW = [STUDENT, f"{2 * TESTS - 4}/{2 * TESTS}", "2 interleaving, 5 x86, 9 both"]
 
 
-def table(text, *words):
-    """What the command prints of codes: the cells of each line, standard error, and the status."""
-    out, err, status = run(["read_codes.py", *words], text)
+def run_and_split(text: str, *arguments: str) -> tuple[list[list[str]], str, int]:
+    """Returns what the command prints of codes: the cells of each line, standard error, and the status."""
+    out, err, status = run(["read_codes.py", *arguments], text)
     return [re.split(r" {2,}", line) for line in out.splitlines()], err, status
 
 
-def check_codes(page, room):
+def check_codes(page: str, folder: str) -> Iterator[Comparison]:
     """Codes, as the page's own JavaScript makes them and as they are read."""
-    data, rights = data_in(page), quiz.answers_in(data_in(page))
-    made = codes.HandedIn(data["mark"], data["seed"], STUDENT, answered(rights, WRONG))
-    code = codes.code_of(made)
+    data, rights = read_data(page), quiz.read_answers(read_data(page))
+    code_of_page = codes.HandedIn(data["mark"], data["seed"], STUDENT, make_answers(rights, WRONG))
+    code = codes.make_code(code_of_page)
     yield "a code has letters and digits", True, bool(re.fullmatch(r"[0-9A-Z]{12,40}", code))
-    yield "a code is read", made, codes.read_code(code)
-    for students in ("a", "z" * codes.MOST_LETTERS, "0", "007"):
-        it = codes.HandedIn(data["mark"], "z" * quiz.MOST_LETTERS_OF_SEED, students, rights)
-        yield f"a code of {students} is read", it, codes.read_code(codes.code_of(it))
-    for quiz_word in (f"{room}/quiz.html", "1"):
-        yield f"read_codes.py {quiz_word[-9:]}", ([HEADING, ["1", *ROW]], "", 0), table(f"{code}\n", quiz_word)
+    yield "a code is read", code_of_page, codes.read_code(code)
+    for students in ("a", "z" * codes.MAX_LETTERS, "0", "007"):
+        handed_in = codes.HandedIn(data["mark"], "z" * quiz.MAX_SEED_LETTERS, students, rights)
+        yield f"a code of {students} is read", handed_in, codes.read_code(codes.make_code(handed_in))
+    for quiz_word in (f"{folder}/quiz.html", "1"):
+        yield f"read_codes.py {quiz_word[-9:]}", ([HEADING, ["1", *ROW]], "", 0), run_and_split(f"{code}\n", quiz_word)
     spread = "-".join(re.findall(".{1,4}", code.lower().replace("0", "o").replace("1", "l")))
-    yield "small letters, hyphens, O and L", ([HEADING, ["2", *ROW]], "", 0), table(f"\n {spread} \r\n", "1", "-")
+    yield "small letters, hyphens, O and L", ([HEADING, ["2", *ROW]], "", 0), run_and_split(f"\n {spread} \r\n", "1", "-")
     note = f"-:2:1: note: {STUDENT} has handed in on line 1 too\n"
-    yield "a code twice", ([HEADING, ["1", *ROW], ["2", *ROW]], note, 0), table(f"{code}\n{code}\n", "1")
-    all_right = codes.code_of(made._replace(answers=rights))
-    yield "all is right", [HEADING, ["1", STUDENT, f"{2 * TESTS}/{2 * TESTS}", "-"]], table(all_right, "1")[0]
-    yield from check_bad_codes(code, made, room)
+    yield "a code twice", ([HEADING, ["1", *ROW], ["2", *ROW]], note, 0), run_and_split(f"{code}\n{code}\n", "1")
+    all_right = codes.make_code(code_of_page._replace(answers=rights))
+    yield "all is right", [HEADING, ["1", STUDENT, f"{2 * TESTS}/{2 * TESTS}", "-"]], run_and_split(all_right, "1")[0]
+    yield from check_bad_codes(code, code_of_page, folder)
     yield from check_node(page, code, rights)
 
 
-def check_node(page, code, rights):
-    """The page's functions, in node."""
+def check_node(page: str, code: str, rights: list[int]) -> Iterator[Comparison]:
+    """Checks the page's functions, in node."""
     if not NODE:
         return
-    answers = answered(rights, WRONG)
-    told = subprocess.run([NODE, "-"], input=(SCRIPT.search(page)[1] + "console.log(JSON.stringify(quiz.tests.map((_, at) => reasonsOf(at))));").encode(),
+    answers = make_answers(rights, WRONG)
+    printed = subprocess.run([NODE, "-"], input=(require_match(SCRIPT.search(page))[1] + "console.log(JSON.stringify(quiz.tests.map((_, at) => reasonsOf(at))));").encode(),
                           capture_output=True, timeout=60, check=False)
-    yield "the page's own JavaScript finds the reasons", quiz.reasons_in(data_in(page)), json.loads(told.stdout or b"0") or told.stderr.decode()
+    yield "the page's own JavaScript finds the reasons", quiz.read_reasons(read_data(page)), json.loads(
+        printed.stdout or b"0"
+    ) or printed.stderr.decode()
     asked = f"console.log(JSON.stringify([rightAnswers(), codeOf(studentOf('  Ana  17 '), {answers}), studentOf(' Ä  é '), studentOf('a<b'), studentOf('a'.repeat(17))]));"
-    ran = subprocess.run([NODE, "-"], input=(SCRIPT.search(page)[1] + asked).encode(), capture_output=True, timeout=60, check=False)
+    ran = subprocess.run([NODE, "-"], input=(require_match(SCRIPT.search(page))[1] + asked).encode(), capture_output=True, timeout=60, check=False)
     yield "the page's own JavaScript", [rights, code, "ä é", None, None], json.loads(ran.stdout or b"0") or ran.stderr.decode()
-    data = data_in(page)
+    data = read_data(page)
     for name in ("ä é", "李明", "ольга", "o'neil"):
         asked = f"console.log(codeOf({json.dumps(name)}, {answers}));"
-        ran = subprocess.run([NODE, "-"], input=(SCRIPT.search(page)[1] + asked).encode(), capture_output=True, timeout=60, check=False)
-        made = codes.HandedIn(data["mark"], data["seed"], name, answers)
-        yield f"the page's code of {name}", codes.code_of(made), ran.stdout.decode().strip()
-        yield f"the code of {name} is read", made, codes.read_code(ran.stdout.decode().strip())
+        ran = subprocess.run(
+            [NODE, "-"], input=(require_match(SCRIPT.search(page))[1] + asked).encode(), capture_output=True, timeout=60, check=False
+        )
+        handed_in = codes.HandedIn(data["mark"], data["seed"], name, answers)
+        yield f"the page's code of {name}", codes.make_code(handed_in), ran.stdout.decode().strip()
+        yield f"the code of {name} is read", handed_in, codes.read_code(ran.stdout.decode().strip())
 
 
-def is_read(code):
-    """Whether a code is read."""
+def can_read(code: str) -> bool:
+    """Returns whether a code is read."""
     try:
         codes.read_code(code)
     except codes.BadCode:
@@ -163,18 +172,18 @@ def is_read(code):
     return True
 
 
-def mistyped(code):
-    """All codes with one wrong symbol, with two neighbours exchanged, or with one left out."""
-    for at, symbol in enumerate(code):
-        yield from (code[:at] + other + code[at + 1 :] for other in codes.SYMBOLS if other != symbol)
-        if code[at : at + 2] != code[at : at + 2][::-1]:
-            yield code[:at] + code[at : at + 2][::-1] + code[at + 2 :]
-        yield code[:at] + code[at + 1 :]
+def list_mistyped(code: str) -> Iterator[str]:
+    """Yields all codes with one wrong symbol, with two neighbours exchanged, or with one left out."""
+    for index, symbol in enumerate(code):
+        yield from (code[:index] + other + code[index + 1 :] for other in codes.SYMBOLS if other != symbol)
+        if code[index : index + 2] != code[index : index + 2][::-1]:
+            yield code[:index] + code[index : index + 2][::-1] + code[index + 2 :]
+        yield code[:index] + code[index + 1 :]
 
 
-def check_bad_codes(code, made, room):
-    """Bad codes, each kind with its place and its cause; good ones beside them are read."""
-    yield "no mistyped code is read", [], [it for it in mistyped(code) if is_read(it)]
+def check_bad_codes(code: str, handed_in: codes.HandedIn, folder: str) -> Iterator[Comparison]:
+    """Checks that each kind of bad code is refused with its place and its cause, and that good ones beside them are read."""
+    yield "no mistyped code is read", [], [it for it in list_mistyped(code) if can_read(it)]
     sum_of = "the check sum is wrong: the code is mistyped, or a part of it is missing"
     no_code = "the check sum is right, and yet this is no code of a quiz"
     kinds = [
@@ -183,37 +192,37 @@ def check_bad_codes(code, made, room):
         (code[:4], 1, "a code is longer"),
         ("  " + code[:-1], 3, sum_of),
         (code + code, 1, sum_of),
-        (codes.written(7) + codes.written(7, codes.LENGTH_OF_SUM), 1, no_code),
+        (codes.format_number(7) + codes.format_number(7, codes.LENGTH_OF_SUM), 1, no_code),
         ("0" + code, 1, no_code),
-        (codes.code_of(made._replace(student="")), 1, no_code),
-        (codes.code_of(made._replace(seed="2")), 1, "the code is of the quiz with the seed 2, not 1"),
-        (codes.code_of(made._replace(answers=made.answers[1:])), 1, f"the code is of a quiz with {TESTS - 1} tests, not {TESTS}"),
-        (codes.code_of(made._replace(mark=made.mark ^ 1)), 1, "the code is of other tests with this seed"),
+        (codes.make_code(handed_in._replace(student="")), 1, no_code),
+        (codes.make_code(handed_in._replace(seed="2")), 1, "the code is of the quiz with the seed 2, not 1"),
+        (codes.make_code(handed_in._replace(answers=handed_in.answers[1:])), 1, f"the code is of a quiz with {TESTS - 1} tests, not {TESTS}"),
+        (codes.make_code(handed_in._replace(mark=handed_in.mark ^ 1)), 1, "the code is of other tests with this seed"),
     ]
-    with open(f"{room}/codes.txt", "w", encoding="utf-8") as it:
-        it.write("\n".join([code, *(bad for bad, _, _ in kinds)]))
-    refused = "".join(f"{room}/codes.txt:{line}:{column}: {cause}\n" for line, (_, column, cause) in enumerate(kinds, 2))
-    told = table("", f"{room}/quiz.html", f"{room}/codes.txt")
-    yield "bad codes are refused", ([HEADING, ["1", *ROW]], refused, 1), told
+    with open(f"{folder}/codes.txt", "w", encoding="utf-8") as file:
+        file.write("\n".join([code, *(bad for bad, _, _ in kinds)]))
+    refused = "".join(f"{folder}/codes.txt:{line}:{column}: {cause}\n" for line, (_, column, cause) in enumerate(kinds, 2))
+    found = run_and_split("", f"{folder}/quiz.html", f"{folder}/codes.txt")
+    yield "bad codes are refused", ([HEADING, ["1", *ROW]], refused, 1), found
 
 
-def check_browser(page, room):
-    """The page in a browser, as wide as a phone: what is missing is told, and the code that it shows is read."""
+def check_browser(page: str, folder: str) -> Iterator[Comparison]:
+    """Tries the page in a browser, as wide as a phone: it says what is missing, and the code that it shows is read."""
     if not users.is_there():
         return
-    user = users.User(f"file://{room}/quiz.html", f"{room}/profile")
+    user = users.User(f"file://{folder}/quiz.html", f"{folder}/profile")
     try:
         user.driver.execute_cdp_cmd("Emulation.setDeviceMetricsOverride", {"width": 360, "height": 740, "deviceScaleFactor": 2, "mobile": True})
         user.open()
         yield "the page fits a phone", [360, 360], user.run("return [innerWidth, document.documentElement.scrollWidth]")
         user.click("#done")
-        told = user.text("#fault"), user.focused().get_attribute("name")
-        yield "what is missing is told", ('Test 1 has no answer to "Can it end this way by interleaving?"', "interleaving1"), told
+        printed = user.text("#fault"), user.focused().get_attribute("name")
+        yield "what is missing is told", ('Test 1 has no answer to "Can it end this way by interleaving?"', "interleaving1"), printed
         seen = "const { top, bottom } = document.getElementById('fault').getBoundingClientRect(); return top >= 0 && bottom <= innerHeight"
         yield "what is missing is told where it is seen", True, user.run(seen)
-        for at, answer in enumerate(answered(quiz.answers_in(data_in(page)), WRONG), 1):
+        for index, answer in enumerate(make_answers(quiz.read_answers(read_data(page)), WRONG), 1):
             for kind, bit in (("interleaving", 1), ("x86", 2)):
-                user.click(f"input[name={kind}{at}][value={'yes' if answer & bit else 'no'}]")
+                user.click(f"input[name={kind}{index}][value={'yes' if answer & bit else 'no'}]")
         user.click("#done")
         yield "a student is asked for", (True, "student"), ("Your name or number" in user.text("#fault"), user.focused().get_attribute("id"))
         yield "no code before", [], user.all("#code")
@@ -224,7 +233,7 @@ def check_browser(page, room):
         yield "a reload keeps the answers", (2 * TESTS, "Ana 17"), kept
         user.click("#done")
         yield "the score", f"{2 * TESTS - 4} of {2 * TESTS} right.", user.text("#score")
-        yield "the code is read", ([HEADING, ["1", *ROW]], "", 0), table(user.text("#code"), f"{room}/quiz.html")
+        yield "the code is read", ([HEADING, ["1", *ROW]], "", 0), run_and_split(user.text("#code"), f"{folder}/quiz.html")
         user.click("#copy")
         yield "the code is copied", True, user.is_soon(lambda: user.text("#said") in ("Copied.", "It is selected: copy it by hand."))
         marks = user.texts("fieldset .told")
@@ -237,38 +246,39 @@ def check_browser(page, room):
         user.driver.quit()
 
 
-def check_commands(room):
-    """The commands."""
+def check_commands(folder: str) -> Iterator[Comparison]:
+    """Runs the commands, and looks at their statuses."""
     for words, wanted in (
         (["make_quiz.py"], 2), (["make_quiz.py", "--help"], 0), (["read_codes.py"], 2), (["read_codes.py", "--help"], 0),
-        (["make_quiz.py", f"{room}/nowhere/quiz.html"], 1), (["make_quiz.py", f"{room}/no.html", "--tests", "0"], 1),
-        (["make_quiz.py", f"{room}/no.html", "--tests", "41"], 1), (["make_quiz.py", f"{room}/no.html", "--seed", "A"], 1),
-        (["read_codes.py", f"{room}/nowhere.html"], 1), (["read_codes.py", "README.md"], 1), (["read_codes.py", "1", f"{room}/nowhere.txt"], 1),
+        (["make_quiz.py", f"{folder}/nowhere/quiz.html"], 1), (["make_quiz.py", f"{folder}/no.html", "--tests", "0"], 1),
+        (["make_quiz.py", f"{folder}/no.html", "--tests", "41"], 1), (["make_quiz.py", f"{folder}/no.html", "--seed", "A"], 1),
+        (["read_codes.py", f"{folder}/nowhere.html"], 1), (["read_codes.py", "README.md"], 1), (["read_codes.py", "1", f"{folder}/nowhere.txt"], 1),
     ):
         _, err, status = run(words)
-        shown = " ".join(words).replace(room, "ROOM")
+        shown = " ".join(words).replace(folder, "ROOM")
         yield shown, (wanted, wanted != 1 or 1), (status, wanted != 1 or err.count("\n"))
-    yield "no file is left of what is refused", False, os.path.exists(f"{room}/no.html")
+    yield "no file is left of what is refused", False, os.path.exists(f"{folder}/no.html")
 
 
-def comparisons():
-    """All comparisons: what is compared, what is wanted, and what is told."""
+def comparisons() -> Iterator[Comparison]:
+    """Yields all comparisons: what is compared, what is expected, and what was found."""
     for seed in SEEDS:
         yield from check_verdicts(seed)
-    with tempfile.TemporaryDirectory(prefix="lw-quiz-") as room:
-        yield "make_quiz.py OUT.html", ("", "", 0), run(["make_quiz.py", f"{room}/quiz.html", "--tests", str(TESTS), "--seed", "1"])
-        with open(f"{room}/quiz.html", encoding="utf-8", newline="") as it:
-            page = it.read()
-        yield from check_page(page, quiz.tests_of(TESTS, "1", quiz.report_by_program))
-        yield from check_codes(page, room)
-        yield from check_commands(room)
-        yield from check_browser(page, room)
+    with tempfile.TemporaryDirectory(prefix="lw-quiz-") as folder:
+        yield "make_quiz.py OUT.html", ("", "", 0), run(["make_quiz.py", f"{folder}/quiz.html", "--tests", str(TESTS), "--seed", "1"])
+        with open(f"{folder}/quiz.html", encoding="utf-8", newline="") as file:
+            page = file.read()
+        yield from check_page(page, quiz.make_tests(TESTS, "1", quiz.make_report_by_program))
+        yield from check_codes(page, folder)
+        yield from check_commands(folder)
+        yield from check_browser(page, folder)
 
 
-def main():
-    given.print_as_lw()
-    return close(comparisons())
+def main() -> int:
+    """Runs the command that the arguments describe. Returns the exit status."""
+    given.set_output_encoding()
+    return close_check(comparisons())
 
 
 if __name__ == "__main__":
-    sys.exit(main())
+    sys.exit(command.run_command(main, __doc__))

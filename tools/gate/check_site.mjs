@@ -22,7 +22,7 @@ const PROGRAM = `${HOME}/crates/lw/out/lw`;
 const BEYOND = `${HOME}/crates/beyond/out/beyond`;
 const WORKERS = 4;
 const PROTOCOLS = ["mesi", "moesi"];
-const PLAIN_ANSWERS = `${HOME}/tools/gate/plain_answers.py`;
+const PLAIN_ANSWERS = [`${HOME}/tools`, "gate.plain_answers"];
 // The page's words on a test that its own reader does not read.
 const UNREAD = /^The page's own reader of tests, which this needs,/;
 // Asks a server, one request after another, and says when there is the answer.
@@ -152,7 +152,7 @@ function requestsTo(server) {
 /** A Python that answers the same questions by other means. */
 class Plain {
   constructor() {
-    this.process = spawn("python3", [PLAIN_ANSWERS], { stdio: ["pipe", "pipe", "inherit"] });
+    this.process = spawn("python3", PLAIN_ANSWERS, { stdio: ["pipe", "pipe", "inherit"] });
     this.lines = readline.createInterface({ input: this.process.stdout })[Symbol.asyncIterator]();
   }
 
@@ -174,7 +174,10 @@ async function loadPage() {
     const names = fs.readdirSync(`${HOME}/web`).filter((it) => it.endsWith(".js"));
     for (const name of names) fs.copyFileSync(`${HOME}/web/${name}`, `${room}/${name}`);
     const load = (name) => import(pathToFileURL(`${room}/${name}.js`).href);
-    const parts = ["aligned", "condition_words", "differences", "module", "program", "questions", "replays", "seen_here", "served", "verdicts"];
+    const parts = [
+      "aligned", "condition_words", "differences", "fence_edit", "finding", "module", "nearest", "program", "questions", "replays", "seen_here", "served",
+      "slips", "verdicts",
+    ];
     const loaded = await Promise.all(parts.map(load));
     return Object.fromEntries(parts.map((name, at) => [name, loaded[at]]));
   } finally {
@@ -539,6 +542,91 @@ function compareAligned(page, tally, texts) {
   for (const [name, text] of texts) tally.compare(`${name}: cells one below the other`, bare(text), bare(page.aligned.aligned(text)));
 }
 
+/** The run that an example has of its own is shown to its end, in a state that is listed; of a source test also that of its compiled program. */
+function compareOwnRuns(page, program, tally, texts) {
+  for (const [name, text] of texts) {
+    const own = /A (?:telling schedule|run): ([\w :]+)/.exec(text.replace(/\s+/g, " "))[1].trim();
+    const ask = (question, more) => page.questions.answerTo(program, question, { text, ...more });
+    const { state, schedule, films, isOwn } = ask("film", { own, state: null, protocol: "mesi" });
+    const listed = new Native().run(["states"], text).out.toString().split("\n");
+    tally.compare(`${name}: its own run ends in a state that is listed`, [true, true], [isOwn, listed.includes(state)]);
+    const followed = films.source ? films.source.events.join(" ") : schedule.slice(0, own.length);
+    tally.compare(`${name}: its own run follows its schedule`, own, followed);
+    for (const film of Object.values(films)) compareEffects(tally, name, film);
+    const other = listed.find((it) => /=\d+;/.test(it) && it !== state);
+    if (!other) continue;
+    const told = ask("film", { own, state: other, protocol: "mesi" });
+    tally.compare(`${name}: a run to another state is that which is listed`, [other, undefined], [told.state, told.isOwn]);
+  }
+}
+
+/** A fence that is put into the text of a test and taken out again leaves the text as it was; and each fence that is there can be taken out. */
+function compareFenceEdits(page, tally, texts) {
+  const { textWithFences, textWithoutFence } = page.fence_edit;
+  for (const [name, text] of texts.filter(([, it]) => it.startsWith("X86"))) {
+    const cells = page.aligned.aligned(text);
+    const threads = /^ P0.*$/m.exec(cells)[0].split("|").length;
+    for (let thread = 0; thread < threads; thread += 1) {
+      const fenced = textWithFences(cells, [[thread, 1]]);
+      if (fenced === null) continue;
+      tally.compare(`${name}: a fence in P${thread} comes and goes`, cells, textWithoutFence(fenced, [thread, 1]));
+    }
+  }
+  const code = " MOV [x],$1 | MOV EAX,[x] ;\n MOV [y],$1 | L: JE L2    ;\n  | L2: MOV EBX,[y] ;\n";
+  const text = `X86 A\n(* P0 | ; *)\n{}\n P0         | P1          ;\n${code}exists (x=1)\n`;
+  const rows = [[[1, 1]], [[0, 1], [1, 1]], [[1, 2]]];
+  const wanted = [
+    "            | L: MFENCE   ;\n MOV [y],$1 | JE L2       ;\n", " MFENCE     | L: MFENCE   ;\n MOV [y],$1 | JE L2       ;\n",
+    "  | L2: MFENCE      ;\n  | MOV EBX,[y]     ;\n",
+  ];
+  for (const [at, places] of rows.entries()) {
+    tally.compare(`fences at ${JSON.stringify(places)}`, true, textWithFences(text, places)?.includes(wanted[at]) ?? null);
+  }
+  tally.compare("no fence at a place that is none", null, textWithFences(text, [[0, 9]]));
+}
+
+/** Which examples are found by which words, the first of them, and how many at most; and which words are near to which. */
+function compareFinding(page, tally, families) {
+  const found = (text) => page.finding.findTests(families, text, false).map((it) => it.name);
+  for (const [text, first] of FOUND) {
+    tally.compare(`what is found by ${text}`, first, found(text).slice(0, first.length));
+  }
+  tally.compare("MP is in no jump", [], found("MP").filter((it) => !it.startsWith("MP")));
+  tally.compare("nothing is found by a word that is none", [], found("zebra"));
+  tally.compare("x86 tests first", ["MP-x86", "MP"], page.finding.findTests(families, "mp", false, true).map((it) => it.name).slice(0, 2));
+  const first = (text) => page.finding.findTests(families, text, false, true)[0]?.name;
+  const fullNames = ["load buffering", "Store buffer", "message passing", "independent reads of independent writes", "stale"];
+  tally.compare("full names, and what readers call them", ["LB-x86", "SB-x86", "MP-x86", "IRIW-x86", "MP-x86"], fullNames.map(first));
+  const notes = (text) => page.finding.notesOn(text).length;
+  tally.compare("notes on what the format has not", [1, 1, 1, 1, 0], ["CAS", "deadlock", "volatile flag", "nontemporal", "MP"].map(notes));
+  const near = ["MFENC", "JZ", "MVO", "INC", "MFENCE"].map((it) => page.nearest.nearest(it, ["MOV", "JE", "JNE", "MFENCE", "ADD"]));
+  tally.compare("the nearest words", ["MFENCE", "JE", "MOV", null, null], near);
+}
+
+const FOUND = [
+  ["MP", ["MP", "MP-x86"]], ["sb-x86", ["SB-x86"]], ["mutex", ["SpinLock", "SpinLock-x86", "Peterson", "Peterson-x86"]], ["CAS", ["TryLock", "Consensus"]], ["lock", ["TryLock", "SpinLock"]],
+  ["spin", ["SpinLock", "SpinLock-x86"]], ["fence", ["HazardPointer+fences-x86", "SB+own+mfences-x86"]], ["queue", ["QueueLock", "ProducerQueue"]],
+  ["jump", ["SB+join", "SB+join-x86"]], ["publication early x86", ["Publication+early-x86"]],
+];
+
+/** What the page says of slips in a test that lw takes. */
+function compareSlips(page, tally) {
+  const text = "X86 A\n{ k=2; }\n P0 | P1 ;\n MOV [flag],$1 | MOV EAX,[flga] ;\n | MOV ECX,[k] ;\nexists (1:EBX=1 /\\ z=0)\n";
+  tally.compare("slips", [
+    "The question names `1:EBX`, but nothing in P1 writes EBX: it is 0 in every run.",
+    "The question names `z`, but no thread writes z: it is 0 in every run.",
+    "A thread loads `flga`, but no thread writes flga: it is 0 in every run. Did you mean `flag`?",
+  ].sort(), page.slips.slipsIn(text).map((it) => it.words).sort());
+  tally.compare("no slips", [], page.slips.slipsIn(example("SB-x86")));
+}
+
+/** Returns the examples by family, as tools/page/web_files.py makes them. */
+function familiesOfPage() {
+  const lines = ["import json", "from page import web_files", "print(json.dumps(web_files.list_families()))"];
+  const script = lines.join("\n");
+  return JSON.parse(spawnSync("python3", ["-B", "-c", script], { cwd: `${HOME}/tools`, maxBuffer: 2 ** 26 }).stdout);
+}
+
 function example(name) {
   return fs.readFileSync(`${HOME}/examples/${name}.litmus`, "utf8");
 }
@@ -649,6 +737,10 @@ async function main() {
   compareBudgets(page, tally);
   if (!values.server) compareSearches(page, program, tally, texts);
   compareAligned(page, tally, waiting);
+  compareOwnRuns(page, program, tally, texts);
+  compareFenceEdits(page, tally, texts);
+  compareSlips(page, tally);
+  if (!chosen.length) compareFinding(page, tally, familiesOfPage());
   if (!chosen.length) compareTyped(page, program, tally);
   const work = async () => {
     const plain = new Plain();

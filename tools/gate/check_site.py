@@ -1,7 +1,6 @@
-#!/usr/bin/env python3
 """Looks whether the page answers what it should, with its server and in a browser alone. The last line is 'N passed, M failed'.
 
-    python3 tools/gate/check_site.py
+    python3 tools gate.check_site
 
 - tools/gate/check_site.mjs, where node is there: the JavaScript of web/ beside tools/gate/plain_answers.py, on all examples; where the module
   is built, each of the module's answers beside the program's too; and some examples by way of a ./page.
@@ -13,9 +12,12 @@
 What is left out is told, which with CI=true is a failure, but for node and Firefox, which the machine may lack. tools/check_documents.py
 calls all this.
 """
+from __future__ import annotations
+
 import base64
 import functools
 import gzip
+import html
 import http.server
 import itertools
 import json
@@ -26,24 +28,38 @@ import subprocess
 import sys
 import tempfile
 import threading
+import urllib.parse
+from collections.abc import Iterator
+from typing import Any
+from unittest import mock
 
-sys.dont_write_bytecode = True
-sys.path.insert(0, os.path.dirname(os.path.dirname(os.path.abspath(__file__))))
 import make_site
+import make_slides
 from gate import check_library, check_page, firefox
-from gate.browser import lists, page_case, subjects
+from gate.browser import graphs, lists, page_case, reading, subjects
 from gate.browser.page_case import PageCase
 from gate.browser.user import User, browsers, is_there
-from page import web_files
-from shared.home import HOME, close
+from gate.cases import Comparison
+from page import commands, documents, letters, origin, web_files
+from shared import command
+from shared.home import HOME, close_check
+from shared.matches import require_match
 
 NODE = shutil.which("node")
 SMALLEST = b"\0asm\1\0\0\0"
 # The most bytes of the site of one file.
-MOST_BYTES = 1_000_000
+MAX_BYTES = 1_000_000
 # The most bytes that a browser loads of a site of files before its first answer: at 1.6 Mbit/s they take some 2.2 seconds.
-MOST_LOADED = 440_000
+MAX_LOADED_BYTES = 440_000
 LOADED = ("index.html", "style.css", "tables.js", "page.js", "workbench1.js")
+# Commands that make the text of a test, commands that ask about it, and the page's view of what they ask.
+MADE: tuple[tuple[str, str, dict[str, str]], ...] = (
+    ("sed 's,^exists.*,forall (0:r0=1 \\\\/ 1:r0=1),' examples/SB.litmus", "./lw states", {}),
+    ("./lw compile < examples/OneSlot.litmus | sed 's/MFENCE//g'", "./lw states | tail -n 1", {}),
+    ("./lw compile < examples/SB.litmus", './lw replay "P0 P0 P1 P1" | head -n 3', {"view": "hand", "schedule": "P0 P0 P1 P1"}),
+    ("sed '/^ r0 := y/d' examples/SB+unwritten.litmus", "python3 tools/fences.py --everything", {"view": "fences"}),
+    ("printf 'SRC Mine\\n{}\\n P0 ;\\n x = 1 ;\\nexists (x=1)\\n'", "./lw states", {}),
+)
 BUNDLED = {
     "main.js": 'import { two } from "./other.js";\nimport * as whole from "./other.js";\ntold.push(two(), whole.one, typeof site);\n',
     "other.js": "/** One. */\nexport const one = 1;\n\nexport function two() {\n  return one + 1;\n}\n",
@@ -63,29 +79,29 @@ REFUSED = (
 SERVED = "SB SB-x86 SB+mfences-x86 MP-x86 IRIW-x86 Counter Peterson Peterson+xchg-x86 SpinLock-x86 Sharing-x86".split()
 
 
-def node_words(*more):
-    """The words that run tools/gate/check_site.mjs."""
-    version = subprocess.run([NODE, "--version"], capture_output=True, text=True, check=True).stdout
-    early = int(re.match(r"v(\d+)", version)[1]) < 24
-    return [NODE, *["--experimental-wasm-memory64"] * early, f"{HOME}/tools/gate/check_site.mjs", *more]
+def make_node_command(*more: str) -> list[str]:
+    """Returns the words that run tools/gate/check_site.mjs."""
+    version = subprocess.run([str(NODE), "--version"], capture_output=True, text=True, check=True).stdout
+    early = int(require_match(re.match(r"v(\d+)", version))[1]) < 24
+    return [str(NODE), *["--experimental-wasm-memory64"] * early, f"{HOME}/tools/gate/check_site.mjs", *more]
 
 
-def by_node():
-    """The comparison of the page's JavaScript with other means, where node is there: by the module where it is built, and by a ./page."""
+def check_by_node() -> Iterator[Comparison]:
+    """Yields the comparisons of the page's JavaScript with other means, if node is here: by the module if it is built, and by a ./page."""
     if not NODE:
         return
-    module = ["--module", web_files.MODULES[0]] if web_files.module() else []
-    yield "tools/gate/check_site.mjs", "0 failed", told_by_node(*module)
+    module = ["--module", web_files.MODULES[0]] if web_files.read_module() else []
+    yield "tools/gate/check_site.mjs", "0 failed", run_node(*module)
     page = check_page.Page()
     try:
-        yield "tools/gate/check_site.mjs, by way of ./page", "0 failed", told_by_node("--server", page.origin, *SERVED)
+        yield "tools/gate/check_site.mjs, by way of ./page", "0 failed", run_node("--server", page.origin, *SERVED)
     finally:
-        page.end()
+        page.end_server()
 
 
-def told_by_node(*more):
-    """What tools/gate/check_site.mjs tells."""
-    ran = subprocess.run(node_words(*more), capture_output=True, text=True, timeout=1800, check=False)
+def run_node(*more: str) -> str:
+    """Returns what tools/gate/check_site.mjs prints."""
+    ran = subprocess.run(make_node_command(*more), capture_output=True, text=True, timeout=1800, check=False)
     last = ran.stdout.splitlines()[-1:] or [""]
     return "0 failed" if re.fullmatch(r"[1-9]\d* passed, 0 failed", last[0]) else (ran.stdout + ran.stderr)[-3000:]
 
@@ -93,12 +109,12 @@ def told_by_node(*more):
 # What is made.
 
 
-def check_bundles():
+def check_bundles() -> Iterator[Comparison]:
     """Modules are put together, or refused."""
     with tempfile.TemporaryDirectory(prefix="lw-web-") as web:
         for name, text in BUNDLED.items():
-            make_site.write(f"{web}/{name}", text)
-        text = make_site.bundle("main", web)
+            make_site.write_file(f"{web}/{name}", text)
+        text = make_site.bundle_module("main", web)
         yield "a bundle has each module once", 1, text.count("const one = 1;")
         yield "a bundle has no import and no export", [], re.findall(r"^(?:import|export)\b", text, re.M)
         yield "a bundle has no comment", 0, text.count("One.")
@@ -107,54 +123,128 @@ def check_bundles():
             ran = subprocess.run([NODE, "-e", given.replace('"use strict";', "", 1)], capture_output=True, text=True, check=False)
             yield "a bundle runs", "2,1,undefined\n", ran.stdout + ran.stderr
         for what, text in REFUSED:
-            make_site.write(f"{web}/main.js", text)
-            told = ""
+            make_site.write_file(f"{web}/main.js", text)
+            found = ""
             try:
-                make_site.bundle("main", web)
+                make_site.bundle_module("main", web)
             except make_site.NoSite as why:
-                told = str(why)
-            yield f"a module that has {what} is refused", True, what in told
+                found = str(why)
+            yield f"a module that has {what} is refused", True, what in found
 
 
-def check_files():
-    """What a site holds."""
-    with tempfile.TemporaryDirectory(prefix="lw-site-") as room:
-        make_site.make(f"{room}/site", [SMALLEST])
-        make_site.make(f"{room}/one.html", [SMALLEST], True)
-        names = sorted(os.listdir(f"{room}/site"))
+def check_files() -> Iterator[Comparison]:
+    """Compares what a site holds."""
+    with tempfile.TemporaryDirectory(prefix="lw-site-") as folder:
+        make_site.make_site(f"{folder}/site", [SMALLEST])
+        make_site.make_site(f"{folder}/one.html", [SMALLEST], True)
+        with open(f"{folder}/site/tables.js", encoding="utf-8") as stream:
+            yield "a site says where it comes from", True, "in the repository that this site was made from" in stream.read()
+        names = sorted(os.listdir(f"{folder}/site"))
         page = ["icon.svg", "index.html", "offline.js", "page.js", "style.css", "tables.js", "workbench1.js"]
-        wanted = sorted([*page, *make_site.DOCUMENTS])
+        slides = [documents.SLIDES] if make_slides.make_page_if_built() else []
+        wanted = sorted([*page, *documents.DOCUMENTS, documents.SHEET, *slides, documents.STYLE, documents.SCRIPT])
         yield "the files of a site", wanted, names
         for name in ("one.html", *(f"site/{it}" for it in names)):
-            with open(f"{room}/{name}", encoding="utf-8") as it:
-                text = it.read()
+            with open(f"{folder}/{name}", encoding="utf-8") as stream:
+                text = stream.read()
             text = text.replace("http://www.w3.org/2000/svg", "").replace("http://127.0.0.1", "")
             yield f"{name} names no other site", [], re.findall(r"https?:|src=\"//|url\((?!#to-)", text)
             yield f"{name} has no module of JavaScript", [], re.findall(r"type=\"module\" src|^import |^export ", text, re.M)
-        with open(f"{room}/site/offline.js", encoding="utf-8") as it:
-            kept = re.search(r"^const files = (.*);$", it.read(), re.M)[1]
+        with open(f"{folder}/site/offline.js", encoding="utf-8") as stream:
+            kept = require_match(re.search(r"^const files = (.*);$", stream.read(), re.M))[1]
         yield "what the browser keeps of a site", ["./", *(it for it in names if it != "offline.js")], json.loads(kept)
 
 
-def check_packed():
-    """What is packed is unpacked again, and one site is the same each time."""
+def check_documents() -> Iterator[Comparison]:
+    """Checks that the documents of a site link to what exists, and open on the page what they show."""
+    with tempfile.TemporaryDirectory(prefix="lw-site-") as folder:
+        make_site.make_site(f"{folder}/site", [SMALLEST])
+        texts = {}
+        for name in os.listdir(f"{folder}/site"):
+            with open(f"{folder}/site/{name}", encoding="utf-8") as stream:
+                texts[name] = stream.read()
+    names = {it["name"] for family in web_files.list_families() for it in family["tests"]}
+    for file in [*documents.DOCUMENTS, documents.SHEET]:
+        links = [html.unescape(it) for it in re.findall(r'href="([^"]*)"', texts[file])]
+        yield f"{file} has no dead link", [], [it for it in links if is_dead_link(it, file, texts)]
+        views = [dict(urllib.parse.parse_qsl(it.partition("#")[2])) for it in links if it.startswith("index.html#")]
+        yield f"{file} opens examples that are there", [], [it["example"] for it in views if it.get("example", "SB") not in names]
+        words = re.sub(r"<pre.*?</pre>|<code>.*?</code>|<svg.*?</svg>", "", texts[file], flags=re.S)
+        yield f"{file} has no marks of Markdown", [], re.findall(r".*(?:\*\*|`|\]\().*", words)
+    tutorial = texts["tutorial.html"]
+    commands = re.findall(r"^(?:<pre[^>]*>)?\$ \./lw (?:states|replay|compile)\b[^|\n]*&lt; examples/", tutorial, re.M)
+    yield "each command of the tutorial has a link", True, 40 < len(commands) <= tutorial.count('">▸ ')
+
+
+def check_commands() -> Iterator[Comparison]:
+    """Checks that a command's link has the text that the program reads there, and what it asks of that text; of several commands there is a
+    link each.
+    """
+    for made, asked, fields in MADE:
+        text = subprocess.run(["bash", "-c", made], cwd=HOME, capture_output=True, text=True, check=True).stdout
+        found = [it.fields for it in commands.list_views(f"{made} | {asked}")]
+        yield f"the link of {made} | {asked}", [{"text": text, **fields}], found
+    loop = 'for schedule in "P0" "P0 P1"; do ./lw replay "$schedule" < examples/SB-x86.litmus | grep at; done'
+    wanted = [("run SB-x86 so: P0", "P0"), ("run SB-x86 so: P0 P1", "P0 P1")]
+    yield "a command for each of some words", wanted, [(it.words, it.fields["schedule"]) for it in commands.list_views(loop)]
+    faulty = "printf 'SRC Mine\\n{}\\n P0 ;\\n x = 1 ;\\nexists (x=1)\\n'"
+    shown_fault = [it.words for it in commands.list_views(f"{faulty} | ./lw states")]
+    yield "a command that asks about a text with a fault shows the fault", [commands.FAULT], shown_fault
+    others = (f"{faulty} | python3 tools/read_codes.py 1", "python3 tools/assume.py tools/herd/tests/Mcs.litmus | tail -n 2")
+    yield "another command on a text that is no test has no link", [], [it for other in others for it in commands.list_views(other)]
+    yield "a command that is not known is not run", [], list(commands.list_views("touch made-here.txt | ./lw states"))
+    yield "and made nothing", False, os.path.exists(f"{HOME}/made-here.txt")
+
+
+def check_origin() -> Iterator[Comparison]:
+    """Checks that a site says of which commit it is, and how the gate ended if that is known."""
+    begin = "The program, its sources and its proof are in the repository that this site was made from"
+    for given_origin, words in (
+        (origin.Origin("0123456789abcdef", False, "5 passed, 0 failed"), ", at commit 0123456789ab. The gate there, which proves and tests all of it, "
+         "ended with “5 passed, 0 failed”."),
+        (origin.Origin("0123456789abcdef", True, None), ", at commit 0123456789ab, with changes. Whether its gate has passed is not recorded here."),
+        (origin.Origin(None, False, None), ". Whether its gate has passed is not recorded here."),
+    ):
+        yield f"the origin {given_origin}", f"{begin}{words} {origin.NO_ADDRESS} {origin.NO_LICENCE}", origin.describe_origin(given_origin)
+    with mock.patch.object(origin, "read_lines", lambda path: ["a", "5 passed, 0 failed"] if path.endswith("/gate") else ["", "", "", "b"]):
+        yield "the gate of other sources is not that of these", None, origin.read_origin().gate
+
+
+def is_dead_link(link: str, file: str, texts: dict[str, str]) -> bool:
+    """Returns whether a link of a file leads to no file of the site, or to no place in it."""
+    target, _, part = link.partition("#")
+    if target == "index.html":
+        return False
+    return (target or file) not in texts or bool(part) and f'id="{part}"' not in texts[target or file]
+
+
+def check_packed() -> Iterator[Comparison]:
+    """Checks that what is packed is unpacked again, and that one site is the same each time."""
     content = bytes(range(256)) * 9
-    yield "what is packed", content, gzip.decompress(base64.b64decode(make_site.packed(content)))
-    with tempfile.TemporaryDirectory(prefix="lw-site-") as room:
+    packed = make_site.pack_bytes(content)
+    if NODE:
+        cases = [content[:count] for count in (0, 1, 2, 13, 14, 15, 300)] + [b"\xff" * 40, b"\0" * 40, gzip.compress(content, mtime=0)]
+        program = f"const bytesOf = {letters.DECODER}; console.log(JSON.stringify(JSON.parse(process.argv[1]).map((it) => [...bytesOf(it)])))"
+        words = [NODE, "-e", program, json.dumps([*map(letters.encode, cases), packed])]
+        *decoded, unpacked = json.loads(subprocess.run(words, capture_output=True, text=True, check=True).stdout)
+        yield "bytes as letters, and back", [list(it) for it in cases], decoded
+        yield "what is packed", content, gzip.decompress(bytes(unpacked))
+    yield "what is packed has letters that may be in a script", set(), set(packed) - set(letters.LETTERS)
+    with tempfile.TemporaryDirectory(prefix="lw-site-") as folder:
         for name in ("one.html", "other.html"):
-            make_site.make(f"{room}/{name}", [SMALLEST], True)
-        with open(f"{room}/one.html", "rb") as one, open(f"{room}/other.html", "rb") as other:
-            yield "a site is the same each time", True, one.read() == other.read()
+            make_site.make_site(f"{folder}/{name}", [SMALLEST], True)
+        with open(f"{folder}/one.html", "rb") as first, open(f"{folder}/other.html", "rb") as second:
+            yield "a site is the same each time", True, first.read() == second.read()
 
 
-def check_words():
-    """The command line."""
+def check_words() -> Iterator[Comparison]:
+    """Checks the command line."""
     tool = [sys.executable, f"{HOME}/tools/make_site.py"]
     run = lambda *words: subprocess.run([*tool, *words], capture_output=True, text=True, check=False)
     for words in ((), ("--one-file",), ("out", "--module"), ("out", "--more", "x")):
         yield f"make_site.py {' '.join(words)}", 2, run(*words).returncode
-    told = run("-h")
-    yield "make_site.py -h prints its words", (0, True), (told.returncode, "make_site.py" in told.stdout)
+    printed = run("-h")
+    yield "make_site.py -h prints its words", (0, True), (printed.returncode, "make_site.py" in printed.stdout)
     ran = run("/dev/null/out", "--module", f"{HOME}/README.md")
     yield "a module that is none", (1, True), (ran.returncode, "is no WebAssembly module" in ran.stderr)
 
@@ -188,35 +278,35 @@ COMPARING = """<!doctype html>
 MODULES = ("with a memory of 64 bits", "with a memory of 32 bits")
 
 
-def make_comparing(room, modules):
+def make_comparing_page(folder: str, modules: list[bytes]) -> str:
     """Makes a page that calls the modules. Returns its address."""
-    os.mkdir(room)
-    shutil.copy(f"{HOME}/web/module.js", room)
-    make_site.write(f"{room}/main.js", COMPARED)
-    make_site.write(f"{room}/compare.js", make_site.bundle("main", room))
+    os.mkdir(folder)
+    shutil.copy(f"{HOME}/web/module.js", folder)
+    make_site.write_file(f"{folder}/main.js", COMPARED)
+    make_site.write_file(f"{folder}/compare.js", make_site.bundle_module("main", folder))
     encoded = json.dumps([base64.b64encode(it).decode() for it in modules])
-    make_site.write(f"{room}/workbench.js", f"globalThis.site = {{ modules: {encoded} }};\n")
-    make_site.write(f"{room}/index.html", COMPARING)
-    return f"file://{room}/index.html"
+    make_site.write_file(f"{folder}/workbench.js", f"globalThis.site = {{ modules: {encoded} }};\n")
+    make_site.write_file(f"{folder}/index.html", COMPARING)
+    return f"file://{folder}/index.html"
 
 
-def shown(ran):
-    """What the program answers, as the module tells it."""
-    status, out, told = ran
-    return [status, bool(told), (told[:-1] or out).decode()]
+def format_answer(ran: tuple[int, bytes, bytes]) -> list[object]:
+    """Returns what the program answers, as the module returns it."""
+    status, out, errors = ran
+    return [status, bool(errors), (errors[:-1] or out).decode()]
 
 
-def compare_answers(address, modules, asked, start):
-    """Of each example all answers of each module, in a browser."""
-    with tempfile.TemporaryDirectory(prefix="lw-browser-") as room:
-        user = User(address, room, start)
+def compare_module_answers(address: str, modules: list[bytes], asked: Any, start: Any) -> Iterator[Comparison]:
+    """Compares all answers of each module on each example, in a browser."""
+    with tempfile.TemporaryDirectory(prefix="lw-browser-") as folder:
+        user = User(address, folder, start)
         try:
             user.open()
             for number, what in enumerate(MODULES[: len(modules)]):
                 user.run(f"load({number})")
-                told = user.wait(lambda: user.run("return document.body.dataset.module"), "the module is loaded")
+                printed = user.wait(lambda: str(user.run("return document.body.dataset.module ?? ''")), "the module is loaded")
                 user.run("delete document.body.dataset.module")
-                if told == "none":
+                if printed == "none":
                     yield f"the module {what}", "it is taken", "it is refused"
                     continue
                 for name, cases in itertools.groupby(asked, lambda it: it[0]):
@@ -230,106 +320,109 @@ def compare_answers(address, modules, asked, start):
 class Site(PageCase):
     """What is only so of a site."""
 
-    def test_where(self):
+    def test_where(self) -> None:
         """The page says that the workbench runs in the browser."""
         self.user.open_listed()
         self.user.click("#open-about")
         self.assertSays(", in this browser as a WebAssembly module.", "#about-dialog p")
 
 
-def subjects_of(site, browser):
-    """The subjects that are tried on a site: all of them; of the one file those that it may keep from working; all examples in one browser."""
+def choose_subjects(site: str, browser: str) -> tuple[type[page_case.PageCase], ...]:
+    """Returns the subjects that are tried on a site: all of them; of the one file those that it may keep from working; all examples in one
+    browser.
+    """
     if site != "a site":
         return (Site, *subjects.OF_ONE_FILE)
-    return (Site, *subjects.ALL, *([lists.AllExamples] if browser == "Chromium" else []))
+    return (Site, *reading.SUBJECTS, *subjects.ALL, *([lists.AllExamples, graphs.AllGraphs] if browser == "Chromium" else []))
 
 
-def sites(room):
+def make_sites(folder: str) -> dict[str, str]:
     """Makes the sites that are opened. Returns of each what it is, and its address."""
-    made = web_files.modules()
-    make_site.make(f"{room}/site", made)
-    make_site.make(f"{room}/one.html", made, True)
-    return {"a site": f"file://{room}/site/index.html", "a site of one file": f"file://{room}/one.html"}
+    made = web_files.read_modules()
+    make_site.make_site(f"{folder}/site", made)
+    make_site.make_site(f"{folder}/one.html", made, True)
+    return {"a site": f"file://{folder}/site/index.html", "a site of one file": f"file://{folder}/one.html"}
 
 
 class Quiet(http.server.SimpleHTTPRequestHandler):
     """Serves files, and writes nothing."""
 
-    def log_message(self, *_):
+    def log_message(self, *_message: object) -> None:
         pass
 
 
-def check_offline(folder):
-    """A site that came from a web server opens when the server is gone."""
+def check_offline(folder: str) -> Iterator[Comparison]:
+    """Checks that a site that came from a web server opens when the server is gone."""
     server = http.server.ThreadingHTTPServer(("127.0.0.1", 0), functools.partial(Quiet, directory=folder))
     threading.Thread(target=server.serve_forever, daemon=True).start()
-    with tempfile.TemporaryDirectory(prefix="lw-browser-") as room:
-        user = User(f"http://127.0.0.1:{server.server_address[1]}/", room)
+    with tempfile.TemporaryDirectory(prefix="lw-browser-") as temporary_folder:
+        user = User(f"http://127.0.0.1:{server.server_address[1]}/", temporary_folder)
         try:
             user.open_listed("#example=SB-x86")
-            told = user.text("#outcome .verdict")
+            printed = user.text("#outcome .verdict")
             user.wait(lambda: user.run("return navigator.serviceWorker.controller !== null"), "the browser keeps the site")
             server.shutdown()
             server.server_close()
             user.open_listed("#example=SB-x86")
-            yield "a site opens and answers when its server is gone", told, user.text("#outcome .verdict")
+            yield "a site opens and answers when its server is gone", printed, user.text("#outcome .verdict")
         finally:
             user.driver.quit()
 
 
-def by_browser():
-    """All comparisons in a browser, where there is one, and the module."""
-    if not web_files.module():
-        yield from missing("the module of the sources as they are")
+def check_by_browser() -> Iterator[Comparison]:
+    """Yields all comparisons in a browser, where there is one, and the module."""
+    if not web_files.read_module():
+        yield from report_missing("the module of the sources as they are")
     if not is_there():
-        yield from missing("a browser")
-    if web_files.module():
-        answer = lambda words, text: shown(check_library.run([check_library.PROGRAM, *words], text))
-        asked = [(name, words, text, answer(words, text)) for name, words, text in check_library.cases()]
-        with tempfile.TemporaryDirectory(prefix="lw-sites-") as room:
-            modules = web_files.modules()
-            comparing = make_comparing(f"{room}/comparing", modules)
-            opened = sites(room)
-            yield "the site: the one file is small", True, os.path.getsize(f"{room}/one.html") < MOST_BYTES
-            loaded = sum(os.path.getsize(f"{room}/site/{name}") for name in LOADED)
-            yield f"the site: few bytes come before the first answer: {loaded}", True, loaded < MOST_LOADED
+        yield from report_missing("a browser")
+    if web_files.read_module():
+        answer = lambda words, text: format_answer(check_library.run_command([check_library.PROGRAM, *words], text))
+        asked = [(name, words, text, answer(words, text)) for name, words, text in check_library.list_cases()]
+        with tempfile.TemporaryDirectory(prefix="lw-sites-") as folder:
+            modules = web_files.read_modules()
+            comparing = make_comparing_page(f"{folder}/comparing", modules)
+            opened = make_sites(folder)
+            yield "the site: the one file is small", True, os.path.getsize(f"{folder}/one.html") < MAX_BYTES
+            loaded = sum(os.path.getsize(f"{folder}/site/{name}") for name in LOADED)
+            yield f"the site: few bytes come before the first answer: {loaded}", True, loaded < MAX_LOADED_BYTES
             for name, start in browsers().items():
-                in_browser = lambda it: ((f"in {name}, {what}", wanted, told) for what, wanted, told in it)
-                yield from in_browser(check_page.guarded(compare_answers, comparing, modules, asked, start))
+                in_browser = lambda it: ((f"in {name}, {what}", wanted, found) for what, wanted, found in it)
+                yield from in_browser(check_page.run_twice_if_needed(compare_module_answers, comparing, modules, asked, start))
                 for what, address in opened.items():
-                    yield from check_page.tried(page_case.comparisons, address, subjects_of(what, name), f"{what}, in {name}", start)
+                    yield from check_page.run_check(page_case.comparisons, address, choose_subjects(what, name), f"{what}, in {name}", start)
             if is_there():
-                yield from check_page.guarded(check_offline, f"{room}/site")
+                yield from check_page.run_twice_if_needed(check_offline, f"{folder}/site")
 
 
 # All of them.
 
 
-def missing(what):
-    """With CI=true nothing may be missing."""
+def report_missing(what: str) -> Iterator[Comparison]:
+    """Yields a fault if CI=true, since nothing may be missing then."""
     if os.environ.get("CI") == "true":
         yield f"the site: where CI=true, {what} is there", "", "it is missing"
 
 
-def skipped():
-    """The line that tells what was left out, or None."""
-    needed = {"node": NODE, "Chromium": is_there(), "Firefox": firefox.is_there()}
-    needed["the module of the sources as they are"] = web_files.module()
+def skipped() -> str | None:
+    """Returns the line that says what was left out, or None if nothing was."""
+    needed: dict[str, object] = {"node": NODE, "Chromium": is_there(), "Firefox": firefox.is_there()}
+    needed["the module of the sources as they are"] = web_files.read_module()
     lacking = [what for what, has_it in needed.items() if not has_it]
     return f"the site: checks were skipped, since this is missing: {', '.join(lacking)}" if lacking else None
 
 
-def comparisons():
-    """All comparisons: what is compared, what is wanted, and what is told."""
-    for check in (check_bundles, check_files, check_packed, check_words):
-        yield from ((f"the site: {what}", wanted, told) for what, wanted, told in check())
-    yield from by_node()
-    yield from by_browser()
+def comparisons() -> Iterator[Comparison]:
+    """Yields all comparisons: what is compared, what is expected, and what was found."""
+    for check in (check_bundles, check_files, check_documents, check_commands, check_origin, check_packed, check_words):
+        yield from ((f"the site: {what}", wanted, found) for what, wanted, found in check())
+    yield from check_by_node()
+    yield from check_by_browser()
 
 
-def main():
-    return close(comparisons(), check_page.told_of, skipped)
+def main() -> int:
+    """Runs the command that the arguments describe. Returns the exit status."""
+    return close_check(comparisons(), check_page.format_fault, skipped)
 
 
 if __name__ == "__main__":
-    sys.exit(main())
+    sys.exit(command.run_command(main, __doc__))

@@ -1,7 +1,6 @@
-#!/usr/bin/env python3
 """Looks whether tools/make_slides.py makes the slides that docs/LAB.md speaks of. The last line is 'N passed, M failed'.
 
-    python3 tools/gate/check_slides.py
+    python3 tools gate.check_slides
 
 - There are twelve slides, each with a title of its own; the page names no other site and loads nothing; the same sources give the same bytes.
 - What is shown of a test is what the program says of it: each list is its report, and each picture of the machine has the registers,
@@ -13,24 +12,26 @@
 
 tools/check_documents.py calls all this; the program has to be there.
 """
+from __future__ import annotations
+
 import base64
-import os
 import re
 import subprocess
 import sys
 import tempfile
+from collections.abc import Iterator
 from html import unescape
 
-sys.dont_write_bytecode = True
-sys.path.insert(0, os.path.dirname(os.path.dirname(os.path.abspath(__file__))))
 import given
 import make_slides
 from gate.browser import user as users
+from gate.cases import Comparison
 from gate.examples import run
 from lab import slides
-from lab.tests import read
-from replay_state import read_state
-from shared.home import PROGRAM, close
+from lab.tests import read_file
+from replay_state import State, read_state
+from shared import command
+from shared.home import PROGRAM, close_check
 
 COUNT = 12
 FIGURE = re.compile(r'<figure data-kind="(\w+)" data-test="([\w-]+)" data-schedule="([^"]*)">(.*?)</figure>', re.S)
@@ -45,25 +46,25 @@ SAID = "Say why, whatever you answer."
 PAGE = re.compile(rb"/Type\s*/Page\b")
 
 
-def ask(words, text):
+def ask_program(arguments: list[str], text: bytes) -> str:
     """Returns what the program prints."""
-    return subprocess.run([PROGRAM, *words], input=text, stdout=subprocess.PIPE, stderr=subprocess.STDOUT, check=False).stdout.decode()
+    return subprocess.run([PROGRAM, *arguments], input=text, stdout=subprocess.PIPE, stderr=subprocess.STDOUT, check=False).stdout.decode()
 
 
-def replayed(text, schedule):
+def replay_schedule(text: bytes, schedule: str) -> State:
     """Returns the state that a schedule reaches, by the program."""
-    return read_state(ask(["replay", schedule], text))
+    return read_state(ask_program(["replay", schedule], text))
 
 
-def check_page(page):
+def check_page(page: str) -> Iterator[Comparison]:
     """Checks the page as a whole."""
     titles = re.findall(r'<section class="slide">\n<h2>(.*?)</h2>', page)
     yield "there are twelve slides, each with its own title", (COUNT, COUNT), (len(titles), len(set(titles)))
-    yield "the slides are numbered", [f"{at} / {COUNT}" for at in range(1, COUNT + 1)], re.findall(r"<footer>(.*?)</footer>", page)
+    yield "the slides are numbered", [f"{index} / {COUNT}" for index in range(1, COUNT + 1)], re.findall(r"<footer>(.*?)</footer>", page)
     yield "the page loads nothing and names no other site", [], OUTWARD.findall(page)
-    yield "the same bytes again", True, page == make_slides.page()
+    yield "the same bytes again", True, page == make_slides.make_page()
     prediction, by_hand = titles.index("Predict") + 1, titles.index("Now by hand") + 1
-    lines = re.findall(r"^\| \d+ to \d+ \| Slides (\d+) to (\d+): ", read("docs/LAB.md"), re.M)
+    lines = re.findall(r"^\| \d+ to \d+ \| Slides (\d+) to (\d+): ", read_file("docs/LAB.md"), re.M)
     wanted = [(1, prediction), (prediction + 1, by_hand), (by_hand + 1, COUNT)]
     yield "the timetable has the slides, those up to the prediction first", wanted, [(int(first), int(last)) for first, last in lines]
     front = page.split('<section class="slide">')[: by_hand + 1]
@@ -71,21 +72,22 @@ def check_page(page):
     yield "before the tasks no slide shows what they ask for", set(), shown - BEFORE
     yield "each slide has a note", COUNT, page.count("<aside>")
     yield "no slide shows cache lines", [], re.findall(r">lines [^<]*<", page)
-    yield "sheet and slide ask the same of task 1", (True, True), (SAID in page, SAID in " ".join(read("docs/LAB.md").split()))
+    yield "sheet and slide ask the same of task 1", (True, True), (SAID in page, SAID in " ".join(read_file("docs/LAB.md").split()))
 
 
-def check_lists(page, tests):
+def check_lists(page: str, tests: dict[str, bytes]) -> Iterator[Comparison]:
     """Checks the texts and the lists."""
-    found = LIST.findall(page)
-    yield "how many lists there are", True, sum(kind == "states" for kind, _, _ in found) >= 2
-    for kind, name, shown in found:
-        wanted = tests[name].decode() if kind == "code" else ask(["states"], tests[name])
+    lists = LIST.findall(page)
+    yield "how many lists there are", True, sum(kind == "states" for kind, _, _ in lists) >= 2
+    for kind, name, shown in lists:
+        wanted = tests[name].decode() if kind == "code" else ask_program(["states"], tests[name])
         yield f"the {kind} of {name}", wanted, unescape(shown)
 
 
-def threads_in(svg):
+def parse_picture(svg: str) -> tuple[list[list[str]], list[str] | None]:
     """Returns what a picture of one state shows: the texts and the entries of each thread, and the words of memory."""
-    threads, content = [], None
+    threads: list[list[str]] = []
+    content: list[str] | None = None
     for kind, text in TEXT.findall(svg):
         if kind == "title" and re.fullmatch(r"P\d", text):
             threads.append([])
@@ -98,65 +100,66 @@ def threads_in(svg):
     return threads, content
 
 
-def words_of(pairs):
+def format_words(pairs: list[tuple[str, int]]) -> list[str]:
+    """Returns pairs of a name and a word as texts NAME=WORD."""
     return [f"{name}={word}" for name, word in pairs]
 
 
-def begin_of_buffer(shown):
+def find_buffer(shown: list[str]) -> int:
     """Returns where the store buffer starts in what is shown of a thread."""
     return shown.index("store buffer") if "store buffer" in shown else len(shown)
 
 
-def comparisons_of_state(what, svg, state):
+def compare_state(what: str, svg: str, state: State) -> Iterator[Comparison]:
     """Compares a picture of one state with the state that the program replays."""
-    threads, content = threads_in(svg)
-    yield f"{what}: the words of memory", words_of(state["content"]), content
+    threads, content = parse_picture(svg)
+    yield f"{what}: the words of memory", format_words(state["content"]), content
     yield f"{what}: its threads", len(state["threads"]), len(threads)
-    shown_words = [it for shown in threads for it in shown[: begin_of_buffer(shown)]]
+    shown_words = [it for shown in threads for it in shown[: find_buffer(shown)]]
     yield f"{what}: registers are shown", True, any(re.fullmatch(r"\w+=\d+", it) for it in shown_words)
-    for number, (shown, place) in enumerate(zip(threads, state["threads"])):
-        begin = begin_of_buffer(shown)
+    for number, (shown, thread_state) in enumerate(zip(threads, state["threads"])):
+        begin = find_buffer(shown)
         registers = [it for it in shown[:begin] if re.fullmatch(r"\w+=\d+", it)]
-        yield f"{what}: the registers of P{number}", [], sorted(set(registers) - set(words_of(place["registers"])))
-        yield f"{what}: the store buffer of P{number}", words_of(place.get("buffer", [])) or ["(empty)"], shown[begin + 1 :] or ["(empty)"]
+        yield f"{what}: the registers of P{number}", [], sorted(set(registers) - set(format_words(thread_state["registers"])))
+        yield f"{what}: the store buffer of P{number}", format_words(thread_state.get("buffer", [])) or ["(empty)"], shown[begin + 1 :] or ["(empty)"]
 
 
-def check_figures(page, tests):
+def check_figures(page: str, tests: dict[str, bytes]) -> Iterator[Comparison]:
     """Checks the pictures."""
-    found = FIGURE.findall(page)
-    yield "how many pictures there are", True, len(found) >= 6
-    for kind, name, schedule, svg in found:
+    figures = FIGURE.findall(page)
+    yield "how many pictures there are", True, len(figures) >= 6
+    for kind, name, schedule, svg in figures:
         what, events = f"{name} after {schedule}", schedule.split()
-        state = replayed(tests[name], schedule)
+        state = replay_schedule(tests[name], schedule)
         yield f"{what} is carried out", len(events), state["steps"]
         if kind == "state":
-            yield from comparisons_of_state(what, svg, state)
+            yield from compare_state(what, svg, state)
         else:
             loaded = re.findall(r": R \w+=(\d+)<", svg)
             yield f"{what}, an execution: what is loaded", [str(dict(it["registers"])["EAX"]) for it in state["threads"]], loaded
 
 
-def check_command():
+def check_command() -> Iterator[Comparison]:
     """Checks the command."""
-    with tempfile.TemporaryDirectory(prefix="lw-slides-") as room:
-        yield "make_slides.py OUT.html", ("", "", 0), run(["make_slides.py", f"{room}/slides.html"])
-        with open(f"{room}/slides.html", encoding="utf-8") as it:
-            yield "what it makes", True, it.read() == make_slides.page()
-        yield "a folder that is not there", 1, run(["make_slides.py", f"{room}/nowhere/slides.html"])[2]
-        yield from check_browser(room)
+    with tempfile.TemporaryDirectory(prefix="lw-slides-") as folder:
+        yield "make_slides.py OUT.html", ("", "", 0), run(["make_slides.py", f"{folder}/slides.html"])
+        with open(f"{folder}/slides.html", encoding="utf-8") as file:
+            yield "what it makes", True, file.read() == make_slides.make_page()
+        yield "a folder that is not there", 1, run(["make_slides.py", f"{folder}/nowhere/slides.html"])[2]
+        yield from check_browser(folder)
     yield "no words", 2, run(["make_slides.py"])[2]
     yield "--help", 0, run(["make_slides.py", "--help"])[2]
 
 
-def check_browser(room):
+def check_browser(folder: str) -> Iterator[Comparison]:
     """Checks the keys, clicks, and the pages of paper."""
     if not users.is_there():
         return
-    driver = users.start_chromium(room)
+    driver = users.start_chromium(folder)
     try:
         from selenium.webdriver.common.keys import Keys
 
-        driver.get(f"file://{room}/slides.html")
+        driver.get(f"file://{folder}/slides.html")
         moves = [(Keys.PAGE_DOWN, 2), (Keys.SPACE, 3), (Keys.ARROW_RIGHT, 4), (Keys.ARROW_DOWN, 5), (Keys.PAGE_UP, 4), (Keys.ARROW_LEFT, 3)]
         moves += [(Keys.ARROW_UP, 2), (Keys.ENTER, 3), (Keys.END, COUNT), (Keys.PAGE_DOWN, COUNT), (Keys.HOME, 1), (Keys.PAGE_UP, 1)]
         for key, number in moves:
@@ -172,6 +175,8 @@ def check_browser(room):
         driver.find_element("tag name", "body").send_keys("n")
         driver.execute_cdp_cmd("Emulation.setDeviceMetricsOverride", {"width": 360, "height": 740, "deviceScaleFactor": 2, "mobile": True})
         yield "the slides fit a phone", 360, driver.execute_script("return document.documentElement.scrollWidth")
+        size = "return parseFloat(getComputedStyle([...document.querySelectorAll('.slide p')].find((it) => it.offsetHeight)).fontSize)"
+        yield "the slides can be read on a phone", True, driver.execute_script(size) >= 16
         driver.execute_cdp_cmd("Emulation.clearDeviceMetricsOverride", {})
         printed = driver.execute_cdp_cmd("Page.printToPDF", {"preferCSSPageSize": True})
         yield "each slide is a page", COUNT, len(PAGE.findall(base64.b64decode(printed["data"])))
@@ -179,20 +184,21 @@ def check_browser(room):
         driver.quit()
 
 
-def comparisons():
-    """Returns all comparisons: what is compared, what is expected, and what was found."""
-    tests = slides.texts()
-    page = make_slides.page()
+def comparisons() -> Iterator[Comparison]:
+    """Yields all comparisons: what is compared, what is expected, and what was found."""
+    tests = slides.read_texts()
+    page = make_slides.make_page()
     yield from check_page(page)
     yield from check_lists(page, tests)
     yield from check_figures(page, tests)
     yield from check_command()
 
 
-def main():
-    given.print_as_lw()
-    return close(comparisons())
+def main() -> int:
+    """Runs the command that the arguments describe. Returns the exit status."""
+    given.set_output_encoding()
+    return close_check(comparisons())
 
 
 if __name__ == "__main__":
-    sys.exit(main())
+    sys.exit(command.run_command(main, __doc__))

@@ -19,11 +19,16 @@ What `lw compile` tells is its own canonical text: compiled, it is told again. B
 
 In all of these `<3 ab>` stands for `ababab`, and `<0d>` for the byte of that hexadecimal number.
 """
+from __future__ import annotations
+
 import glob
 import os
 import re
 import subprocess
+from collections.abc import Iterator
+from typing import List, Tuple, Union
 
+from gate.cases import Comparison
 from shared.home import HOME
 
 TABLES = ("source_cells", "texts", "x86_cells")
@@ -31,40 +36,45 @@ FOLDERS = ("compiled_texts", "reports", "schedules", "source_pages", "x86_pages"
 STATUSES = {b"text": 1, b"cell": 1, b"schedule": 1, b"limit": 3}
 
 
-def bytes_of(spelled):
+# The arguments after `lw`, the text, and the expected output of a case.
+Words = List[Union[str, bytes]]
+Case = Tuple[Words, bytes, str]
+
+
+def unescape(spelled: str) -> bytes:
     """Returns the bytes that the words of a case represent."""
     repeated = re.sub(r"<(\d+) ([^>]*)>", lambda it: it[2] * int(it[1]), spelled)
     return re.sub(rb"<([0-9a-f]{2})>", lambda it: bytes([int(it[1], 16)]), repeated.encode())
 
 
-def in_lines(spelled):
+def split_lines(spelled: str) -> str:
     """Returns the lines that a line of a table represents."""
     return spelled.replace("$", "\n").replace("@", "$")
 
 
-def words_of(schedule):
+def make_arguments(schedule: str) -> Words:
     """Returns the arguments of a replay by a schedule, which the protocol may follow."""
     events, option, protocol = schedule.partition(" --protocol ")
-    return ["replay", bytes_of(events), *([option.strip(), protocol] if option else [])]
+    return ["replay", unescape(events), *([option.strip(), protocol] if option else [])]
 
 
-def case_of(command, line):
+def parse_case(command: str, line: str) -> Case | None:
     """Returns the arguments after `lw`, the text and the expected output of a case, or `None`."""
-    name, _, text = command.removeprefix("lw ").partition(" ")
-    parts = in_lines(line).split(" => ")
+    name, _, text = command[len("lw ") :].partition(" ")
+    parts = split_lines(line).split(" => ")
     if name == "replay":
         if text:
-            parts.insert(0, in_lines(text))
+            parts.insert(0, split_lines(text))
         elif len(parts) == 2:
             parts.insert(1, "")
         if len(parts) == 3:
-            return words_of(parts[1]), bytes_of(parts[0]), parts[2]
+            return make_arguments(parts[1]), unescape(parts[0]), parts[2]
     elif name in ("states", "schedules", "compile") and not text and len(parts) == 2:
-        return [name], bytes_of(parts[0]), parts[1]
+        return [name], unescape(parts[0]), parts[1]
     return None
 
 
-def cases_of(table):
+def read_cases(table: str) -> Iterator[tuple[str, Case | None]]:
     """Returns the cases of a table, each with its line."""
     command = ""
     with open(table, encoding="utf-8", newline="\n") as lines:
@@ -72,70 +82,71 @@ def cases_of(table):
             if line.startswith("lw "):
                 command = line
             elif line and not line.startswith("-- "):
-                yield line, case_of(command, line)
+                yield line, parse_case(command, line)
 
 
-def case_in(text):
+def parse_case_file(text: str) -> Case | None:
     """Returns the arguments after `lw`, the text and the expected output of a case in a file of its own, or `None`."""
-    found = re.fullmatch(r"(?:-- .*\n)*lw (states|schedules|compile|replay)(?: (.*))?\n((?:.*\n)*?)=>\n((?:.*\n)*)", text)
-    if not found or found[2] and found[1] != "replay":
+    match = re.fullmatch(r"(?:-- .*\n)*lw (states|schedules|compile|replay)(?: (.*))?\n((?:.*\n)*?)=>\n((?:.*\n)*)", text)
+    if not match or match[2] and match[1] != "replay":
         return None
-    text, told = (it.replace("<>\n", "") for it in found.groups()[2:])
-    words = words_of(found[2] or "") if found[1] == "replay" else [found[1]]
-    return words, bytes_of(text), told.removesuffix("\n") if told.startswith("lw: ") or told == "read\n" else told
+    text, expected = (it.replace("<>\n", "") for it in match.groups()[2:])
+    words = make_arguments(match[2] or "") if match[1] == "replay" else [match[1]]
+    return words, unescape(text), expected[: -len("\n")] if expected.startswith("lw: ") or expected == "read\n" else expected
 
 
-def wanted_of(words, told):
+def parse_expected(words: Words, expected: str) -> tuple[bytes, bytes, int | None]:
     """Returns the expected standard output, standard error and exit status."""
-    told = bytes_of(told)
-    if told.startswith(b"lw: "):
-        return b"", told + b"\n", STATUSES.get(told.split()[1])
-    is_stopped = words[0] == "replay" and told.split(b"\n")[2:3] != [b"End Final"]
-    return told, b"", 1 if is_stopped else 0
+    output = unescape(expected)
+    if output.startswith(b"lw: "):
+        return b"", output + b"\n", STATUSES.get(output.split()[1])
+    is_stopped = words[0] == "replay" and output.split(b"\n")[2:3] != [b"End Final"]
+    return output, b"", 1 if is_stopped else 0
 
 
-def run(program, words, text):
+def run_program(program: str, words: Words, text: bytes) -> tuple[bytes, bytes, int]:
+    """Returns what a program prints on both streams, and its exit status."""
     ran = subprocess.run([program, *words], input=text, capture_output=True, timeout=300)
     return ran.stdout, ran.stderr, ran.returncode
 
 
-def is_page(told):
+def is_page(expected: tuple[bytes, bytes, int]) -> bool:
     """Returns whether the expected output is the page of a replay."""
-    return told[0].startswith(b"Test ") and told[1] == b"" and told[2] in (0, 1)
+    return expected[0].startswith(b"Test ") and expected[1] == b"" and expected[2] in (0, 1)
 
 
-def outcome_of(program, case):
+def run_case(program: str, case: Case | None) -> tuple[object, object]:
     """Returns what is expected of a case, and what was found."""
     if case is None:
         return "a case that is understood", None
-    words, text, told = case
-    output = run(program, words, text)
-    if told == "read":
+    words, text, expected = case
+    output = run_program(program, words, text)
+    if expected == "read":
         return ("read", "read") if is_page(output) else ("read", output)
-    wanted = wanted_of(words, told)
+    wanted = parse_expected(words, expected)
     if words == ["compile"] and output == wanted and wanted[0]:
-        output = run(program, words, output[0])
+        output = run_program(program, words, output[0])
     return wanted, output
 
 
-def are_there():
-    """Returns whether tables/ has its tables and folders, and no others."""
+def check_table_names() -> Iterator[Comparison]:
+    """Yields whether tables/ has its tables and folders, and no others."""
     found = sorted(os.path.basename(it) for it in glob.glob(f"{HOME}/tables/*"))
     yield "what there is in tables/", sorted([*FOLDERS, *(f"{name}.txt" for name in TABLES)]), found
 
 
-def comparisons(program, name):
+def comparisons(program: str, name: str) -> Iterator[Comparison]:
     """Returns, for each case of a table, what is compared, what is expected, and what was found. A table without cases is a fault."""
-    cases = list(cases_of(f"{HOME}/tables/{name}.txt"))
+    cases = list(read_cases(f"{HOME}/tables/{name}.txt"))
     yield f"tables/{name}.txt has cases", True, bool(cases)
     for line, case in cases:
-        yield f"tables/{name}.txt: {line}", *outcome_of(program, case)
+        yield f"tables/{name}.txt: {line}", *run_case(program, case)
 
 
-def comparisons_in(program, name):
+def compare_folder(program: str, name: str) -> Iterator[Comparison]:
     """Returns the same for each file of a folder."""
     files = sorted(os.listdir(f"{HOME}/tables/{name}"))
     yield f"tables/{name} has cases", True, bool(files)
-    for it in files:
-        with open(f"{HOME}/tables/{name}/{it}", encoding="utf-8", newline="\n") as case:
-            yield f"tables/{name}/{it}", *outcome_of(program, case_in(case.read()))
+    for file_name in files:
+        with open(f"{HOME}/tables/{name}/{file_name}", encoding="utf-8", newline="\n") as case:
+            yield f"tables/{name}/{file_name}", *run_case(program, parse_case_file(case.read()))

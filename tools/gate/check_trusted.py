@@ -1,7 +1,6 @@
-#!/usr/bin/env python3
 """Compares docs/TRUSTED.md with the verdict of the program `lw`.
 
-    python3 tools/gate/check_trusted.py [LOG]
+    python3 tools gate.check_trusted [LOG]
 
 LOG is what the build of `./lw`, `rt ci`, or `rt check --list-axioms` in crates/lw has printed; without it, it is crates/lw/out/log, which the
 build of `./lw` writes. If LOG has no verdict of `lw`, nothing is compared, and a line says so. tools/gate/check_names.py calls this.
@@ -12,13 +11,14 @@ build of `./lw` writes. If LOG has no verdict of `lw`, nothing is compared, and 
 
 The last line is 'N passed, M failed'.
 """
+from __future__ import annotations
+
 import os
 import re
 import sys
+from collections.abc import Iterator
 
-sys.dont_write_bytecode = True
-sys.path.insert(0, os.path.dirname(os.path.dirname(os.path.abspath(__file__))))
-from shared import start
+from shared import command, start
 from shared.home import HOME
 
 LOG = f"{HOME}/crates/lw/out/log"
@@ -30,99 +30,101 @@ PART = re.compile(r"^== (.+)$", re.M)
 ROW = re.compile(r"^\| `(\w+(?:::\w+)+)` \|", re.M)
 
 
-def read(path):
-    with open(path, encoding="utf-8", errors="replace") as it:
-        return it.read()
+def read_text(path: str) -> str:
+    """Returns the text of a file."""
+    with open(path, encoding="utf-8", errors="replace") as file:
+        return file.read()
 
 
-def part_of(log):
+def find_crate_log(log: str) -> str:
     """Returns what a log says of the crate `lw`: all of it, or that crate's part of a log of `rt ci`."""
     pieces = PART.split(log)
     parts = dict(zip(pieces[1::2], pieces[2::2]))
     return parts.get("lw", "") if parts else log
 
 
-def line_with(start_of_line, text):
+def find_last_line(start_of_line: str, text: str) -> str | None:
     """Returns the last line that starts so, with or without blanks before it, or `None` if there is none."""
-    found = re.findall(rf"^ *({start_of_line}.*)$", text, re.M)
-    return found[-1] if found else None
+    lines = re.findall(rf"^ *({start_of_line}.*)$", text, re.M)
+    return lines[-1] if lines else None
 
 
-def reached_in(text):
+def read_reached(text: str) -> dict[str, tuple[list[str], int]]:
     """Returns of each crate of the report the functions that are named as reached, and their number."""
-    found = {}
+    reached = {}
     for crate, names, count in re.findall(r"^ *axioms (\w+): (.*) \((\d+) of the \d+ declared\)$", text, re.M):
-        found[crate] = [it for it in names.split(", ") if it != "..."], int(count)
+        reached[crate] = [it for it in names.split(", ") if it != "..."], int(count)
     # With --list-axioms there is a line for each function.
     for crate, count in re.findall(r"^ *axioms (\w+): (\d+) reached of the \d+ declared$", text, re.M):
-        found[crate] = re.findall(rf"^ *({crate}::[\w:]+) +reached$", text, re.M), int(count)
-    return found
+        reached[crate] = re.findall(rf"^ *({crate}::[\w:]+) +reached$", text, re.M), int(count)
+    return reached
 
 
-def line_faults(log, page):
+def find_line_faults(log: str, page: str) -> Iterator[str]:
     """Yields how the words of the verdict's last line differ from the page's."""
-    told, shown = (set(line_with("logic=proved", it).split()) for it in (log, page))
-    if told - shown or shown - told - OF_BUILDS:
-        words = [f"the verdict has {', '.join(sorted(told - shown)) or 'no more'}", f"the page {', '.join(sorted(shown - told)) or 'no more'}"]
+    in_log, on_page = (set((find_last_line("logic=proved", it) or "").split()) for it in (log, page))
+    if in_log - on_page or on_page - in_log - OF_BUILDS:
+        words = [f"the verdict has {', '.join(sorted(in_log - on_page)) or 'no more'}"]
+        words.append(f"the page {', '.join(sorted(on_page - in_log)) or 'no more'}")
         yield f"docs/TRUSTED.md: {'; '.join(words)}"
 
 
-def function_faults(log, page):
+def find_function_faults(log: str, page: str) -> Iterator[str]:
     """Yields how the functions of the report differ from the page's rows."""
     rows = ROW.findall(page)
-    for crate, (names, count) in reached_in(log).items():
+    for crate, (names, count) in read_reached(log).items():
         own = [it for it in rows if it.startswith(f"{crate}::")]
         if len(own) != count or own[: len(names)] != names:
             yield f"docs/TRUSTED.md lists {len(own)} functions of {crate}, {', '.join(own)}; the verdict reaches {count}, {', '.join(names)} first"
-    for crate in sorted({it.partition("::")[0] for it in rows} - set(reached_in(log))):
+    for crate in sorted({it.partition("::")[0] for it in rows} - set(read_reached(log))):
         yield f"docs/TRUSTED.md lists functions of {crate}, of which the verdict reaches none"
 
 
-def files_in(text):
+def list_linked_files(text: str) -> list[list[str]]:
     """Returns the names of the linked files, without their folders, of each line that says what was linked. `rt ci` links the program twice, the
     second time as Rattle's own compiler makes it, which no part of this repository runs."""
     lines = re.findall(r"^ *linked .*?files=(.*)$", text, re.M)
     return [[os.path.basename(it) for it in line.split(",")] for line in lines]
 
 
-def link_faults(log, page):
+def find_link_faults(log: str, page: str) -> Iterator[str]:
     """Yields how the linked files differ from the page's, if the log says what was linked."""
-    told, shown = files_in(log), files_in(page)
-    if told and shown[:1] != told[:1]:
-        yield f"docs/TRUSTED.md has linked {', '.join(shown[0] if shown else ['nothing'])}, and the verdict {', '.join(told[0])}"
+    linked, shown = list_linked_files(log), list_linked_files(page)
+    if linked and shown[:1] != linked[:1]:
+        yield f"docs/TRUSTED.md has linked {', '.join(shown[0] if shown else ['nothing'])}, and the verdict {', '.join(linked[0])}"
 
 
-def differences(log, page):
+def find_differences(log: str, page: str) -> list[str] | None:
     """Returns all differences between a log and the page, a line each, or None if the log has no verdict of `lw`."""
-    part = part_of(log)
-    if line_with("logic=proved", part) is None:
+    part = find_crate_log(log)
+    if find_last_line("logic=proved", part) is None:
         return None
-    if line_with("logic=proved", page) is None:
+    if find_last_line("logic=proved", page) is None:
         return ["docs/TRUSTED.md has no verdict"]
-    return [*line_faults(part, page), *function_faults(part, page), *link_faults(part, page)]
+    return [*find_line_faults(part, page), *find_function_faults(part, page), *find_link_faults(part, page)]
 
 
-def faults():
+def find_faults() -> list[str]:
     """Returns the differences between the page and the build's log, none if there is no such log."""
-    return (differences(read(LOG), read(PAGE)) or []) if os.path.exists(LOG) else []
+    return (find_differences(read_text(LOG), read_text(PAGE)) or []) if os.path.exists(LOG) else []
 
 
-def main():
-    if len(sys.argv) > 2:
-        print(__doc__.split("\n\n")[1], file=sys.stderr)
-        return 2
-    path = sys.argv[1] if len(sys.argv) == 2 else LOG
-    if len(sys.argv) == 2 and not os.path.isfile(path):
-        print(f"check_trusted: there is no file {path}", file=sys.stderr)
-        return 2
-    found = differences(read(path), read(PAGE)) if os.path.exists(path) else None
-    if found is None:
+def main() -> int:
+    """Runs the command that the arguments describe. Returns the exit status."""
+    reader = command.Reader(__doc__)
+    reader.add_argument("log", nargs="?", metavar="LOG")
+    log = reader.read().log
+    path = LOG if log is None else log
+    if log is not None and not os.path.isfile(path):
+        reader.error(f"there is no file {path}")
+    faults = find_differences(read_text(path), read_text(PAGE)) if os.path.exists(path) else None
+    if faults is None:
         print(f"skipped: no verdict of lw in {os.path.relpath(path, HOME)}")
-    for fault in found or []:
+    for fault in faults or []:
         print(fault)
-    print(f"{0 if found or found is None else 1} passed, {len(found or [])} failed")
-    return 1 if found else 0
+    print(f"{0 if faults or faults is None else 1} passed, {len(faults or [])} failed")
+    return 1 if faults else 0
 
 
 if __name__ == "__main__":
-    sys.exit(start.run(main, __doc__))
+    sys.exit(start.run(main))

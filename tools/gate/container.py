@@ -2,16 +2,19 @@
 
 It is made of this system's own files, where Debian has them. To enter it takes the rights of root (chroot).
 """
+from __future__ import annotations
+
 import os
 import re
 import shutil
 import subprocess
 import tempfile
+from typing import Any
 
 SHELL, PYTHON = "/bin/sh", "/usr/bin/python3"
 
 
-def can_be_made():
+def can_be_made() -> bool:
     """Returns whether the files exist, and this process may enter the container."""
     if os.geteuid() != 0 or not all(os.path.exists(it) for it in (SHELL, PYTHON, "/usr/bin/ldd")):
         return False
@@ -24,48 +27,50 @@ def can_be_made():
 class Container:
     """The container's folder, for use in a `with`."""
 
-    def __init__(self):
+    def __init__(self) -> None:
         self.room = tempfile.mkdtemp(prefix="lw-container-")
 
-    def __enter__(self):
+    def __enter__(self) -> Container:
+        """Makes the folder, with a shell and with Python."""
         python = os.path.realpath(PYTHON)
         standard = f"/usr/lib/{os.path.basename(python)}"
         left_out = shutil.ignore_patterns("test", "__pycache__", "config-*", "dist-packages")
         shutil.copytree(standard, self.room + standard, symlinks=True, ignore=left_out)
         built = f"{standard}/lib-dynload"
         linked = [SHELL, python, *(f"{built}/{it}" for it in os.listdir(built))]
-        for path in (SHELL, PYTHON, *libraries_of(linked)):
-            self.put(path, path)
+        for path in (SHELL, PYTHON, *list_libraries(linked)):
+            self.copy_in(path, path)
         os.makedirs(f"{self.room}/dev")
         with open(f"{self.room}/dev/null", "wb"):
             pass
         os.makedirs(f"{self.room}/tmp")
         return self
 
-    def __exit__(self, *_):
+    def __exit__(self, *_why: object) -> None:
         subprocess.run(["chmod", "-R", "u+w", self.room], check=False)
         shutil.rmtree(self.room)
 
-    def put(self, path, at):
+    def copy_in(self, path: str, target_path: str) -> None:
         """Copies a file, or a folder with all that is in it, into the container."""
-        to = self.room + at
-        os.makedirs(os.path.dirname(to), exist_ok=True)
+        target = self.room + target_path
+        os.makedirs(os.path.dirname(target), exist_ok=True)
         if os.path.isdir(path):
-            shutil.copytree(path, to, symlinks=True)
+            shutil.copytree(path, target, symlinks=True)
         else:
-            shutil.copy2(os.path.realpath(path), to)
+            shutil.copy2(os.path.realpath(path), target)
 
-    def start(self, words, folder, **streams):
+    def start_command(self, arguments: list[str], folder: str, **streams: Any) -> subprocess.Popen:
         """Starts a command in the container, in a folder of it."""
 
-        def enter():
+        def enter_container() -> None:
+            """Makes the container's folder the root of the process that is started."""
             os.chroot(self.room)
             os.chdir(folder)
 
-        return subprocess.Popen(words, preexec_fn=enter, env={"PATH": "/usr/bin:/bin"}, **streams)
+        return subprocess.Popen(arguments, preexec_fn=enter_container, env={"PATH": "/usr/bin:/bin"}, **streams)
 
 
-def libraries_of(programs):
+def list_libraries(programs: list[str]) -> list[str]:
     """Returns the shared libraries with which programs are linked, and the loader."""
-    told = subprocess.run(["ldd", *programs], capture_output=True, text=True, check=False).stdout
-    return sorted(set(re.findall(r"(/\S+\.so\S*) \(", told)))
+    printed = subprocess.run(["ldd", *programs], capture_output=True, text=True, check=False).stdout
+    return sorted(set(re.findall(r"(/\S+\.so\S*) \(", printed)))

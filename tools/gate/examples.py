@@ -1,4 +1,6 @@
 """Helpers of the checks of tools: the files of the repository, its examples, and what a command of tools/ prints."""
+from __future__ import annotations
+
 import glob
 import os
 import subprocess
@@ -9,18 +11,19 @@ from shared.home import HOME
 TOOLS = os.path.join(HOME, "tools")
 
 
-def read(path):
-    with open(os.path.join(HOME, path), encoding="utf-8") as it:
-        return it.read()
+def read(path: str) -> str:
+    """Returns the text of a file of the repository."""
+    with open(os.path.join(HOME, path), encoding="utf-8") as file:
+        return file.read()
 
 
-def examples():
+def examples() -> list[tuple[str, str]]:
     """Returns the names and the texts of all examples."""
     paths = sorted(glob.glob(f"{HOME}/examples/*.litmus"))
     return [(os.path.basename(path)[: -len(".litmus")], read(path)) for path in paths]
 
 
-def run(words, text=""):
+def run(arguments: list[str], text: str = "") -> tuple[str, str, int]:
     """Returns what a command of tools/ prints on both streams, and its exit status."""
-    ran = subprocess.run([sys.executable, os.path.join(TOOLS, words[0]), *words[1:]], input=text.encode(), capture_output=True, cwd=HOME)
+    ran = subprocess.run([sys.executable, os.path.join(TOOLS, arguments[0]), *arguments[1:]], input=text.encode(), capture_output=True, cwd=HOME)
     return ran.stdout.decode(), ran.stderr.decode(), ran.returncode

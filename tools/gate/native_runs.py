@@ -1,33 +1,32 @@
-#!/usr/bin/env python3
 """Runs programs in C on this processor, and looks whether a state is seen that tools/from_c.py does not list.
 
-    python3 tools/gate/native_runs.py [--cc 'gcc -O2']... [--seconds N] [--tries N] FILE...
+    python3 tools gate.native_runs [--cc 'gcc -O2']... [--seconds N] [--tries N] FILE...
 
 The assembly that is run is the one that is converted, with a store to memory of the thread's own in place of each comment of `lw_see`. A
 line says of each program and compiler how many of the listed states were seen, in how many runs; and which seen states are not listed, which
 would be a fault of the conversion, or a processor that is none of x86-TSO. If a loop is gone through at most N times the list leaves states
 out, so these are not counted as faults then. The last line is 'N programs, M beyond'.
 """
-import argparse
+from __future__ import annotations
+
 import os
 import re
 import shlex
 import subprocess
 import sys
 import tempfile
-from typing import Dict, List, NamedTuple, Set
+from typing import NamedTuple
 
-sys.dont_write_bytecode = True
-sys.path.insert(0, os.path.dirname(os.path.dirname(os.path.abspath(__file__))))
 import given
-from c.compiler import assembly_of, with_readable_names
-from c.condition import Seen
+from c.compiler import compile_to_assembly, demangle_assembly
+from c.condition import Global, Seen
 from c.convert import Converter
 from c.refused import Refused
-from c.report import answer_of
-from c.source import read_source, shown_name
+from c.report import make_answer
+from c.source import read_source, strip_prefix
 from from_c import RECURSION
-from shared import answers, start
+from shared import answers, command, start
+from shared.matches import require_match
 
 HARNESS = """
 #include <pthread.h>
@@ -53,9 +52,9 @@ HARNESS = """
 #define arrived lw_run_arrived
 #define round_number lw_run_round_number
 @DECLARATIONS@
-enum { WIDTH = @WIDTH@, MOST = 4096 };
-static uint64_t states[MOST][WIDTH + 1];
-static long counts[MOST];
+enum { WIDTH = @WIDTH@, MAX_STATES = 4096 };
+static uint64_t states[MAX_STATES][WIDTH + 1];
+static long counts[MAX_STATES];
 static int found;
 static _Atomic long round_number, arrived;
 static void wait_a_moment(void) {
@@ -81,7 +80,7 @@ static void gather(void) {
     look(state);
     for (int at = 0; at < found; at++)
         if (!memcmp(states[at], state, sizeof state)) { counts[at]++; return; }
-    if (found == MOST) return;
+    if (found == MAX_STATES) return;
     memcpy(states[found], state, sizeof state);
     counts[found++] = 1;
 }
@@ -114,7 +113,7 @@ int main(int count, char **words) {
 class Native(NamedTuple):
     """What was seen of a program: states as lines, each with its count."""
 
-    counts: Dict[str, int]
+    counts: dict[str, int]
 
     @property
     def runs(self) -> int:
@@ -122,62 +121,63 @@ class Native(NamedTuple):
         return sum(self.counts.values())
 
 
-def with_stores(assembly: str) -> str:
+def replace_sees(assembly: str) -> str:
     """Returns assembly in which each comment of `lw_see` is a store to a variable of the thread, and no name is the file's own."""
     assembly = re.sub(r"^\s*\.local\s+\S+$", "", assembly, flags=re.M)
     return re.sub(r"^\s*#lw see (\S+) %?(\w+)", r"\tmovl %\2, %fs:lw_seen_\1@tpoff", assembly, flags=re.M)
 
 
-def objects_of(made: Converter) -> List[tuple]:
+def list_objects(converter: Converter) -> list[tuple[str, int, bool]]:
     """Returns the named objects, each with its length, and whether some thread stores to it."""
-    layout, writers = made.program.layout, made.program.locations.writers
-    stored = {found[0] for at in writers if (found := layout.object_at(at))}
-    objects = made.program.assembly.objects.items()
+    layout, writers = converter.program.layout, converter.program.locations.writers
+    stored = {containing_object[0] for address in writers if (containing_object := layout.find_object(address))}
+    objects = converter.program.assembly.objects.items()
     return [(name, it.length, name in stored) for name, it in objects if not name.startswith(".") and it.length]
 
 
-def declarations(made: Converter, sites: list) -> str:
+def make_declarations(converter: Converter, sites: list[Seen | Global]) -> str:
     """Returns what the harness knows of a program: its functions, objects and values."""
-    objects = objects_of(made)
+    objects = list_objects(converter)
     names = sorted({site.name for site in sites if isinstance(site, Seen) and site.name != "return"})
-    count = len(made.program.threads)
+    count = len(converter.program.threads)
     lines = [f"enum {{ THREADS = {count} }};"]
     lines += [f'extern char object_{number}[] __asm__("{name}");' for number, (name, _, _) in enumerate(objects)]
     lines += [f"_Thread_local unsigned lw_seen_{name};" for name in names] + [f"unsigned P{thread}(void);" for thread in range(count)]
     lines += [f"static char kept_{number}[{size}];" for number, (_, size, _) in enumerate(objects)]
-    copies = lambda to, it: "".join(f" memcpy({to}_{n}, {it}_{n}, {size});" for n, (_, size, is_stored) in enumerate(objects) if is_stored)
+    stored = [(number, size) for number, (_, size, is_stored) in enumerate(objects) if is_stored]
+    copies = lambda to_name, from_name: "".join(f" memcpy({to_name}_{n}, {from_name}_{n}, {size});" for n, size in stored)
     lines += [f"static void keep(void) {{{copies('kept', 'object')} }}", f"static void reset(void) {{{copies('object', 'kept')} }}"]
     zeros = "".join(f" lw_seen_{name} = 0;" for name in names)
-    shown = "".join(f" into[{at}] = lw_seen_{name};" for at, name in enumerate(names))
+    shown = "".join(f" into[{index}] = lw_seen_{name};" for index, name in enumerate(names))
     switch = "".join(f" case {thread}: returned = P{thread}(); break;" for thread in range(count))
     body = f"unsigned returned = 0;{zeros} switch (thread) {{{switch} }}{shown} into[{len(names)}] = returned;"
     lines.append(f"static void run(long thread, uint64_t *into) {{ {body} }}")
-    looks = "".join(f" state[{at}] = {looked(made, site, names, objects)};" for at, site in enumerate(sites))
+    looks = "".join(f" state[{index}] = {make_expression(converter, site, names, objects)};" for index, site in enumerate(sites))
     lines.append(f"static uint64_t results[THREADS][{max(len(sites), len(names)) + 1}];\nstatic void look(uint64_t *state) {{{looks} }}")
     printed = "".join(f' printf("object {name} %lu\\n", (unsigned long)object_{number});' for number, (name, _, _) in enumerate(objects))
     lines.append(f"static void where(void) {{{printed} }}")
     return "\n".join(lines)
 
 
-def looked(made: Converter, site, names: List[str], objects: list) -> str:
+def make_expression(converter: Converter, site: Seen | Global, names: list[str], objects: list[tuple[str, int, bool]]) -> str:
     """Returns the expression for a site's value after a run."""
     if isinstance(site, Seen):
         return f"results[{site.thread}][{len(names) if site.name == 'return' else names.index(site.name)}]"
     base, _, offset = site.name.partition("+")
-    size = made.program.asked_size(made.program.asked[site.name])
+    size = converter.program.find_asked_size(converter.program.asked[site.name])
     number = [name for name, _, _ in objects].index(base)
     return f"*(uint{8 * size}_t *)(object_{number} + {offset or 0})"
 
 
-def native(made: Converter, assembly: str, compiler: str, seconds: float) -> Native:
-    """Runs a program for some seconds. The compiler assembles and links it."""
-    sites = list(dict.fromkeys(site for _, site, _ in made.condition.atoms()))
-    text = declarations(made, sites)
-    width = int(re.search(r"results\[THREADS\]\[(\d+)\]", text)[1]) - 1
+def run_native(converter: Converter, assembly: str, compiler: str, seconds: float) -> Native:
+    """Runs a program for some seconds. The compiler assembles and links it. Raises Refused if it does not build."""
+    sites = list(dict.fromkeys(it.site for it in converter.condition.list_atoms()))
+    text = make_declarations(converter, sites)
+    width = int(require_match(re.search(r"results\[THREADS\]\[(\d+)\]", text))[1]) - 1
     harness = HARNESS.replace("@DECLARATIONS@", text).replace("@WIDTH@", str(width))
-    globals_of = "".join(f"\t.globl {name}\n" for name, _, _ in objects_of(made))
+    globals_of = "".join(f"\t.globl {name}\n" for name, _, _ in list_objects(converter))
     with tempfile.TemporaryDirectory(prefix="native-") as folder:
-        for name, content in (("program.s", globals_of + with_stores(assembly)), ("harness.c", harness)):
+        for name, content in (("program.s", globals_of + replace_sees(assembly)), ("harness.c", harness)):
             with open(os.path.join(folder, name), "w", encoding="utf-8") as file:
                 file.write(content)
         command = [shlex.split(compiler)[0], "-O1", "-w", "-no-pie", "-pthread", "-o", "run", "harness.c", "program.s"]
@@ -185,57 +185,58 @@ def native(made: Converter, assembly: str, compiler: str, seconds: float) -> Nat
         if built.returncode:
             raise Refused(f"it is not built to run: {built.stdout.decode().splitlines()[0]}")
         ran = subprocess.run([os.path.join(folder, "run"), str(seconds)], stdout=subprocess.PIPE, check=True, timeout=60 + 20 * seconds)
-    return read_native(ran.stdout.decode(), sites)
+    return parse_native(ran.stdout.decode(), sites)
 
 
-def read_native(printed: str, sites: list) -> Native:
+def parse_native(printed: str, sites: list[Seen | Global]) -> Native:
     """Reads what the harness printed."""
-    objects = {int(at) % 2**32: name for name, at in re.findall(r"^object (\S+) (\d+)$", printed, re.M)}
-    counts: Dict[str, int] = {}
+    objects = {int(address) % 2**32: name for name, address in re.findall(r"^object (\S+) (\d+)$", printed, re.M)}
+    counts: dict[str, int] = {}
     for line in re.findall(r"^state (.*)$", printed, re.M):
         count, *words = map(int, line.split())
-        shown = [f"&{shown_name(objects[word % 2**32])}" if word > 65535 and word % 2**32 in objects else str(word) for word in words]
-        names = [f"{site.thread}:{site.name}" if isinstance(site, Seen) else shown_name(site.name) for site in sites]
+        shown = [f"&{strip_prefix(objects[word % 2**32])}" if word > 65535 and word % 2**32 in objects else str(word) for word in words]
+        names = [f"{site.thread}:{site.name}" if isinstance(site, Seen) else strip_prefix(site.name) for site in sites]
         key = " ".join(sorted(f"{name}={word};" for name, word in zip(names, shown)))
         counts[key] = counts.get(key, 0) + count
     return Native(counts)
 
 
-def compare(path: str, compiler: str, seconds: float, tries: int) -> tuple:
+def compare_with_list(path: str, compiler: str, seconds: float, tries: int) -> tuple[list[str], int, int, int, bool]:
     """Returns what is seen and not listed of a program, how many of the listed states were seen, and the number of runs."""
     with open(path, encoding="utf-8") as file:
         source = read_source(path, file.read())
-    raw = assembly_of(source, compiler, 0, os.path.dirname(os.path.abspath(path)))
-    made = Converter(with_readable_names(raw), source.condition, source.name, source.threads, tries, source.added)
-    answer = answer_of(made)
-    found = native(made, with_readable_names(raw), compiler, seconds)
-    lines = answers.states_in(answer.report)
-    shown: Set[str] = {it.partition("=")[0] for line in lines for it in line.replace(";", "").split()}
+    raw = compile_to_assembly(source, compiler, 0, os.path.dirname(os.path.abspath(path)))
+    converter = Converter(demangle_assembly(raw), source.condition, source.name, source.threads, tries, source.added)
+    answer = make_answer(converter)
+    native = run_native(converter, demangle_assembly(raw), compiler, seconds)
+    lines = answers.filter_state_lines(answer.report)
+    shown: set[str] = {it.partition("=")[0] for line in lines for it in line.replace(";", "").split()}
     reduced = lambda line: " ".join(it for it in line.split() if it.partition("=")[0] in shown)
-    seen: Set[str] = {reduced(it) for it in found.counts}
+    seen: set[str] = {reduced(it) for it in native.counts}
     listed = {" ".join(sorted(it.split())) for it in lines}
-    return sorted(seen - listed), len(seen & listed), len(listed), found.runs, bool(answer.bounded)
+    return sorted(seen - listed), len(seen & listed), len(listed), native.runs, bool(answer.bounded)
 
 
 def main() -> int:
-    given.print_as_lw()
+    """Runs the command that the arguments describe. Returns the exit status."""
+    given.set_output_encoding()
     sys.setrecursionlimit(RECURSION)
-    reader = argparse.ArgumentParser(description=__doc__, formatter_class=argparse.RawDescriptionHelpFormatter)
+    reader = command.Reader(__doc__)
     reader.add_argument("files", nargs="+", metavar="FILE")
     reader.add_argument("--cc", action="append")
-    reader.add_argument("--seconds", type=float, default=0.5)
-    reader.add_argument("--tries", type=int, default=1)
-    words = reader.parse_args()
+    reader.add_argument("--seconds", type=float, default=0.5, metavar="N")
+    reader.add_argument("--tries", type=int, default=1, metavar="N")
+    arguments = reader.read()
     count = faults = 0
-    for path in words.files:
-        for compiler in words.cc or ["gcc -O2"]:
+    for path in arguments.files:
+        for compiler in arguments.cc or ["gcc -O2"]:
             try:
-                beyond, seen, listed, runs, is_bounded = compare(path, compiler, words.seconds, words.tries)
+                beyond, seen, listed, runs, is_bounded = compare_with_list(path, compiler, arguments.seconds, arguments.tries)
             except (Refused, given.Fault, subprocess.SubprocessError) as why:
                 print(f"{os.path.basename(path)} by {compiler}: {why.args[0] if why.args else why}", flush=True)
                 continue
             count, faults = count + 1, faults + bool(beyond and not is_bounded)
-            mark = f" (the list has runs with at most {words.tries} passes of a loop)" if is_bounded else ""
+            mark = f" (the list has runs with at most {arguments.tries} passes of a loop)" if is_bounded else ""
             print(f"{os.path.basename(path)} by {compiler}: {seen} of {listed} states seen in {runs} runs, beyond {beyond[:3]}{mark}", flush=True)
     print(f"{count} programs, {faults} beyond")
     return 1 if faults or not count else 0

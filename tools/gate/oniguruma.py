@@ -2,13 +2,14 @@
 
 Patterns are compiled as VS Code's engine compiles them: in Oniguruma's own syntax, with numbered groups, over UTF-8.
 """
+from __future__ import annotations
+
 import ctypes
 import ctypes.util
-from typing import Optional, Tuple
 
 NAMES = ("libonig.so.5", ctypes.util.find_library("onig"))
 CAPTURE_GROUP = 1 << 8
-MOST_MESSAGE = 256
+MAX_MESSAGE_BYTES = 256
 
 
 class Region(ctypes.Structure):
@@ -27,7 +28,8 @@ class Fault(Exception):
 class Library:
     """The library."""
 
-    def __init__(self, dll: ctypes.CDLL):
+    def __init__(self, dll: ctypes.CDLL) -> None:
+        """Prepares the library for patterns in UTF-8."""
         self.dll = dll
         dll.onig_region_new.restype = ctypes.POINTER(Region)
         dll.onig_version.restype = ctypes.c_char_p
@@ -40,15 +42,15 @@ class Library:
         """Returns the version of the library."""
         return self.dll.onig_version().decode()
 
-    def compiled(self, pattern: str) -> "Pattern":
-        """Returns a pattern that is compiled."""
+    def compile_pattern(self, pattern: str) -> "Pattern":
+        """Returns a pattern that is compiled. Raises Fault if the text is no pattern."""
         code, made = pattern.encode(), ctypes.c_void_p()
         text, information = ctypes.create_string_buffer(code), ctypes.create_string_buffer(64)
         begin = ctypes.addressof(text)
         bounds = ctypes.c_void_p(begin), ctypes.c_void_p(begin + len(code))
         status = self.dll.onig_new(ctypes.byref(made), *bounds, CAPTURE_GROUP, self.utf8, self.syntax, information)
         if status:
-            message = ctypes.create_string_buffer(MOST_MESSAGE)
+            message = ctypes.create_string_buffer(MAX_MESSAGE_BYTES)
             self.dll.onig_error_code_to_str(message, status, information)
             raise Fault(f"{pattern}: {message.value.decode()}")
         return Pattern(self, made)
@@ -57,12 +59,13 @@ class Library:
 class Match:
     """A match, as Python's has it: where it and its groups are, in letters."""
 
-    def __init__(self, line: bytes, region: Region):
+    def __init__(self, line: bytes, region: Region) -> None:
+        """Reads where a match is, which the library counts in bytes."""
         letters = lambda place: len(line[:place].decode()) if place >= 0 else -1
         self.spans = [(letters(region.begins[it]), letters(region.ends[it])) for it in range(region.count)]
         self.text = line.decode()
 
-    def span(self, group: int = 0) -> Tuple[int, int]:
+    def span(self, group: int = 0) -> tuple[int, int]:
         """Returns where a group begins and ends."""
         return self.spans[group]
 
@@ -82,23 +85,23 @@ class Match:
 class Pattern:
     """A compiled pattern."""
 
-    def __init__(self, library: Library, made: ctypes.c_void_p):
+    def __init__(self, library: Library, made: ctypes.c_void_p) -> None:
         self.library, self.made = library, made
 
-    def search(self, line: str, at: int) -> Optional[Match]:
+    def search(self, line: str, index: int) -> Match | None:
         """Returns the first match in a line from a place on, or None."""
         dll, code = self.library.dll, line.encode()
         text, region = ctypes.create_string_buffer(code), dll.onig_region_new()
         begin = ctypes.addressof(text)
-        end, start = ctypes.c_void_p(begin + len(code)), ctypes.c_void_p(begin + len(line[:at].encode()))
+        end, start = ctypes.c_void_p(begin + len(code)), ctypes.c_void_p(begin + len(line[:index].encode()))
         try:
-            found = dll.onig_search(self.made, ctypes.c_void_p(begin), end, start, end, region, 0)
-            return Match(code, region.contents) if found >= 0 else None
+            position = dll.onig_search(self.made, ctypes.c_void_p(begin), end, start, end, region, 0)
+            return Match(code, region.contents) if position >= 0 else None
         finally:
             dll.onig_region_free(region, 1)
 
 
-def library() -> Optional[Library]:
+def load_library() -> Library | None:
     """Returns the library, or None if the system has none."""
     for name in filter(None, NAMES):
         try:

@@ -1,30 +1,29 @@
-#!/usr/bin/env python3
 """Random programs in C, whose lists by tools/from_c.py have to be the outcomes that an interpreter of their source finds.
 
-    python3 tools/gate/random_programs.py COUNT [--seed N] [--compilers N] [--log FILE]
+    python3 tools gate.random_programs COUNT [--seed N] [--compilers N] [--log FILE] [--processes N]
 
-runs COUNT programs of two or three threads, each by N of the compilers and levels that are on this machine, and prints the programs whose
-lists differ. The interpreter knows C's integers, atomic operations, pointers and arrays, and x86's store buffers, but no assembly. A relaxed
+Runs COUNT programs of two or three threads, the first of which has the number --seed (0), each by --compilers (3) of the compilers and levels
+that are on this machine, in --processes (2) at once. Prints the programs whose lists differ, and writes a line for each list into the file
+--log. The interpreter knows C's integers, atomic operations, pointers and arrays, and x86's store buffers, but no assembly. A relaxed
 store waits in a buffer, and every seq_cst operation except a load waits for the buffer: gcc and clang make no other code of them, and merge
 none of them. The last line is 'N lists the same, M differ, K refused'.
 """
-import argparse
-import os
+from __future__ import annotations
+
 import sys
 from collections import Counter
+from collections.abc import Callable, Sequence
 from concurrent.futures import ProcessPoolExecutor
 from dataclasses import dataclass
 from random import Random
-from typing import Callable, Dict, List, NamedTuple, Optional, Set, Tuple
+from typing import List, NamedTuple, Tuple, TypeVar
 
-sys.dont_write_bytecode = True
-sys.path.insert(0, os.path.dirname(os.path.dirname(os.path.abspath(__file__))))
 import given
-from c.compiler import compilers_for
+from c.compiler import list_compilers
 from c.refused import Refused
 from c.source import read_source
-from from_c import RECURSION, converted
-from shared import answers, start
+from from_c import RECURSION, convert_source
+from shared import answers, command, start
 
 
 class Kind(NamedTuple):
@@ -43,7 +42,7 @@ KINDS = (
 INT = KINDS[0]
 
 
-def wrapped(word: int, kind: Kind) -> int:
+def wrap(word: int, kind: Kind) -> int:
     """Returns a number as a value of a type."""
     if kind.size == 0:
         return int(word != 0)
@@ -51,26 +50,26 @@ def wrapped(word: int, kind: Kind) -> int:
     return word - (1 << 8 * kind.size) if kind.is_signed and word >> (8 * kind.size - 1) else word
 
 
-def int_of(word: int) -> int:
+def to_int(word: int) -> int:
     """Returns a number as an int."""
-    return wrapped(word, INT)
+    return wrap(word, INT)
 
 
 TABLE = (5, -3, 7, 2)
 # Expressions of two local variables, each with its value.
-EXPRESSIONS: Dict[str, Callable[[int, int], int]] = {
+EXPRESSIONS: dict[str, Callable[[int, int], int]] = {
     "1": lambda a, b: 1, "2": lambda a, b: 2, "3": lambda a, b: 3, "-1": lambda a, b: -1, "255": lambda a, b: 255,
-    "r0": lambda a, b: a, "r1": lambda a, b: b, "r0 + 1": lambda a, b: int_of(a + 1), "r1 - r0": lambda a, b: int_of(b - a),
-    "r0 & 3": lambda a, b: a & 3, "r0 * 2": lambda a, b: int_of(a * 2), "r0 ^ 1": lambda a, b: a ^ 1, "r0 >> 1": lambda a, b: a >> 1,
+    "r0": lambda a, b: a, "r1": lambda a, b: b, "r0 + 1": lambda a, b: to_int(a + 1), "r1 - r0": lambda a, b: to_int(b - a),
+    "r0 & 3": lambda a, b: a & 3, "r0 * 2": lambda a, b: to_int(a * 2), "r0 ^ 1": lambda a, b: a ^ 1, "r0 >> 1": lambda a, b: a >> 1,
     "(unsigned)r0 % 3": lambda a, b: (a & 0xFFFFFFFF) % 3, "r1 == r0": lambda a, b: int(a == b),
-    "(signed char)r0": lambda a, b: wrapped(a, Kind("", "", 1, True)),
-    "(uint16_t)(r1 + 7)": lambda a, b: (b + 7) & 0xFFFF, "table[r0 & 3]": lambda a, b: TABLE[a & 3], "helper(r1)": lambda a, b: a_helper(b),
-    "r0 < r1 ? r0 : 4": lambda a, b: a if a < b else 4, "-r1": lambda a, b: int_of(-b), "~r0": lambda a, b: ~a,
+    "(signed char)r0": lambda a, b: wrap(a, Kind("", "", 1, True)),
+    "(uint16_t)(r1 + 7)": lambda a, b: (b + 7) & 0xFFFF, "table[r0 & 3]": lambda a, b: TABLE[a & 3], "helper(r1)": lambda a, b: evaluate_helper(b),
+    "r0 < r1 ? r0 : 4": lambda a, b: a if a < b else 4, "-r1": lambda a, b: to_int(-b), "~r0": lambda a, b: ~a,
 }
-CONDITIONS: Dict[str, Callable[[int, int], int]] = {
+CONDITIONS: dict[str, Callable[[int, int], int]] = {
     "r0 == 1": lambda a, b: a == 1, "r0 != r1": lambda a, b: a != b, "r0 < 2": lambda a, b: a < 2, "r1 >= 3": lambda a, b: b >= 3,
     "r0 & 1": lambda a, b: a & 1, "(unsigned)r0 > 1u": lambda a, b: (a & 0xFFFFFFFF) > 1, "r0": lambda a, b: a, "!r1": lambda a, b: not b,
-    "r0 > 0 && r1 < 9": lambda a, b: a > 0 and b < 9, "helper(r0) == 2": lambda a, b: a_helper(a) == 2,
+    "r0 > 0 && r1 < 9": lambda a, b: a > 0 and b < 9, "helper(r0) == 2": lambda a, b: evaluate_helper(a) == 2,
 }
 OPERATIONS = {"+": lambda a, b: a + b, "-": lambda a, b: a - b, "|": lambda a, b: a | b, "&": lambda a, b: a & b, "^": lambda a, b: a ^ b}
 FETCHES = {"+": "add", "-": "sub", "|": "or", "&": "and", "^": "xor"}
@@ -81,7 +80,7 @@ HEAD = (
 )
 
 
-def a_helper(a: int) -> int:
+def evaluate_helper(a: int) -> int:
     """Returns what `helper` of HEAD returns."""
     return 2 if a == 1 else a & 6
 
@@ -97,7 +96,7 @@ class Statement:
 
     kind: str
     location: int = 0
-    register: Optional[int] = None
+    register: int | None = None
     first: str = "1"
     second: str = "1"
     operation: str = "+"
@@ -111,21 +110,22 @@ class Program:
     """A random program: its text, and its threads as statements. An array's elements are the locations `arr` and `arr+4`; a pointer's
     word is the number of the location that it points to."""
 
-    def __init__(self, random: Random):
+    def __init__(self, random: Random) -> None:
+        """Makes a program of random choices."""
         self.random = random
         self.has_pointer, self.has_array = random.random() < 0.3, random.random() < 0.3
         count = random.choice((2, 2, 3))
-        self.kinds = [INT if self.has_pointer and at < 2 else random.choice(KINDS) for at in range(count)]
+        self.kinds = [INT if self.has_pointer and index < 2 else random.choice(KINDS) for index in range(count)]
         self.names = list("xyz"[:count])
-        self.first = [wrapped(random.choice((0, 0, 0, 1, 3, 254)), it) for it in self.kinds]
+        self.first = [wrap(random.choice((0, 0, 0, 1, 3, 254)), it) for it in self.kinds]
         lines = [f"{kind.atomic} {name} = {word};\n" for kind, name, word in zip(self.kinds, self.names, self.first)]
         lines += [self.declare_pointer()] if self.has_pointer else []
         lines += [self.declare_array()] if self.has_array else []
         self.is_relaxed = random.random() < 0.4
-        self.threads: List[List[Statement]] = []
+        self.threads: list[list[Statement]] = []
         count = random.choice((2, 2, 2, 3))
         for number in range(count):
-            text, code = self.body(number, (2, 3, 3, 4) if count == 2 else (1, 2, 2))
+            text, code = self.make_body(number, (2, 3, 3, 4) if count == 2 else (1, 2, 2))
             self.threads.append(code)
             lines.append(f"struct {{ int a; short b; }} own{number};\nvoid P{number}(void) {{ int r0 = 0, r1 = 0; {text} }}\n")
         atoms = [f"{thread}:r{register}=1" for thread in range(count) for register in range(2)]
@@ -135,42 +135,44 @@ class Program:
 
     def declare_pointer(self) -> str:
         """Adds a pointer to x or y."""
-        self.pointer = self.add("p", 0)
+        self.pointer = self.add_location("p", 0)
         return "_Atomic(atomic_int *) p = &x;\n"
 
     def declare_array(self) -> str:
         """Adds an array of two elements."""
-        self.array = self.add("arr", 2)
-        self.add("arr+4", 0)
+        self.array = self.add_location("arr", 2)
+        self.add_location("arr+4", 0)
         return "atomic_int arr[2] = {2, 0};\n"
 
-    def add(self, name: str, word: int) -> int:
+    def add_location(self, name: str, word: int) -> int:
         """Adds a location. Returns its index."""
         self.names.append(name)
         self.kinds.append(INT)
         self.first.append(word)
         return len(self.names) - 1
 
-    def expression(self) -> str:
+    def make_expression(self) -> str:
         """Returns a random expression."""
         return self.random.choice(list(EXPRESSIONS))
 
-    def simple(self, thread: int) -> Written:
+    def make_statement(self, thread: int) -> Written:
         """Returns a statement that is no branch: its text, and its effect."""
         random = self.random
-        choices = [self.plain] * 8 + [self.own] * 2 + [self.through] * (3 * self.has_pointer) + [self.element] * (3 * self.has_array)
+        choices = [self.make_plain_statement] * 8 + [self.make_own_statement] * 2 + [
+            self.make_pointer_statement
+        ] * (3 * self.has_pointer) + [self.make_array_statement] * (3 * self.has_array)
         return random.choice(choices)(thread)
 
-    def plain(self, _thread: int) -> Written:
+    def make_plain_statement(self, _thread: int) -> Written:
         """Returns a statement on one of the first locations."""
         random = self.random
-        at, register = random.randrange(sum(name in "xyz" for name in self.names)), random.randrange(2)
-        kind, name = self.kinds[at], self.names[at]
+        location_index, register = random.randrange(sum(name in "xyz" for name in self.names)), random.randrange(2)
+        kind, name = self.kinds[location_index], self.names[location_index]
         more = ["fetch", "fetch", "set", "cas", "cas"] if kind.size else ["set"]
-        what, first, second = random.choice(["store", "store", "load", "load", "exchange", *more]), self.expression(), self.expression()
+        what, first, second = random.choice(["store", "store", "load", "load", "exchange", *more]), self.make_expression(), self.make_expression()
         operation = random.choice(list(FETCHES))
         if what == "store" and self.is_relaxed:
-            return f"atomic_store_explicit(&{name}, {first}, memory_order_relaxed);", [Statement("relaxed", at, None, first)]
+            return f"atomic_store_explicit(&{name}, {first}, memory_order_relaxed);", [Statement("relaxed", location_index, None, first)]
         fetched = random.random() < 0.6
         texts = {
             "store": f"{name} = {first};", "load": f"r{register} = {name};", "exchange": f"r{register} = atomic_exchange(&{name}, {first});",
@@ -180,19 +182,19 @@ class Program:
             f"if (!r{register}) r{register} = e + 10; }}",
         }
         sets = None if what == "store" or what == "fetch" and not fetched else register
-        return texts[what], [Statement(what, at, sets, first, second, operation)]
+        return texts[what], [Statement(what, location_index, sets, first, second, operation)]
 
-    def own(self, thread: int) -> Written:
+    def make_own_statement(self, thread: int) -> Written:
         """Returns a statement on the thread's own structure."""
-        field, register, first = self.random.choice((OWN_A, OWN_B)), self.random.randrange(2), self.expression()
+        field, register, first = self.random.choice((OWN_A, OWN_B)), self.random.randrange(2), self.make_expression()
         name = f"own{thread}.{'ab'[field - OWN_A]}"
         if self.random.random() < 0.6:
             return f"{name} = {first};", [Statement("set", 0, field, first)]
         return f"r{register} = {name};", [Statement("copy", 0, register, target=field)]
 
-    def through(self, _thread: int) -> Written:
+    def make_pointer_statement(self, _thread: int) -> Written:
         """Returns a statement on the pointer, or through it."""
-        register, first, target = self.random.randrange(2), self.expression(), self.random.randrange(2)
+        register, first, target = self.random.randrange(2), self.make_expression(), self.random.randrange(2)
         follow = Statement("load", self.pointer, ADDRESS)
         return self.random.choice([
             (f"p = &{self.names[target]};", [Statement("aim", self.pointer, None, target=target)]),
@@ -200,23 +202,23 @@ class Program:
             (f"*p = {first};", [follow, Statement("store through", 0, None, first)]),
         ])
 
-    def element(self, _thread: int) -> Written:
+    def make_array_statement(self, _thread: int) -> Written:
         """Returns a statement on an element of the array."""
-        register, first = self.random.randrange(2), self.expression()
+        register, first = self.random.randrange(2), self.make_expression()
         return self.random.choice([
             (f"r{register} = arr[r{register} & 1];", [Statement("load in", self.array, register)]),
             (f"arr[r0 & 1] = {first};", [Statement("store in", self.array, None, first)]),
         ])
 
-    def body(self, thread: int, lengths: Tuple[int, ...]) -> Written:
+    def make_body(self, thread: int, lengths: tuple[int, ...]) -> Written:
         """Returns the statements of a thread, and their text."""
-        texts: List[str] = []
-        code: List[Statement] = []
+        texts: list[str] = []
+        code: list[Statement] = []
         for _ in range(self.random.choice(lengths)):
-            text, them = self.simple(thread)
+            text, them = self.make_statement(thread)
             kind = self.random.random()
             if kind < 0.3:
-                texts.append(self.branch(thread, text, them, code))
+                texts.append(self.add_branch(thread, text, them, code))
             elif kind < 0.36:
                 texts.append(f"for (int i = 0; i < 2; i++) {{ {text} }}")
                 code += [*them, *them]
@@ -225,16 +227,16 @@ class Program:
                 code += them
         return " ".join(texts), code
 
-    def branch(self, thread: int, text: str, them: List[Statement], code: List[Statement]) -> str:
+    def add_branch(self, thread: int, text: str, them: list[Statement], code: list[Statement]) -> str:
         """Adds the statements of an `if`. Returns its text."""
-        condition, at = self.random.choice(list(CONDITIONS)), len(code)
+        condition, index = self.random.choice(list(CONDITIONS)), len(code)
         code += [Statement("unless", first=condition), *them]
         text, end = f"if ({condition}) {{ {text} }}", len(code)
         if self.random.random() < 0.4:
-            other, others = self.simple(thread)
+            other, others = self.make_statement(thread)
             code += [Statement("jump", target=len(code) + 1 + len(others)), *others]
             text, end = f"{text} else {{ {other} }}", end + 1
-        code[at] = Statement("unless", first=condition, target=end)
+        code[index] = Statement("unless", first=condition, target=end)
         return text
 
 
@@ -245,144 +247,156 @@ WITH_BUFFER = ("relaxed", "load", "load through", "load in", "set", "copy", "unl
 class Place(NamedTuple):
     """The state of a run: each thread's next statement, its variables and its buffer, and memory."""
 
-    next: Tuple[int, ...]
-    registers: Tuple[Tuple[int, ...], ...]
-    buffers: Tuple[Tuple[Tuple[int, int], ...], ...]
-    memory: Tuple[int, ...]
+    next: tuple[int, ...]
+    registers: tuple[tuple[int, ...], ...]
+    buffers: tuple[tuple[tuple[int, int], ...], ...]
+    memory: tuple[int, ...]
 
 
-def replaced(row: tuple, at: int, value) -> tuple:
+# The registers of all threads, and memory, at the end of a run.
+End = Tuple[Tuple[Tuple[int, ...], ...], Tuple[int, ...]]
+Item = TypeVar("Item")
+
+
+def replace_item(row: Sequence[Item], index: int, value: Item) -> tuple[Item, ...]:
     """Returns a tuple with another value at an index."""
-    return (*row[:at], value, *row[at + 1 :])
+    return (*row[:index], value, *row[index + 1 :])
 
 
 class Interpreter:
     """All outcomes of a program's source."""
 
-    def __init__(self, program: Program):
+    def __init__(self, program: Program) -> None:
         self.program = program
 
-    def outcomes(self) -> Set[tuple]:
+    def list_outcomes(self) -> set[End]:
         """Returns the values of variables and locations at the ends of all runs."""
         count = len(self.program.threads)
         first = Place((0,) * count, ((0,) * (ADDRESS + 1),) * count, ((),) * count, tuple(self.program.first))
-        seen, waiting, ends = {first}, [first], set()
+        seen, waiting = {first}, [first]
+        ends: set[End] = set()
         while waiting:
-            place = waiting.pop()
-            following = [it for thread in range(count) for it in self.moves(place, thread)]
+            state = waiting.pop()
+            following = [it for thread in range(count) for it in self.list_successors(state, thread)]
             if not following:
-                ends.add((place.registers, place.memory))
-            for it in following:
-                if it not in seen:
-                    seen.add(it)
-                    waiting.append(it)
+                ends.add((state.registers, state.memory))
+            for successor in following:
+                if successor not in seen:
+                    seen.add(successor)
+                    waiting.append(successor)
         return ends
 
-    def moves(self, place: Place, thread: int) -> List[Place]:
+    def list_successors(self, state: Place, thread: int) -> list[Place]:
         """Returns what a thread can do next: drain its oldest store, or execute its next statement."""
-        made, buffer = [], place.buffers[thread]
+        made, buffer = [], state.buffers[thread]
         if buffer:
-            (at, word), *rest = buffer
-            made.append(place._replace(buffers=replaced(place.buffers, thread, tuple(rest)), memory=replaced(place.memory, at, word)))
-        if place.next[thread] < len(self.program.threads[thread]):
-            it = self.program.threads[thread][place.next[thread]]
-            if not buffer or it.kind in WITH_BUFFER:
-                made.append(self.done(place, thread, it))
+            (location, word), *rest = buffer
+            made.append(state._replace(buffers=replace_item(state.buffers, thread, tuple(rest)), memory=replace_item(state.memory, location, word)))
+        if state.next[thread] < len(self.program.threads[thread]):
+            statement = self.program.threads[thread][state.next[thread]]
+            if not buffer or statement.kind in WITH_BUFFER:
+                made.append(self.execute_statement(state, thread, statement))
         return made
 
-    def location(self, it: Statement, registers: Tuple[int, ...]) -> int:
+    def find_location(self, statement: Statement, registers: tuple[int, ...]) -> int:
         """Returns the location that a statement accesses."""
-        if it.kind.endswith("through"):
+        if statement.kind.endswith("through"):
             return registers[ADDRESS]
-        return it.location + (registers[it.register or 0] & 1 if it.kind.endswith("in") else 0)
+        return statement.location + (registers[statement.register or 0] & 1 if statement.kind.endswith("in") else 0)
 
-    def done(self, place: Place, thread: int, it: Statement) -> Place:
+    def execute_statement(self, state: Place, thread: int, statement: Statement) -> Place:
         """Returns the state after a statement."""
-        registers, to = place.registers[thread], place.next[thread] + 1
-        if it.kind in ("unless", "jump"):
-            to = it.target if it.kind == "jump" or not CONDITIONS[it.first](*registers[:2]) else to
-            return place._replace(next=replaced(place.next, thread, to))
-        at = self.location(it, registers)
-        found = next((word for one, word in reversed(place.buffers[thread]) if one == at), place.memory[at])
-        new, result = self.effect(it, at, found, registers)
-        if it.kind == "relaxed":
-            place = place._replace(buffers=replaced(place.buffers, thread, (*place.buffers[thread], (at, new))))
+        registers, next_index = state.registers[thread], state.next[thread] + 1
+        if statement.kind in ("unless", "jump"):
+            next_index = statement.target if statement.kind == "jump" or not CONDITIONS[statement.first](*registers[:2]) else next_index
+            return state._replace(next=replace_item(state.next, thread, next_index))
+        location = self.find_location(statement, registers)
+        found_word = next((word for one, word in reversed(state.buffers[thread]) if one == location), state.memory[location])
+        new, result = self.compute_effect(statement, location, found_word, registers)
+        if statement.kind == "relaxed":
+            assert new is not None
+            state = state._replace(buffers=replace_item(state.buffers, thread, (*state.buffers[thread], (location, new))))
         elif new is not None:
-            place = place._replace(memory=replaced(place.memory, at, new))
-        if result is not None and it.register is not None:
-            result = wrapped(result, SHORT if it.register == OWN_B else INT)
-            place = place._replace(registers=replaced(place.registers, thread, replaced(registers, it.register, result)))
-        return place._replace(next=replaced(place.next, thread, to))
+            state = state._replace(memory=replace_item(state.memory, location, new))
+        if result is not None and statement.register is not None:
+            result = wrap(result, SHORT if statement.register == OWN_B else INT)
+            state = state._replace(registers=replace_item(state.registers, thread, replace_item(registers, statement.register, result)))
+        return state._replace(next=replace_item(state.next, thread, next_index))
 
-    def effect(self, it: Statement, at: int, found: int, registers: Tuple[int, ...]) -> Tuple[Optional[int], Optional[int]]:
+    def compute_effect(self, statement: Statement, location: int, found_word: int, registers: tuple[int, ...]) -> tuple[int | None, int | None]:
         """Returns what a statement stores to its location, and to what it sets its variable, if it does."""
-        kind, value = self.program.kinds[at], lambda text: EXPRESSIONS[text](*registers[:2])
-        if it.kind in ("set", "copy"):
-            return None, value(it.first) if it.kind == "set" else registers[it.target]
-        if it.kind.startswith("load"):
-            return None, found
-        if it.kind == "aim":
-            return it.target, None
-        if it.kind == "cas":
-            return (wrapped(value(it.second), kind), 1) if found == wrapped(value(it.first), kind) else (None, found + 10)
-        return wrapped(OPERATIONS[it.operation](found, value(it.first)) if it.kind == "fetch" else value(it.first), kind), found
+        kind, value = self.program.kinds[location], lambda text: EXPRESSIONS[text](*registers[:2])
+        if statement.kind in ("set", "copy"):
+            return None, value(statement.first) if statement.kind == "set" else registers[statement.target]
+        if statement.kind.startswith("load"):
+            return None, found_word
+        if statement.kind == "aim":
+            return statement.target, None
+        if statement.kind == "cas":
+            return (wrap(value(statement.second), kind), 1) if found_word == wrap(value(statement.first), kind) else (None, found_word + 10)
+        operand = value(statement.first)
+        return wrap(OPERATIONS[statement.operation](found_word, operand) if statement.kind == "fetch" else operand, kind), found_word
 
 
-def expected(program: Program, shown: Set[str]) -> Set[str]:
+def list_expected(program: Program, shown: set[str]) -> set[str]:
     """Returns the outcomes of a program as lines of states that show some names."""
     lines = set()
-    for registers, memory in Interpreter(program).outcomes():
+    for registers, memory in Interpreter(program).list_outcomes():
         words = {f"{thread}:r{number}": word % 2**32 for thread, them in enumerate(registers) for number, word in enumerate(them[:2])}
         words.update({name: word % 2 ** (8 * max(kind.size, 1)) for name, word, kind in zip(program.names, memory, program.kinds)})
         words.update({f"own{thread}": them[OWN_A] % 2**32 for thread, them in enumerate(registers)})
         words.update({f"own{thread}+4": them[OWN_B] % 2**16 for thread, them in enumerate(registers)})
-        words.update({"p": f"&{program.names[words['p']]}"} if "p" in words else {})
-        lines.add(" ".join(sorted(f"{name}={words[name]};" for name in shown)))
+        texts = {name: str(word) for name, word in words.items()}
+        if "p" in words:
+            texts["p"] = f"&{program.names[words['p']]}"
+        lines.add(" ".join(sorted(f"{name}={texts[name]};" for name in shown)))
     return lines
 
 
-def listed(program: Program, compiler: str) -> Set[str]:
+def list_listed(program: Program, compiler: str) -> set[str]:
     """Returns the states that tools/from_c.py lists."""
     source = read_source("random.c", program.text)
-    return {" ".join(sorted(it.split())) for it in answers.states_in(converted(source, compiler, 3)[0].report)}
+    return {" ".join(sorted(it.split())) for it in answers.filter_state_lines(convert_source(source, compiler, 3)[0].report)}
 
 
-def compared(program: Program, compiler: str) -> str:
+def compare_program(program: Program, compiler: str) -> str:
     """Returns `same`, `differs` with examples, or why a program is refused by a compiler."""
     try:
-        found = listed(program, compiler)
+        states = list_listed(program, compiler)
     except (Refused, given.Fault) as why:
         return f"refused: {why.args[0]}"
-    shown = {it.partition("=")[0] for line in found for it in line.replace(";", "").split()}
-    wanted = expected(program, shown)
-    if found == wanted:
+    shown = {it.partition("=")[0] for line in states for it in line.replace(";", "").split()}
+    wanted = list_expected(program, shown)
+    if states == wanted:
         return "same"
-    return f"differs: listed only {sorted(found - wanted)[:2]}, expected only {sorted(wanted - found)[:2]}"
+    return f"differs: listed only {sorted(states - wanted)[:2]}, expected only {sorted(wanted - states)[:2]}"
 
 
-def results(seed: int, compilers: List[str], count: int) -> List[Tuple[str, str, str]]:
+def compare_random_program(seed: int, compilers: list[str], count: int) -> list[tuple[str, str, str]]:
     """Returns what a random program gives by some compilers: each compiler, the result, and the program's text."""
     sys.setrecursionlimit(RECURSION)
     random = Random(f"c {seed}")
     program = Program(random)
     chosen = random.sample(compilers, min(count, len(compilers)))
-    return [(it, compared(program, it), program.text) for it in chosen]
+    return [(it, compare_program(program, it), program.text) for it in chosen]
 
 
 def main() -> int:
-    given.print_as_lw()
-    reader = argparse.ArgumentParser(description=__doc__, formatter_class=argparse.RawDescriptionHelpFormatter)
-    reader.add_argument("count", type=int)
-    reader.add_argument("--seed", type=int, default=0, help="the number of the first program")
-    reader.add_argument("--compilers", type=int, default=3, help="by how many compilers each program is compiled")
-    reader.add_argument("--log", help="a file that gets a line for each list")
-    reader.add_argument("--processes", type=int, default=2)
-    words = reader.parse_args()
-    compilers, counts = compilers_for(".c"), Counter()
-    log = open(words.log, "w", encoding="utf-8") if words.log else None
-    seeds = range(words.seed, words.seed + words.count)
-    with ProcessPoolExecutor(words.processes) as pool:
-        for seed, them in zip(seeds, pool.map(results, seeds, [compilers] * words.count, [words.compilers] * words.count)):
+    """Runs the command that the arguments describe. Returns the exit status."""
+    given.set_output_encoding()
+    reader = command.Reader(__doc__)
+    reader.add_argument("count", type=int, metavar="COUNT")
+    reader.add_argument("--seed", type=int, default=0, metavar="N")
+    reader.add_argument("--compilers", type=int, default=3, metavar="N")
+    reader.add_argument("--log", metavar="FILE")
+    reader.add_argument("--processes", type=int, default=2, metavar="N")
+    arguments = reader.read()
+    compilers = list_compilers(".c")
+    counts: dict[str, int] = Counter()
+    log = open(arguments.log, "w", encoding="utf-8") if arguments.log else None
+    seeds = range(arguments.seed, arguments.seed + arguments.count)
+    with ProcessPoolExecutor(arguments.processes) as pool:
+        for seed, them in zip(seeds, pool.map(compare_random_program, seeds, [compilers] * arguments.count, [arguments.compilers] * arguments.count)):
             for compiler, result, text in them:
                 counts[result.split(":")[0]] += 1
                 if log:

@@ -1,28 +1,28 @@
-#!/usr/bin/env python3
 """Whether an answer of a program that is not that of the sources is said to be not proved.
 
-    python3 tools/gate/test_answers.py, or python3 -m unittest tools.gate.test_answers
+    python3 tools gate.test_answers, or in tools/ python3 -m unittest gate.test_answers
 
 A stand-in for the programs is put into a tree of these tools: what it is made of is that tree's sources, and then it is not. The tools are run
 there. The programs are not needed. tools/check_documents.py calls all this (tools/gate/cases.py).
 """
+from __future__ import annotations
+
 import os
 import shutil
 import subprocess
 import sys
 import tempfile
+from collections.abc import Callable, Iterator
 from unittest import mock
 
-sys.dont_write_bytecode = True
-sys.path.insert(0, os.path.dirname(os.path.dirname(os.path.abspath(__file__))))
 import beyond
 import plain
 from gate import cases
 from gate.examples import read
-from machine.subjects import listed_of, subject_of
+from machine.subjects import make_list, make_subject
 from many import conversions, rows
 from search.explore import Search
-from shared import answers, batch, spawn
+from shared import answers, batch, python_lw, spawn
 from shared.home import HOME
 
 SB = "examples/SB-x86.litmus"
@@ -45,23 +45,24 @@ STALE, STALE_BEYOND = answers.Maker.STALE_PROGRAM.value, answers.Maker.STALE_BEY
 class Tree:
     """A folder with these tools, sources, and stand-ins for the programs, which are made of these sources."""
 
-    def __init__(self, room, **programs):
-        self.room = room
-        shutil.copytree(os.path.join(HOME, "tools"), f"{room}/tools", ignore=shutil.ignore_patterns("gate", "__pycache__"))
-        self.write("crates.txt", "lw:\n")
+    def __init__(self, folder: str, **programs: str) -> None:
+        """Makes a repository with these programs, each a script."""
+        self.room = folder
+        shutil.copytree(os.path.join(HOME, "tools"), f"{folder}/tools", ignore=shutil.ignore_patterns("gate", "__pycache__"))
+        self.write_file("crates.txt", "lw:\n")
         for name, script in programs.items():
-            os.makedirs(f"{room}/crates/{name}/out")
-            self.write(f"crates/{name}/out/{name}", f"#!/bin/sh\n{script}\n", 0o755)
-            subprocess.run(["sh", "-c", MADE_OF, "sh", room, name], check=True, env={"PATH": "/usr/bin:/bin"})
+            os.makedirs(f"{folder}/crates/{name}/out")
+            self.write_file(f"crates/{name}/out/{name}", f"#!/bin/sh\n{script}\n", 0o755)
+            subprocess.run(["sh", "-c", MADE_OF, "sh", folder, name], check=True, env={"PATH": "/usr/bin:/bin"})
 
-    def write(self, name, text, mode=0o644):
+    def write_file(self, name: str, text: str, mode: int = 0o644) -> None:
         """Writes a file."""
-        with open(f"{self.room}/{name}", "w", encoding="utf-8") as it:
-            it.write(text)
+        with open(f"{self.room}/{name}", "w", encoding="utf-8") as file:
+            file.write(text)
         os.chmod(f"{self.room}/{name}", mode)
 
-    def lines_of(self, tool):
-        """The lines that a tool prints of SB-x86, in this tree and without a toolchain."""
+    def run_tool(self, tool: str) -> list[str]:
+        """Returns the lines that a tool prints of SB-x86, in this tree and without a toolchain."""
         words = [sys.executable, f"{self.room}/tools/{tool}", os.path.join(HOME, SB)]
         ran = subprocess.run(words, stdout=subprocess.PIPE, stderr=subprocess.STDOUT, env={"PATH": "/usr/bin:/bin"}, check=False)
         return ran.stdout.decode().splitlines()
@@ -70,87 +71,91 @@ class Tree:
 class Stale(cases.Case):
     """Programs of other sources."""
 
-    def setUp(self):
+    def setUp(self) -> None:
+        """Makes a folder for programs."""
         room = tempfile.TemporaryDirectory(prefix="lw-stale-")
         self.addCleanup(room.cleanup)
         self.room = room.name
 
-    def test_program(self):
+    def test_program(self) -> None:
         """What lw lists is proved, until the sources have changed."""
         tree = Tree(self.room, lw=f"cat <<'END'\n{WRONG}END")
-        self.assertEqual("Put together from 1 test, listed by lw", tree.lines_of("assume.py")[-1])
-        self.assertEqual("SB-x86, by its question, exists (0:EAX=0 /\\ 1:EAX=0): fences 0, states 1", tree.lines_of("fences.py")[0])
-        tree.write("crates.txt", "lw: other\n")
-        self.assertEqual(f"Put together from 1 test, listed by {STALE}, not proved", tree.lines_of("assume.py")[-1])
-        head, *_, last = tree.lines_of("fences.py")
+        self.assertEqual("Put together from 1 test, listed by lw", tree.run_tool("assume.py")[-1])
+        self.assertEqual("SB-x86, by its question, exists (0:EAX=0 /\\ 1:EAX=0): fences 0, states 1", tree.run_tool("fences.py")[0])
+        tree.write_file("crates.txt", "lw: other\n")
+        self.assertEqual(f"Put together from 1 test, listed by {STALE}, not proved", tree.run_tool("assume.py")[-1])
+        head, *_, last = tree.run_tool("fences.py")
         self.assertTrue(head.endswith("fences 0, states 1 (not proved)"))
         self.assertEqual(f"Not proved: of 1 lists 1 are made by {STALE}", last)
 
-    def test_beyond(self):
+    def test_beyond(self) -> None:
         """So is what beyond lists, if lw refuses the test."""
         tree = Tree(self.room, lw=LIMIT, beyond=f"cat <<'END'\n{WRONG}END")
-        self.assertEqual("Put together from 1 test, listed by beyond", tree.lines_of("assume.py")[-1])
-        tree.write("crates.txt", "lw: other\n")
-        self.assertEqual(f"Put together from 1 test, listed by {STALE_BEYOND}, not proved", tree.lines_of("assume.py")[-1])
+        self.assertEqual("Put together from 1 test, listed by beyond", tree.run_tool("assume.py")[-1])
+        tree.write_file("crates.txt", "lw: other\n")
+        self.assertEqual(f"Put together from 1 test, listed by {STALE_BEYOND}, not proved", tree.run_tool("assume.py")[-1])
 
-    def test_pack(self):
+    def test_pack(self) -> None:
         """Where there are no sources, the program is what was handed on."""
         tree = Tree(self.room, lw=f"cat <<'END'\n{WRONG}END")
         os.remove(f"{self.room}/crates.txt")
-        self.assertEqual("Put together from 1 test, listed by lw", tree.lines_of("assume.py")[-1])
+        self.assertEqual("Put together from 1 test, listed by lw", tree.run_tool("assume.py")[-1])
 
-    def test_library(self):
+    def test_library(self) -> None:
         """A library beside sources is not asked, since nothing says of which it is made; in a pack it is."""
         os.makedirs(f"{self.room}/python")
         stand_in = mock.Mock(Workbench=str)
-        with open(f"{self.room}/python/liblw.so", "wb"), mock.patch.object(answers, "HOME", self.room), mock.patch.dict(sys.modules, lw=stand_in):
+        folder = mock.patch.object(python_lw, "FOLDER", f"{self.room}/python")
+        with open(f"{self.room}/python/liblw.so", "wb"), folder, mock.patch.dict(sys.modules, lw=stand_in):
             for has_sources in (True, False):
                 with mock.patch.object(answers, "has_sources", lambda it=has_sources: it):
-                    made = answers.library.__wrapped__()
+                    made = answers.load_library.__wrapped__()
                 self.assertEqual(None if has_sources else f"{self.room}/python/liblw.so", made)
 
 
-class Said(cases.Case):
+class Sentences(cases.Case):
     """What the other tools say of answers of a program of other sources."""
 
-    def setUp(self):
-        names = {"printed_by": lambda command, *_: WRONG if "states" in command else None, "library": lambda: None}
-        for patch in (mock.patch.multiple(answers, **names), mock.patch.object(spawn, "is_current", lambda *_: self.is_current)):
+    def setUp(self) -> None:
+        """Replaces the program by one that prints a wrong report."""
+        printed_by = lambda command, *_: WRONG if "states" in command else None
+        program = mock.patch.multiple(answers, run_command=printed_by, load_library=lambda: None)
+        for patch in (program, mock.patch.object(spawn, "is_current", lambda *_: self.is_current)):
             self.addCleanup(patch.stop)
             patch.start()
         self.addCleanup(answers.is_current.cache_clear)
 
-    def said(self, made):
-        """What is made with a program of these sources, and with one of others."""
+    def list_sentences(self, made: Callable[[], str]) -> Iterator[str]:
+        """Yields what is made with a program of these sources, and with one of others."""
         for self.is_current in (True, False):
             answers.is_current.cache_clear()
             yield made()
 
-    def test_on_machine(self):
+    def test_on_machine(self) -> None:
         """tools/on_machine.py: whether its list is proved."""
         wanted = ["lw, proved complete", f"{STALE}, not proved"]
-        self.assertEqual(wanted, list(self.said(lambda: listed_of(subject_of(read(SB), False)).by_whom())))
+        self.assertEqual(wanted, list(self.list_sentences(lambda: make_list(make_subject(read(SB), False)).describe_maker())))
 
-    def test_methods(self):
+    def test_methods(self) -> None:
         """tools/run_all.py: each maker has a method, which says `not proved` if that is so."""
         for maker in answers.Maker:
-            self.assertEqual(maker.is_proved, rows.NOT_PROVED not in conversions.method_of([maker]))
+            self.assertEqual(maker.is_proved, rows.NOT_PROVED not in conversions.choose_method([maker]))
         self.assertEqual([*conversions.METHODS], [*answers.Maker])
 
-    def test_replayed(self):
+    def test_replayed(self) -> None:
         """tools/beyond.py: by which its states are replayed."""
         test = plain.read_test(read(SB))
-        found = Search(test).run(10**6, lambda *_: None)
+        exploration = Search(test).explore(10**6, lambda *_: None)
         pages = lambda text, schedules: [plain.replay(test, it)[0] for it in schedules]
-        with mock.patch.object(batch, "replays", pages):
-            self.assertEqual(["lw", STALE], list(self.said(lambda: beyond.replayed(test, read(SB), found))))
+        with mock.patch.object(batch, "replay_all", pages):
+            self.assertEqual(["lw", STALE], list(self.list_sentences(lambda: beyond.replay_all(test, read(SB), exploration))))
 
-    def test_asked_once(self):
+    def test_asked_once(self) -> None:
         """It is asked once in a process, of each program."""
         with mock.patch.object(spawn, "is_current", mock.Mock(return_value=True)) as asked:
             answers.is_current.cache_clear()
             for _ in range(3):
-                self.assertEqual(answers.Maker.PROGRAM, answers.answer(["states"], plain.read_test(read(SB))).by)
+                self.assertEqual(answers.Maker.PROGRAM, answers.make_answer(["states"], plain.read_test(read(SB))).by)
             self.assertEqual(1, asked.call_count)
 
 

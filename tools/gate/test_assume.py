@@ -1,7 +1,6 @@
-#!/usr/bin/env python3
 """Whether what tools/assume.py puts together is exact.
 
-    python3 tools/gate/test_assume.py, or python3 -m unittest tools.gate.test_assume
+    python3 tools gate.test_assume, or in tools/ python3 -m unittest gate.test_assume
 
 - Random tests with LOCK CMPXCHG: the report is that of a machine that has the instruction.
 - Tests with loops that wait: each number of tries has the states of the loops themselves.
@@ -11,30 +10,31 @@
 Lists come from the program if it is built, otherwise from the search of tools/beyond.py. tools/check_documents.py calls all this
 (tools/gate/cases.py).
 """
+from __future__ import annotations
+
 import argparse
 import io
-import os
 import sys
+from collections.abc import Iterator
 from dataclasses import replace
 from itertools import islice
 from random import Random
+from typing import Any, Callable, Optional, Tuple
 from unittest import mock
 
-sys.dont_write_bytecode = True
-sys.path.insert(0, os.path.dirname(os.path.dirname(os.path.abspath(__file__))))
 import assume
 import plain
 from gate import cases
 from gate.examples import read, run
-from herd.convert import converted
+from herd.convert import convert
 from herd.text import Refused
-from herd.together import put_together
+from herd.together import make_merged_report
 from interpreter import machines
 from shared import answers
 
 RANDOM_TESTS = 30
 RANDOM_JUMPS = 25
-MOST_SEEDS = 4000
+MAX_SEEDS = 4000
 BLOCK_BEHIND = """X86 Behind
 {}
  P0 | P1 ;
@@ -53,65 +53,70 @@ WAITS_FOR_EVER = "X86 Waits\n{{}}\n P0 ;\n L: MOV EAX,[x] ;\n CMP EAX,2 ;\n JNE 
 # A machine that has LOCK CMPXCHG.
 
 
-def with_cmpxchg(instruction_step):
-    """The step of tools/plain.py, and that of one instruction more."""
+# The step of one instruction, as tools/interpreter/machines.py has it.
+Step = Callable[[plain.Statement, int, plain.Processor, plain.OneMemory], plain.Processor]
 
-    def step(it, cpu, processor, memory):
-        if it.kind != "cmpxchg":
-            return instruction_step(it, cpu, processor, memory)
+
+def extend_with_cmpxchg(instruction_step: Step) -> Step:
+    """Returns the step of tools/plain.py, and that of one instruction more."""
+
+    def step(instruction: plain.Statement, cpu: int, processor: plain.Processor, memory: plain.OneMemory) -> plain.Processor:
+        """Executes an instruction, which may be CMPXCHG."""
+        if instruction.kind != "cmpxchg":
+            return instruction_step(instruction, cpu, processor, memory)
         if processor.buffer:
             raise plain.Refused(5, "SwapWaits")
-        wanted, new = processor.registers[0], processor.registers[it.register]
-        old = memory.exchange(cpu, it.location, lambda old: new if old == wanted else old)
-        return processor.set(0, old)._replace(zero=old == wanted)
+        wanted, new = processor.registers[0], processor.registers[instruction.register]
+        old = memory.exchange(cpu, instruction.location, lambda old: new if old == wanted else old)
+        return processor.set_register(0, old)._replace(zero=old == wanted)
 
     return step
 
 
-def random_cmpxchg(seed):
-    """A random test with two or three LOCK CMPXCHG, in the form of X86; LOCK XADD stands for none."""
+def make_random_cmpxchg(seed: int) -> str:
+    """Returns a random test with two or three LOCK CMPXCHG, in the form of X86; LOCK XADD counts as none."""
     random = Random(f"cmpxchg {seed}")
-    columns = [[], []]
+    columns: list[list[str]] = [[], []]
     for column in columns:
         for _ in range(random.randint(2, 4)):
-            place, register = random.choice("xy"), random.choice(("EAX", "EBX", "ECX"))
+            location, register = random.choice("xy"), random.choice(("EAX", "EBX", "ECX"))
             jump = f"{random.choice(('JE', 'JNE'))} END"
-            others = (f"MOV [{place}],${random.randint(0, 2)}", f"MOV {register},[{place}]", f"MOV [{place}],{register}", jump)
+            others = (f"MOV [{location}],${random.randint(0, 2)}", f"MOV {register},[{location}]", f"MOV [{location}],{register}", jump)
             column.append(random.choice(others))
         for _ in range(random.choice((1, 1, 2) if column is columns[0] else (1,))):
             column.insert(random.randint(0, len(column)), f"LOCK CMPXCHG [{random.choice('xy')}],{random.choice(('EBX', 'ECX'))}")
         column.append("END:")
     size = max(len(column) for column in columns)
-    rows = [[column[at] if at < len(column) else "" for column in columns] for at in range(size)]
+    rows = [[column[index] if index < len(column) else "" for column in columns] for index in range(size)]
     body = "".join(f" {' | '.join(row)} ;\n" for row in rows)
     initial = f"{{ 0:EBX=1; 1:EBX=2; 0:ECX={random.randint(0, 1)}; x={random.randint(0, 1)}; y=0; }}"
     return f"X86 Cas{seed}\n{initial}\n P0 | P1 ;\n{body}locations [0:EAX; 1:EAX; 0:ECX; x; y;]\nexists (x=1)\n"
 
 
-def machine_of(text):
-    """A test as the machine that has the instruction reads it."""
+def make_machine(text: str) -> plain.Test:
+    """Returns a test as the machine that has the instruction reads it."""
     test = plain.read_test(text.replace("LOCK CMPXCHG", "LOCK XADD"))
     as_cmpxchg = lambda it: replace(it, kind="cmpxchg") if it.kind == "xadd" else it
     test.threads = [tuple(as_cmpxchg(it) for it in code) for code in test.threads]
     return test
 
 
-def report_by_machine(text):
-    """The report of a test by a machine that has the instruction."""
-    test = machine_of(text)
-    with mock.patch.object(machines, "instruction_step", with_cmpxchg(machines.instruction_step)):
-        return plain.report(test)
+def make_report_by_machine(text: str) -> str:
+    """Returns the report of a test by a machine that has the instruction."""
+    test = make_machine(text)
+    with mock.patch.object(machines, "execute_instruction", extend_with_cmpxchg(machines.execute_instruction)):
+        return plain.make_report(test)
 
 
 class Assumption(cases.Case):
     """LOCK CMPXCHG by assumption: one test for each guess of what it finds."""
 
-    def test_random_tests(self):
+    def test_random_tests(self) -> None:
         """The report of all of them together is that of a machine that has the instruction."""
         for seed in range(1, RANDOM_TESTS + 1):
-            text = random_cmpxchg(seed)
+            text = make_random_cmpxchg(seed)
             with self.subTest(text):
-                self.assertEqual(report_by_machine(text), put_together(converted(text).conversions)[0])
+                self.assertEqual(make_report_by_machine(text), make_merged_report(convert(text).conversions)[0])
 
 
 # Loops.
@@ -127,13 +132,13 @@ LOOPS = (
 )
 
 
-def with_loops(text):
-    """A test with its loops, as no text of lw says: the jumps to the label that is left over at the end lead back."""
-    heads = [[at for at, cell in enumerate(column) if "{0}" in cell] for column in columns_of(text)]
+def restore_loops(text: str) -> plain.Test:
+    """Returns a test with its loops, as no text of lw says: the jumps to the label that is left over at the end lead back."""
+    heads = [[index for index, cell in enumerate(column) if "{0}" in cell] for column in split_columns(text)]
     lines = text.replace("{0}", "").replace("{1}", "BACK").splitlines()
-    at = next(at for at, line in enumerate(lines) if line.startswith(("exists", "forall", "locations")))
+    index = next(index for index, line in enumerate(lines) if line.startswith(("exists", "forall", "locations")))
     count = lines[2].count("|") + 1
-    lines.insert(at, " " + " | ".join(["BACK: MFENCE"] * count) + " ;")
+    lines.insert(index, " " + " | ".join(["BACK: MFENCE"] * count) + " ;")
     test = plain.read_test("\n".join(lines))
     for thread, head in enumerate(heads):
         code = test.threads[thread][:-1]
@@ -142,8 +147,8 @@ def with_loops(text):
     return test
 
 
-def columns_of(text):
-    """The cells of each thread."""
+def split_columns(text: str) -> list[tuple[str, ...]]:
+    """Returns the cells of each thread."""
     rows = [line.rstrip(" ;").split("|") for line in text.splitlines()[3:] if line.startswith(" ")]
     return list(zip(*rows))
 
@@ -151,155 +156,167 @@ def columns_of(text):
 class Loops(cases.Case):
     """Loops that wait, by a number of tries."""
 
-    def test_tries(self):
+    def test_tries(self) -> None:
         """Each number of tries has the states of the loop itself."""
         for text in LOOPS:
-            wanted = plain.report(with_loops(text))
+            wanted = plain.make_report(restore_loops(text))
             spelled = text.replace("{0}", "LOOP: ").replace("{1}", "LOOP")
             for tries in (1, 2, 3):
                 with self.subTest(spelled, tries=tries):
-                    self.assertEqual(wanted, put_together(converted(spelled, tries).conversions)[0])
+                    self.assertEqual(wanted, make_merged_report(convert(spelled, tries).conversions)[0])
 
 
 # Jumps backward, by copies of a whole thread, one for each time that the thread may jump backward.
 
 
-def random_cells(random, is_loop):
-    """The cells of a thread with jumps: of each its instruction, and where it jumps, if it does. With loops they jump to random places,
+# A cell of a thread with jumps: its instruction, and the index of the cell to which it jumps, if it does.
+JumpCell = Tuple[str, Optional[int]]
+
+
+def make_random_cells(random: Random, is_loop: bool) -> list[JumpCell]:
+    """Returns the cells of a thread with jumps: of each its instruction, and where it jumps, if it does. With loops they jump to random places,
     otherwise forward, before a block is put behind the end."""
     size = random.randint(5, 8)
     jumps = random.sample(range(1, size), random.randint(1, 3))
     names = ("JE", "JNE", "JMP") if is_loop else ("JE", "JNE")
-    jump = lambda at: (random.choice(names), random.randint(0 if is_loop else at + 1, size))
-    cells = [jump(at) if at in jumps else ("", None) for at in range(size)]
-    filled = [(text or random_access(random, is_on_cycle(cells, at)), to) for at, (text, to) in enumerate(cells)]
-    return filled if is_loop else with_block_behind(filled, *sorted(random.sample(range(size), 2)))
+    jump = lambda index: (random.choice(names), random.randint(0 if is_loop else index + 1, size))
+    cells = [jump(index) if index in jumps else ("", None) for index in range(size)]
+    filled = [(text or make_random_access(random, is_on_cycle(cells, index)), target) for index, (text, target) in enumerate(cells)]
+    return filled if is_loop else move_block_to_end(filled, *sorted(random.sample(range(size), 2)))
 
 
-def with_block_behind(cells, begin, end):
-    """The cells, of which a block is behind the end, from where it jumps back."""
+def move_block_to_end(cells: list[JumpCell], begin: int, end: int) -> list[JumpCell]:
+    """Returns the cells, of which a block is moved to the end, from where it jumps back."""
     size = len(cells)
 
-    def place(at):
-        if at == size:
+    def new_index(index: int) -> int:
+        """Returns the index that a cell has then."""
+        if index == size:
             return size + 3
-        return at if at < begin else at + size - end + 2 if at < end else at - (end - begin) + 1
+        return index if index < begin else index + size - end + 2 if index < end else index - (end - begin) + 1
 
-    rows = [(text, None if to is None else place(to)) for text, to in cells]
-    return [*rows[:begin], ("JMP", place(begin)), *rows[end:], ("JMP", place(size)), *rows[begin:end], ("JMP", place(end))]
-
-
-def random_access(random, is_in_loop):
-    """An instruction that is no jump; no store in a loop, which has states without end, since the store buffer grows."""
-    place, register, word = random.choice("xy"), random.choice(("EAX", "EBX")), random.randint(0, 2)
-    others = (f"MOV {register},[{place}]", f"CMP {register},${word}", f"MOV {register},${word}", f"XCHG [{place}],{register}")
-    return random.choice(others if is_in_loop else (f"MOV [{place}],${word}", f"MOV [{place}],${word}", *others))
+    rows = [(text, None if target is None else new_index(target)) for text, target in cells]
+    return [*rows[:begin], ("JMP", new_index(begin)), *rows[end:], ("JMP", new_index(size)), *rows[begin:end], ("JMP", new_index(end))]
 
 
-def followers_in(cells, at):
-    """The numbers of the cells that may come next."""
-    text, target = cells[at]
-    return {target} if text == "JMP" else {at + 1} if target is None else {at + 1, target}
+def make_random_access(random: Random, is_in_loop: bool) -> str:
+    """Returns an instruction that is no jump; no store in a loop, which has states without end, since the store buffer grows."""
+    location, register, word = random.choice("xy"), random.choice(("EAX", "EBX")), random.randint(0, 2)
+    others = (f"MOV {register},[{location}]", f"CMP {register},${word}", f"MOV {register},${word}", f"XCHG [{location}],{register}")
+    return random.choice(others if is_in_loop else (f"MOV [{location}],${word}", f"MOV [{location}],${word}", *others))
 
 
-def is_on_cycle(cells, at):
-    """Whether a run may come to a cell twice, as far as its branches say."""
-    seen, waiting = set(), [at]
+def list_successors(cells: list[JumpCell], index: int) -> set[int]:
+    """Returns the numbers of the cells that may come next."""
+    text, target = cells[index]
+    if target is None:
+        return {index + 1}
+    return {target} if text == "JMP" else {index + 1, target}
+
+
+def is_on_cycle(cells: list[JumpCell], index: int) -> bool:
+    """Returns whether a run may come to a cell twice, as far as its branches say."""
+    seen, waiting = set(), [index]
     while waiting:
-        for it in followers_in(cells, waiting.pop()):
-            if it < len(cells) and it not in seen:
-                seen.add(it)
-                waiting.append(it)
-    return at in seen
+        for follower in list_successors(cells, waiting.pop()):
+            if follower < len(cells) and follower not in seen:
+                seen.add(follower)
+                waiting.append(follower)
+    return index in seen
 
 
-def reached_in(cells):
-    """The cells that some way leads to from the first."""
+def list_reachable(cells: list[JumpCell]) -> set[int]:
+    """Returns the cells that some way leads to from the first."""
     seen, waiting = {0}, [0]
     while waiting:
-        new = {it for it in followers_in(cells, waiting.pop()) if it < len(cells)} - seen
+        new = {it for it in list_successors(cells, waiting.pop()) if it < len(cells)} - seen
         seen |= new
         waiting += new
     return seen
 
 
-def is_looping(cells):
-    """Whether some run may go through a cell twice, as far as its branches say."""
-    return any(is_on_cycle(cells, at) for at in reached_in(cells))
+def is_looping(cells: list[JumpCell]) -> bool:
+    """Returns whether some run may go through a cell twice, as far as its branches say."""
+    return any(is_on_cycle(cells, index) for index in list_reachable(cells))
 
 
-def jumps_back(cells):
-    """The number of the jumps backward that can be reached."""
-    return sum(cells[at][1] is not None and cells[at][1] <= at for at in reached_in(cells))
+def count_backward_jumps(cells: list[JumpCell]) -> int:
+    """Returns the number of the jumps backward that can be reached."""
+    targets = ((index, cells[index][1]) for index in list_reachable(cells))
+    return sum(target is not None and target <= index for index, target in targets)
 
 
-def column_of(cells):
-    """The text of a thread, with jumps backward."""
+def format_column(cells: list[JumpCell]) -> list[str]:
+    """Returns the text of a thread, with jumps backward."""
     labels = {target for _, target in cells if target is not None}
-    lines = [f"{f'L{at}: ' if at in labels else ''}{text}{'' if to is None else f' L{to}'}" for at, (text, to) in enumerate(cells)]
+    lines = [f"{f'L{index}: ' if index in labels else ''}{text}{'' if to is None else f' L{to}'}" for index, (text, to) in enumerate(cells)]
     return lines + [f"L{len(cells)}:"] * (len(cells) in labels)
 
 
-def column_of_copies(cells, copies, thread):
-    """The text of a thread in so many copies: a jump backward leads to the next copy, and out of the last one to the end, without the mark
-    that all other ways set."""
+def format_copies(cells: list[JumpCell], copies: int, thread: int) -> list[str]:
+    """Returns the text of a thread in some copies: a jump backward leads to the next copy, and out of the last one to the end, without the mark
+    that all other ways set.
+    """
     lines = []
     for copy in range(copies):
-        for at, (text, to) in enumerate(cells):
-            target = "" if to is None else f" L{to}c{copy + (to <= at)}"
-            lines.append(f"L{at}c{copy}: {text}{target if copy + 1 < copies or to is None or to > at else ' GONE'}")
+        for index, (text, to) in enumerate(cells):
+            target = "" if to is None else f" L{to}c{copy + (to <= index)}"
+            lines.append(f"L{index}c{copy}: {text}{target if copy + 1 < copies or to is None or to > index else ' GONE'}")
         lines.append(f"L{len(cells)}c{copy}: JMP DONE")
     return [*lines[:-1], f"{lines[-1].partition(':')[0]}:", f"DONE: MOV [done{thread}],$1", "GONE:"]
 
 
-def text_of(name, columns, asked, listed):
-    """A test of columns of cells."""
+def format_test(name: str, columns: list[list[str]], asked: str, listed: str) -> str:
+    """Returns a test of columns of cells."""
     size = max(map(len, columns))
-    rows = "".join(" " + " | ".join(column[at] if at < len(column) else "" for column in columns) + " ;\n" for at in range(size))
+    rows = "".join(" " + " | ".join(column[index] if index < len(column) else "" for column in columns) + " ;\n" for index in range(size))
     return f"X86 {name}\n{{ x=0; y=0; }}\n P0 | P1 ;\n{rows}locations [{listed}]\nexists ({asked})\n"
 
 
 SITES = "0:EAX; 0:EBX; 1:EAX; 1:EBX; x; y;"
 
 
-def states_by_copies(threads, copies):
-    """The states of threads that jump backward less often than there are copies, by tools/plain.py."""
-    columns = [column_of_copies(cells, copies, number) for number, cells in enumerate(threads)]
-    test = plain.read_test(text_of("Copies", columns, "done0=1 /\\ done1=1", SITES + " done0; done1;"))
-    marked = [it for it in answers.states_in(plain.report(test)) if "done0=1;" in it and "done1=1;" in it]
+def list_states_by_copies(threads: list[list[JumpCell]], copies: int) -> set[str]:
+    """Returns the states of threads that jump backward less often than there are copies, by tools/plain.py."""
+    columns = [format_copies(cells, copies, number) for number, cells in enumerate(threads)]
+    test = plain.read_test(format_test("Copies", columns, "done0=1 /\\ done1=1", SITES + " done0; done1;"))
+    marked = [it for it in answers.filter_state_lines(plain.make_report(test)) if "done0=1;" in it and "done1=1;" in it]
     return {it.replace(" done0=1;", "").replace(" done1=1;", "") for it in marked}
 
 
-def states_by_loops(threads):
-    """The states of threads whose jumps lead backward, by the machine of tools/plain.py."""
-    empty = text_of("Loops", [["MFENCE"] * len(cells) for cells in threads], "x=1", SITES)
+def list_states_by_loops(threads: list[list[JumpCell]]) -> set[str]:
+    """Returns the states of threads whose jumps lead backward, by the machine of tools/plain.py."""
+    empty = format_test("Loops", [["MFENCE"] * len(cells) for cells in threads], "x=1", SITES)
     test = plain.read_test(empty)
-    test.threads = [tuple(statement_of(text, to) for text, to in cells) for cells in threads]
-    return set(answers.states_in(plain.report(test)))
+    test.threads = [tuple(make_statement(text, target) for text, target in cells) for cells in threads]
+    return set(answers.filter_state_lines(plain.make_report(test)))
 
 
-def statement_of(text, to):
-    """The statement of a cell."""
-    if to is not None:
-        return plain.Statement(text.lower(), target=to)
+def make_statement(text: str, target: int | None) -> plain.Statement:
+    """Returns the statement of a cell."""
+    if target is not None:
+        return plain.Statement(text.lower(), target=target)
     test = plain.read_test(f"X86 A\n{{ x=0; y=0; }}\n P0 ;\n {text} ;\nlocations [x; y;]\nexists (x=1)\n")
     return test.threads[0][0]
 
 
-def states_by_assumption(threads, tries):
-    """The states that tools/assume.py lists."""
-    text = text_of("Jumps", [column_of(cells) for cells in threads], "x=1", SITES)
-    return set(answers.states_in(put_together(converted(text, tries).conversions)[0]))
+def list_states_by_assumption(threads: list[list[JumpCell]], tries: int) -> set[str]:
+    """Returns the states that tools/assume.py lists."""
+    text = format_test("Jumps", [format_column(cells) for cells in threads], "x=1", SITES)
+    return set(answers.filter_state_lines(make_merged_report(convert(text, tries).conversions)[0]))
 
 
-def random_threads(is_loop, is_taken=lambda _cells: True):
-    """Random threads that jump backward on some way: with loops, or with none. Each is such as is taken, and together they have some states
-    by their loops, which come last."""
-    for seed in range(1, MOST_SEEDS):
+def list_random_threads(
+    is_loop: bool, is_taken: Callable[..., Any] = lambda _cells: True
+) -> Iterator[tuple[int, list[list[JumpCell]], set[str]]]:
+    """Yields random threads that jump backward on some way: with loops, or with none. Each is such as is taken, and together they have some states
+    by their loops, which come last.
+    """
+    for seed in range(1, MAX_SEEDS):
         random = Random(f"jumps {is_loop} {seed}")
-        threads = [random_cells(random, is_loop), random_cells(random, is_loop)]
-        is_wanted = any(map(is_looping, threads)) == is_loop and any(map(jumps_back, threads)) and all(map(is_taken, threads))
-        states = states_by_loops(threads) if is_wanted else ()
+        threads = [make_random_cells(random, is_loop), make_random_cells(random, is_loop)]
+        is_wanted = any(map(is_looping, threads)) == is_loop and any(map(count_backward_jumps, threads)) and all(map(is_taken, threads))
+        states = list_states_by_loops(threads) if is_wanted else set()
         if len(states) > 2:
             yield seed, threads, states
 
@@ -307,77 +324,77 @@ def random_threads(is_loop, is_taken=lambda _cells: True):
 class Jumps(cases.Case):
     """Jumps backward."""
 
-    def test_no_loops(self):
+    def test_no_loops(self) -> None:
         """Jumps backward that close no loop need no number of tries, and no state is missing."""
-        for seed, threads, wanted in islice(random_threads(False), RANDOM_JUMPS):
+        for seed, threads, wanted in islice(list_random_threads(False), RANDOM_JUMPS):
             for tries in (0, 1):
                 with self.subTest(seed=seed, tries=tries):
-                    self.assertEqual(wanted, states_by_assumption(threads, tries))
+                    self.assertEqual(wanted, list_states_by_assumption(threads, tries))
 
-    def test_loops(self):
+    def test_loops(self) -> None:
         """Loops, in one another too: no state of a run that jumps backward less often than there are tries is missing, and each state is
         one of the loops themselves."""
-        for seed, threads, whole in islice(random_threads(True), RANDOM_JUMPS):
+        for seed, threads, whole in islice(list_random_threads(True), RANDOM_JUMPS):
             for tries in (1, 2):
                 with self.subTest(seed=seed, tries=tries):
-                    told = states_by_assumption(threads, tries)
-                    self.assertEqual(set(), states_by_copies(threads, tries) - told)
-                    self.assertEqual(set(), told - whole)
+                    found = list_states_by_assumption(threads, tries)
+                    self.assertEqual(set(), list_states_by_copies(threads, tries) - found)
+                    self.assertEqual(set(), found - whole)
 
-    def test_one_loop(self):
+    def test_one_loop(self) -> None:
         """A loop that is entered at its begin, and has one jump backward, is gone through as often as there are tries: no more, no less."""
-        for seed, threads, _ in islice(random_threads(True, is_simple), RANDOM_JUMPS):
+        for seed, threads, _ in islice(list_random_threads(True, is_simple), RANDOM_JUMPS):
             for tries in (1, 2, 3):
                 with self.subTest(seed=seed, tries=tries):
-                    self.assertEqual(states_by_copies(threads, tries), states_by_assumption(threads, tries))
+                    self.assertEqual(list_states_by_copies(threads, tries), list_states_by_assumption(threads, tries))
 
-    def test_refused(self):
+    def test_refused(self) -> None:
         """A loop is refused without a number of tries, and with one that is none, at its last jump backward."""
         text = "X86 A\n{}\n P0 ;\n L: MOV EAX,[x] ;\n CMP EAX,1 ;\n JNE L ;\nexists (x=1)\n"
         for tries in (0, -1):
             try:
-                made = converted(text, tries)
+                made: Any = convert(text, tries)
             except Refused as why:
                 made = why.args
             with self.subTest(tries=tries):
                 self.assertEqual(("a jump leads backward: --tries N goes through each loop N times at most", text.index("JNE")), made)
 
 
-def is_simple(cells):
-    """Whether a thread has one jump backward at most, over what no jump leads into except to its begin."""
-    back = [(to, at) for at, (_, to) in enumerate(cells) if to is not None and to <= at]
-    inside = lambda at, to: any(begin < to <= end and not begin <= at <= end for begin, end in back)
-    return len(back) <= 1 and not any(to is not None and inside(at, to) for at, (_, to) in enumerate(cells))
+def is_simple(cells: list[tuple[str, None] | tuple[str, int]]) -> bool:
+    """Returns whether a thread has one jump backward at most, over what no jump leads into except to its begin."""
+    back = [(target, index) for index, (_, target) in enumerate(cells) if target is not None and target <= index]
+    inside = lambda index, target: any(begin < target <= end and not begin <= index <= end for begin, end in back)
+    return len(back) <= 1 and not any(target is not None and inside(index, target) for index, (_, target) in enumerate(cells))
 
 
 class Command(cases.Case):
     """What the command prints."""
 
-    def test_block_behind_the_end(self):
+    def test_block_behind_the_end(self) -> None:
         """A compiler's block behind the end, which jumps back to the middle, is no loop: all states are there, without a number of tries."""
-        told, err, status = run(["assume.py"], BLOCK_BEHIND)
+        printed, err, status = run(["assume.py"], BLOCK_BEHIND)
         self.assertEqual(("", 0), (err, status))
-        self.assertEqual(["1:EAX=0; 1:ECX=0;", "1:EAX=1; 1:ECX=7;"], answers.states_in(told))
-        self.assertIn("\nObservation Behind Sometimes 1 1\n", told)
+        self.assertEqual(["1:EAX=0; 1:ECX=0;", "1:EAX=1; 1:ECX=7;"], answers.filter_state_lines(printed))
+        self.assertIn("\nObservation Behind Sometimes 1 1\n", printed)
 
-    def test_no_run(self):
+    def test_no_run(self) -> None:
         """If no run goes through every loop, that is the verdict, and neither Ok nor No, for each kind of question."""
         for question, asked in (("forall", "Required"), ("exists", "Allowed"), ("~exists", "Forbidden")):
-            told, err, status = run(["assume.py", "--tries", "2"], WAITS_FOR_EVER.format(question))
+            printed, err, status = run(["assume.py", "--tries", "2"], WAITS_FOR_EVER.format(question))
             with self.subTest(question):
                 self.assertEqual(("", answers.NO_VERDICT), (err, status))
-                lines = told.splitlines()
+                lines = printed.splitlines()
                 why = "None: no run goes through every loop within 2 tries, so nothing is said of the condition"
                 self.assertEqual([f"Test Waits {asked}", "States 0", why, f"Condition {question} (0:EAX=2)"], lines[:4])
                 self.assertEqual(5, len(lines))
 
-    def test_not_proved(self):
+    def test_not_proved(self) -> None:
         """Lists that the program does not make are said to be not proved."""
         out = io.StringIO()
         words = argparse.Namespace(tries=0, order=None, schedules=False)
-        with mock.patch.multiple(answers, PROGRAM="/no/program", BEYOND="/no/program", library=lambda: None):
+        with mock.patch.multiple(answers, PROGRAM="/no/program", BEYOND="/no/program", load_library=lambda: None):
             with mock.patch.object(sys, "stdout", out):
-                self.assertEqual(0, assume.show(words, "-", read("tools/herd/tests/Mcs.litmus")))
+                self.assertEqual(0, assume.print_report(words, "-", read("tools/herd/tests/Mcs.litmus")))
         self.assertEqual("Put together from 4 tests, listed by tools/beyond.py, not proved", out.getvalue().splitlines()[-1])
 
 

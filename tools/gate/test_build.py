@@ -1,18 +1,18 @@
-#!/usr/bin/env python3
 """Whether the minutes that ./lw says a build takes follow the machine.
 
-    python3 tools/gate/test_build.py, or python3 -m unittest tools.gate.test_build
+    python3 tools gate.test_build, or in tools/ python3 -m unittest gate.test_build
 
 A build is played through by the times of one that was recorded, on four processors to which other work came during the build, and by the
 same times on machines that are slower and faster. Nothing is built. tools/check_documents.py calls all this (tools/gate/cases.py).
 """
-import os
-import sys
+from __future__ import annotations
 
-sys.dont_write_bytecode = True
-sys.path.insert(0, os.path.dirname(os.path.dirname(os.path.abspath(__file__))))
+import sys
+from collections.abc import Iterator
+from typing import Any
+
 from gate import cases
-from program.estimate import Bounds, Estimate, MOST_JOBS, Plan, Running, speed
+from program.estimate import MAX_JOBS, Bounds, Estimate, Plan, Running, find_speed
 
 PROCESSORS = 4
 # A build of all crates: those below each, its minutes by tools/program/minutes.txt, and the seconds at which it started and ended.
@@ -42,69 +42,69 @@ PACES = (0.6, 0.8, 1, 1.3)
 FIRST_CRATES = 6
 
 
-def plan_of(record, processors=PROCESSORS):
+def make_plan(record: dict[str, Any], processors: int = PROCESSORS) -> Plan:
     """Returns the plan of a build."""
     return Plan({name: row[0] for name, row in record.items()}, {name: row[1] for name, row in record.items()}, processors)
 
 
-def moments(pace):
+def list_moments(pace: float) -> Iterator[tuple[Bounds, float]]:
     """Returns a build with the record's times, multiplied by a pace: at its start, and at the end of each crate except the last, the bounds
     of the minutes to go, and the actual ones.
     """
-    plan, jobs = plan_of(RECORD), {}
+    plan, jobs = make_plan(RECORD), dict.fromkeys(RECORD, 0)
     estimate, end = Estimate(plan, list(RECORD)), max(row[3] for row in RECORD.values())
     for now in sorted({0, *(row[3] for row in RECORD.values())} - {end}):
         proved = [name for name, row in RECORD.items() if row[3] <= now]
-        left = [name for name, row in RECORD.items() if row[2] >= now]
-        running = [it for it in RECORD if it not in proved and it not in left]
+        waiting = [name for name, row in RECORD.items() if row[2] >= now]
+        running = [it for it in RECORD if it not in proved and it not in waiting]
         shares = {it: Running((RECORD[it][3] - now) / (RECORD[it][3] - RECORD[it][2]), jobs[it]) for it in running}
-        yield estimate.bounds(left, shares, now * pace / 60), (end - now) * pace / 60
-        jobs.update(plan.next_jobs(left, running))
+        yield estimate.find_bounds(waiting, shares, now * pace / 60), (end - now) * pace / 60
+        jobs.update(plan.choose_next_jobs(waiting, running))
 
 
-def are_within(bounds, minutes):
+def are_within(bounds: Bounds, minutes: float) -> bool:
     """Returns whether minutes are within the bounds, rounded to whole minutes."""
-    return bounds.least - 1 <= minutes <= bounds.most + 1
+    return bounds.minimum - 1 <= minutes <= bounds.maximum + 1
 
 
 class Minutes(cases.Case):
     """The minutes of a build."""
 
-    def test_record(self):
+    def test_record(self) -> None:
         """In the build that was recorded they are within the bounds, from its start on."""
-        for bounds, minutes in moments(1):
+        for bounds, minutes in list_moments(1):
             with self.subTest(minutes=minutes):
                 self.assertTrue(are_within(bounds, minutes))
 
-    def test_other_machines(self):
+    def test_other_machines(self) -> None:
         """On machines of other paces they are, when the first crates are proved."""
         for pace in PACES:
-            for bounds, minutes in list(moments(pace))[FIRST_CRATES:]:
+            for bounds, minutes in list(list_moments(pace))[FIRST_CRATES:]:
                 with self.subTest(pace=pace, minutes=minutes):
                     self.assertTrue(are_within(bounds, minutes))
 
-    def test_narrower(self):
+    def test_narrower(self) -> None:
         """The bounds become narrower, down to twice as many minutes at most."""
         for pace in PACES:
-            widths = [bounds.most / bounds.least for bounds, _ in moments(pace)]
+            widths = [bounds.maximum / bounds.minimum for bounds, _ in list_moments(pace)]
             with self.subTest(pace=pace):
                 self.assertEqual(sorted(widths, reverse=True), widths)
                 self.assertTrue(widths[0] > 2.5 and widths[-1] <= 2)
 
-    def test_one_processor(self):
+    def test_one_processor(self) -> None:
         """One processor takes the minutes of all crates, in whatever order."""
-        self.assertEqual(round(sum(row[1] for row in RECORD.values()), 6), round(plan_of(RECORD, 1).minutes_to_go(list(RECORD), {}), 6))
+        self.assertEqual(round(sum(row[1] for row in RECORD.values()), 6), round(make_plan(RECORD, 1).estimate_minutes(list(RECORD), {}), 6))
 
-    def test_processors(self):
+    def test_processors(self) -> None:
         """More processors take less, and never less than the longest chain of crates with as many jobs as help."""
-        whole = [plan_of(RECORD, processors).minutes_to_go(list(RECORD), {}) for processors in (1, 2, 4, 8, 64)]
+        whole = [make_plan(RECORD, processors).estimate_minutes(list(RECORD), {}) for processors in (1, 2, 4, 8, 64)]
         self.assertEqual(sorted(whole, reverse=True), whole)
-        self.assertTrue(round(whole[-1], 6) >= round(plan_of(RECORD).chain("lw_base") / speed(MOST_JOBS), 6))
+        self.assertTrue(round(whole[-1], 6) >= round(make_plan(RECORD).find_chain_minutes("lw_base") / find_speed(MAX_JOBS), 6))
 
-    def test_spelling(self):
+    def test_spelling(self) -> None:
         """Bounds in words: whole minutes, at least one, and one number if both are the same."""
-        for least, most, told in ((5.6, 14.7, "6 to 15 minutes"), (0, 0, "about 1 minute"), (2.9, 3.2, "about 3 minutes")):
-            self.assertEqual(told, str(Bounds(least, most)))
+        for least, most, message in ((5.6, 14.7, "6 to 15 minutes"), (0, 0, "about 1 minute"), (2.9, 3.2, "about 3 minutes")):
+            self.assertEqual(message, str(Bounds(least, most)))
 
 
 if __name__ == "__main__":

@@ -1,24 +1,26 @@
-#!/usr/bin/env python3
 """Whether each command of tools/ answers `--help`, and ends quietly when nobody reads what it prints.
 
-    python3 tools/gate/test_commands.py, or python3 -m unittest tools.gate.test_commands
+    python3 tools gate.test_commands, or in tools/ python3 -m unittest gate.test_commands
 
-The commands are all files of tools/ that can be run. The program is not needed. tools/check_documents.py calls all this
-(tools/gate/cases.py).
+The commands are all files of tools/ that can be run, and `python3 tools MODULE`, which runs them and those of its packages. The program is
+not needed. tools/check_documents.py calls all this (tools/gate/cases.py).
 """
+from __future__ import annotations
+
 import glob
 import os
 import re
 import subprocess
 import sys
 
-sys.dont_write_bytecode = True
-sys.path.insert(0, os.path.dirname(os.path.dirname(os.path.abspath(__file__))))
 from gate import cases
 from gate.examples import TOOLS, read, run
 from shared import start
 from shared.home import HOME
 
+HELP = ("--help", "-h")
+# The first sentence of this file.
+SAYS = "Whether each command of tools/ answers `--help`, and ends quietly when nobody reads what it prints."
 # Arguments for those commands that print quickly, so that something is written to each pipe.
 QUICK = (
     ["assume.py", "tools/herd/tests/Mcs.litmus"],
@@ -33,90 +35,125 @@ QUICK = (
 )
 
 
-def commands():
-    """Returns the names of the files that can be run."""
-    paths = sorted(glob.glob(os.path.join(TOOLS, "*.py")))
+def list_commands() -> list[str]:
+    """Returns the names of the files that can be run, but for the one by which modules are run."""
+    paths = sorted(glob.glob(os.path.join(TOOLS, "[!_]*.py")))
     return [os.path.basename(it) for it in paths if '__name__ == "__main__"' in read(it)]
 
 
-def without_reader(words, text="", both=False):
+def run_module(*arguments: str) -> subprocess.CompletedProcess:
+    """Runs `python3 tools` in another folder than the repository's."""
+    return subprocess.run([sys.executable, TOOLS, *arguments], capture_output=True, text=True, cwd=os.path.sep, check=False)
+
+
+def run_without_reader(arguments: list[str], text: str = "", both: bool = False) -> tuple[str, int]:
     """Returns what a command prints on standard error, and its exit status, when nobody reads its standard output; or neither stream."""
     reading, writing = os.pipe()
     os.close(reading)
     errors = writing if both else subprocess.PIPE
-    command = [sys.executable, os.path.join(TOOLS, words[0]), *words[1:]]
+    command = [sys.executable, os.path.join(TOOLS, arguments[0]), *arguments[1:]]
     ran = subprocess.run(command, input=text.encode(), stdout=writing, stderr=errors, cwd=HOME, check=False)
     os.close(writing)
     return (ran.stderr or b"").decode(), ran.returncode
 
 
-def given_to(words):
+def split_input(arguments: list[str]) -> tuple[list[str], str]:
     """Returns the arguments of a command without `FILE`, and its standard input."""
-    if words[-1] != "FILE":
-        return words, ""
-    return words[:-1], run(["plain.py", "replay", "P0", "examples/SB.litmus"])[0]
+    if arguments[-1] != "FILE":
+        return arguments, ""
+    return arguments[:-1], run(["plain.py", "replay", "P0", "examples/SB.litmus"])[0]
 
 
 class Help(cases.Case):
     """`--help`."""
 
-    def test_status(self):
+    def test_status(self) -> None:
         """Each command prints its use on standard output, with status 0."""
-        for name in commands():
-            for word in start.HELP:
+        for name in list_commands():
+            for word in HELP:
                 out, err, status = run([name, word])
                 with self.subTest(name, word=word):
                     self.assertEqual(("", 0), (err, status))
                     self.assertIn(f"tools/{name}", out)
 
-    def test_page(self):
+    def test_modules(self) -> None:
+        """`python3 tools`, in any folder, prints the first sentence of each of them and of the commands in packages."""
+        for words in ("", *HELP):
+            ran = run_module(*words.split())
+            with self.subTest(words):
+                self.assertEqual(("", 0), (ran.stderr, ran.returncode))
+                listed = dict(re.findall(r"^    ([\w.]+)  +(\w.*\.)$", ran.stdout, re.M))
+                self.assertEqual([], [it for it in list_commands() if it[: -len(".py")] not in listed])
+                self.assertEqual(SAYS, listed["gate.test_commands"])
+
+    def test_page(self) -> None:
         """So does `./page`."""
-        for word in start.HELP:
+        for word in HELP:
             with self.subTest(word):
                 ran = subprocess.run([os.path.join(HOME, "page"), word], capture_output=True, text=True, check=False)
                 self.assertEqual(("", 0), (ran.stderr, ran.returncode))
                 self.assertIn("./page [PORT]", ran.stdout)
 
-    def test_commands(self):
+    def test_commands(self) -> None:
         """All commands are looked at, and each calls `start.run`."""
-        self.assertTrue(len(commands()) >= 21)
-        for name in commands():
+        self.assertTrue(len(list_commands()) >= 21)
+        for name in list_commands():
             with self.subTest(name):
                 self.assertTrue(re.search(r"^    sys\.exit\(start\.run\(", read(os.path.join(TOOLS, name)), re.M))
+
+
+class Modules(cases.Case):
+    """`python3 tools MODULE`."""
+
+    def test_run(self) -> None:
+        """A module does what its file does, in any folder."""
+        test = os.path.join(HOME, "examples", "SB.litmus")
+        for name, *words in (("plain", "states", test), ("fences", test), ("fences", "--no-option"), ("cycles", "--all", "4")):
+            ran = run_module(name, *words)
+            with self.subTest(name, words=words):
+                self.assertEqual(run([f"{name}.py", *words]), (ran.stdout, ran.stderr, ran.returncode))
+
+    def test_no_command(self) -> None:
+        """What is no command ends with status 2: a module that is only imported, a package, and no module at all."""
+        for name in ("given", "shared.home", "gate", "gate.none", "none", "../page", "os", "", "a.b.c", "--none"):
+            ran = run_module(name)
+            with self.subTest(name):
+                self.assertEqual(("", 2), (ran.stdout, ran.returncode))
+                self.assertTrue(ran.stderr.startswith("usage: python3 tools MODULE [WORD..]\ntools: "))
 
 
 class Pipes(cases.Case):
     """Output that nobody reads, and output that can't be written."""
 
-    def test_help(self):
+    def test_help(self) -> None:
         """`--help` of each command ends quietly when nobody reads it."""
-        for name in commands():
+        for name in list_commands():
             with self.subTest(name):
-                self.assertEqual(("", start.CLOSED), without_reader([name, "--help"]))
+                self.assertEqual(("", start.CLOSED), run_without_reader([name, "--help"]))
 
-    def test_answers(self):
+    def test_answers(self) -> None:
         """So does an answer."""
         for words in QUICK:
-            words, text = given_to(words)
+            words, text = split_input(words)
             with self.subTest(words):
-                self.assertEqual(("", start.CLOSED), without_reader(words, text))
+                self.assertEqual(("", start.CLOSED), run_without_reader(words, text))
 
-    def test_faults(self):
+    def test_faults(self) -> None:
         """So does the line of a fault when standard error is not read either."""
         for words in QUICK:
             if words[0] != "cycles.py":
                 with self.subTest(words[0]):
-                    self.assertEqual(("", start.CLOSED), without_reader([*words[:-1], "no-such-file"], both=True))
+                    self.assertEqual(("", start.CLOSED), run_without_reader([*words[:-1], "no-such-file"], both=True))
 
-    def test_full_disk(self):
+    def test_full_disk(self) -> None:
         """An output that can't be written is told, with status 1."""
-        told = "fences: standard output: No space left on device\n"
+        message = "fences: standard output: No space left on device\n"
         with open("/dev/full", "wb") as full:
             words = [sys.executable, os.path.join(TOOLS, "fences.py"), "examples/SB.litmus"]
             ran = subprocess.run(words, stdin=subprocess.DEVNULL, stdout=full, stderr=subprocess.PIPE, cwd=HOME, check=False)
-        self.assertEqual((told, 1), (ran.stderr.decode(), ran.returncode))
+        self.assertEqual((message, 1), (ran.stderr.decode(), ran.returncode))
 
-    def test_closed_at_start(self):
+    def test_closed_at_start(self) -> None:
         """So is an output that was closed when the command started, if anything is printed."""
         for name, *words in (("plain", "states"), ("fences",)):
             shell = ["sh", "-c", 'exec "$0" "$@" >&-', sys.executable, os.path.join(TOOLS, f"{name}.py"), *words, "examples/SB.litmus"]

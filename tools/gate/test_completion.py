@@ -1,13 +1,14 @@
-#!/usr/bin/env python3
 """Whether bash, zsh and fish complete the words of the programs and the options of the tools, by the files that the package for Debian has.
 
-    python3 tools/gate/test_completion.py, or python3 -m unittest tools.gate.test_completion
+    python3 tools gate.test_completion, or in tools/ python3 -m unittest gate.test_completion
 
 - The table has the options that the --help of each tool names, and the words that the programs take.
 - Each shell that is here offers what the table says. zsh is tried by its function, and in a terminal.
 
 The programs are not needed. tools/check_documents.py calls all this (tools/gate/cases.py).
 """
+from __future__ import annotations
+
 import os
 import pty
 import re
@@ -18,14 +19,12 @@ import sys
 import tempfile
 import time
 import unittest
+from collections.abc import Callable
 
-sys.dont_write_bytecode = True
-sys.path.insert(0, os.path.dirname(os.path.dirname(os.path.abspath(__file__))))
-import given
 from gate import cases
 from gate.examples import read
 from packing import completion, tree
-from shared.home import HOME, close
+from shared.home import HOME
 
 # Words on which completion is asked for the last, and what it offers; FILES if it offers files.
 FILES = "(files)"
@@ -55,33 +54,33 @@ words=(${(z)2}); CURRENT=$#words; PREFIX=$words[-1]
 SECONDS = 20
 
 
-def tools():
+def list_tool_options() -> dict[str, list[str]]:
     """Returns the options of each tool, by its command."""
-    return {tree.command_of(it): completion.options_of(read(tree.path_of(it))) for it in tree.TOOLS}
+    return {tree.name_command(it): completion.list_options(read(tree.find_tool(it))) for it in tree.TOOLS}
 
 
-def missing():
+def list_missing_shells() -> list[str]:
     """Returns the shells that are not here."""
     return [it for it in ("bash", "zsh", "fish") if not shutil.which(it)]
 
 
-def skipped():
-    """Returns the line that says which shells were not tried, if any were not."""
-    return f"completions of {', '.join(missing())} were not tried, since they are not here" if missing() else None
+def skipped() -> str | None:
+    """Returns the line that says which shells were not tried, if any were not. None if all were."""
+    return f"completions of {', '.join(list_missing_shells())} were not tried, since they are not here" if list_missing_shells() else None
 
 
 class Table(cases.Case):
     """The table."""
 
-    def test_options(self):
+    def test_options(self) -> None:
         """A tool has the options that its --help names, and --help."""
         for tool in tree.TOOLS:
-            ran = subprocess.run([sys.executable, tree.path_of(tool), "--help"], cwd=HOME, capture_output=True, check=False)
-            told = {*completion.OPTION.findall((ran.stdout + ran.stderr).decode()), "--help"}
+            ran = subprocess.run([sys.executable, "tools", tool, "--help"], cwd=HOME, capture_output=True, check=False)
+            printed = {*completion.OPTION.findall((ran.stdout + ran.stderr).decode()), "--help"}
             with self.subTest(tool):
-                self.assertEqual(sorted(told), tools()[tree.command_of(tool)])
+                self.assertEqual(sorted(printed), list_tool_options()[tree.name_command(tool)])
 
-    def test_words(self):
+    def test_words(self) -> None:
         """The words of the programs are those of their manual pages."""
         for program in completion.PROGRAMS:
             page = re.sub(r"\\f.|\\", "", read(f"tools/packing/debian/{program}.1"))
@@ -94,47 +93,51 @@ class Table(cases.Case):
 class Shells(cases.Case):
     """The shells that are here."""
 
+    room: str
+    paths: dict[str, str]  # of each shell the file of its completion
+
     @classmethod
-    def setUpClass(cls):
+    def setUpClass(cls) -> None:
+        """Writes the completions of all shells."""
         room = tempfile.TemporaryDirectory(prefix="lw-completion-")
         cls.addClassCleanup(room.cleanup)
         cls.room, cls.paths = room.name, {}
-        for name, text in completion.files_of(tools()).items():
+        for name, text in completion.make_files(list_tool_options()).items():
             path = os.path.join(room.name, os.path.basename(name))
             cls.paths[name.split("/")[2].partition("-")[0]] = path
-            with open(path, "w", encoding="utf-8") as it:
-                it.write(text)
+            with open(path, "w", encoding="utf-8") as file:
+                file.write(text)
 
-    def told(self, *words):
+    def run_shell(self, *arguments: str) -> str:
         """Returns what a shell prints. It has a folder of its own for its settings."""
         settings = {"PATH": os.environ["PATH"], "HOME": self.room, "LC_ALL": "C.UTF-8", "TERM": "dumb"}
-        ran = subprocess.run(words, stdout=subprocess.PIPE, stderr=subprocess.STDOUT, env=settings, cwd=HOME, check=False, timeout=SECONDS)
+        ran = subprocess.run(arguments, stdout=subprocess.PIPE, stderr=subprocess.STDOUT, env=settings, cwd=HOME, check=False, timeout=SECONDS)
         return ran.stdout.decode()
 
-    def compare(self, offered):
+    def compare(self, offered: Callable[[str], list[str]]) -> None:
         """Compares what a shell offers with the table. `offered` returns it for some words."""
         for words, wanted in COMPLETED:
             with self.subTest(words):
                 self.assertEqual(sorted(wanted.split()), sorted(offered(words)))
 
-    @unittest.skipIf("bash" in missing(), "bash is missing")
-    def test_bash(self):
+    @unittest.skipIf("bash" in list_missing_shells(), "bash is missing")
+    def test_bash(self) -> None:
         """bash completes."""
-        self.compare(lambda words: self.told("bash", "--norc", "-c", BASH, "bash", self.paths["bash"], words).split())
+        self.compare(lambda words: self.run_shell("bash", "--norc", "-c", BASH, "bash", self.paths["bash"], words).split())
 
-    @unittest.skipIf("zsh" in missing(), "zsh is missing")
-    def test_zsh(self):
+    @unittest.skipIf("zsh" in list_missing_shells(), "zsh is missing")
+    def test_zsh(self) -> None:
         """zsh completes, by its function."""
-        self.compare(lambda words: self.told("zsh", "-f", "-c", ZSH, "zsh", self.paths["zsh"], words).split())
+        self.compare(lambda words: self.run_shell("zsh", "-f", "-c", ZSH, "zsh", self.paths["zsh"], words).split())
 
-    @unittest.skipIf("zsh" in missing(), "zsh is missing")
-    def test_zsh_in_terminal(self):
+    @unittest.skipIf("zsh" in list_missing_shells(), "zsh is missing")
+    def test_zsh_in_terminal(self) -> None:
         """zsh finds the function by its first line, and completes a word in a terminal."""
         for words, whole in (("lw sch", "lw schedules "), ("lw-fences --ev", "lw-fences --everything "), ("beyond --search sta", "beyond --search states ")):
             with self.subTest(words):
-                self.assertIn(whole, self.typed(words, whole))
+                self.assertIn(whole, self.type_in_zsh(words, whole))
 
-    def typed(self, words, whole):
+    def type_in_zsh(self, words: str, whole: str) -> str:
         """Returns what a terminal shows in which zsh runs and words are typed, with a tab after them, until it shows the whole."""
         child, terminal = pty.fork()
         if not child:
@@ -142,16 +145,16 @@ class Shells(cases.Case):
         try:
             folder = os.path.dirname(self.paths["zsh"])
             os.write(terminal, f"fpath=({folder} $fpath); autoload -U compinit; compinit -u -d {self.room}/dump; print ready $((1+1))\n".encode())
-            self.until(terminal, "ready 2")
+            self.read_terminal_until(terminal, "ready 2")
             os.write(terminal, f"{words}\t".encode())
-            return self.until(terminal, whole)
+            return self.read_terminal_until(terminal, whole)
         finally:
             os.kill(child, 9)
             os.waitpid(child, 0)
             os.close(terminal)
 
     @staticmethod
-    def until(terminal, text):
+    def read_terminal_until(terminal: int, text: str) -> str:
         """Returns what a terminal shows, without its controls, until it shows a text, or some seconds are over."""
         shown, end = "", time.monotonic() + SECONDS
         while time.monotonic() < end and text not in shown:
@@ -159,18 +162,18 @@ class Shells(cases.Case):
                 shown = re.sub(r"\x1b\[[0-9;?]*[a-zA-Z]|\r", "", shown + os.read(terminal, 4096).decode("utf-8", "replace"))
         return shown
 
-    @unittest.skipIf("fish" in missing(), "fish is missing")
-    def test_fish(self):
+    @unittest.skipIf("fish" in list_missing_shells(), "fish is missing")
+    def test_fish(self) -> None:
         """fish completes."""
 
-        def offered(words):
-            lines = self.told("fish", "--no-config", "-c", "source $argv[1]; complete -C $argv[2]", self.paths["fish"], words).splitlines()
+        def list_offered(words: str) -> list[str]:
+            """Returns what fish offers."""
+            lines = self.run_shell("fish", "--no-config", "-c", "source $argv[1]; complete -C $argv[2]", self.paths["fish"], words).splitlines()
             found = [it.partition("\t")[0] for it in lines]
             return [FILES] if found == ["examples/"] else found
 
-        self.compare(offered)
+        self.compare(list_offered)
 
 
 if __name__ == "__main__":
-    given.print_as_lw()
-    sys.exit(close(cases.comparisons(sys.modules["__main__"]), skipped=skipped))
+    sys.exit(cases.main(skipped))

@@ -1,7 +1,6 @@
-#!/usr/bin/env python3
 """Whether editors and the page show tests in colours by the words that are read.
 
-    python3 tools/gate/test_editor.py, or python3 -m unittest tools.gate.test_editor
+    python3 tools gate.test_editor, or in tools/ python3 -m unittest gate.test_editor
 
 - The table of tools/editor/words.py has the words of docs/FORMAT.md's tables and of its reserved names, and the reader of tools/plain.py takes them.
 - The files that are made of the table are as they would be written.
@@ -11,6 +10,8 @@
 
 The programs are not needed. tools/check_documents.py calls all this (tools/gate/cases.py).
 """
+from __future__ import annotations
+
 import glob
 import json
 import os
@@ -20,17 +21,17 @@ import subprocess
 import sys
 import tempfile
 import unittest
+from collections.abc import Iterator
+from typing import Any, Callable, Dict, Union
 
-sys.dont_write_bytecode = True
-sys.path.insert(0, os.path.dirname(os.path.dirname(os.path.abspath(__file__))))
-import given
 import plain
 from editor import grammar, words
 from gate import cases, oniguruma
 from gate.examples import examples, read
-from interpreter.reading import RESERVED, heading_of
-from interpreter.tokens import skip_notes, tokens_of
-from shared.home import HOME, close
+from gate.oniguruma import Match, Pattern
+from interpreter.reading import RESERVED, read_heading
+from interpreter.tokens import read_tokens, skip_notes
+from shared.home import HOME
 
 # Of a kind of token the scopes that it may have.
 NUMBERS = ("constant.numeric", "entity.name.section")
@@ -72,80 +73,95 @@ console.log(JSON.stringify(JSON.parse(fs.readFileSync(0, "utf8")).map(pieces)));
 """
 
 
+# A rule of a grammar, as JSON has it; a match by one of two libraries; and what compiles a pattern for it.
+Rule = Dict[str, Any]
+Found = Union[Match, "re.Match[str]"]
+Compiler = Callable[[str], Union[Pattern, "re.Pattern[str]"]]
+
+
 class Colours:
     """The scopes that a grammar gives the letters of a text. A rule matches within a line; of the first matches the rule that is first has it, and the
     end of what is open comes before all."""
 
-    def __init__(self, made, compiler=re.compile):
-        self.rules, self.repository, self.compiled, self.compiler = made["patterns"], made["repository"], {}, compiler
+    def __init__(self, value: Rule, compiler: Compiler = re.compile) -> None:
+        """Prepares a grammar, whose patterns a function compiles."""
+        self.rules, self.repository, self.compiler = value["patterns"], value["repository"], compiler
+        self.compiled: dict[str, Pattern | re.Pattern[str]] = {}
+        self.open: list[Rule] = []  # the rules whose end is looked for
 
-    def scopes(self, text):
-        """Of each letter its innermost scope, or None."""
-        found, self.open = [], []
+    def find_scopes(self, text: str) -> list[str | None]:
+        """Returns of each letter its innermost scope, or None."""
+        found: list[str | None] = []
+        self.open = []
         for line in text.splitlines(keepends=True):
-            found += self.scopes_of_line(line)
+            found += self.find_line_scopes(line)
         return found
 
-    def matched(self, pattern, line, at):
+    def find_match(self, pattern: str, line: str, index: int) -> Found | None:
+        """Returns the first match of a pattern from an index on. None if there is none."""
         if pattern not in self.compiled:
             self.compiled[pattern] = self.compiler(pattern)
-        return self.compiled[pattern].search(line, at)
+        return self.compiled[pattern].search(line, index)
 
-    def expanded(self, rules):
+    def expand_rules(self, rules: list[Rule]) -> Iterator[Rule]:
         """Rules, with those that are included in their places."""
-        for it in rules:
-            if "include" in it:
-                yield from self.expanded([self.repository[it["include"][1:]]])
-            elif set(it) == {"patterns"}:
-                yield from self.expanded(it["patterns"])
+        for rule in rules:
+            if "include" in rule:
+                yield from self.expand_rules([self.repository[rule["include"][1:]]])
+            elif set(rule) == {"patterns"}:
+                yield from self.expand_rules(rule["patterns"])
             else:
-                yield it
+                yield rule
 
-    def next(self, line, at):
-        """The rule that matches first from a place on, whether it ends what is open, and the match; None if none does."""
+    def find_next_rule(self, line: str, index: int) -> tuple[Rule, bool, Found] | None:
+        """Returns the rule that matches first from an index on, whether it ends what is open, and the match; `None` if none does."""
         inner = self.open[-1] if self.open else {"patterns": self.rules}
         tried = [(inner, True, inner["end"])] if self.open else []
-        tried += [(it, False, it.get("match") or it["begin"]) for it in self.expanded(inner.get("patterns", []))]
-        found = [(rule, is_end, self.matched(pattern, line, at)) for rule, is_end, pattern in tried]
-        return min((it for it in found if it[2]), key=lambda it: it[2].start(), default=None)
+        tried += [(it, False, it.get("match") or it["begin"]) for it in self.expand_rules(inner.get("patterns", []))]
+        matches = ((rule, is_end, self.find_match(pattern, line, index)) for rule, is_end, pattern in tried)
+        found = [(rule, is_end, match) for rule, is_end, match in matches if match]
+        return min(found, key=lambda it: it[2].start()) if found else None
 
-    def scopes_of_line(self, line):
-        made, at = [], 0
+    def find_line_scopes(self, line: str) -> list[str | None]:
+        """Returns of each letter of a line its innermost scope, or `None`."""
+        scopes: list[str | None] = []
+        index = 0
         while True:
             scope = next((it["name"] for it in reversed(self.open) if not it["name"].startswith("meta.")), None)
-            found = self.next(line, at)
+            found = self.find_next_rule(line, index)
             if found is None:
-                return made + [scope] * (len(line) - at)
+                return scopes + [scope] * (len(line) - index)
             rule, is_end, match = found
-            made += [scope] * (match.start() - at)
-            made += self.scopes_of_match(rule, match, rule.get("captures") or (not is_end and rule.get("beginCaptures")) or {})
-            at = match.end()
+            scopes += [scope] * (match.start() - index)
+            scopes += self.find_match_scopes(rule, match, rule.get("captures") or (not is_end and rule.get("beginCaptures")) or {})
+            index = match.end()
             if is_end:
                 self.open.pop()
             elif "begin" in rule:
                 self.open.append(rule)
 
     @staticmethod
-    def scopes_of_match(rule, match, captures):
+    def find_match_scopes(rule: Rule, match: Found, captures: dict[str, dict[str, str]]) -> list[str | None]:
+        """Returns of each letter of a match its innermost scope, or `None`."""
         scopes = [None if rule.get("name", "meta.").startswith("meta.") else rule["name"]] * len(match[0])
-        for number, it in captures.items():
+        for number, capture in captures.items():
             begin, end = (place - match.start() for place in match.span(int(number)))
-            scopes[begin:end] = [it["name"]] * (end - begin)
+            scopes[begin:end] = [capture["name"]] * (end - begin)
         return scopes
 
 
-def patterns_of(value):
-    """All regular expressions of a grammar, of a value of JSON."""
+def list_patterns(value: object) -> list[str]:
+    """Returns all regular expressions of a grammar, of a value of JSON."""
     if isinstance(value, list):
-        return [it for each in value for it in patterns_of(each)]
+        return [it for each in value for it in list_patterns(each)]
     if not isinstance(value, dict):
         return []
     own = [it for key, it in value.items() if key in ("match", "begin", "end", "while")]
-    return own + [it for each in value.values() for it in patterns_of(each)]
+    return own + [it for each in value.values() for it in list_patterns(each)]
 
 
-def wanted(language, kind, token, is_address):
-    """The scopes that a token of a test may have. A name in brackets is a location, whatever it is."""
+def list_wanted_scopes(language: str, kind: str, token: str, is_address: bool) -> tuple[str, ...]:
+    """Returns the scopes that a token of a test may have. A name in brackets is a location, whatever it is."""
     if kind == "number":
         return NUMBERS
     if is_address and token.upper() not in plain.REGISTERS[language]:
@@ -162,8 +178,8 @@ def wanted(language, kind, token, is_address):
     return tuple(scope for scope, these in named.items() if upper in these or token in these) or NAMES
 
 
-def table(heading):
-    """The texts of a table of docs/FORMAT.md, without the names of registers, numbers, locations and labels."""
+def read_table_words(heading: str) -> set[str]:
+    """Returns the texts of a table of docs/FORMAT.md, without the names of registers, numbers, locations and labels."""
     rows = re.findall(r"^\| (`[^|]*) \| [^|]+ \|$", read("docs/FORMAT.md").partition(heading)[2].partition("\n\n**")[0].split("\n\n")[1], re.M)
     texts = " ".join(it for row in rows for it in re.findall(r"`([^`]+)`", row))
     return {it for it in re.findall(r"\b[A-Za-z]{2,}\b", texts)}
@@ -172,34 +188,35 @@ def table(heading):
 class Words(cases.Case):
     """The table of words."""
 
-    def test_format(self):
+    def test_format(self) -> None:
         """It has the words of docs/FORMAT.md's tables, and its reserved names."""
-        self.assertEqual({*words.SOURCE, *words.SOURCE_WHOLE}, table("**Statements of a source test:**"))
-        self.assertEqual({*words.X86, *words.X86_WAITING}, table("**Instructions of an x86 test.**"))
+        self.assertEqual({*words.SOURCE, *words.SOURCE_WHOLE}, read_table_words("**Statements of a source test:**"))
+        self.assertEqual({*words.X86, *words.X86_WAITING}, read_table_words("**Instructions of an x86 test.**"))
         text = " ".join(read("docs/FORMAT.md").partition("**Reserved names**")[2].partition("in any case of the letters")[0].split())
         reserved = {it for it in re.findall(r"`(\w+)`", text) if it != "r"}
         here = {*words.QUESTIONS, *words.CONSTANTS, *words.NEGATION, *words.SOURCE, *words.SOURCE_WHOLE}
         self.assertEqual(reserved, here | {*plain.REGISTERS["X86"], *words.OTHER_REGISTERS})
 
-    def test_reader(self):
+    def test_reader(self) -> None:
         """The reader reserves its words of both languages and of source tests, and takes its words of instructions."""
-        for it in (*words.QUESTIONS, *words.CONSTANTS, *words.NEGATION, *words.SOURCE, *words.SOURCE_WHOLE, *words.OTHER_REGISTERS):
-            self.assertTrue(RESERVED.fullmatch(it))
-        for it in (*words.X86, *words.X86_WAITING, "NOP"):
-            text = f"X86 A\n{{}}\n P0 ;\n {'LOCK ' * (it == 'XADD')}{it.lower()} ;\nexists (true)\n"
+        for word in (*words.QUESTIONS, *words.CONSTANTS, *words.NEGATION, *words.SOURCE, *words.SOURCE_WHOLE, *words.OTHER_REGISTERS):
+            self.assertTrue(RESERVED.fullmatch(word))
+        for word in (*words.X86, *words.X86_WAITING, "NOP"):
+            text = f"X86 A\n{{}}\n P0 ;\n {'LOCK ' * (word == 'XADD')}{word.lower()} ;\nexists (true)\n"
             try:
-                why = plain.read_test(text) and ""
+                plain.read_test(text)
+                why = ""
             except plain.NoTest as fault:
                 why = fault.args[0]
-            self.assertEqual(it == "NOP", "is no instruction that is read" in why)
+            self.assertEqual(word == "NOP", "is no instruction that is read" in why)
 
-    def test_files(self):
+    def test_files(self) -> None:
         """What is made of the table is as it would be written, and is JSON where it should be (tools/documents/make_grammar.py writes it)."""
-        for name, text in grammar.files().items():
+        for name, text in grammar.make_files().items():
             with self.subTest(name):
                 self.assertEqual(text, read(name))
                 self.assertTrue(not name.endswith(".json") or json.loads(text))
-        parts = grammar.extension()["contributes"]
+        parts = grammar.make_extension()["contributes"]
         paths = [*(it["path"] for it in parts["grammars"]), *(it["configuration"] for it in parts["languages"])]
         self.assertEqual([], [it for it in paths if not os.path.exists(os.path.join(HOME, grammar.FOLDER, it))])
 
@@ -207,105 +224,109 @@ class Words(cases.Case):
 class Grammar(cases.Case):
     """The scopes that the grammar gives."""
 
-    def test_examples(self):
+    def test_examples(self) -> None:
         """Each token of each example has the scope of its kind."""
-        colours = Colours(grammar.grammar())
+        colours = Colours(grammar.make_grammar())
         for name, text in examples():
-            language, _, end = heading_of(text)
+            language, _, end = read_heading(text)
             begin = skip_notes(text, end)
-            scopes, wrong = colours.scopes(text), []
-            tokens, places = tokens_of(text, begin)
-            for before, (kind, token), at in zip([("symbol", "")] + tokens, tokens, places):
-                told = {it and it[: -len(".lw")] for it in scopes[at : at + len(token)]}
-                if kind != "symbol" and not (len(told) == 1 and told <= {*wanted(language, kind, token, before[1] == "[")}):
-                    wrong.append((token, told))
+            scopes, wrong = colours.find_scopes(text), []
+            tokens, places = read_tokens(text, begin)
+            for before, (kind, token), offset in zip([("symbol", "")] + tokens, tokens, places):
+                found = {it and it[: -len(".lw")] for it in scopes[offset : offset + len(token)]}
+                if kind != "symbol" and not (len(found) == 1 and found <= {*list_wanted_scopes(language, kind, token, before[1] == "[")}):
+                    wrong.append((token, found))
             with self.subTest(name):
                 self.assertEqual([], wrong)
 
-    def test_typed(self):
+    def test_typed(self) -> None:
         """Names that are like words, letters of either case, comments in one another, notes, and the heading after a comment."""
-        colours = Colours(grammar.grammar())
+        colours = Colours(grammar.make_grammar())
         for text, looked_for, scopes in TYPED:
-            made = colours.scopes(text)
-            told = tuple(made[it.start()][: -len(".lw")] for it in re.finditer(rf"(?i)\b(?:{looked_for})\b", text) if made[it.start()])
+            made = colours.find_scopes(text)
+            at_words = (made[it.start()] for it in re.finditer(rf"(?i)\b(?:{looked_for})\b", text))
+            found = tuple(it[: -len(".lw")] for it in at_words if it)
             with self.subTest(text):
-                self.assertEqual(scopes, told)
+                self.assertEqual(scopes, found)
 
 
 @unittest.skipUnless(shutil.which("node"), "node is missing")
 class Page(cases.Case):
     """The colours of the page, by its own code."""
 
-    def coloured(self, texts):
-        """Of each text the pieces that the page shows, each with its class, or nothing."""
-        with tempfile.TemporaryDirectory(prefix="lw-editor-") as room:
-            shutil.copytree(os.path.join(HOME, "web"), room, dirs_exist_ok=True)
+    def color_texts(self, texts: list[str]) -> list[list[tuple[str, str | None]]]:
+        """Returns of each text the pieces that the page shows, each with its class, or nothing."""
+        with tempfile.TemporaryDirectory(prefix="lw-editor-") as folder:
+            shutil.copytree(os.path.join(HOME, "web"), folder, dirs_exist_ok=True)
             for name, content in (("package.json", '{"type": "module"}'), ("dom.js", DOM), ("colours.js", COLOURS_OF_PAGE)):
-                with open(os.path.join(room, name), "w", encoding="utf-8") as it:
-                    it.write(content)
-            ran = subprocess.run(["node", os.path.join(room, "colours.js")], input=json.dumps(texts).encode(), stdout=subprocess.PIPE, check=True)
+                with open(os.path.join(folder, name), "w", encoding="utf-8") as file:
+                    file.write(content)
+            ran = subprocess.run(["node", os.path.join(folder, "colours.js")], input=json.dumps(texts).encode(), stdout=subprocess.PIPE, check=True)
         return json.loads(ran.stdout)
 
-    def test_examples(self):
+    def test_examples(self) -> None:
         """Each word of each example has a scope of the kind that the page shows it as, except in a test's name, which the page takes for words."""
-        colours, named = Colours(grammar.grammar()), examples()
-        for (name, text), pieces in zip(named, self.coloured([text for _, text in named])):
-            scopes, at, wrong = colours.scopes(text), 0, []
+        colours, named = Colours(grammar.make_grammar()), examples()
+        for (name, text), pieces in zip(named, self.color_texts([text for _, text in named])):
+            wrong = []
+            scopes = colours.find_scopes(text)
+            offset = 0
             for piece, kind in pieces:
-                its = {it and it[: -len(".lw")] for it in scopes[at : at + len(piece)]}
-                at += len(piece)
+                its = {it and it[: -len(".lw")] for it in scopes[offset : offset + len(piece)]}
+                offset += len(piece)
                 wanted_here = [scopes_here for of_page, scopes_here in OF_PAGE.items() if (kind or "").startswith(of_page)]
                 if wanted_here and its != {"entity.name.type"} and not its <= {*wanted_here[0]}:
                     wrong.append((piece, kind, its))
             with self.subTest(name):
-                self.assertEqual(([], len(text)), (wrong, at))
+                self.assertEqual(([], len(text)), (wrong, offset))
 
 
 class Engine(cases.Case):
     """The grammar by the regular expressions of VS Code's engine, which are Oniguruma's."""
 
-    def setUp(self):
+    def setUp(self) -> None:
         """Leaves these out if the library is not here."""
-        self.library = oniguruma.library()
-        if not self.library:
+        library = oniguruma.load_library()
+        if library is None:
             self.skipTest(skipped())
+        self.library = library
 
-    def test_compiled(self):
+    def test_compiled(self) -> None:
         """Each regular expression of the grammar is one of Oniguruma's, and what is none is refused."""
-        with open(os.path.join(HOME, grammar.FOLDER, "lw.tmLanguage.json"), encoding="utf-8") as it:
-            patterns = patterns_of(json.load(it))
+        with open(os.path.join(HOME, grammar.FOLDER, "lw.tmLanguage.json"), encoding="utf-8") as file:
+            patterns = list_patterns(json.load(file))
         self.assertTrue(len(patterns) > 30)
-        for it in patterns:
-            with self.subTest(it):
-                self.assertTrue(self.library.compiled(it))
-        for it in ("(", "(?P<name>x)", "[z-a]"):
+        for word in patterns:
+            with self.subTest(word):
+                self.assertTrue(self.library.compile_pattern(word))
+        for word in ("(", "(?P<name>x)", "[z-a]"):
             try:
-                told = str(self.library.compiled(it))
+                found = str(self.library.compile_pattern(word))
             except oniguruma.Fault as why:
-                told = why.args[0]
-            self.assertIn(f"{it}: ", told)
+                found = why.args[0]
+            self.assertIn(f"{word}: ", found)
 
-    def test_matches(self):
+    def test_matches(self) -> None:
         """A match is where Oniguruma finds it, in letters, with its groups."""
-        found = self.library.compiled(r"(ä)(b)?(c)").search("ääcb ac", 1)
-        self.assertEqual([(1, 3), (1, 2), (-1, -1), (2, 3)], [found.span(it) for it in range(4)])
-        self.assertEqual(("äc", None), (found[0], self.library.compiled("(?!)").search("ab", 0)))
+        match = self.library.compile_pattern(r"(ä)(b)?(c)").search("ääcb ac", 1)
+        assert match is not None
+        self.assertEqual([(1, 3), (1, 2), (-1, -1), (2, 3)], [match.span(it) for it in range(4)])
+        self.assertEqual(("äc", None), (match[0], self.library.compile_pattern("(?!)").search("ab", 0)))
 
-    def test_scopes(self):
+    def test_scopes(self) -> None:
         """Each example, and each text with traps, has the same scopes as by Python's expressions."""
-        by_python, by_library = Colours(grammar.grammar()), Colours(grammar.grammar(), self.library.compiled)
+        by_python, by_library = Colours(grammar.make_grammar()), Colours(grammar.make_grammar(), self.library.compile_pattern)
         texts = [*examples(), *((text.split()[1], text) for text, _, _ in TYPED)]
         texts += [(os.path.basename(it), read(it)) for it in sorted(glob.glob(os.path.join(HOME, "tools", "herd", "tests", "*.litmus")))]
         for name, text in texts:
             with self.subTest(name):
-                self.assertEqual(by_python.scopes(text), by_library.scopes(text))
+                self.assertEqual(by_python.find_scopes(text), by_library.find_scopes(text))
 
 
-def skipped():
-    """The line that says what is left out, if Oniguruma is not here."""
-    return None if oniguruma.library() else "the grammar for editors was not tried by Oniguruma, which is not here (Debian: libonig5)"
+def skipped() -> str | None:
+    """Returns the line that says what is left out, if Oniguruma is not here. None if it is."""
+    return None if oniguruma.load_library() else "the grammar for editors was not tried by Oniguruma, which is not here (Debian: libonig5)"
 
 
 if __name__ == "__main__":
-    given.print_as_lw()
-    sys.exit(close(cases.comparisons(sys.modules["__main__"]), skipped=skipped))
+    sys.exit(cases.main(skipped))

@@ -1,21 +1,22 @@
-#!/usr/bin/env python3
 """Which names tools/shared/antt_free.py says that a proof lacks, and where tools/documents/missing_names.py finds them.
 
-    python3 tools/gate/test_free_names.py, or python3 -m unittest tools.gate.test_free_names
+    python3 tools gate.test_free_names, or in tools/ python3 -m unittest gate.test_free_names
 
 tools/check_documents.py calls this (tools/gate/cases.py).
 """
+from __future__ import annotations
+
 import os
 import sys
 import tempfile
+from collections.abc import Sequence
 from types import SimpleNamespace
+from typing import Any
 from unittest import mock
 
-sys.dont_write_bytecode = True
-sys.path.insert(0, os.path.dirname(os.path.dirname(os.path.abspath(__file__))))
 from documents.missing_names import Missing
 from gate import cases
-from shared.antt_free import free_in
+from shared.antt_free import list_free_names
 from shared.antt_names import File
 
 # Texts of proofs, each with its free names.
@@ -42,35 +43,36 @@ BROUGHT_IN = (
 )
 
 
-def written(room, text):
+def write_proof(folder: str, text: str) -> File:
     """Returns a file of proofs with this text."""
-    path = os.path.join(room, "Trial.antt")
-    with open(path, "w", encoding="utf-8") as it:
-        it.write(f"-- A trial.\n{text}\n")
+    path = os.path.join(folder, "Trial.antt")
+    with open(path, "w", encoding="utf-8") as file:
+        file.write(f"-- A trial.\n{text}\n")
     return File(path)
 
 
 class FreeNames(cases.Case):
     """Names that a proof uses, and neither brings in, declares nor binds."""
 
-    def compare(self, rows):
-        for what, text, names in rows:
-            with self.subTest(what), tempfile.TemporaryDirectory(prefix="lw-names-") as room:
-                self.assertEqual(names, free_in(written(room, text)))
+    def compare(self, rows: Sequence[tuple[str, str, list[str]]]) -> None:
+        """Compares the free names of texts with those that rows name."""
+        for subject, text, names in rows:
+            with self.subTest(subject), tempfile.TemporaryDirectory(prefix="lw-names-") as folder:
+                self.assertEqual(names, list_free_names(write_proof(folder, text)))
 
-    def test_bound(self):
+    def test_bound(self) -> None:
         """What a lemma binds is not free in it."""
         self.compare(BOUND)
 
-    def test_no_variables(self):
+    def test_no_variables(self) -> None:
         """A constructor in a pattern is no variable."""
         self.compare(NO_VARIABLES)
 
-    def test_brought_in(self):
+    def test_brought_in(self) -> None:
         """What a file brings in is not free in it."""
         self.compare(BROUGHT_IN)
 
-    def test_built_in(self):
+    def test_built_in(self) -> None:
         """The language's own words, numbers and texts are no names."""
         self.compare([("words", 'f : (x : A) × ⊥ → Type 0\nf x = rw (← e) (omega (arith, 12, "a ++ b"))', ["A", "e", "arith"])])
 
@@ -78,49 +80,53 @@ class FreeNames(cases.Case):
 class Places(cases.Case):
     """Where the names stand that a proof lacks."""
 
+    missing: Missing
+
     @classmethod
-    def setUpClass(cls):
+    def setUpClass(cls) -> None:
         # (No Common exports anything.)
+        """Prepares the search for names in two crates without Commons."""
         cls.missing = Missing(SimpleNamespace(passed=dict.fromkeys(("lw_memory", "lw_tso"), {})), "STD", {"◌∷◌"})
 
-    def setUp(self):
-        patch = mock.patch.object(Missing, "found_by_rt", staticmethod(lambda crate, word: set()))
+    def setUp(self) -> None:
+        """Makes `rt lemma` find nothing."""
+        patch: Any = mock.patch.object(Missing, "find_by_rt", staticmethod(lambda crate, word: set()))
         self.addCleanup(patch.stop)
         patch.start()
 
-    def found(self, crate, word):
+    def find_modules(self, crate: str, word: str) -> list[str]:
         """Returns the modules in which a file of a crate finds a word."""
         file = next(it for it in self.missing.files.all if it.crate == crate and "/proofs/" in it.path)
-        return sorted(module for module, _ in self.missing.found(file, word))
+        return sorted(module for module, _ in self.missing.find_modules(file, word))
 
-    def test_definition(self):
+    def test_definition(self) -> None:
         """A definition of a lower crate is found where it stands."""
-        self.assertEqual(["Rattle.lw_litmus.specs.WellFormed"], self.found("lw_tso", "IsWellFormedOperation"))
+        self.assertEqual(["Rattle.lw_litmus.specs.WellFormed"], self.find_modules("lw_tso", "IsWellFormedOperation"))
 
-    def test_generated(self):
+    def test_generated(self) -> None:
         """A type of the code is found where proofs import it from."""
-        self.assertEqual(["Rattle.lw_litmus.specs.declared.operation.Operation"], self.found("lw_tso", "Operation"))
+        self.assertEqual(["Rattle.lw_litmus.specs.declared.operation.Operation"], self.find_modules("lw_tso", "Operation"))
 
-    def test_std(self):
+    def test_std(self) -> None:
         """A sign that std's Common passes on is found by the operator's name."""
-        self.assertEqual(["STD"], self.found("lw_tso", "∷"))
+        self.assertEqual(["STD"], self.find_modules("lw_tso", "∷"))
 
-    def test_upper_crate(self):
+    def test_upper_crate(self) -> None:
         """A definition of a crate that does not stand below is not found."""
-        self.assertFalse("Rattle.lw_litmus.specs.WellFormed" in self.found("lw_memory", "IsWellFormedOperation"))
+        self.assertFalse("Rattle.lw_litmus.specs.WellFormed" in self.find_modules("lw_memory", "IsWellFormedOperation"))
 
-    def test_told(self):
+    def test_told(self) -> None:
         """A proof is told what is imported, from where, and what stands nowhere."""
-        with tempfile.TemporaryDirectory(prefix="lw-names-") as room:
-            file = written(room, "f : IsWellFormedOperation\nf = nowhere_at_all")
+        with tempfile.TemporaryDirectory(prefix="lw-names-") as folder:
+            file = write_proof(folder, "f : IsWellFormedOperation\nf = nowhere_at_all")
             file.crate = "lw_tso"
             self.missing.by_path[file.path] = file
-            self.missing.told.clear()
-            text = self.missing.completed(file.path)
+            self.missing.reports.clear()
+            text = self.missing.complete_imports(file.path)
         self.assertEqual("-- A trial.\nuse Rattle.lw_litmus.specs.WellFormed.{IsWellFormedOperation}\nf : IsWellFormedOperation\nf = nowhere_at_all\n", text)
-        told = [(is_found, line.split(": ", 1)[1]) for is_found, line in self.missing.told]
+        found = [(is_found, line.split(": ", 1)[1]) for is_found, line in self.missing.reports]
         first = (True, "IsWellFormedOperation is imported from Rattle.lw_litmus.specs.WellFormed")
-        self.assertEqual([first, (False, "nowhere_at_all stands nowhere")], told)
+        self.assertEqual([first, (False, "nowhere_at_all stands nowhere")], found)
 
 
 if __name__ == "__main__":

@@ -1,7 +1,6 @@
-#!/usr/bin/env python3
 """Whether tools/from_c.py converts programs rightly, and refuses what it can't know.
 
-    python3 tools/gate/test_from_c.py, or python3 -m unittest tools.gate.test_from_c
+    python3 tools gate.test_from_c, or in tools/ python3 -m unittest gate.test_from_c
 
 - Fixed texts of assembly: how data, labels, operands, flags, parts of registers, memory, loops and locked instructions are read. Each of these
   rules is a trap in which a list was wrong once, or could be. They need no compiler.
@@ -12,7 +11,8 @@
 Lists come from the program if it is built, otherwise from the search of tools/beyond.py. tools/check_documents.py calls all this
 (tools/gate/cases.py).
 """
-import glob
+from __future__ import annotations
+
 import os
 import re
 import shutil
@@ -20,30 +20,31 @@ import subprocess
 import sys
 import tempfile
 import unittest
+from collections.abc import Callable, Iterable
+from typing import Any
 from unittest import mock
 
-sys.dont_write_bytecode = True
-sys.path.insert(0, os.path.dirname(os.path.dirname(os.path.abspath(__file__))))
 import from_c
 import given
 import plain
 from c.assembly import Assembly
-from c.compiler import compilers_for, version_of, with_readable_names
+from c.compiler import demangle_assembly, list_compilers, read_version
 from c.condition import read_condition
 from c.convert import Converter
 from c.layout import Layout
-from c.operands import Memory, Number, Other, Register, operand_of, sum_of
+from c.operands import Memory, Number, Other, Register, parse_operand, parse_sum
 from c.refused import Refused
-from c.report import answer_of
-from c.shown import fences_of, film_of, schedules_of, tests_of
+from c.report import make_answer
+from c.shown import format_fences, format_schedules, format_tests, render_film
 from c.source import read_source
-from c.weaker import weaker_rust
+from c.weaker import weaken_rust
 from documents import make_program_lists as program_lists
 from films import NoFilm
 from gate import cases, native_runs, random_programs
 from gate.examples import read, run
 from shared import answers, spawn
-from shared.home import HOME, close
+from shared.home import HOME
+from shared.matches import require_match
 
 RANDOM_PROGRAMS, COMPILERS_OF_RANDOM = 20, 2
 DATA = ".bss\n.align 8\nx:\n.zero 8\n.align 8\ny:\n.zero 8\n.align 8\nz:\n.zero 8\n"
@@ -100,65 +101,65 @@ void P0() {
 """
 
 
-def program(*threads, data=DATA, after=""):
-    """Assembly with these threads, whose instructions have `;` between them."""
+def make_program(*threads: str, data: str = DATA, after: str = "") -> str:
+    """Returns assembly with these threads, whose instructions have `;` between them."""
     code = "".join(f"\t.type P{number}, @function\nP{number}:\n{text}\n\tret\n" for number, text in enumerate(threads))
     return f".text\n{code}{after}\n{data}"
 
 
-def answer(text, condition, tries=1):
-    """The answer on assembly."""
+def answer_assembly(text: str, condition: str, tries: int = 1) -> Any:
+    """Returns the answer on assembly."""
     count = len(set(re.findall(r"^P\d(?=:|\s*=)", text, re.M))) + len(re.findall(r"^\.set P\d", text, re.M))
-    return answer_of(Converter(text, read_condition(condition, 0, len(condition)), "T", count, tries))
+    return make_answer(Converter(text, read_condition(condition, 0, len(condition)), "T", count, tries))
 
 
-def states(text, condition, tries=1):
-    """The states of assembly, without the `;` at their ends."""
-    return [it.rstrip(";").replace(";", "") for it in answers.states_in(answer(text, condition, tries).report)]
+def list_states(text: str, condition: str, tries: int = 1) -> list[str]:
+    """Returns the states of assembly, without the `;` at their ends."""
+    return [it.rstrip(";").replace(";", "") for it in answers.filter_state_lines(answer_assembly(text, condition, tries).report)]
 
 
-def cause(text, condition="exists (x=0)", tries=1):
-    """Why assembly is refused, or nothing."""
+def find_cause(text: str, condition: str = "exists (x=0)", tries: int = 1) -> str:
+    """Returns why assembly is refused, or nothing."""
     try:
-        answer(text, condition, tries)
+        answer_assembly(text, condition, tries)
     except (Refused, given.Fault) as why:
         return why.args[0]
     return ""
 
 
-def seen(*instructions, value="%eax", before=""):
-    """A thread that shows a register as r0."""
+def make_thread(*instructions: str, value: str = "%eax", before: str = "") -> str:
+    """Returns a thread that shows a register as r0."""
     return "; ".join(instructions) + f"\n#lw see r0 {value}\n{before}"
 
 
 class Reading(cases.Case):
     """The texts of assemblers."""
 
-    def test_operands(self):
+    def test_operands(self) -> None:
         """Operands are read as they are spelled."""
-        self.assertEqual(Memory("x", 4, "rax", "rcx", 8), operand_of("x+4(%rax,%rcx,8)"))
-        self.assertEqual(Memory("x", -4), operand_of("x-4(%rip)"))
-        self.assertEqual(Memory(None, 0, None, "rax", 4), operand_of("(,%rax,4)"))
-        self.assertEqual(Number("x", 8), operand_of("$x+8"))
-        self.assertEqual(Register("rbx", 1, 1), operand_of("%bh"))
-        self.assertTrue(isinstance(operand_of("%fs:40"), Other))
-        self.assertTrue(isinstance(operand_of("(%eax)"), Other))
+        self.assertEqual(Memory("x", 4, "rax", "rcx", 8), parse_operand("x+4(%rax,%rcx,8)"))
+        self.assertEqual(Memory("x", -4), parse_operand("x-4(%rip)"))
+        self.assertEqual(Memory(None, 0, None, "rax", 4), parse_operand("(,%rax,4)"))
+        self.assertEqual(Number("x", 8), parse_operand("$x+8"))
+        self.assertEqual(Register("rbx", 1, 1), parse_operand("%bh"))
+        self.assertTrue(isinstance(parse_operand("%fs:40"), Other))
+        self.assertTrue(isinstance(parse_operand("(%eax)"), Other))
 
-    def test_sums(self):
+    def test_sums(self) -> None:
         """Differences of addresses, and tables of addresses, are refused."""
-        self.assertEqual(("x", 12), sum_of("x+4+8"))
+        self.assertEqual(("x", 12), parse_sum("x+4+8"))
         for text in (".L4-.L3", "x@GOTPCREL", "x@tpoff", "x*2"):
             with self.subTest(text):
-                self.assertTrue("refused" in refused_by(lambda text=text: sum_of(text)))
+                self.assertTrue("refused" in find_refusal(lambda text=text: parse_sum(text)))
 
-    def test_aliases(self):
+    def test_aliases(self) -> None:
         """A thread that is another name of a function is there, however it is said."""
         for alias in ("P1 = P0", ".set P1, P0"):
-            text = program(seen("movl x(%rip), %eax"), data=f"{alias}\n{DATA}").replace(".zero 8", ".long 7\n.long 0", 1)
+            text = make_program(make_thread("movl x(%rip), %eax"), data=f"{alias}\n{DATA}").replace(".zero 8", ".long 7\n.long 0", 1)
             with self.subTest(alias):
-                self.assertEqual(["0:r0=7 1:r0=7"], states(text, "exists (0:r0=0 /\\ 1:r0=0)"))
+                self.assertEqual(["0:r0=7 1:r0=7"], list_states(text, "exists (0:r0=0 /\\ 1:r0=0)"))
 
-    def test_weaker_rust(self):
+    def test_weaker_rust(self) -> None:
         """In Rust an order is weaker where an operation's call names it, by what the operation does; elsewhere, as in comments, it stays."""
         for text, released, relaxed in (
             ("X.load(SeqCst)", "X.load({}Acquire)", "X.load({}Relaxed)"),
@@ -173,25 +174,25 @@ class Reading(cases.Case):
         ):
             for weaker, wanted in ((1, released), (2, relaxed)):
                 with self.subTest(text, weaker=weaker):
-                    self.assertEqual((wanted or text).replace("{}", "::core::sync::atomic::Ordering::"), weaker_rust(text, weaker))
+                    self.assertEqual((wanted or text).replace("{}", "::core::sync::atomic::Ordering::"), weaken_rust(text, weaker))
 
-    def test_lost_thread(self):
+    def test_lost_thread(self) -> None:
         """A thread that the assembly lacks is reported."""
         condition = read_condition("exists (x=0)", 0, 12)
-        self.assertIn("the source has 2 threads", refused_by(lambda: Converter(program(STORES_X), condition, "T", 2, 1)))
+        self.assertIn("the source has 2 threads", find_refusal(lambda: Converter(make_program(STORES_X), condition, "T", 2, 1)))
 
-    def test_first_words(self):
+    def test_first_words(self) -> None:
         """Bytes of data are put together, whatever they are written as."""
         data = '.data\n.align 8\nx:\n.asciz "\\002\\000a"\n.byte 1\n.short 2\ny:\n.long 5\n.quad x+4\n.zero 4\nz:\n'
         layout = Layout(Assembly(data))
-        at = layout.addresses
-        self.assertEqual(0x61000200 >> 8 | 0, layout.first_word(at["x"], 4))
-        self.assertEqual(0x00020100, layout.first_word(at["x"] + 3, 4))
-        self.assertEqual(5 | (at["x"] + 4 & 0xFFFFFFFF) << 32, layout.first_word(at["y"], 8))
-        self.assertEqual(0, layout.first_word(at["y"] + 12, 4))
-        self.assertIn("which no variable has", refused_by(lambda: layout.first_word(at["y"] + 12, 8)))
+        index = layout.addresses
+        self.assertEqual(0x61000200 >> 8 | 0, layout.read_initial_word(index["x"], 4))
+        self.assertEqual(0x00020100, layout.read_initial_word(index["x"] + 3, 4))
+        self.assertEqual(5 | (index["x"] + 4 & 0xFFFFFFFF) << 32, layout.read_initial_word(index["y"], 8))
+        self.assertEqual(0, layout.read_initial_word(index["y"] + 12, 4))
+        self.assertIn("which no variable has", find_refusal(lambda: layout.read_initial_word(index["y"] + 12, 8)))
 
-    def test_unknown_data(self):
+    def test_unknown_data(self) -> None:
         """Data in a form that is not read is refused, in code too; debug data is skipped."""
         for text, why in (
             (".data\nx:\n.float 1\n", "data by '.float'"), (".data\nx:\n.zero 4, 255\n", "a filler"), (".text\nP0:\n.byte 0xf0\n", "is in code"),
@@ -199,44 +200,44 @@ class Reading(cases.Case):
             (".data\nx:\n.quad a-b\n", "a difference"),
         ):
             with self.subTest(text):
-                self.assertIn(why, refused_by(lambda text=text: Assembly(text)))
+                self.assertIn(why, find_refusal(lambda text=text: Assembly(text)))
         self.assertEqual({}, Assembly('.section .debug_info,"",@progbits\nd:\n.uleb128 3\n').objects)
 
-    def test_two_names(self):
+    def test_two_names(self) -> None:
         """Two labels of one place are one object."""
-        text = program("movl $1, x(%rip)", seen("movl w(%rip), %eax"), data=DATA.replace("x:\n", "x:\nw:\n"))
-        self.assertEqual(["1:r0=0", "1:r0=1"], states(text, "exists (1:r0=0)"))
+        text = make_program("movl $1, x(%rip)", make_thread("movl w(%rip), %eax"), data=DATA.replace("x:\n", "x:\nw:\n"))
+        self.assertEqual(["1:r0=0", "1:r0=1"], list_states(text, "exists (1:r0=0)"))
 
-    def test_statements(self):
+    def test_statements(self) -> None:
         """A line may have several statements, and a prefix a line of its own."""
         for text in ("lock; orl $0, (%rsp)", "lock\n\torl $0, (%rsp)", "lock orl $0, (%rsp) # a comment; mfence"):
-            other = seen("movl $1, y(%rip)", "mfence", "movl x(%rip), %eax")
-            made = program(f"{STORES_X}; {text}\n{seen('movl y(%rip), %eax')}", other)
+            other = make_thread("movl $1, y(%rip)", "mfence", "movl x(%rip), %eax")
+            made = make_program(f"{STORES_X}; {text}\n{make_thread('movl y(%rip), %eax')}", other)
             with self.subTest(text):
-                self.assertEqual(3, len(states(made, "exists (0:r0=0 /\\ 1:r0=0)")))
+                self.assertEqual(3, len(list_states(made, "exists (0:r0=0 /\\ 1:r0=0)")))
 
-    def test_repeats(self):
+    def test_repeats(self) -> None:
         """REP before RET and NOP means nothing, and other repeated instructions are refused."""
-        self.assertEqual("", cause(program(f"{STORES_X}; rep; nop; rep ret")))
+        self.assertEqual("", find_cause(make_program(f"{STORES_X}; rep; nop; rep ret")))
         for text in ("rep stosq", "rep\n\tstosq", "repz cmpsb"):
             with self.subTest(text):
-                self.assertIn("is not followed", cause(program(text)))
+                self.assertIn("is not followed", find_cause(make_program(text)))
 
-    def test_lines(self):
+    def test_lines(self) -> None:
         """An instruction has the line of the source that `.loc` says, if that is of the source itself."""
         made = Assembly('.file 1 "/tmp/test.c"\n.file 2 "a.h"\n.text\nP0:\n.loc 1 3 5\nnop\n.loc 2 9 1\nnop\n.loc 1 4 1\nret\n')
         self.assertEqual([3, 3, 4], [it.line for it in made.code])
 
-    def test_names_of_rust(self):
+    def test_names_of_rust(self) -> None:
         """Decorated names are read, unless two of them are one."""
         names = "_ZN1a5STATE17h0123456789abcdefE _ZN1a2P017h0123456789abcdefE _Z2P1v"
-        self.assertEqual("STATE P0 P1", with_readable_names(names))
+        self.assertEqual("STATE P0 P1", demangle_assembly(names))
         both = "_ZN1a1x17h0123456789abcdefE _ZN1b1x17h0123456789abcde0E"
-        self.assertEqual(both, with_readable_names(both))
+        self.assertEqual(both, demangle_assembly(both))
 
 
-def refused_by(work):
-    """What is said of a refusal: the cause after the word `refused`, or nothing."""
+def find_refusal(work: Callable[..., object]) -> str:
+    """Returns what is said of a refusal: the cause after the word `refused`, or nothing."""
     try:
         work()
     except (Refused, given.Fault) as why:
@@ -249,12 +250,12 @@ class Values(cases.Case):
 
     WRITER = "movl $1, x(%rip); movl $5, x(%rip)"
 
-    def values(self, *instructions, value="%eax"):
-        """The values of r0 after instructions on what is loaded from x: 0, 1 or 5."""
-        found = states(program(self.WRITER, seen(*instructions, value=value)), "exists (1:r0=0)")
+    def list_values(self, *instructions: str, value: str = "%eax") -> list[int]:
+        """Returns the values of r0 after instructions on what is loaded from x: 0, 1 or 5."""
+        found = list_states(make_program(self.WRITER, make_thread(*instructions, value=value)), "exists (1:r0=0)")
         return sorted(int(it.split("=")[1]) for it in found)
 
-    def test_computed(self):
+    def test_computed(self) -> None:
         """What is computed from a load, word by word."""
         load = "movl x(%rip), %eax"
         for instructions, wanted in (
@@ -268,195 +269,201 @@ class Values(cases.Case):
             (("btl $2, %eax", "setc %al", "movzbl %al, %eax"), [0, 1]),
         ):
             with self.subTest(instructions):
-                self.assertEqual(wanted, self.values(load, *instructions))
+                self.assertEqual(wanted, self.list_values(load, *instructions))
 
-    def test_conditions(self):
+    def test_conditions(self) -> None:
         """Each condition, after a comparison with 1."""
         for letters, wanted in (
             ("e", [0, 1]), ("ne", [0, 1]), ("b", [0, 1]), ("a", [0, 1]), ("l", [0, 1]), ("ge", [0, 1]), ("s", [0, 1]), ("o", [0]), ("no", [1]),
         ):
             with self.subTest(letters):
-                self.assertEqual(wanted, self.values("movl x(%rip), %eax", "cmpl $1, %eax", f"set{letters} %al", "movzbl %al, %eax"))
+                self.assertEqual(wanted, self.list_values("movl x(%rip), %eax", "cmpl $1, %eax", f"set{letters} %al", "movzbl %al, %eax"))
 
-    def test_signs(self):
+    def test_signs(self) -> None:
         """An order with signs is another one than an order without."""
         start = ("movl x(%rip), %eax", "subl $1, %eax", "cmpl $3, %eax")
-        self.assertEqual([0, 1], self.values(*start, "setl %al", "movzbl %al, %eax"))
+        self.assertEqual([0, 1], self.list_values(*start, "setl %al", "movzbl %al, %eax"))
         writer = "movl $-1, x(%rip)"
         for letters, wanted in (("l", ["1:r0=1"]), ("b", ["1:r0=0", "1:r0=1"])):
-            text = program(writer, seen("movl x(%rip), %eax", "cmpl $1, %eax", f"set{letters} %al", "movzbl %al, %eax"))
+            text = make_program(writer, make_thread("movl x(%rip), %eax", "cmpl $1, %eax", f"set{letters} %al", "movzbl %al, %eax"))
             with self.subTest(letters):
-                self.assertEqual(wanted, states(text, "exists (1:r0=0)"))
+                self.assertEqual(wanted, list_states(text, "exists (1:r0=0)"))
 
-    def test_flags_unknown(self):
+    def test_flags_unknown(self) -> None:
         """Flags that an instruction leaves alone or undefined are refused where they are read."""
         for text in (
             "incl %eax; jb .L1", "decl %eax; ja .L1", "shll $2, %eax; jl .L1", "shll $2, %eax; jb .L1", "imull $3, %eax; je .L1", "jne .L1",
             "btl $1, %eax; je .L1", "roll $1, %eax; je .L1",
         ):
             with self.subTest(text):
-                self.assertIn("flag", cause(program(f"movl $1, %eax; {text}; .L1: {STORES_X}")))
-        self.assertIn("the condition 'p' is not followed", cause(program(f"movl $1, %eax; cmpl $1, %eax; jp .L1; .L1: {STORES_X}")))
+                self.assertIn("flag", find_cause(make_program(f"movl $1, %eax; {text}; .L1: {STORES_X}")))
+        self.assertIn("the condition 'p' is not followed", find_cause(make_program(f"movl $1, %eax; cmpl $1, %eax; jp .L1; .L1: {STORES_X}")))
 
-    def test_flags_of_locked(self):
+    def test_flags_of_locked(self) -> None:
         """LOCK OR sets ZF by its result, CMPXCHG only ZF, and LOCK XADD those of the sum."""
-        text = program("lock orl $1, x(%rip); sete %al; movzbl %al, %eax\n#lw see r0 %eax", STORES_X)
-        self.assertEqual(["0:r0=0"], states(text, "exists (0:r0=1)"))
+        text = make_program("lock orl $1, x(%rip); sete %al; movzbl %al, %eax\n#lw see r0 %eax", STORES_X)
+        self.assertEqual(["0:r0=0"], list_states(text, "exists (0:r0=1)"))
         text = "movl $0, %eax; movl $2, %ecx; lock cmpxchgl %ecx, x(%rip); {} .L1; .L1: nop"
-        self.assertEqual("", cause(program(text.format("je"), STORES_X)))
-        self.assertIn("CMPXCHG before leaves alone", cause(program(text.format("jl"), STORES_X)))
-        text = program("movl $-1, %eax; lock xaddl %eax, x(%rip); sete %al; movzbl %al, %eax\n#lw see r0 %eax", STORES_X)
-        self.assertEqual(["0:r0=0", "0:r0=1"], states(text, "exists (0:r0=1)"))
+        self.assertEqual("", find_cause(make_program(text.format("je"), STORES_X)))
+        self.assertIn("CMPXCHG before leaves alone", find_cause(make_program(text.format("jl"), STORES_X)))
+        text = make_program("movl $-1, %eax; lock xaddl %eax, x(%rip); sete %al; movzbl %al, %eax\n#lw see r0 %eax", STORES_X)
+        self.assertEqual(["0:r0=0", "0:r0=1"], list_states(text, "exists (0:r0=1)"))
 
-    def test_shift_by_nothing(self):
+    def test_shift_by_nothing(self) -> None:
         """A shift by 0 leaves the flags."""
-        text = seen("movl x(%rip), %eax", "movl $0, %ecx", "cmpl $1, %eax", "shll %cl, %eax", "sete %al", "movzbl %al, %eax")
-        self.assertEqual(["1:r0=0", "1:r0=1"], states(program(self.WRITER, text), "exists (1:r0=0)"))
+        text = make_thread("movl x(%rip), %eax", "movl $0, %ecx", "cmpl $1, %eax", "shll %cl, %eax", "sete %al", "movzbl %al, %eax")
+        self.assertEqual(["1:r0=0", "1:r0=1"], list_states(make_program(self.WRITER, text), "exists (1:r0=0)"))
 
-    def test_parts(self):
+    def test_parts(self) -> None:
         """A byte that is moved into a register leaves the others, and four bytes set those above to 0."""
-        self.assertEqual([0x100, 0x101, 0x105], self.values("movl $0x1ff, %eax", "movb x(%rip), %al"))
-        self.assertEqual([0x00FF, 0x01FF, 0x05FF], self.values("movl $0xff, %eax", "movb x(%rip), %ah"))
-        self.assertEqual([0, 1, 5], self.values("movq $-1, %rax", "movl x(%rip), %eax", "shrq $32, %rax", "orl x(%rip), %eax"))
-        self.assertEqual([0, 1], self.values("movl x(%rip), %ecx", "xorl %eax, %eax", "testl %ecx, %ecx", "sete %al"))
-        self.assertEqual([2**32 - 1], self.values("movq $-1, %rax", "testl %eax, %eax", "cmove x(%rip), %eax"))
+        self.assertEqual([0x100, 0x101, 0x105], self.list_values("movl $0x1ff, %eax", "movb x(%rip), %al"))
+        self.assertEqual([0x00FF, 0x01FF, 0x05FF], self.list_values("movl $0xff, %eax", "movb x(%rip), %ah"))
+        self.assertEqual([0, 1, 5], self.list_values("movq $-1, %rax", "movl x(%rip), %eax", "shrq $32, %rax", "orl x(%rip), %eax"))
+        self.assertEqual([0, 1], self.list_values("movl x(%rip), %ecx", "xorl %eax, %eax", "testl %ecx, %ecx", "sete %al"))
+        self.assertEqual([2**32 - 1], self.list_values("movq $-1, %rax", "testl %eax, %eax", "cmove x(%rip), %eax"))
 
-    def test_unset(self):
+    def test_unset(self) -> None:
         """What nothing has set is refused where it is used, and may be copied: also the bytes above a part that is set."""
         from_stack = "movl -8(%rsp), %eax; movl %eax, x(%rip)"
         for text in ("addl $1, %ebx", "movl %ebx, x(%rip)", "cmpl $1, %ebx; je .L1; .L1: nop", "movl (%rbx), %eax", from_stack):
             with self.subTest(text):
-                self.assertIn("nothing has set", cause(program(text, STORES_X)))
-        self.assertIn("nothing has set", cause(program("cmpl $1, x(%rip); sete %bl\n#lw see r0 %ebx", STORES_X), "exists (0:r0=0)"))
-        text = program(self.WRITER, seen("cmpl $1, x(%rip)", "sete %bl", "movl %ebx, %ecx", "movl %ecx, -8(%rsp)", "movzbl -8(%rsp), %eax"))
-        self.assertEqual(["1:r0=0", "1:r0=1"], states(text, "exists (1:r0=0)"))
-        text = program(self.WRITER, seen("cmpl $1, x(%rip)", "sete %bl", "shll $2, %ebx", "negl %ebx", "movzbl %bl, %eax"))
-        self.assertEqual(["1:r0=0", "1:r0=252"], states(text, "exists (1:r0=0)"))
-        text = program(self.WRITER, seen("cmpl $1, x(%rip)", "sete %bl", "andl $3, %ebx", "sete %al", "movzbl %al, %eax", "leal (%rax,%rbx,4), %eax"))
-        self.assertEqual(["1:r0=1", "1:r0=4"], states(text, "exists (1:r0=0)"))
+                self.assertIn("nothing has set", find_cause(make_program(text, STORES_X)))
+        self.assertIn("nothing has set", find_cause(make_program("cmpl $1, x(%rip); sete %bl\n#lw see r0 %ebx", STORES_X), "exists (0:r0=0)"))
+        text = make_program(
+            self.WRITER, make_thread("cmpl $1, x(%rip)", "sete %bl", "movl %ebx, %ecx", "movl %ecx, -8(%rsp)", "movzbl -8(%rsp), %eax")
+        )
+        self.assertEqual(["1:r0=0", "1:r0=1"], list_states(text, "exists (1:r0=0)"))
+        text = make_program(self.WRITER, make_thread("cmpl $1, x(%rip)", "sete %bl", "shll $2, %ebx", "negl %ebx", "movzbl %bl, %eax"))
+        self.assertEqual(["1:r0=0", "1:r0=252"], list_states(text, "exists (1:r0=0)"))
+        text = make_program(
+            self.WRITER, make_thread("cmpl $1, x(%rip)", "sete %bl", "andl $3, %ebx", "sete %al", "movzbl %al, %eax", "leal (%rax,%rbx,4), %eax")
+        )
+        self.assertEqual(["1:r0=1", "1:r0=4"], list_states(text, "exists (1:r0=0)"))
         reader = f"{STORES_X}; movl y(%rip), %eax"
-        self.assertIn("nothing has set", cause(program("cmpl $1, x(%rip); sete %bl; andl $256, %ebx; movl %ebx, y(%rip)", reader)))
-        self.assertIn("nothing has set", cause(program("cmpl $1, x(%rip); sete %bl; movl %ebx, y(%rip)", f"{STORES_X}; movl y(%rip), %eax")))
+        self.assertIn("nothing has set", find_cause(make_program("cmpl $1, x(%rip); sete %bl; andl $256, %ebx; movl %ebx, y(%rip)", reader)))
+        self.assertIn(
+            "nothing has set", find_cause(make_program("cmpl $1, x(%rip); sete %bl; movl %ebx, y(%rip)", f"{STORES_X}; movl y(%rip), %eax"))
+        )
 
 
 class Places(cases.Case):
     """Memory of a thread's own, shared locations, and addresses."""
 
-    def test_own(self):
+    def test_own(self) -> None:
         """Bytes that only one thread uses are put together, and cut."""
-        text = seen("movl $1, y(%rip)", "movl $2, y+4(%rip)", "movq y(%rip), %rax", "shrq $28, %rax")
-        self.assertEqual(["0:r0=32"], states(program(text), "exists (0:r0=1)"))
-        text = seen("movq $-1, y(%rip)", "movw $0, y+1(%rip)", "movl y(%rip), %eax")
-        self.assertEqual([f"0:r0={0xFF0000FF}"], states(program(text), "exists (0:r0=1)"))
-        text = seen("movl x(%rip), %eax", "movl %eax, -16(%rsp)", "movl $7, -12(%rsp)", "movq -16(%rsp), %rax", "shrq $31, %rax")
-        self.assertEqual(["0:r0=14"], states(program(text, STORES_X), "exists (0:r0=1)"))
+        text = make_thread("movl $1, y(%rip)", "movl $2, y+4(%rip)", "movq y(%rip), %rax", "shrq $28, %rax")
+        self.assertEqual(["0:r0=32"], list_states(make_program(text), "exists (0:r0=1)"))
+        text = make_thread("movq $-1, y(%rip)", "movw $0, y+1(%rip)", "movl y(%rip), %eax")
+        self.assertEqual([f"0:r0={0xFF0000FF}"], list_states(make_program(text), "exists (0:r0=1)"))
+        text = make_thread("movl x(%rip), %eax", "movl %eax, -16(%rsp)", "movl $7, -12(%rsp)", "movq -16(%rsp), %rax", "shrq $31, %rax")
+        self.assertEqual(["0:r0=14"], list_states(make_program(text, STORES_X), "exists (0:r0=1)"))
 
-    def test_vectors(self):
+    def test_vectors(self) -> None:
         """Vectors are moved between what is a thread's own, and refused where others look."""
         data = DATA + ".section .rodata\n.align 16\nc:\n.long 1\n.long 2\n.long 3\n.long 4\n"
-        text = seen("movdqa c(%rip), %xmm0", "movups %xmm0, -24(%rsp)", "movl x(%rip), %ecx", "andl $3, %ecx", "movl -24(%rsp,%rcx,4), %eax")
-        self.assertEqual(["1:r0=1", "1:r0=3"], states(program("movl $2, x(%rip)", text, data=data), "exists (1:r0=0)"))
-        text = seen(
+        text = make_thread("movdqa c(%rip), %xmm0", "movups %xmm0, -24(%rsp)", "movl x(%rip), %ecx", "andl $3, %ecx", "movl -24(%rsp,%rcx,4), %eax")
+        self.assertEqual(["1:r0=1", "1:r0=3"], list_states(make_program("movl $2, x(%rip)", text, data=data), "exists (1:r0=0)"))
+        text = make_thread(
             "pxor %xmm0, %xmm0", "movl $7, %ecx", "movd %ecx, %xmm1", "movaps %xmm0, -40(%rsp)", "movss %xmm1, -36(%rsp)", "movq -40(%rsp), %xmm2",
             "movd %xmm2, %rax", "shrq $31, %rax",
         )
-        self.assertEqual(["0:r0=14"], states(program(text), "exists (0:r0=1)"))
-        shared = program("pxor %xmm0, %xmm0; movups %xmm0, x(%rip)", "movl x(%rip), %eax", data=".bss\n.align 16\nx:\n.zero 16\n")
-        self.assertIn("16 bytes at 'x' are accessed at once", cause(shared))
-        self.assertEqual("", cause(program("movl $1, %ecx; movd %ecx, %xmm0; movss %xmm0, x(%rip)", "movl x(%rip), %eax")))
+        self.assertEqual(["0:r0=14"], list_states(make_program(text), "exists (0:r0=1)"))
+        shared = make_program("pxor %xmm0, %xmm0; movups %xmm0, x(%rip)", "movl x(%rip), %eax", data=".bss\n.align 16\nx:\n.zero 16\n")
+        self.assertIn("16 bytes at 'x' are accessed at once", find_cause(shared))
+        self.assertEqual("", find_cause(make_program("movl $1, %ecx; movd %ecx, %xmm0; movss %xmm0, x(%rip)", "movl x(%rip), %eax")))
 
-    def test_upper_half(self):
+    def test_upper_half(self) -> None:
         """A word is shared if another thread loads only its upper half."""
-        text = program("movabsq $0x200000001, %rax; movq %rax, x(%rip)", seen("movl x+4(%rip), %eax"))
-        self.assertEqual(["1:r0=0", "1:r0=2"], states(text, "exists (1:r0=0)"))
+        text = make_program("movabsq $0x200000001, %rax; movq %rax, x(%rip)", make_thread("movl x+4(%rip), %eax"))
+        self.assertEqual(["1:r0=0", "1:r0=2"], list_states(text, "exists (1:r0=0)"))
 
-    def test_parts_of_locations(self):
+    def test_parts_of_locations(self) -> None:
         """A load of a part is one of the whole; a store to a part, and accesses across one another, are refused."""
-        text = program("movq $-1, x(%rip)", seen("movzwl x+2(%rip), %eax"))
-        self.assertEqual(["1:r0=0", "1:r0=65535"], states(text, "exists (1:r0=0)"))
-        self.assertIn("a part of 'x', of 1 bytes", cause(program("movb $1, x+1(%rip)", "movl x(%rip), %eax")))
-        across = program("movl $1, x(%rip)", "movl x(%rip), %eax; movl x+2(%rip), %eax")
-        self.assertIn("'x', of 4 bytes, and 4 bytes at 'x+2' overlap", cause(across))
+        text = make_program("movq $-1, x(%rip)", make_thread("movzwl x+2(%rip), %eax"))
+        self.assertEqual(["1:r0=0", "1:r0=65535"], list_states(text, "exists (1:r0=0)"))
+        self.assertIn("a part of 'x', of 1 bytes", find_cause(make_program("movb $1, x+1(%rip)", "movl x(%rip), %eax")))
+        across = make_program("movl $1, x(%rip)", "movl x(%rip), %eax; movl x+2(%rip), %eax")
+        self.assertIn("'x', of 4 bytes, and 4 bytes at 'x+2' overlap", find_cause(across))
 
-    def test_alignment(self):
+    def test_alignment(self) -> None:
         """An access that may not be aligned is no access at once."""
         data = ".bss\n.align 4\nx:\n.zero 8\n"
-        self.assertIn("aligned to 4 only", cause(program("movq $1, x(%rip)", "movq x(%rip), %rax", data=data)))
-        self.assertIn("aligned to 2 only", cause(program("movl $1, x+2(%rip)", "movl x+2(%rip), %eax", data=data)))
-        self.assertEqual("", cause(program("movl $1, x+4(%rip)", "movl x+4(%rip), %eax", data=data)))
+        self.assertIn("aligned to 4 only", find_cause(make_program("movq $1, x(%rip)", "movq x(%rip), %rax", data=data)))
+        self.assertIn("aligned to 2 only", find_cause(make_program("movl $1, x+2(%rip)", "movl x+2(%rip), %eax", data=data)))
+        self.assertEqual("", find_cause(make_program("movl $1, x+4(%rip)", "movl x+4(%rip), %eax", data=data)))
 
-    def test_own_word_is_told(self):
+    def test_own_word_is_told(self) -> None:
         """A global that only one thread uses is shown with all its bytes, and compared with them."""
-        text = program("movq $-1, x(%rip)", "movl $1, y(%rip)")
-        self.assertEqual([f"x={2**64 - 1}"], states(text, "exists (x=4294967295)"))
-        self.assertIn("Never", answer(text, "exists (x=4294967295)").report)
-        self.assertIn("Always", answer(text, "exists (x=-1)").report)
+        text = make_program("movq $-1, x(%rip)", "movl $1, y(%rip)")
+        self.assertEqual([f"x={2**64 - 1}"], list_states(text, "exists (x=4294967295)"))
+        self.assertIn("Never", answer_assembly(text, "exists (x=4294967295)").report)
+        self.assertIn("Always", answer_assembly(text, "exists (x=-1)").report)
 
-    def test_own_word_of_parts(self):
+    def test_own_word_of_parts(self) -> None:
         """So is one that is put together from what was loaded and what was stored."""
-        text = program("movl x(%rip), %eax; movl %eax, y(%rip); movl $1, y+4(%rip); movq y(%rip), %rcx", STORES_X)
-        self.assertEqual([f"y={2**32}", f"y={2**32 + 1}"], states(text, "exists (y=1)"))
+        text = make_program("movl x(%rip), %eax; movl %eax, y(%rip); movl $1, y+4(%rip); movq y(%rip), %rcx", STORES_X)
+        self.assertEqual([f"y={2**32}", f"y={2**32 + 1}"], list_states(text, "exists (y=1)"))
 
-    def test_wide_words(self):
+    def test_wide_words(self) -> None:
         """Words of 64 bits keep their upper half, unless two words have the same lower one."""
-        text = program("movabsq $0x100000001, %rax; movq %rax, x(%rip)", "movq x(%rip), %rcx")
-        self.assertEqual(["x=4294967297"], states(text, "exists (x=1)"))
-        self.assertIn("Never", answer(text, "exists (x=1)").report)
-        text = program("movq $1, x(%rip); movabsq $0x100000001, %rax; movq %rax, x(%rip)", "movq x(%rip), %rcx\n#lw see r0 %ecx")
-        self.assertIn("the same 32 lowest bits", cause(text, "exists (1:r0=1)"))
+        text = make_program("movabsq $0x100000001, %rax; movq %rax, x(%rip)", "movq x(%rip), %rcx")
+        self.assertEqual(["x=4294967297"], list_states(text, "exists (x=1)"))
+        self.assertIn("Never", answer_assembly(text, "exists (x=1)").report)
+        text = make_program("movq $1, x(%rip); movabsq $0x100000001, %rax; movq %rax, x(%rip)", "movq x(%rip), %rcx\n#lw see r0 %ecx")
+        self.assertIn("the same 32 lowest bits", find_cause(text, "exists (1:r0=1)"))
 
-    def test_narrow_words(self):
+    def test_narrow_words(self) -> None:
         """A negative number is compared in the bytes of its global."""
-        text = program("movw $-2, x(%rip)", "movzwl x(%rip), %eax")
-        self.assertIn("Always", answer(text, "exists (x=-2)").report)
-        self.assertIn("of 2 bytes, with 65536", cause(text, "exists (x=65536)"))
+        text = make_program("movw $-2, x(%rip)", "movzwl x(%rip), %eax")
+        self.assertIn("Always", answer_assembly(text, "exists (x=-2)").report)
+        self.assertIn("of 2 bytes, with 65536", find_cause(text, "exists (x=65536)"))
 
-    def test_addresses(self):
+    def test_addresses(self) -> None:
         """Addresses are words; the order and the difference of two objects' addresses are refused."""
-        reader = seen("movq x(%rip), %rax", "testq %rax, %rax", "je .L1", "movl (%rax), %eax", ".L1: nop")
-        text = program("movl $y, %eax; movq %rax, x(%rip)", reader, data=DATA.replace("y:\n.zero 8", "y:\n.long 6\n.long 0"))
-        self.assertEqual(["1:r0=0 x=&y", "1:r0=6 x=&y"], states(text, "exists (1:r0=6 /\\ x=&y)"))
+        reader = make_thread("movq x(%rip), %rax", "testq %rax, %rax", "je .L1", "movl (%rax), %eax", ".L1: nop")
+        text = make_program("movl $y, %eax; movq %rax, x(%rip)", reader, data=DATA.replace("y:\n.zero 8", "y:\n.long 6\n.long 0"))
+        self.assertEqual(["1:r0=0 x=&y", "1:r0=6 x=&y"], list_states(text, "exists (1:r0=6 /\\ x=&y)"))
         for instruction in ("cmpq $y, %rax; jb .L1; .L1: nop", "subq $y, %rax"):
             with self.subTest(instruction):
-                self.assertIn("a linker chooses it", cause(program(f"movl $x, %eax; {instruction}; {STORES_X}", "movl x(%rip), %eax")))
+                self.assertIn("a linker chooses it", find_cause(make_program(f"movl $x, %eax; {instruction}; {STORES_X}", "movl x(%rip), %eax")))
 
-    def test_stacks(self):
+    def test_stacks(self) -> None:
         """Another thread's stack is refused."""
-        text = program("leaq -8(%rsp), %rax; movq %rax, x(%rip)", "movq x(%rip), %rax; testq %rax, %rax; je .L1; movl (%rax), %eax; .L1: nop")
-        self.assertIn("another thread's stack", cause(text))
+        text = make_program("leaq -8(%rsp), %rax; movq %rax, x(%rip)", "movq x(%rip), %rax; testq %rax, %rax; je .L1; movl (%rax), %eax; .L1: nop")
+        self.assertIn("another thread's stack", find_cause(text))
 
-    def test_allocation(self):
+    def test_allocation(self) -> None:
         """Allocated memory is new and is shared by its address; that it is is said."""
-        text = program(
+        text = make_program(
             "subq $8, %rsp; movl $8, %edi; call malloc; movl $3, (%rax); movq %rax, x(%rip); addq $8, %rsp",
-            seen("movl $9, %eax", "movq x(%rip), %rcx", "testq %rcx, %rcx", "je .L1", "movl (%rcx), %eax", ".L1: nop"),
+            make_thread("movl $9, %eax", "movq x(%rip), %rcx", "testq %rcx, %rcx", "je .L1", "movl (%rcx), %eax", ".L1: nop"),
         )
-        self.assertEqual(["1:r0=3", "1:r0=9"], states(text, "exists (1:r0=0)"))
-        self.assertIn("malloc succeeds", answer(text, "exists (1:r0=0)").notes[0])
+        self.assertEqual(["1:r0=3", "1:r0=9"], list_states(text, "exists (1:r0=0)"))
+        self.assertIn("malloc succeeds", answer_assembly(text, "exists (1:r0=0)").notes[0])
 
-    def test_conditions_on_places(self):
+    def test_conditions_on_places(self) -> None:
         """What the condition names has to be there, and to be what is accessed at once."""
-        text = program("movq $1, x(%rip)", "movq x(%rip), %rax")
+        text = make_program("movq $1, x(%rip)", "movq x(%rip), %rax")
         for condition, why in (
             ("exists (w=0)", "no variable"), ("exists (x+8=0)", "has 8 bytes"), ("exists (x+4=0)", "is a part of"),
             ("exists (0:r9=0)", "comes to lw_see"), ("exists (x=&w)", "no variable"), ("exists (x=99999999999999999999)", "does not fit"),
             ("exists (4:r0=1)", "from 0 to 3"), ("exists (x=)", "a number"),
         ):
             with self.subTest(condition):
-                self.assertIn(why, cause(text, condition))
+                self.assertIn(why, find_cause(text, condition))
 
 
 class Ways(cases.Case):
     """Jumps, calls, loops and locked instructions."""
 
-    def test_calls(self):
+    def test_calls(self) -> None:
         """A register that a function leaves alone keeps its value, as compilers count on; also what it was loaded from."""
         helper = "\nhelper:\nmovl y(%rip), %eax\nret\n"
-        reader = seen("movl x(%rip), %ecx", "call helper", "call helper", "leal (%rcx,%rax,2), %eax")
-        text = program("movl $1, x(%rip); movl $1, y(%rip)", reader, after=helper)
-        self.assertEqual(["1:r0=0", "1:r0=1", "1:r0=2", "1:r0=3"], states(text, "exists (1:r0=0)"))
+        reader = make_thread("movl x(%rip), %ecx", "call helper", "call helper", "leal (%rcx,%rax,2), %eax")
+        text = make_program("movl $1, x(%rip); movl $1, y(%rip)", reader, after=helper)
+        self.assertEqual(["1:r0=0", "1:r0=1", "1:r0=2", "1:r0=3"], list_states(text, "exists (1:r0=0)"))
 
-    def test_refused(self):
+    def test_refused(self) -> None:
         """What is elsewhere, ends the program, or runs over the end of a function is refused, with its line."""
         for text, why in (
             ("call memcpy", "elsewhere"), ("pushl $1", "32 bits"), ("negl", "operands that are not known"),
@@ -464,79 +471,79 @@ class Ways(cases.Case):
             ("movl %fs:40, %eax", "is not followed"), ("movq w(%rip), %rax", "defined elsewhere"), ("cmpxchg16b x(%rip)", "is not followed"),
         ):
             with self.subTest(text):
-                self.assertIn(why, cause(program(text)))
-        over = program(STORES_X, STORES_X).replace("\tret\n", "", 1)
-        self.assertIn("over the end of its function", cause(over))
+                self.assertIn(why, find_cause(make_program(text)))
+        over = make_program(STORES_X, STORES_X).replace("\tret\n", "", 1)
+        self.assertIn("over the end of its function", find_cause(over))
 
-    def test_jump_back(self):
+    def test_jump_back(self) -> None:
         """A block that is out of line, and jumps back to the middle, is no loop."""
-        reader = seen("movl x(%rip), %eax", "testl %eax, %eax", "jne .Lc", ".Lb: addl $1, %eax")
-        text = program("movl $1, x(%rip)", reader, after="\n.Lc: movl $4, %eax\njmp .Lb\n")
-        self.assertEqual(["1:r0=1", "1:r0=5"], states(text, "exists (1:r0=0)"))
-        self.assertEqual([], answer(text, "exists (1:r0=0)").bounded)
+        reader = make_thread("movl x(%rip), %eax", "testl %eax, %eax", "jne .Lc", ".Lb: addl $1, %eax")
+        text = make_program("movl $1, x(%rip)", reader, after="\n.Lc: movl $4, %eax\njmp .Lb\n")
+        self.assertEqual(["1:r0=1", "1:r0=5"], list_states(text, "exists (1:r0=0)"))
+        self.assertEqual([], answer_assembly(text, "exists (1:r0=0)").bounded)
 
-    def test_known_loop(self):
+    def test_known_loop(self) -> None:
         """A loop over constants is followed to its end, also one in which something is asked."""
-        text = program("movl $0, %ecx; .L1: lock addl $1, x(%rip); addl $1, %ecx; cmpl $5, %ecx; jne .L1", "movl x(%rip), %eax")
-        self.assertEqual(["x=5"], states(text, "exists (x=5)"))
+        text = make_program("movl $0, %ecx; .L1: lock addl $1, x(%rip); addl $1, %ecx; cmpl $5, %ecx; jne .L1", "movl x(%rip), %eax")
+        self.assertEqual(["x=5"], list_states(text, "exists (x=5)"))
         asks = "movl $0, %ecx; movl $0, %eax; .L1: cmpl $1, x(%rip); jne .L2; addl $1, %eax; .L2: addl $1, %ecx; cmpl $3, %ecx; jne .L1"
         asks += "\n#lw see r0 %eax"
-        self.assertEqual(["1:r0=0", "1:r0=1", "1:r0=2", "1:r0=3"], states(program(STORES_X, asks), "exists (1:r0=0)"))
+        self.assertEqual(["1:r0=0", "1:r0=1", "1:r0=2", "1:r0=3"], list_states(make_program(STORES_X, asks), "exists (1:r0=0)"))
 
-    def test_tries(self):
+    def test_tries(self) -> None:
         """Any other loop is gone through as often as `--tries` says; without a try it is refused, and without a run there is no verdict."""
         waits = ".L1: lock addl $1, y(%rip); movl x(%rip), %eax; testl %eax, %eax; je .L1\nmovl y(%rip), %ecx\n#lw see r0 %ecx"
-        text = program(STORES_X, waits, "movl y(%rip), %eax")
-        self.assertEqual(["1:r0=1"], states(text, "exists (1:r0=1)", 1))
-        self.assertEqual(["1:r0=1", "1:r0=2", "1:r0=3"], states(text, "exists (1:r0=1)", 3))
-        self.assertIn("a loop need not end", cause(text, "exists (1:r0=1)", 0))
-        endless = program(STORES_X, ".L1: cmpl $2, x(%rip); jne .L1")
-        self.assertIn("no run comes to an end", cause(endless))
+        text = make_program(STORES_X, waits, "movl y(%rip), %eax")
+        self.assertEqual(["1:r0=1"], list_states(text, "exists (1:r0=1)", 1))
+        self.assertEqual(["1:r0=1", "1:r0=2", "1:r0=3"], list_states(text, "exists (1:r0=1)", 3))
+        self.assertIn("a loop need not end", find_cause(text, "exists (1:r0=1)", 0))
+        endless = make_program(STORES_X, ".L1: cmpl $2, x(%rip); jne .L1")
+        self.assertIn("no run comes to an end", find_cause(endless))
 
-    def test_counted_stores(self):
+    def test_counted_stores(self) -> None:
         """A loop in which a thread stores until another has seen enough is given up by its tries, and not too early."""
         counts = ".L1: movl y(%rip), %eax; testl %eax, %eax; jne .L2; lock addl $1, x(%rip); jmp .L1; .L2: movl x(%rip), %eax\n#lw see r0 %eax"
         other = "movl x(%rip), %eax; cmpl $3, %eax; jne .L9; movl $1, y(%rip); .L9: nop"
-        self.assertEqual(["0:r0=3", "0:r0=4", "0:r0=5"], states(program(counts, other), "exists (0:r0=3)", 6))
+        self.assertEqual(["0:r0=3", "0:r0=4", "0:r0=5"], list_states(make_program(counts, other), "exists (0:r0=3)", 6))
 
-    def test_fences(self):
+    def test_fences(self) -> None:
         """MFENCE, and a locked instruction on memory of the thread's own, wait for the buffer; LFENCE and SFENCE don't."""
         for text, count in (("mfence", 3), ("lock orq $0, (%rsp)", 3), ("xchgl %ecx, z(%rip)", 3), ("lfence", 4), ("sfence", 4), ("pause", 4)):
             thread = lambda mine, its: f"{mine}; movl $3, %ecx; {text}; movl {its}(%rip), %eax\n#lw see r0 %eax"
-            made = program(thread("movl $1, x(%rip)", "y"), thread("movl $1, y(%rip)", "x").replace("z(", "z+4("))
+            made = make_program(thread("movl $1, x(%rip)", "y"), thread("movl $1, y(%rip)", "x").replace("z(", "z+4("))
             with self.subTest(text):
-                self.assertEqual(count, len(states(made, "exists (0:r0=0 /\\ 1:r0=0)")))
+                self.assertEqual(count, len(list_states(made, "exists (0:r0=0 /\\ 1:r0=0)")))
 
-    def test_compare_and_swap(self):
+    def test_compare_and_swap(self) -> None:
         """CMPXCHG succeeds or fails, and what it finds is in RAX."""
         cas = lambda new: f"movl $0, %eax; movl ${new}, %ecx; lock cmpxchgl %ecx, x(%rip)\n#lw see r0 %eax"
-        self.assertEqual(["0:r0=0 1:r0=1 x=1", "0:r0=2 1:r0=0 x=2"], states(program(cas(1), cas(2)), "exists (0:r0=0 /\\ 1:r0=0 /\\ x=1)"))
+        self.assertEqual(["0:r0=0 1:r0=1 x=1", "0:r0=2 1:r0=0 x=2"], list_states(make_program(cas(1), cas(2)), "exists (0:r0=0 /\\ 1:r0=0 /\\ x=1)"))
 
-    def test_locked(self):
+    def test_locked(self) -> None:
         """Locked instructions that lw lacks, by guesses of what they find."""
-        text = program("lock orl $1, x(%rip); setne %al", "lock xorl $3, x(%rip)")
-        self.assertEqual(["x=2", "x=3"], states(text, "exists (x=2)"))
-        text = program("movl $1, %eax; lock xaddb %al, x(%rip); movzbl %al, %eax\n#lw see r0 %eax", "lock btsl $3, x(%rip)", data=DATA)
-        self.assertTrue("part" in cause(text, "exists (0:r0=0)"))
-        text = program("lock btsl $3, x(%rip); setc %al; movzbl %al, %eax\n#lw see r0 %eax", "lock btrl $3, x(%rip)")
-        self.assertEqual(["0:r0=0 x=0", "0:r0=0 x=8"], states(text, "exists (0:r0=0 /\\ x=0)"))
+        text = make_program("lock orl $1, x(%rip); setne %al", "lock xorl $3, x(%rip)")
+        self.assertEqual(["x=2", "x=3"], list_states(text, "exists (x=2)"))
+        text = make_program("movl $1, %eax; lock xaddb %al, x(%rip); movzbl %al, %eax\n#lw see r0 %eax", "lock btsl $3, x(%rip)", data=DATA)
+        self.assertTrue("part" in find_cause(text, "exists (0:r0=0)"))
+        text = make_program("lock btsl $3, x(%rip); setc %al; movzbl %al, %eax\n#lw see r0 %eax", "lock btrl $3, x(%rip)")
+        self.assertEqual(["0:r0=0 x=0", "0:r0=0 x=8"], list_states(text, "exists (0:r0=0 /\\ x=0)"))
 
-    def test_writing(self):
+    def test_writing(self) -> None:
         """Values that change places at a thread's end keep their names, and six registers are a limit."""
         loads = "movl x(%rip), %eax; movl y(%rip), %ecx; movl x(%rip), %edx\n#lw see a %ecx\n#lw see b %eax\n#lw see c %edx"
-        found = states(program("movl $1, x(%rip); movl $2, y(%rip)", loads), "exists (1:a=0 /\\ 1:b=0 /\\ 1:c=0)")
+        found = list_states(make_program("movl $1, x(%rip); movl $2, y(%rip)", loads), "exists (1:a=0 /\\ 1:b=0 /\\ 1:c=0)")
         self.assertEqual(["1:a=0 1:b=0 1:c=0", "1:a=0 1:b=0 1:c=1", "1:a=0 1:b=1 1:c=1", "1:a=2 1:b=0 1:c=1", "1:a=2 1:b=1 1:c=1"], found)
         many = "".join(f"\n#lw see v{number} %eax" for number in range(7))
         asked = "exists (" + " /\\ ".join(f"0:v{number}=0" for number in range(7)) + ")"
-        self.assertIn("more than 6 values", cause(program(f"movl x(%rip), %eax{many}", STORES_X), asked))
+        self.assertIn("more than 6 values", find_cause(make_program(f"movl x(%rip), %eax{many}", STORES_X), asked))
 
-    def test_sums_of_symbols(self):
+    def test_sums_of_symbols(self) -> None:
         """A sum with what was loaded is stored as it is, and compared as it is."""
-        text = program("movl $4, x(%rip)", "movl x(%rip), %eax; addl $3, %eax; movl %eax, y(%rip)", seen("movl y(%rip), %eax"))
-        self.assertEqual(["2:r0=0", "2:r0=3", "2:r0=7"], states(text, "exists (2:r0=0)"))
-        compares = seen("movl x(%rip), %ecx", "movl y(%rip), %edx", "addl $1, %ecx", "cmpl %ecx, %edx", "sete %al", "movzbl %al, %eax")
-        text = program("movl $4, x(%rip)", "movl $5, y(%rip)", compares)
-        self.assertEqual(["2:r0=0", "2:r0=1"], states(text, "exists (2:r0=0)"))
+        text = make_program("movl $4, x(%rip)", "movl x(%rip), %eax; addl $3, %eax; movl %eax, y(%rip)", make_thread("movl y(%rip), %eax"))
+        self.assertEqual(["2:r0=0", "2:r0=3", "2:r0=7"], list_states(text, "exists (2:r0=0)"))
+        compares = make_thread("movl x(%rip), %ecx", "movl y(%rip), %edx", "addl $1, %ecx", "cmpl %ecx, %edx", "sete %al", "movzbl %al, %eax")
+        text = make_program("movl $4, x(%rip)", "movl $5, y(%rip)", compares)
+        self.assertEqual(["2:r0=0", "2:r0=1"], list_states(text, "exists (2:r0=0)"))
 
 
 class Sources(cases.Case):
@@ -547,13 +554,13 @@ class Sources(cases.Case):
         "int P1(void) { x = 1; return x; }\n// lw: exists (0:r0=0)\n"
     )
 
-    def test_sees(self):
+    def test_sees(self) -> None:
         """A local variable that the condition names is seen at the function's end, on the same line."""
         made = read_source("a.c", self.PROGRAM)
         self.assertEqual((2, ".c", "a"), (made.threads, made.ending, made.name))
         self.assertIn("r0 = 2; }  lw_see(r0, r0); }\n", made.text)
 
-    def test_faults(self):
+    def test_faults(self) -> None:
         """What is wrong in a source is reported with its place."""
         for old, new, why in (
             ("0:r0", "1:r0", "P1 has a return"), ("// lw: exists (0:r0=0)\n", "", "no comment says"), ("P1(", "P2(", "in a row"),
@@ -563,30 +570,30 @@ class Sources(cases.Case):
             ("// lw", "// lw: exists (x=1)\n// lw", "a second comment"), ("return x; }", "return x;", "is not closed"),
         ):
             with self.subTest(new):
-                self.assertIn(why, refused_by(lambda old=old, new=new: read_source("a.c", self.PROGRAM.replace(old, new))))
+                self.assertIn(why, find_refusal(lambda old=old, new=new: read_source("a.c", self.PROGRAM.replace(old, new))))
 
-    def test_rust(self):
+    def test_rust(self) -> None:
         """A lifetime of Rust is no quoted letter."""
         text = "fn f<'a>(x: &'a u32) -> &'a u32 { x }\n#[no_mangle] pub fn P0() { let r0 = 1; }\n// lw: exists (0:r0=1)\n"
         self.assertIn("lw_see!(r0, r0); }\n//", read_source("a.rs", text).text)
 
-    def test_herd(self):
+    def test_herd(self) -> None:
         """A test in herd's form: what is passed becomes globals, and lines stay."""
         made = read_source("a.litmus", "C SB\n{ x=0; [y]=2; }\nP0 (atomic_int* x, volatile int* y) {\n  int r0 = *y;\n}\nexists (0:r0=0 /\\ x=0)\n")
-        self.assertEqual(("SB", "exists (0:r0=0 /\\ x=0)", ["lw_x"]), (made.name, made.condition.text, made.condition.globals()))
+        self.assertEqual(("SB", "exists (0:r0=0 /\\ x=0)", ["lw_x"]), (made.name, made.condition.text, made.condition.list_globals()))
         self.assertIn("int lw_y = 2;", made.text)
         self.assertIn("#line 3\n", made.text)
-        self.assertIn("not read", refused_by(lambda: read_source("a", "C SB\n{}\nP0 (int* x) { *x = 1; }\nlocations [x;]\nexists (x=0)\n")))
+        self.assertIn("not read", find_refusal(lambda: read_source("a", "C SB\n{}\nP0 (int* x) { *x = 1; }\nlocations [x;]\nexists (x=0)\n")))
 
 
-def is_known(compiler, folder):
+def is_known(compiler: str, folder: str) -> bool:
     """Says whether the compiler is one that made the lists of a folder's README.md, of the same version."""
     name = compiler.split()[0]
-    return f"{name} {version_of(name)}" in program_lists.versions_in(folder)
+    return f"{name} {read_version(name)}" in program_lists.read_versions(folder)
 
 
-def verdicts_in(folder):
-    """The verdicts of the table of a folder's README.md: as it is, and with weaker orders."""
+def read_verdicts(folder: str) -> dict[str, list[str]]:
+    """Returns the verdicts of the table of a folder's README.md: as it is, and with weaker orders."""
     rows = re.findall(r"^\| \[(\w+)\.\w+\]\S* \| .* \| (\w+) \| (\w+) \| (\w+) \|$", read(f"examples/{folder}/README.md"), re.M)
     return {name: verdicts for name, *verdicts in rows}
 
@@ -600,56 +607,58 @@ REFUSED = {("McsLock", "rustc -C opt-level=0")}
 class Compiled(cases.Case):
     """Programs, by the compilers that are there."""
 
-    def setUp(self):
+    def setUp(self) -> None:
         """Leaves these out if no compiler is there."""
-        if not compilers_for(".c"):
+        if not list_compilers(".c"):
             self.skipTest(skipped())
 
-    def compare(self, folder, compiler, name, wanted, told):
+    def compare(self, folder: str, compiler: str, name: str, wanted: object, found: object) -> None:
         """Compares what a compiler makes of an example. If its version is not that of the lists, a difference is reported and no fault."""
-        if wanted != told and not is_known(compiler, folder):
-            OTHER_VERSIONS.append(f"examples/{folder}/{name} by {compiler}, version {version_of(compiler.split()[0])}: {told}, and not {wanted}")
+        if wanted != found and not is_known(compiler, folder):
+            OTHER_VERSIONS.append(f"examples/{folder}/{name} by {compiler}, version {read_version(compiler.split()[0])}: {found}, and not {wanted}")
         else:
-            self.assertEqual(wanted, told)
+            self.assertEqual(wanted, found)
 
-    def compare_example(self, folder, path, compilers):
+    def compare_example(self, folder: str, path: str, compilers: Iterable[str]) -> None:
         """Compares an example's verdicts and lists by some compilers, those of level 2 with weaker orders too, with its rows in README.md."""
-        name, (_, of_lists), lists = program_lists.name_of(path), program_lists.FOLDERS[folder], program_lists.lists_in(folder)
+        name, (_, of_lists), lists = program_lists.format_name(path), program_lists.FOLDERS[folder], program_lists.read_lists(folder)
         for compiler in compilers:
             if (name, compiler) in REFUSED:
                 continue
             with self.subTest(name, compiler=compiler):
-                found = [program_lists.answer_on(path, compiler, number) for number in ((0, 1, 2) if compiler in of_lists else (0,))]
+                found = [program_lists.make_answer(path, compiler, number) for number in ((0, 1, 2) if compiler in of_lists else (0,))]
                 verdicts = [it.observation.split()[0] for it in found]
-                self.compare(folder, compiler, name, verdicts_in(folder)[name][: len(found)], verdicts)
+                self.compare(folder, compiler, name, read_verdicts(folder)[name][: len(found)], verdicts)
                 if compiler in of_lists or not found[0].bounded:
-                    self.compare(folder, compiler, name, lists[name][: len(found)], program_lists.lists_of(found))
+                    self.compare(folder, compiler, name, lists[name][: len(found)], program_lists.make_lists(found))
 
-    def test_examples(self):
+    def test_examples(self) -> None:
         """Each example has the verdicts and the lists that its README.md has, by every compiler at every level, as far as runs are not left out
         since a loop need not end; at level 2 with weaker orders too."""
         for folder, (ending, _) in program_lists.FOLDERS.items():
-            names = [program_lists.name_of(it) for it in program_lists.files_of(folder)]
-            self.assertEqual([names, names], [sorted(verdicts_in(folder)), sorted(program_lists.lists_in(folder))])
-            for path in program_lists.files_of(folder):
-                self.compare_example(folder, path, compilers_for(ending))
+            names = [program_lists.format_name(it) for it in program_lists.list_programs(folder)]
+            self.assertEqual([names, names], [sorted(read_verdicts(folder)), sorted(program_lists.read_lists(folder))])
+            for path in program_lists.list_programs(folder):
+                self.compare_example(folder, path, list_compilers(ending))
 
-    def test_other_version(self):
+    def test_other_version(self) -> None:
         """A list that differs is a fault if its compiler made the lists of README.md, and is reported if it is of another version."""
         path = os.path.join(HOME, "examples", "from_c", "EventCount.c")
-        answer_on, names = program_lists.answer_on, OTHER_VERSIONS[:]
+        answer_on, names = program_lists.make_answer, OTHER_VERSIONS[:]
         other = lambda it, compiler, weaker=0: answer_on(it.replace("EventCount", "StoreBuffering"), compiler, weaker)
-        compiler = compilers_for(".c")[0].split()[0] + " -O2"
-        with mock.patch.object(program_lists, "answer_on", other), mock.patch.object(program_lists, "versions_in", lambda _folder: {"none 1.2.3"}):
+        compiler = list_compilers(".c")[0].split()[0] + " -O2"
+        with mock.patch.object(program_lists, "make_answer", other), mock.patch.object(
+            program_lists, "read_versions", lambda _folder: {"none 1.2.3"}
+        ):
             self.compare_example("from_c", path, [compiler])
         self.assertEqual(1, len(OTHER_VERSIONS) - len(names))
         self.assertIn(f"examples/from_c/EventCount by {compiler}, version ", OTHER_VERSIONS[-1])
         OTHER_VERSIONS[:] = names
 
-    def test_pairs(self):
+    def test_pairs(self) -> None:
         """docs/FENCES.md names the algorithms that need a fence: the stores and loads between which it is, and what weaker orders add. The others
         have the same list with weaker orders."""
-        lists, text = program_lists.lists_in("from_c"), read("docs/FENCES.md")
+        lists, text = program_lists.read_lists("from_c"), read("docs/FENCES.md")
         of_three = re.findall(r"^\| \[(\w+)\]\S+ \| (.*?) \| .*? \| `(.*?)` .*\|$", text.partition("| Program | A store, then a load")[2].partition("\n\n")[0], re.M)
         others = re.findall(r"\[(\w+)\]", text.partition("| Program | Why |")[2].partition("\n\n")[0])
         without_change = sorted(name for name, (_, *more) in lists.items() if not any(more))
@@ -657,15 +666,15 @@ class Compiled(cases.Case):
         self.assertEqual(sorted({*lists} - {*without_change}), sorted([*(it[0] for it in of_three), "StoreBuffering"]))
         for name, pairs, added in of_three:
             source = read_source(f"{name}.c", read(f"examples/from_c/{name}.c"))
-            made = from_c.converted(source, compilers_for(".c")[0].split()[0] + " -O2", 1)
-            needed = needed_lines(fences_of(*made))
+            made = from_c.convert_source(source, list_compilers(".c")[0].split()[0] + " -O2", 1)
+            needed = parse_needed_lines(format_fences(*made))
             with self.subTest(name):
                 self.assertEqual([[added]] * 2, [*lists[name][1:]])
                 for thread, places in re.findall(r"P(\d)[^()]*\((?:lines )?([\d, ]+)\)", pairs):
                     first, last = map(int, places.split(", "))
                     self.assertTrue(any(number == int(thread) and first <= line < last for number, line in needed))
 
-    def test_orders(self):
+    def test_orders(self) -> None:
         """The instructions of C's orders are those of the table in docs/FENCES.md, by each compiler at -O1 to -O3. (None: it depends on the compiler.)"""
         bodies = {
             "atomic_store(&x, 1)": True, "atomic_thread_fence(memory_order_seq_cst)": True,
@@ -675,19 +684,24 @@ class Compiled(cases.Case):
             "atomic_fetch_add_explicit(&x, 1, memory_order_relaxed)": True, "atomic_store_explicit(&x, 1, memory_order_release)": False,
             "atomic_store_explicit(&x, 1, memory_order_relaxed)": False, "return atomic_load(&x)": False,
             "atomic_thread_fence(memory_order_acq_rel)": False, "atomic_thread_fence(memory_order_release)": False,
+            "atomic_fetch_add_explicit(&x, 0, memory_order_relaxed)": None, "return atomic_fetch_add_explicit(&x, 0, memory_order_acquire)": None,
+            "atomic_fetch_add_explicit(&x, 0, memory_order_acq_rel)": None, "return atomic_fetch_add_explicit(&x, 0, memory_order_acq_rel)": True,
+            "return atomic_fetch_or_explicit(&x, 0, memory_order_release)": True, "return atomic_fetch_and_explicit(&x, -1, memory_order_relaxed)": None,
+            "atomic_fetch_sub_explicit(&x, 0, memory_order_seq_cst)": True, "return atomic_fetch_xor_explicit(&x, 0, memory_order_seq_cst)": True,
+            "atomic_fetch_and_explicit(&x, 0, memory_order_release)": None, "return atomic_fetch_and_explicit(&x, 0, memory_order_relaxed)": True,
         }
         functions = "".join(f"int f{number}(void) {{ {body}; return 0; }}\n" for number, body in enumerate(bodies))
         text = f"#include <stdatomic.h>\natomic_int x;\n{functions}"
-        for compiler in [it for it in compilers_for(".c") if not it.endswith("-O0")]:
+        for compiler in [it for it in list_compilers(".c") if not it.endswith("-O0")]:
             words = [*compiler.split(), "-fcf-protection=none", "-S", "-x", "c", "-o", "-", "-"]
             made = subprocess.run(words, input=text.encode(), stdout=subprocess.PIPE, check=True).stdout.decode()
             for number, (body, waits) in enumerate(bodies.items()):
-                code = re.search(rf"^f{number}:[^\n]*\n(.*?)^\s*ret", made, re.M | re.S)[1]
+                code = require_match(re.search(rf"^f{number}:[^\n]*\n(.*?)^\s*ret", made, re.M | re.S))[1]
                 with self.subTest(body, compiler=compiler):
                     wanted = compiler.startswith("gcc") if waits is None else waits
                     self.compare("from_c", compiler, body, wanted, bool(re.search(r"\b(?:lock|xchg\w*|mfence)\b", code)))
 
-    def test_documents(self):
+    def test_documents(self) -> None:
         """docs/FROM-C.md and docs/FENCES.md show what their commands print, if gcc is there and of the version that the lists have."""
         for page, count in (("FROM-C", 6), ("FENCES", 4)):
             blocks = re.findall(r"^```\n(% .*?)^```$", read(f"docs/{page}.md"), re.M | re.S)
@@ -698,92 +712,92 @@ class Compiled(cases.Case):
                 with self.subTest(line):
                     self.compare("from_c", "gcc", f"docs/{page}.md: {line}", printed, ran.stdout.decode())
 
-    def test_show(self):
+    def test_show(self) -> None:
         """The tests that `--show` prints have the verdict of the program, and the other tools take them."""
         for name in ("HazardPointer", "ClhLock", "StoreBuffering"):
             source = read_source(f"{name}.c", read(f"examples/from_c/{name}.c"))
-            made = from_c.converted(source, compilers_for(".c")[0], 1)
-            text = tests_of(*made)
+            made = from_c.convert_source(source, list_compilers(".c")[0], 1)
+            text = format_tests(*made)
             with self.subTest(name):
-                self.assertEqual(made[0].observation.split()[0], answers.answer(["states"], plain.read_test(text), text).text.split()[-3])
+                self.assertEqual(made[0].observation.split()[0], answers.make_answer(["states"], plain.read_test(text), text).text.split()[-3])
                 self.assertIn(": line ", text)
 
-    def test_schedules(self):
+    def test_schedules(self) -> None:
         """Each state of the report has a run, by lines of the source."""
-        made = from_c.converted(read_source("a.c", read("examples/from_c/TreiberStack.c")), compilers_for(".c")[0], 1)
-        printed = schedules_of(*made).splitlines()
-        self.assertEqual(answers.states_in(made[0].report), [it for it in printed if not it.startswith(" ")])
+        made = from_c.convert_source(read_source("a.c", read("examples/from_c/TreiberStack.c")), list_compilers(".c")[0], 1)
+        printed = format_schedules(*made).splitlines()
+        self.assertEqual(answers.filter_state_lines(made[0].report), [it for it in printed if not it.startswith(" ")])
         self.assertTrue(all(re.match(r"  (P\d, (line \d+|no line): |D\d: )", it) for it in printed if it.startswith(" ")))
 
-    def test_fences(self):
+    def test_fences(self) -> None:
         """The exchanges that an answer needs are reported with their lines, also of a program of several tests."""
-        compiler = compilers_for(".c")[0].split()[0] + " -O2"
-        printed = fences_of(*from_c.converted(read_source("a.c", read("examples/from_c/EventCount.c")), compiler, 1))
+        compiler = list_compilers(".c")[0].split()[0] + " -O2"
+        printed = format_fences(*from_c.convert_source(read_source("a.c", read("examples/from_c/EventCount.c")), compiler, 1))
         needed = re.findall(r"^P(\d) at \d+ \(line (\d+)\), (.*), without its lock:\n  by its question, .*: (\w+) state", printed, re.M)
         self.assertEqual([("0", "10", "LOCK XADD [sleepers],EAX", "1"), ("1", "16", "XCHG [work],EAX", "1")], needed)
-        at = "  by its question, ~exists (0:sleeps=1 /\\ 1:wakes=0): 1 state more as a plain store\n    0:sleeps=1; 1:wakes=0;\n"
-        self.assertIn(at, printed)
-        lines = fences_of(*from_c.converted(read_source("a.c", read("examples/from_c/Once.c")), compiler, 1)).splitlines()
-        at = lines.index("P0 line 12, without its lock:")
+        more = "  by its question, ~exists (0:sleeps=1 /\\ 1:wakes=0): 1 state more as a plain store\n    0:sleeps=1; 1:wakes=0;\n"
+        self.assertIn(more, printed)
+        lines = format_fences(*from_c.convert_source(read_source("a.c", read("examples/from_c/Once.c")), compiler, 1)).splitlines()
+        index = lines.index("P0 line 12, without its lock:")
         asked = "~exists (0:got=0 \\/ 1:got=0 \\/ writers=2)"
-        self.assertEqual([f"  by its question, {asked}: 1 state more", "    0:got=5; 1:got=5; writers=2;"], lines[at + 1 : at + 3])
+        self.assertEqual([f"  by its question, {asked}: 1 state more", "    0:got=5; 1:got=5; writers=2;"], lines[index + 1 : index + 3])
         self.assertEqual("a, by its question, " + asked + ": fences 0, states 1", lines[0].replace(" (not proved)", ""))
-        lines = fences_of(*from_c.converted(read_source("a.c", SWAPPING), compiler, 1)).splitlines()
+        lines = format_fences(*from_c.convert_source(read_source("a.c", SWAPPING), compiler, 1)).splitlines()
         asked = "its question, exists (0:r0=0 /\\ 1:r0=0)"
         self.assertIn(f"P1 line 12: can be left out alone, by {asked}", lines)
-        self.assertEqual(["  P0 line 5"], lines[lines.index(f"Enough, with none to spare, by {asked}: no fence") + 2 :][:1])
+        self.assertEqual(["  P0 line 5"], lines[lines.index(f"As good as all its fences, with none to spare, by {asked}: no fence") + 2 :][:1])
 
     @unittest.skipUnless(spawn.is_current(), "the program is not built")
-    def test_film(self):
+    def test_film(self) -> None:
         """The film of a run has a picture for each event, with the lines of the source; a state that is not there is refused."""
         text = read("examples/from_c/EventCount.c")
-        made = from_c.converted(read_source("a.c", text), compilers_for(".c")[0].split()[0] + " -O2", 1)
-        drawn = film_of(*made, 1, text.splitlines())
-        wanted = [it.strip() for it in schedules_of(*made).splitlines()[1:5]]
-        for line in {int(re.search(r"line (\d+)", it)[1]) for it in wanted}:
+        made = from_c.convert_source(read_source("a.c", text), list_compilers(".c")[0].split()[0] + " -O2", 1)
+        drawn = render_film(*made, 1, text.splitlines())
+        wanted = [it.strip() for it in format_schedules(*made).splitlines()[1:5]]
+        for line in {int(require_match(re.search(r"line (\d+)", it))[1]) for it in wanted}:
             self.assertIn(f"line {line}: ", drawn)
         self.assertIn("XCHG [work],EAX  (line 16)", drawn)
         try:
-            why = film_of(*made, 4, text.splitlines())
+            why = render_film(*made, 4, text.splitlines())
         except NoFilm as fault:
             why = fault.args[0]
         self.assertEqual("the report has 3 states, and no state 4", why)
 
-    def test_weaker_in_cc(self):
+    def test_weaker_in_cc(self) -> None:
         """In C++ orders are weaker in all operations of <atomic>, by each compiler."""
-        for compiler in sorted({it.split()[0] + " -O1" for it in compilers_for(".cc")}):
+        for compiler in sorted({it.split()[0] + " -O1" for it in list_compilers(".cc")}):
             for store, load in (("x.store(1)", "y.load()"), ("x = 1", "y"), ("std::atomic_store(&x, 1)", "y")):
                 source = read_source("a.cc", OF_CC.format(store, load))
-                told = [len(answers.states_in(from_c.converted(source, compiler, 1, weaker)[0].report)) for weaker in (0, 1, 2)]
+                counts = [len(answers.filter_state_lines(from_c.convert_source(source, compiler, 1, weaker)[0].report)) for weaker in (0, 1, 2)]
                 with self.subTest(compiler, store=store):
-                    self.assertEqual([3, 4, 4], told)
+                    self.assertEqual([3, 4, 4], counts)
             source = read_source("a.cc", ALL_OF_CC)
-            told = [from_c.converted(source, compiler, 1, weaker)[0].report for weaker in (0, 1, 2)]
+            found = [from_c.convert_source(source, compiler, 1, weaker)[0].report for weaker in (0, 1, 2)]
             with self.subTest(compiler):
-                self.assertEqual([told[0]] * 3, told)
-                self.assertIn("\nObservation a Always 1 0\n", told[0])
+                self.assertEqual([found[0]] * 3, found)
+                self.assertIn("\nObservation a Always 1 0\n", found[0])
 
-    def test_native(self):
+    def test_native(self) -> None:
         """No state is seen on this processor that is not listed, in some thousand runs of the same assembly."""
-        compiler = compilers_for(".c")[0].split()[0] + " -O2"
+        compiler = list_compilers(".c")[0].split()[0] + " -O2"
         for name in ("StoreBuffering", "HazardPointer", "SpscRing", "ReferenceCount"):
-            beyond, _, _, runs, _ = native_runs.compare(os.path.join(HOME, "examples", "from_c", f"{name}.c"), compiler, 0.3, 1)
+            beyond, _, _, runs, _ = native_runs.compare_with_list(os.path.join(HOME, "examples", "from_c", f"{name}.c"), compiler, 0.3, 1)
             with self.subTest(name):
                 self.assertEqual(([], True), (beyond, runs > 0))
 
-    def test_random(self):
+    def test_random(self) -> None:
         """Random programs have the outcomes of their source."""
         for seed in range(RANDOM_PROGRAMS):
-            for compiler, result, text in random_programs.results(seed, compilers_for(".c"), COMPILERS_OF_RANDOM):
+            for compiler, result, text in random_programs.compare_random_program(seed, list_compilers(".c"), COMPILERS_OF_RANDOM):
                 with self.subTest(seed=seed, compiler=compiler, text=text):
                     self.assertEqual("same", result)
 
-    def test_command(self):
+    def test_command(self) -> None:
         """What the command prints, and its status."""
         with tempfile.TemporaryDirectory() as folder:
             path = os.path.join(folder, "a.c")
-            compiler = compilers_for(".c")[0]
-            for text, words, status, part in (
+            compiler = list_compilers(".c")[0]
+            asked: tuple[tuple[str, list[str], int, str], ...] = (
                 (Sources.PROGRAM, [], 0, "listed by"), (Sources.PROGRAM, ["--show"], 0, ": line 3"),
                 (Sources.PROGRAM, ["--schedules"], 0, ", line 4: "),
                 (Sources.PROGRAM.replace("x;", "x", 1), [], 1, ": the compiler refuses it: "),
@@ -791,7 +805,8 @@ class Compiled(cases.Case):
                 (Sources.PROGRAM, ["--tries", "x"], 2, "--tries"), ("", [], 1, "a.c:1:1: no comment says"),
                 (Sources.PROGRAM, ["--cc", "no-such-compiler"], 1, "does not start"), (Sources.PROGRAM, ["--cc", "true"], 1, "writes no assembly"),
                 (Sources.PROGRAM, ["--cc", "gcc -m32"], 1, "32 bits"),
-            ):
+            )
+            for text, words, status, part in asked:
                 with open(path, "w", encoding="utf-8") as file:
                     file.write(text)
                 out, err, ended = run(["from_c.py", *(["--cc", compiler] if "--cc" not in words else []), *words, path])
@@ -800,22 +815,21 @@ class Compiled(cases.Case):
                     self.assertIn(part, out + err)
 
 
-def needed_lines(printed):
-    """The threads and the lines of the fences and exchanges that an answer needs, by what --fences prints."""
+def parse_needed_lines(printed: str) -> list[tuple[int, ...]]:
+    """Returns the threads and the lines of the fences and exchanges that an answer needs, by what --fences prints."""
     needed = re.findall(r"^P(\d)(?: at \d+)? \(?line (\d+)\)?.*(?:: needed, |, without its lock:\n  by its question, .*: \d)", printed, re.M)
     return [tuple(map(int, it)) for it in needed]
 
 
-def skipped():
-    """The lines that say what is left out, if compilers are missing, and what other versions of compilers make."""
+def skipped() -> str | None:
+    """Returns the lines that say what is left out, if compilers are missing, and what other versions of compilers make. None if nothing is."""
     lines = list(OTHER_VERSIONS)
-    if not compilers_for(".c"):
+    if not list_compilers(".c"):
         lines.append("no program in C was compiled, since neither gcc nor clang is here")
-    elif not compilers_for(".rs"):
+    elif not list_compilers(".rs"):
         lines.append("no program in Rust was compiled, since rustc is not here")
     return "\n".join(lines) or None
 
 
 if __name__ == "__main__":
-    given.print_as_lw()
-    sys.exit(close(cases.comparisons(sys.modules["__main__"]), skipped=skipped))
+    sys.exit(cases.main(skipped))

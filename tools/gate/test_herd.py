@@ -1,7 +1,6 @@
-#!/usr/bin/env python3
 """Whether tests are converted from herd's form and to it as docs/FROM-HERD.md says.
 
-    python3 tools/gate/test_herd.py, or python3 -m unittest tools.gate.test_herd
+    python3 tools gate.test_herd, or in tools/ python3 -m unittest gate.test_herd
 
 - Each test of tools/herd/tests is taken, and has the observation that INDEX.txt there gives, or is refused at the place and with the
   cause that it gives.
@@ -14,30 +13,32 @@
 
 Lists come from the program where it is built, else from tools/plain.py. tools/check_documents.py calls all this (tools/gate/cases.py).
 """
+from __future__ import annotations
+
 import glob
 import os
 import re
 import sys
 import tempfile
+from collections.abc import Iterable, Iterator, Sequence
 from dataclasses import replace
 from random import Random
 from unittest import mock
 
-sys.dont_write_bytecode = True
-sys.path.insert(0, os.path.dirname(os.path.dirname(os.path.abspath(__file__))))
 import given
 import plain
 import random_tests
 from gate import cases
 from gate.examples import TOOLS, examples, read, run
-from gate.herd_rows import SpelledRow, WideRow, wide_threads
-from herd.convert import converted
+from gate.herd_rows import SpelledRow, WideRow, make_wide_threads
+from herd.convert import Converted, convert
 from herd.rewrite import REWRITINGS
-from herd.together import put_together
+from herd.together import make_merged_report
 from herd.widths import ACTIONS
-from herd.write import FORMS, herd_report, herd_text
+from herd.write import FORMS, write_herd_report, write_herd_text
 from interpreter import machines
 from shared import logs
+from shared.matches import require_match
 
 RANDOM_TESTS = 60
 ROWS_OF_INSTRUCTIONS = 120
@@ -46,65 +47,65 @@ WIDE_THREADS = 150
 SPELLED_ROWS = 300
 
 
-def written_tests():
+def read_written_tests() -> list[tuple[str, str, str]]:
     """Returns the rows of the index: a name, options, and what is expected of the test."""
     rows = [re.split(r" *\| *", line, maxsplit=2) for line in read("tools/herd/tests/INDEX.txt").splitlines()]
-    return [(name, options, told) for name, options, told in rows]
+    return [(name, options, message) for name, options, message in rows]
 
 
-def told_of(name, options):
+def describe_test(name: str, options: str) -> str:
     """Returns the observation of a test in herd's form, or the position and the cause of its refusal."""
     text = read(f"tools/herd/tests/{name}.litmus")
     tries = int(options.split()[1]) if options else 0
     try:
-        report, _ = put_together(converted(text, tries).conversions)
+        report, _ = make_merged_report(convert(text, tries).conversions)
     except given.Fault as fault:
-        return given.line_of("", text.encode(), fault)[1:]
-    return re.search(rf"^Observation {re.escape(name)} (.*)$", report, re.M)[1]
+        return given.format_fault("", text.encode(), fault)[1:]
+    return require_match(re.search(rf"^Observation {re.escape(name)} (.*)$", report, re.M))[1]
 
 
 class WrittenTests(cases.Case):
     """The tests of tools/herd/tests, and its index."""
 
-    def test_index(self):
+    def test_index(self) -> None:
         """The index has each test once, and there are at least 40."""
         paths = sorted(os.path.basename(it)[: -len(".litmus")] for it in glob.glob(f"{TOOLS}/herd/tests/*.litmus"))
-        self.assertEqual(paths, sorted(name for name, _, _ in written_tests()))
+        self.assertEqual(paths, sorted(name for name, _, _ in read_written_tests()))
         self.assertTrue(len(paths) >= 40)
 
-    def test_observations(self):
+    def test_observations(self) -> None:
         """Each has the observation, or the place and the cause, that its row says."""
-        for name, options, told in written_tests():
+        for name, options, message in read_written_tests():
             with self.subTest(name):
-                self.assertEqual(told, told_of(name, options))
+                self.assertEqual(message, describe_test(name, options))
 
 
-def random_x86_tests():
+def list_random_x86_tests() -> Iterator[tuple[str, str]]:
     """Returns names and texts of random x86 tests."""
     for seed in range(1, RANDOM_TESTS + 1):
-        yield f"random x86 test {seed}", random_tests.Writer("X86", seed).test()
+        yield f"random x86 test {seed}", random_tests.Writer("X86", seed).draw_test()
 
 
 class BothForms(cases.Case):
     """Examples and random tests in herd's forms."""
 
-    def test_there_and_back(self):
+    def test_there_and_back(self) -> None:
         """What is written in a form, and read back, has its own canonical text."""
-        for name, text in [*examples(), *random_x86_tests()]:
-            program = plain.compiled(plain.read_test(text))
-            wanted = plain.canonical_text(program)
+        for name, text in [*examples(), *list_random_x86_tests()]:
+            program = plain.compile_test(plain.read_test(text))
+            wanted = plain.format_canonical_text(program)
             for form in FORMS:
                 with self.subTest(name, form=form):
-                    back = converted(herd_text(program, form)).conversions
-                    self.assertEqual([wanted], [plain.canonical_text(it.test) for it in back])
+                    back = convert(write_herd_text(program, form)).conversions
+                    self.assertEqual([wanted], [plain.format_canonical_text(it.test) for it in back])
 
-    def test_own(self):
+    def test_own(self) -> None:
         """An x86 test of lw is a test in herd's form."""
-        for name, text in [*examples(), *random_x86_tests()]:
+        for name, text in [*examples(), *list_random_x86_tests()]:
             if text.startswith("X86"):
                 with self.subTest(name):
-                    told = [plain.canonical_text(it.test) for it in converted(text).conversions]
-                    self.assertEqual([plain.canonical_text(plain.read_test(text))], told)
+                    found = [plain.format_canonical_text(it.test) for it in convert(text).conversions]
+                    self.assertEqual([plain.format_canonical_text(plain.read_test(text))], found)
 
 
 # Rows of instructions.
@@ -113,68 +114,69 @@ class BothForms(cases.Case):
 class Row:
     """A random sequence of instructions of one thread, with the final words of two registers, a location and the zero flag on x86."""
 
-    def __init__(self, seed):
+    def __init__(self, seed: int) -> None:
+        """Makes a row. The same seed makes the same one."""
         self.random = Random(f"row {seed}")
         self.a, self.b, self.x = (self.random.randint(0, 3) for _ in range(3))
         self.initial = f"0:EAX={self.a}; 0:EBX={self.b}; x={self.x};"
         self.zero = False
-        self.cells = [self.instruction() for _ in range(self.random.randint(1, 6))]
+        self.cells = [self.execute_instruction() for _ in range(self.random.randint(1, 6))]
 
-    def flag(self, word):
+    def set_flag(self, word: int) -> int:
         """Sets the flag by whether a word is 0."""
         self.zero = word % 2**32 == 0
         return word % 2**32
 
-    def instruction(self):
+    def execute_instruction(self) -> str:
         """Executes an instruction, and returns it."""
         number = self.random.randint(0, 3)
         choices = (
-            (f"ADD EAX,${number}", lambda: self.put(a=self.flag(self.a + number))),
-            (f"SUB EAX,${number}", lambda: self.put(a=self.flag(self.a - number))),
-            ("SUB EBX,EBX", lambda: self.put(b=self.flag(0))),
-            ("INC EAX", lambda: self.put(a=self.flag(self.a + 1))),
-            ("DEC EBX", lambda: self.put(b=self.flag(self.b - 1))),
-            ("XOR EAX,EAX", lambda: self.put(a=self.flag(0))),
-            ("OR EAX,$0", lambda: self.flag(self.a)),
-            ("AND EBX,$-1", lambda: self.flag(self.b)),
-            ("TEST EBX,EBX", lambda: self.flag(self.b)),
-            ("CMP [x],EBX", lambda: self.flag(self.x - self.b)),
-            ("CMP EAX,[x]", lambda: self.flag(self.a - self.x)),
-            ("ADD [x],EAX", lambda: self.put(x=self.flag(self.x + self.a))),
-            (f"SUB [x],${number}", lambda: self.put(x=self.flag(self.x - number))),
-            ("ADD EBX,[x]", lambda: self.put(b=self.flag(self.b + self.x))),
-            ("INC [x]", lambda: self.put(x=self.flag(self.x + 1))),
-            ("LOCK DEC [x]", lambda: self.put(x=self.flag(self.x - 1))),
-            ("LOCK ADD [x],EBX", lambda: self.put(x=self.flag(self.x + self.b))),
-            (f"LOCK SUB [x],${number}", lambda: self.put(x=self.flag(self.x - number))),
-            ("LOCK OR [x],$0", lambda: self.flag(self.x)),
-            ("XADD [x],EAX", lambda: self.put(x=self.flag(self.x + self.a), a=self.x)),
-            ("LOCK XADD [x],EBX", lambda: self.put(x=self.flag(self.x + self.b), b=self.x)),
-            ("XADD EAX,EBX", lambda: self.put(a=self.flag(self.a + self.b), b=self.a)),
-            ("XCHG EAX,EBX", lambda: self.put(a=self.b, b=self.a)),
-            ("XCHG EAX,[x]", lambda: self.put(a=self.x, x=self.a)),
-            ("CMOVE EAX,EBX", lambda: self.put(a=self.b if self.zero else self.a)),
-            ("CMOVNZ EBX,[x]", lambda: self.put(b=self.b if self.zero else self.x)),
-            ("MOV [x],EBX", lambda: self.put(x=self.b)),
+            (f"ADD EAX,${number}", lambda: self.set_words(a=self.set_flag(self.a + number))),
+            (f"SUB EAX,${number}", lambda: self.set_words(a=self.set_flag(self.a - number))),
+            ("SUB EBX,EBX", lambda: self.set_words(b=self.set_flag(0))),
+            ("INC EAX", lambda: self.set_words(a=self.set_flag(self.a + 1))),
+            ("DEC EBX", lambda: self.set_words(b=self.set_flag(self.b - 1))),
+            ("XOR EAX,EAX", lambda: self.set_words(a=self.set_flag(0))),
+            ("OR EAX,$0", lambda: self.set_flag(self.a)),
+            ("AND EBX,$-1", lambda: self.set_flag(self.b)),
+            ("TEST EBX,EBX", lambda: self.set_flag(self.b)),
+            ("CMP [x],EBX", lambda: self.set_flag(self.x - self.b)),
+            ("CMP EAX,[x]", lambda: self.set_flag(self.a - self.x)),
+            ("ADD [x],EAX", lambda: self.set_words(x=self.set_flag(self.x + self.a))),
+            (f"SUB [x],${number}", lambda: self.set_words(x=self.set_flag(self.x - number))),
+            ("ADD EBX,[x]", lambda: self.set_words(b=self.set_flag(self.b + self.x))),
+            ("INC [x]", lambda: self.set_words(x=self.set_flag(self.x + 1))),
+            ("LOCK DEC [x]", lambda: self.set_words(x=self.set_flag(self.x - 1))),
+            ("LOCK ADD [x],EBX", lambda: self.set_words(x=self.set_flag(self.x + self.b))),
+            (f"LOCK SUB [x],${number}", lambda: self.set_words(x=self.set_flag(self.x - number))),
+            ("LOCK OR [x],$0", lambda: self.set_flag(self.x)),
+            ("XADD [x],EAX", lambda: self.set_words(x=self.set_flag(self.x + self.a), a=self.x)),
+            ("LOCK XADD [x],EBX", lambda: self.set_words(x=self.set_flag(self.x + self.b), b=self.x)),
+            ("XADD EAX,EBX", lambda: self.set_words(a=self.set_flag(self.a + self.b), b=self.a)),
+            ("XCHG EAX,EBX", lambda: self.set_words(a=self.b, b=self.a)),
+            ("XCHG EAX,[x]", lambda: self.set_words(a=self.x, x=self.a)),
+            ("CMOVE EAX,EBX", lambda: self.set_words(a=self.b if self.zero else self.a)),
+            ("CMOVNZ EBX,[x]", lambda: self.set_words(b=self.b if self.zero else self.x)),
+            ("MOV [x],EBX", lambda: self.set_words(x=self.b)),
             ("NOP", lambda: None),
-            (f"LEA EAX,[EBX+EAX+{number}]", lambda: self.put(a=self.a + self.b + number)),
-            (f"LEA EBX,[EAX-{number}]", lambda: self.put(b=self.a - number)),
+            (f"LEA EAX,[EBX+EAX+{number}]", lambda: self.set_words(a=self.a + self.b + number)),
+            (f"LEA EBX,[EAX-{number}]", lambda: self.set_words(b=self.a - number)),
         )
         text, act = self.random.choice(choices)
         act()
         return text
 
-    def put(self, **words):
+    def set_words(self, **words: int) -> None:
         """Sets words, all at once."""
         for name, word in words.items():
             setattr(self, name, word % 2**32)
 
-    def text(self):
+    def make_text(self) -> str:
         """Returns the test: a branch at its end shows the flag."""
         body = "".join(f" {cell} ;\n" for cell in [*self.cells, "JE END", "MOV [zero],$1", "END:"])
         return f"X86 Row\n{{ {self.initial} }}\n P0 ;\n{body}locations [0:EAX; 0:EBX; x; zero;]\nforall (true)\n"
 
-    def state(self):
+    def format_state(self) -> str:
         """Returns the line of the final state on x86."""
         return f"0:EAX={self.a}; 0:EBX={self.b}; x={self.x}; zero={1 - self.zero};"
 
@@ -182,47 +184,47 @@ class Row:
 class Rows(cases.Case):
     """Random rows of instructions that lw lacks."""
 
-    def test_states(self):
+    def test_states(self) -> None:
         """A row leaves the words that x86 leaves; one whose flags can't be kept is refused, by LEA alone."""
         for seed in range(ROWS_OF_INSTRUCTIONS):
             row = Row(seed)
             try:
-                told = plain.report(converted(row.text()).conversions[0].test).splitlines()[1:3]
+                found = plain.make_report(convert(row.make_text()).conversions[0].test).splitlines()[1:3]
             except given.Fault as fault:
-                told = ["LEA" if fault.args[0].startswith("LEA leaves the flags alone") else fault.args[0]]
-            wanted = ["LEA"] if told == ["LEA"] and any("LEA" in cell for cell in row.cells) else ["States 1", row.state()]
-            with self.subTest(row.text()):
-                self.assertEqual(wanted, told)
+                found = ["LEA" if fault.args[0].startswith("LEA leaves the flags alone") else fault.args[0]]
+            wanted = ["LEA"] if found == ["LEA"] and any("LEA" in cell for cell in row.cells) else ["States 1", row.format_state()]
+            with self.subTest(row.make_text()):
+                self.assertEqual(wanted, found)
 
 
-def state_of(made):
+def list_only_state(conversion: Converted) -> list[str]:
     """Returns the only state of a converted test of one thread without loads of others."""
-    return plain.report(made.conversions[0].test).splitlines()[1:3]
+    return plain.make_report(conversion.conversions[0].test).splitlines()[1:3]
 
 
 class OtherRows(cases.Case):
     """Random rows that may be refused: none is taken for something else."""
 
-    def check_rows(self, rows, least):
+    def check_rows(self, rows: Iterable[SpelledRow | WideRow], least: int) -> None:
         """Checks that each sequence that is accepted has the final words of x86, and that at least this number are accepted."""
         taken = 0
         for row in rows:
             try:
-                made = converted(row.text())
+                conversion = convert(row.make_text())
             except given.Fault:
                 continue
-            if any(says.startswith("no mark says the order of operands") for _, says in made.notes):
+            if any(says.startswith("no mark says the order of operands") for _, says in conversion.notes):
                 continue
             taken += 1
-            with self.subTest(row.text()):
-                self.assertEqual(["States 1", row.state()], state_of(made))
+            with self.subTest(row.make_text()):
+                self.assertEqual(["States 1", row.format_state()], list_only_state(conversion))
         self.assertTrue(taken >= least)
 
-    def test_wide(self):
+    def test_wide(self) -> None:
         """Instructions of 64 bits are refused if a word may not fit into 32 bits."""
         self.check_rows((WideRow(seed) for seed in range(WIDE_ROWS)), WIDE_ROWS // 3)
 
-    def test_spelled(self):
+    def test_spelled(self) -> None:
         """Operands are taken in the order in which the row has them."""
         self.check_rows((SpelledRow(seed) for seed in range(SPELLED_ROWS)), SPELLED_ROWS // 3)
 
@@ -230,30 +232,30 @@ class OtherRows(cases.Case):
 # Single tests.
 
 
-def test_of(*cells, language="X86_64", initial="", condition="exists (x=1)"):
+def test_of(*cells: str, language: str = "X86_64", initial: str = "", condition: str = "exists (x=1)") -> str:
     """Returns a test of one thread."""
     body = "".join(f" {cell} ;\n" for cell in cells)
     return f"{language} Cells\n{{ {initial} }}\n P0 ;\n{body}{condition}\n"
 
 
-def refusal_of(text, tries=0, is_att=None):
-    """Returns the position and the cause for which a text is refused, or `None`."""
+def find_refusal(text: str, tries: int = 0, is_att: bool | None = None) -> str:
+    """Returns the position and the cause for which a text is refused; an empty text if it is not refused."""
     try:
-        converted(text, tries, is_att)
+        convert(text, tries, is_att)
     except given.Fault as fault:
-        return given.line_of("", text.encode(), fault)[1:]
-    return None
+        return given.format_fault("", text.encode(), fault)[1:]
+    return ""
 
 
-def cells_of(text, is_att=None):
+def list_cells(text: str, is_att: bool | None = None) -> list[str]:
     """Returns the instructions of the first thread of a converted text."""
-    made = converted(text, is_att=is_att).conversions[0].test
-    return [plain.instruction_text(made, it) for it in made.threads[0]]
+    conversion = convert(text, is_att=is_att).conversions[0].test
+    return [plain.format_instruction(conversion, it) for it in conversion.threads[0]]
 
 
-def notes_on_order(text):
+def list_order_notes(text: str) -> list[str]:
     """Returns the positions and the first words of the notes on the order of operands."""
-    notes = [(given.place(text, at), says) for at, says in converted(text).notes if "operands" in says]
+    notes = [(given.format_place(text, offset), says) for offset, says in convert(text).notes if "operands" in says]
     return [f"{place} {says.partition(' order')[0]}" if says.startswith("operands") else f"{place} {says}" for place, says in notes]
 
 
@@ -263,7 +265,7 @@ class Orders(cases.Case):
     INTEL = "operands are taken in Intel's"
     ATT = "operands are taken in AT&T's"
 
-    def test_marks(self):
+    def test_marks(self) -> None:
         """A store is a store in the order that the marks say, and a note names the first mark."""
         for cells, note in (
             (("mov [x],eax", "lock incl [z]"), f"4:6 {self.INTEL}"),
@@ -277,23 +279,23 @@ class Orders(cases.Case):
         ):
             text = test_of(*cells)
             with self.subTest(cells):
-                self.assertEqual([note], notes_on_order(text))
-                self.assertTrue(any(it.startswith("MOV [x],") for it in cells_of(text)))
+                self.assertEqual([note], list_order_notes(text))
+                self.assertTrue(any(it.startswith("MOV [x],") for it in list_cells(text)))
 
-    def test_language(self):
+    def test_language(self) -> None:
         """Without a mark the language decides, and a note says so if the order matters; X86 with Intel's marks has no note."""
         no_mark = "no mark says the order of operands: {} is taken, the destination {}, as in herd's tests of {}"
         of_registers = lambda language: test_of("mov eax,ebx", language=language, condition="exists (0:eax=1)")
-        told = [notes_on_order(of_registers(language)) for language in ("X86", "X86_64")]
+        found = [list_order_notes(of_registers(language)) for language in ("X86", "X86_64")]
         wanted = [["4:2 " + no_mark.format("Intel's", "first", "X86")], ["4:2 " + no_mark.format("AT&T's", "last", "X86_64")]]
-        self.assertEqual(wanted, told)
-        self.assertEqual([["MOV EAX,EBX"], ["MOV EBX,EAX"]], [cells_of(of_registers(language)) for language in ("X86", "X86_64")])
+        self.assertEqual(wanted, found)
+        self.assertEqual([["MOV EAX,EBX"], ["MOV EBX,EAX"]], [list_cells(of_registers(language)) for language in ("X86", "X86_64")])
         of_one = test_of("lock incl [z]", "incl (x)", "xchg (x),eax")
         for text in (test_of("MOV [x],$1", language="X86"), test_of("xchg eax,ebx"), test_of("je L", "L:"), of_one):
-            self.assertEqual([], notes_on_order(text))
-        self.assertEqual([f"4:7 {self.ATT}"], notes_on_order(test_of("movl %eax,(x)", language="X86")))
+            self.assertEqual([], list_order_notes(text))
+        self.assertEqual([f"4:7 {self.ATT}"], list_order_notes(test_of("movl %eax,(x)", language="X86")))
 
-    def test_contradictions(self):
+    def test_contradictions(self) -> None:
         """Marks that contradict one another are refused, with both places; an order that is named is taken."""
         for cells, first, second in (
             (("mov [x],eax", "mov rax,(x)"), "'[' at 4:6", "5:10: '('"),
@@ -306,39 +308,41 @@ class Orders(cases.Case):
         ):
             for language in ("X86", "X86_64"):
                 with self.subTest(cells, language=language):
-                    told = refusal_of(test_of(*cells, language=language))
-                    self.assertTrue(told.startswith(second))
-                    self.assertIn(first or "order of operands", told)
-                    self.assertIn("--order intel or --order att", told)
+                    found = find_refusal(test_of(*cells, language=language))
+                    self.assertTrue(found.startswith(second))
+                    self.assertIn(first or "order of operands", found)
+                    self.assertIn("--order intel or --order att", found)
         mixed = test_of("mov [x],eax", "mov eax,(x)")
-        self.assertEqual(["MOV [x],EAX", "MOV EAX,[x]"], cells_of(mixed, False))
-        self.assertEqual(["MOV EAX,[x]", "MOV [x],EAX"], cells_of(mixed, True))
+        self.assertEqual(["MOV [x],EAX", "MOV EAX,[x]"], list_cells(mixed, False))
+        self.assertEqual(["MOV EAX,[x]", "MOV [x],EAX"], list_cells(mixed, True))
 
-    def test_threads(self):
+    def test_threads(self) -> None:
         """Two threads with different orders contradict one another."""
         text = "X86_64 Two\n{ }\n P0 | P1 ;\n movl $1,(x) | mov [y],eax ;\nexists (x=1)\n"
-        self.assertTrue(refusal_of(text).startswith("4:20: '[' says Intel's"))
+        self.assertTrue(find_refusal(text).startswith("4:20: '[' says Intel's"))
 
-    def test_numbers_of_att(self):
+    def test_numbers_of_att(self) -> None:
         """In AT&T's order a number without a `$` is an address."""
-        told = "4:7: in AT&T's order a number without '$' is the address of a word: write $1 for the number"
-        self.assertEqual(told, refusal_of(test_of("movl 1,%eax")))
+        message = "4:7: in AT&T's order a number without '$' is the address of a word: write $1 for the number"
+        self.assertEqual(message, find_refusal(test_of("movl 1,%eax")))
 
 
-def with_64_bits(it):
+def widen_number(statement: plain.Statement) -> plain.Statement:
     """Returns an instruction whose small negative number has 64 bits."""
-    is_negative = it.value is not None and it.value[0] == "number" and it.value[1] >= 2**32 - 16
-    return replace(it, value=("number", it.value[1] + 2**64 - 2**32)) if is_negative else it
+    value = statement.value
+    if not isinstance(value, plain.Number) or value.word < 2**32 - 16:
+        return statement
+    return replace(statement, value=plain.Number(value.word + 2**64 - 2**32))
 
 
 class Words64(cases.Case):
     """Words of 64 bits."""
 
-    def test_refused(self):
+    def test_refused(self) -> None:
         """What may not fit into 32 bits is refused."""
         fits = "and a word of lw has 32 bits"
         negative = f"it works on 64 bits, and its result may be negative, {fits}"
-        for cells, initial, told in (
+        for cells, initial, message in (
             (("leaq -1(%rbx),%rax",), "", f"4:2: {negative}"),
             (("movl $-1,%eax", "cmpq $-1,%rax"), "", f"5:2: it extends the sign of -1 to 64 bits, {fits}"),
             (("movq (x),%rax", "decq %rax"), "", f"5:2: {negative}"),
@@ -354,39 +358,39 @@ class Words64(cases.Case):
             (("cmpq $0xffffffff,%rax",), "", f"4:2: no instruction of 64 bits has the number 4294967295: it would extend a sign, {fits}"),
         ):
             with self.subTest(cells):
-                self.assertEqual(told, refusal_of(test_of(*cells, initial=initial)))
+                self.assertEqual(message, find_refusal(test_of(*cells, initial=initial)))
 
-    def test_between_threads(self):
+    def test_between_threads(self) -> None:
         """A word that grows from thread to thread is refused if it may grow too large, and taken if it may not."""
         text = "X86_64 Grow\n{{ x={0}; y=0; }}\n P0 | P1 ;\n movq (x),%rax | movq (y),%rbx ;\n addq %rax,%rax | addq %rbx,%rbx ;\n"
         text += " movq %rax,(y) | movq %rbx,(x) ;\nexists (x=4)\n"
         # P1 may store four times the first word; the ranges have P0 read that, which no run does.
-        self.assertEqual(None, refusal_of(text.format(2**28)))
-        self.assertTrue("as large as" in refusal_of(text.format(2**31)))
+        self.assertEqual("", find_refusal(text.format(2**28)))
+        self.assertTrue("as large as" in find_refusal(text.format(2**31)))
 
-    def test_differences_of_threads(self):
+    def test_differences_of_threads(self) -> None:
         """What several threads take off is refused only if there may be too little."""
         for cell in ("lock decq (x)", "decq (x)", "lock addq $-1,(x)"):
             text = f"X86_64 Dec\n{{{{ x={{}}; }}}}\n P0 | P1 ;\n {cell} | {cell} ;\nexists (x=0)\n"
-            self.assertEqual([True, False], ["may be negative" in (refusal_of(text.format(word)) or "") for word in (1, 2)])
-        self.assertEqual(None, refusal_of(test_of("movq (x),%rax", "decq %rax", "movq %rax,(x)", initial="x=1;")))
-        self.assertEqual(None, refusal_of(test_of("L: decq %rcx", "jne L", initial="0:rcx=2;"), tries=2))
+            self.assertEqual([True, False], ["may be negative" in (find_refusal(text.format(word)) or "") for word in (1, 2)])
+        self.assertEqual("", find_refusal(test_of("movq (x),%rax", "decq %rax", "movq %rax,(x)", initial="x=1;")))
+        self.assertEqual("", find_refusal(test_of("L: decq %rcx", "jne L", initial="0:rcx=2;"), tries=2))
 
-    def test_random_threads(self):
+    def test_random_threads(self) -> None:
         """A test of two threads that is taken has the same states if the words of the machine have 64 bits."""
         taken = 0
         for seed in range(WIDE_THREADS):
-            text = wide_threads(seed)
-            if refusal_of(text) is None:
-                test = converted(text).conversions[0].test
+            text = make_wide_threads(seed)
+            if not find_refusal(text):
+                test = convert(text).conversions[0].test
                 with mock.patch.object(machines, "WORD", 2**64):
-                    wide = plain.report(replace(test, threads=[tuple(map(with_64_bits, code)) for code in test.threads]))
+                    wide = plain.make_report(replace(test, threads=[tuple(map(widen_number, code)) for code in test.threads]))
                 taken += 1
                 with self.subTest(text):
-                    self.assertEqual(wide, plain.report(test))
+                    self.assertEqual(wide, plain.make_report(test))
         self.assertTrue(WIDE_THREADS // 3 <= taken < WIDE_THREADS)
 
-    def test_taken(self):
+    def test_taken(self) -> None:
         """Small numbers, sums and comparisons of 64 bits are taken, and so is what 32 bits make of larger ones."""
         for cells, initial, condition in (
             (("movq $2,(x)", "movq (x),%rax", "addq $3,%rax"), "uint64_t x;", "forall (0:rax=5)"),
@@ -398,26 +402,26 @@ class Words64(cases.Case):
             (("lock xaddq %rax,(x)",), "0:rax=1; x=4;", "forall (0:rax=4 /\\ x=5)"),
         ):
             with self.subTest(cells):
-                report = plain.report(converted(test_of(*cells, initial=initial, condition=condition)).conversions[0].test)
+                report = plain.make_report(convert(test_of(*cells, initial=initial, condition=condition)).conversions[0].test)
                 self.assertIn("\nOk\n", report)
 
-    def test_actions(self):
+    def test_actions(self) -> None:
         """Each instruction that is rewritten has a rule for the words of 64 bits."""
         self.assertEqual(sorted(REWRITINGS), sorted(ACTIONS))
 
-    def test_negative_atoms(self):
+    def test_negative_atoms(self) -> None:
         """A negative number is not compared with 64 bits that may have the same lower half."""
         asked = "exists (0:rax=-1)"
-        told = "a negative number is compared with 64 bits: write it modulo 2 to the 32, or the register by its name of 32 bits"
-        self.assertEqual(f"5:15: {told}", refusal_of(test_of("movl $-1,%eax", condition=asked)))
-        self.assertEqual(None, refusal_of(test_of("movl $1,%eax", condition=asked)))
-        self.assertEqual("4:2: it extends the sign of -1 to 64 bits, and a word of lw has 32 bits", refusal_of(test_of("movq $-1,(x)")))
+        message = "a negative number is compared with 64 bits: write it modulo 2 to the 32, or the register by its name of 32 bits"
+        self.assertEqual(f"5:15: {message}", find_refusal(test_of("movl $-1,%eax", condition=asked)))
+        self.assertEqual("", find_refusal(test_of("movl $1,%eax", condition=asked)))
+        self.assertEqual("4:2: it extends the sign of -1 to 64 bits, and a word of lw has 32 bits", find_refusal(test_of("movq $-1,(x)")))
 
 
 class Causes(cases.Case):
     """What is refused has its true cause, and what is taken is not taken for something else."""
 
-    def test_mnemonics(self):
+    def test_mnemonics(self) -> None:
         """The cause of each mnemonic that is refused."""
         for cell, cause in (
             ("movslq (x),%rax", "it extends a sign to a larger word"),
@@ -446,49 +450,49 @@ class Causes(cases.Case):
             ("subl %ebx,%eax", "a difference of two words"),
         ):
             with self.subTest(cell):
-                self.assertIn(cause, refusal_of(test_of(cell, "L:")))
+                self.assertIn(cause, find_refusal(test_of(cell, "L:")))
 
-    def test_relative(self):
+    def test_relative(self) -> None:
         """`x[rip]` is the location x, and `x[rip+4]` is none."""
-        self.assertEqual(["MOV EAX,[x]", "MOV [y],$1"], cells_of(test_of("mov eax,DWORD PTR x[rip]", "mov y[rip],1")))
-        self.assertIn("the address is computed", refusal_of(test_of("mov eax,x[rip+4]")))
-        self.assertIn("an array is not converted", refusal_of(test_of("mov eax,x[rbx]")))
-        self.assertIn("takes off numbers only", refusal_of(test_of("lea eax,[ebx-ecx]")))
-        self.assertEqual(["MOV [x],$1"], cells_of(test_of("lea rbx,x[rip]", "mov rcx,OFFSET FLAT:x", "mov DWORD PTR [rcx],1")))
+        self.assertEqual(["MOV EAX,[x]", "MOV [y],$1"], list_cells(test_of("mov eax,DWORD PTR x[rip]", "mov y[rip],1")))
+        self.assertIn("the address is computed", find_refusal(test_of("mov eax,x[rip+4]")))
+        self.assertIn("an array is not converted", find_refusal(test_of("mov eax,x[rbx]")))
+        self.assertIn("takes off numbers only", find_refusal(test_of("lea eax,[ebx-ecx]")))
+        self.assertEqual(["MOV [x],$1"], list_cells(test_of("lea rbx,x[rip]", "mov rcx,OFFSET FLAT:x", "mov DWORD PTR [rcx],1")))
 
-    def test_registers_without_thread(self):
+    def test_registers_without_thread(self) -> None:
         """A register without a thread is no location."""
-        told = "'EAX' is a register: write of which thread, as 0:EAX"
-        self.assertEqual(f"5:9: {told}", refusal_of(test_of("mov [x],1", condition="exists (EAX=1)")))
-        self.assertEqual(f"2:3: {told}", refusal_of(test_of("mov [x],1", initial="EAX=1;")))
+        message = "'EAX' is a register: write of which thread, as 0:EAX"
+        self.assertEqual(f"5:9: {message}", find_refusal(test_of("mov [x],1", condition="exists (EAX=1)")))
+        self.assertEqual(f"2:3: {message}", find_refusal(test_of("mov [x],1", initial="EAX=1;")))
 
-    def test_two_initial_values(self):
+    def test_two_initial_values(self) -> None:
         """Of two values of one site the last is taken, with a note; an entry that only has a type has none."""
         note = "'x' has two values in the initial block: the last one is taken"
         for initial, word, notes in (("x=1; x=2;", 2, [note]), ("x=-1; x=2;", 2, [note]), ("x=5; int x;", 5, []), ("int x; x=5;", 5, [])):
-            made = converted(test_of("mov [x],eax", initial=initial))
-            self.assertEqual(((word,), notes), (made.conversions[0].test.words, [it for _, it in made.notes if "two values" in it]))
-        self.assertEqual(["MOV [x],$2"], cells_of(test_of("mov DWORD PTR [rbx],2", initial="0:rbx=1; 0:rbx=x;")))
+            conversion = convert(test_of("mov [x],eax", initial=initial))
+            self.assertEqual(((word,), notes), (conversion.conversions[0].test.words, [it for _, it in conversion.notes if "two values" in it]))
+        self.assertEqual(["MOV [x],$2"], list_cells(test_of("mov DWORD PTR [rbx],2", initial="0:rbx=1; 0:rbx=x;")))
 
-    def test_byte_order_marks(self):
+    def test_byte_order_marks(self) -> None:
         """A byte order mark is told as one."""
-        self.assertEqual("1:1: the text is a byte order mark (U+FEFF) and nothing else", refusal_of("\ufeff"))
-        told = "1:1: the text begins with a byte order mark (U+FEFF): save it without one"
-        self.assertEqual(told, refusal_of("\ufeff" + test_of("mov [x],1")))
+        self.assertEqual("1:1: the text is a byte order mark (U+FEFF) and nothing else", find_refusal("\ufeff"))
+        message = "1:1: the text begins with a byte order mark (U+FEFF): save it without one"
+        self.assertEqual(message, find_refusal("\ufeff" + test_of("mov [x],1")))
 
-    def test_unset_flag(self):
+    def test_unset_flag(self) -> None:
         """A note says where the flag is read before an instruction has set it."""
         says = "the zero flag is read here before an instruction has set it: it is taken as not set at first"
         for cells, notes in ((("je L", "movl $1,(x)", "L:"), [says]), (("cmpl $0,%eax", "je L", "movl $1,(x)", "L:"), [])):
-            self.assertEqual(notes, [it for _, it in converted(test_of(*cells)).notes if "zero flag" in it])
+            self.assertEqual(notes, [it for _, it in convert(test_of(*cells)).notes if "zero flag" in it])
 
-    def test_name_of_mark(self):
+    def test_name_of_mark(self) -> None:
         """A location with the name that a mark would have is still itself."""
         registers = [f"movl %eax,%{name}" for name in ("ebx", "ecx", "edx", "esi", "edi")]
         text = test_of("L: movl (done0),%eax", *registers, "cmpl $5,%eax", "jne L", initial="done0=5;", condition="forall (done0=5)")
-        test = converted(text, tries=1).conversions[0].test
+        test = convert(text, tries=1).conversions[0].test
         self.assertEqual((["done0", "done0_"], (5, 0)), (test.locations, test.words))
-        self.assertIn("Observation Cells Always 1 0", plain.report(test))
+        self.assertIn("Observation Cells Always 1 0", plain.make_report(test))
 
 
 # Reports, and the command line.
@@ -497,10 +501,10 @@ class Causes(cases.Case):
 class Reports(cases.Case):
     """A report in the lines of a log of herd's."""
 
-    def test_lines(self):
+    def test_lines(self) -> None:
         """Its lines are the test, the states, whether the question holds, and the observation."""
-        report = plain.report(plain.read_test(read("examples/SB-x86.litmus")))
-        lines = herd_report(report, "X86_64").splitlines()
+        report = plain.make_report(plain.read_test(read("examples/SB-x86.litmus")))
+        lines = write_herd_report(report, "X86_64").splitlines()
         self.assertEqual(["Test SB-x86 Allowed", "States 4", "0:rax=0; 1:rax=0;"], lines[:3])
         self.assertEqual(["Ok", "Witnesses", "Positive: 1 Negative: 3"], lines[6:9])
         self.assertEqual(["Observation SB-x86 Sometimes 1 3", "Time SB-x86 0.00", ""], lines[10:])
@@ -511,7 +515,7 @@ class Commands(cases.Case):
 
     TOOLS = ("from_herd", "to_herd", "assume")
 
-    def test_help(self):
+    def test_help(self) -> None:
         """`--help` prints the head comment."""
         for tool in self.TOOLS:
             with self.subTest(tool):
@@ -519,24 +523,24 @@ class Commands(cases.Case):
                 self.assertEqual(("", 0), (err, status))
                 self.assertIn(f"tools/{tool}.py", out)
 
-    def test_missing_file(self):
+    def test_missing_file(self) -> None:
         """A file that is not there is told in the system's words."""
         for tool in self.TOOLS:
             with self.subTest(tool):
-                told = run([f"{tool}.py", "nowhere.litmus"])
-                self.assertEqual(("", f"{tool}: nowhere.litmus: No such file or directory\n", 1), told)
+                printed = run([f"{tool}.py", "nowhere.litmus"])
+                self.assertEqual(("", f"{tool}: nowhere.litmus: No such file or directory\n", 1), printed)
 
-    def test_faults_of_from_herd(self):
+    def test_faults_of_from_herd(self) -> None:
         """What is not converted is told with its place, and nothing is printed."""
         out, err, status = run(["from_herd.py"], read("tools/herd/tests/Less.litmus"))
         self.assertEqual(("-:6:2: 'JL' is not converted", "", 1), (err.split(":  ")[0][:28], out, status))
         _, err, status = run(["from_herd.py"], read("tools/herd/tests/Cas.litmus"))
         self.assertEqual(("-:1:1: LOCK CMPXCHG makes 4 tests", 1), (err[:33], status))
 
-    def test_faults_of_to_herd(self):
+    def test_faults_of_to_herd(self) -> None:
         """A text that is no test, and a name that herd takes for a register, are told with their place."""
-        told = run(["to_herd.py"], "SRC A\n{}\n P1 ;\n")
-        self.assertEqual(("", "-:3:2: 'P1' stands where 'P0' should\n", 1), told)
+        printed = run(["to_herd.py"], "SRC A\n{}\n P1 ;\n")
+        self.assertEqual(("", "-:3:2: 'P1' stands where 'P0' should\n", 1), printed)
         _, err, status = run(["to_herd.py"], "X86 A\n{}\n P0 ;\n MOV [rax],1 ;\nexists (rax=1)\n")
         self.assertEqual(("-:1:1: the location 'rax' has a name", 1), (err[:36], status))
 
@@ -544,20 +548,20 @@ class Commands(cases.Case):
 class Files(cases.Case):
     """Files that tests are written into, and what tools/run_all.py says of tests in herd's form."""
 
-    def write(self, room, name, text):
+    def write_file(self, folder: str, name: str, text: str) -> str:
         """Writes a file into a folder, and returns its path."""
-        path = os.path.join(room, name)
-        with open(path, "w", encoding="utf-8") as it:
-            it.write(text)
+        path = os.path.join(folder, name)
+        with open(path, "w", encoding="utf-8") as file:
+            file.write(text)
         return path
 
-    def test_one_name(self):
+    def test_one_name(self) -> None:
         """Of two tests with one name the second is refused, both inputs are named, and the first is not overwritten."""
-        with tempfile.TemporaryDirectory(prefix="lw-herd-") as room:
-            into = os.path.join(room, "into")
+        with tempfile.TemporaryDirectory(prefix="lw-herd-") as folder:
+            into = os.path.join(folder, "into")
             os.mkdir(into)
-            first = self.write(room, "first", test_of("mov [x],1", language="X86"))
-            second = self.write(room, "second", test_of("mov [x],2", language="X86"))
+            first = self.write_file(folder, "first", test_of("mov [x],1", language="X86"))
+            second = self.write_file(folder, "second", test_of("mov [x],2", language="X86"))
             out, err, status = run(["from_herd.py", "--into", into, first, second])
             path = os.path.join(into, "Cells.litmus")
             wanted = f"{second}:1:5: 'Cells' of {second} and a test of {first} have one file name, {path}: "
@@ -568,7 +572,7 @@ class Files(cases.Case):
             self.assertEqual((f"{second}:1:5: {path} has another text already", 1), (err.partition(", and is not overwritten")[0], status))
             self.assertIn("MOV [x],$1", read(path))
 
-    def test_run_all(self):
+    def test_run_all(self) -> None:
         """run_all.py converts tests in herd's form, and says by which tool; one that is refused says why as a test of both forms."""
         for name, wanted in (("SB-att", "from_herd.py, X86_64: 1 test"), ("MP+xor", "from_herd.py, X86: 1 test")):
             out, _, status = run(["run_all.py", "--as", "csv", f"tools/herd/tests/{name}.litmus"])
@@ -609,132 +613,132 @@ class Logs(cases.Case):
 
     NAMES = ("SB-addresses", "MP+filter", "Cas", "Spin")
 
-    def told(self, option, log, names=NAMES, left_out=()):
+    def compare_with_log(self, option: str, log: str, names: Sequence[str] = NAMES, left_out: Sequence[str] = ()) -> tuple[list[str], int]:
         """Returns the lines of run_all.py on converted tests, and its status; some of the files are left out."""
-        with tempfile.TemporaryDirectory(prefix="lw-herd-") as room:
+        with tempfile.TemporaryDirectory(prefix="lw-herd-") as folder:
             files = [f"tools/herd/tests/{name}.litmus" for name in names]
-            self.assertEqual(0, run(["from_herd.py", "--tries", "2", "--into", room, *files])[2])
+            self.assertEqual(0, run(["from_herd.py", "--tries", "2", "--into", folder, *files])[2])
             for name in left_out:
-                os.remove(os.path.join(room, f"{name}.litmus"))
-            path = os.path.join(room, "log")
-            with open(path, "w", encoding="utf-8") as it:
-                it.write(log)
-            _, err, status = run(["run_all.py", room, option, path])
+                os.remove(os.path.join(folder, f"{name}.litmus"))
+            path = os.path.join(folder, "log")
+            with open(path, "w", encoding="utf-8") as file:
+                file.write(log)
+            _, err, status = run(["run_all.py", folder, option, path])
             return [line.replace(path, "LOG") for line in err.splitlines() if not line.startswith("run_all:")], status
 
-    def log(self, *names):
-        """Returns the part of the log with some tests."""
+    def make_log(self, *names: str) -> str:
+        """Returns the log of these tests."""
         parts = re.split(r"(?m)^(?=Test )", LOG)
         return "".join(part for part in parts if part.split(" ")[1:2] and part.split(" ")[1] in names)
 
-    def test_original_names(self):
+    def test_original_names(self) -> None:
         """Renamed registers, filters, marks and guesses are those of the original: nothing differs."""
-        self.assertEqual((["4 tests against 4 of LOG: 0 differ"], 0), self.told("--against", self.log(*self.NAMES)))
+        self.assertEqual((["4 tests against 4 of LOG: 0 differ"], 0), self.compare_with_log("--against", self.make_log(*self.NAMES)))
 
-    def test_renamed_location(self):
+    def test_renamed_location(self) -> None:
         """A location with another name in lw is compared by its own."""
         log = "Test Names Allowed\nStates 1\n0:r15=1; if=1;\nOk\n"
-        with tempfile.TemporaryDirectory(prefix="lw-herd-") as room:
-            path, text = os.path.join(room, "log"), test_of("movl $1,(if)", "movl (if),%r15d", condition="exists (0:r15=1 /\\ if=1)")
-            with open(path, "w", encoding="utf-8") as it:
-                it.write(log)
-            with open(os.path.join(room, "Names.litmus"), "w", encoding="utf-8") as it:
-                it.write(run(["from_herd.py"], text.replace("Cells", "Names"))[0])
-            self.assertEqual(0, run(["run_all.py", room, "--against", path])[2])
+        with tempfile.TemporaryDirectory(prefix="lw-herd-") as folder:
+            path, text = os.path.join(folder, "log"), test_of("movl $1,(if)", "movl (if),%r15d", condition="exists (0:r15=1 /\\ if=1)")
+            with open(path, "w", encoding="utf-8") as file:
+                file.write(log)
+            with open(os.path.join(folder, "Names.litmus"), "w", encoding="utf-8") as file:
+                file.write(run(["from_herd.py"], text.replace("Cells", "Names"))[0])
+            self.assertEqual(0, run(["run_all.py", folder, "--against", path])[2])
 
-    def test_filter_of_hidden_names(self):
+    def test_filter_of_hidden_names(self) -> None:
         """A log may lack the names that only the filter has, and no others."""
         text = read("tools/herd/tests/MP+filter.litmus").replace("locations [x; y;]\n", "")
-        with tempfile.TemporaryDirectory(prefix="lw-herd-") as room:
-            path = os.path.join(room, "log")
-            with open(os.path.join(room, "A.litmus"), "w", encoding="utf-8") as it:
-                it.write(run(["from_herd.py"], text)[0])
+        with tempfile.TemporaryDirectory(prefix="lw-herd-") as folder:
+            path = os.path.join(folder, "log")
+            with open(os.path.join(folder, "A.litmus"), "w", encoding="utf-8") as file:
+                file.write(run(["from_herd.py"], text)[0])
             for state, status in (("1:EAX=1; 1:EBX=1;", 0), ("1:EBX=1;", 0), ("1:EAX=1;", 1), ("1:EBX=0;", 1)):
-                with open(path, "w", encoding="utf-8") as it:
-                    it.write(f"Test MP+filter Required\nStates 1\n{state}\nOk\n")
-                self.assertEqual(status, run(["run_all.py", room, "--against", path])[2])
+                with open(path, "w", encoding="utf-8") as file:
+                    file.write(f"Test MP+filter Required\nStates 1\n{state}\nOk\n")
+                self.assertEqual(status, run(["run_all.py", folder, "--against", path])[2])
 
-    def test_differences(self):
+    def test_differences(self) -> None:
         """A difference is told in the original's names."""
-        lines, status = self.told("--against", self.log("SB-addresses").replace("1:r9=0", "1:r9=7", 1), ("SB-addresses",))
+        lines, status = self.compare_with_log("--against", self.make_log("SB-addresses").replace("1:r9=0", "1:r9=7", 1), ("SB-addresses",))
         wanted = ["SB-addresses: missing 1, too much 1", "  missing: 0:R8=0; 1:R9=7;", "  too much: 0:R8=0; 1:R9=0;"]
         self.assertEqual(([*wanted, "1 tests against 1 of LOG: 1 differ"], 1), (lines, status))
 
-    def test_missing_guesses(self):
+    def test_missing_guesses(self) -> None:
         """A test some of whose guesses have no file is not compared."""
-        lines, status = self.told("--against", self.log("Cas"), ("Cas",), ("Cas+FS",))
+        lines, status = self.compare_with_log("--against", self.make_log("Cas"), ("Cas",), ("Cas+FS",))
         self.assertTrue(lines[0].startswith("Cas: 1 of the tests that stand for guesses of its LOCK CMPXCHG are missing"))
         self.assertEqual(1, status)
 
-    def test_bounded_loops(self):
+    def test_bounded_loops(self) -> None:
         """A state that needs more tries than are written down is no contradiction; the test is not compared."""
-        log = self.log("Spin").replace("1:rbx=1", "1:rbx=0")
+        log = self.make_log("Spin").replace("1:rbx=1", "1:rbx=0")
         for option in ("--against", "--machine-log"):
-            lines, status = self.told(option, log, ("Spin",))
+            lines, status = self.compare_with_log(option, log, ("Spin",))
             self.assertTrue(lines[0].startswith("Spin: only runs that go through each loop at most 2 times are listed"))
             self.assertEqual(1, status)
 
-    def test_machine_log(self):
+    def test_machine_log(self) -> None:
         """A machine that does not show all states is no difference; one that shows a further state has a status of its own."""
-        some = self.log("SB-addresses").replace("(4 states)", "(1 states)")
-        lines, status = self.told("--machine-log", some, ("SB-addresses", "MP+filter"))
+        some = self.make_log("SB-addresses").replace("(4 states)", "(1 states)")
+        lines, status = self.compare_with_log("--machine-log", some, ("SB-addresses", "MP+filter"))
         summary = "1 of 2 tests are in the machine's log LOG: {} showed states that are not listed, {} did not show all, 0 are not compared"
         self.assertEqual(([summary.format(0, 1)], 0), (lines, status))
-        lines, status = self.told("--machine-log", some.replace("1:r9=0", "1:r9=2"), ("SB-addresses", "MP+filter"))
+        lines, status = self.compare_with_log("--machine-log", some.replace("1:r9=0", "1:r9=2"), ("SB-addresses", "MP+filter"))
         wanted = ["SB-addresses: 1 states were seen that are not listed, 4 are listed and were not seen"]
         wanted.append("  seen and not listed: 0:R8=0; 1:R9=2;")
         self.assertEqual(([*wanted, summary.format(1, 1)], 3), (lines, status))
 
-    def test_large_words(self):
+    def test_large_words(self) -> None:
         """A word of more than 32 bits is not the word of its lower half."""
-        log = self.log("SB-addresses").replace("1:r9=0", "1:r9=0x100000000", 1)
-        self.assertEqual(3, self.told("--machine-log", log, ("SB-addresses",))[1])
+        log = self.make_log("SB-addresses").replace("1:r9=0", "1:r9=0x100000000", 1)
+        self.assertEqual(3, self.compare_with_log("--machine-log", log, ("SB-addresses",))[1])
 
-    def test_earlier_run(self):
+    def test_earlier_run(self) -> None:
         """The log of an earlier run has converted tests by their own names, and nothing differs from it; a change of it does."""
-        with tempfile.TemporaryDirectory(prefix="lw-herd-") as room:
+        with tempfile.TemporaryDirectory(prefix="lw-herd-") as folder:
             files = [f"tools/herd/tests/{name}.litmus" for name in (*self.NAMES, "Reserved")]
-            self.assertEqual(0, run(["from_herd.py", "--tries", "2", "--into", room, *files])[2])
-            path, log = os.path.join(room, "log"), run(["run_all.py", "--as", "log", room])[0]
+            self.assertEqual(0, run(["from_herd.py", "--tries", "2", "--into", folder, *files])[2])
+            path, log = os.path.join(folder, "log"), run(["run_all.py", "--as", "log", folder])[0]
             for text, status in ((log, 0), (log.replace("0:EDI=1; 1:EDI=1;", "0:EDI=1; 1:EDI=2;"), 1)):
-                with open(path, "w", encoding="utf-8") as it:
-                    it.write(text)
-                self.assertEqual(status, run(["run_all.py", room, "--against", path])[2])
+                with open(path, "w", encoding="utf-8") as file:
+                    file.write(text)
+                self.assertEqual(status, run(["run_all.py", folder, "--against", path])[2])
 
-    def test_changed_comment(self):
+    def test_changed_comment(self) -> None:
         """A converted test whose comment names what the test does not have is compared as it is."""
-        with tempfile.TemporaryDirectory(prefix="lw-herd-") as room:
+        with tempfile.TemporaryDirectory(prefix="lw-herd-") as folder:
             text = run(["from_herd.py", "tools/herd/tests/MP+filter.litmus"])[0].replace("filter is 1:EAX=1", "filter is 3:EAX=1")
-            path = os.path.join(room, "log")
-            with open(os.path.join(room, "A.litmus"), "w", encoding="utf-8") as it:
-                it.write(text)
-            with open(path, "w", encoding="utf-8") as it:
-                it.write(self.log("MP+filter"))
-            _, err, status = run(["run_all.py", room, "--against", path])
+            path = os.path.join(folder, "log")
+            with open(os.path.join(folder, "A.litmus"), "w", encoding="utf-8") as file:
+                file.write(text)
+            with open(path, "w", encoding="utf-8") as file:
+                file.write(self.make_log("MP+filter"))
+            _, err, status = run(["run_all.py", folder, "--against", path])
             self.assertEqual((True, 1), ("MP+filter: missing 0, too much 2" in err, status))
 
-    def test_two_files(self):
+    def test_two_files(self) -> None:
         """Two files with tests of one name and different states are not compared."""
-        with tempfile.TemporaryDirectory(prefix="lw-herd-") as room:
+        with tempfile.TemporaryDirectory(prefix="lw-herd-") as folder:
             for number in (1, 2):
-                with open(os.path.join(room, f"{number}.litmus"), "w", encoding="utf-8") as it:
-                    it.write(test_of(f"MOV [x],${number}", language="X86"))
-            path = os.path.join(room, "log")
-            with open(path, "w", encoding="utf-8") as it:
-                it.write("Test Cells Allowed\nStates 1\nx=1;\nOk\n")
+                with open(os.path.join(folder, f"{number}.litmus"), "w", encoding="utf-8") as file:
+                    file.write(test_of(f"MOV [x],${number}", language="X86"))
+            path = os.path.join(folder, "log")
+            with open(path, "w", encoding="utf-8") as file:
+                file.write("Test Cells Allowed\nStates 1\nx=1;\nOk\n")
             for option in ("--against", "--machine-log"):
-                _, err, status = run(["run_all.py", room, option, path])
+                _, err, status = run(["run_all.py", folder, option, path])
                 self.assertEqual((True, 1), ("Cells: two files have a test of this name, with different states" in err, status))
 
-    def test_cut_off(self):
+    def test_cut_off(self) -> None:
         """A log that is cut off has the states that it has, and the next test its own."""
-        told = logs.states_in(["Test A Allowed", "Histogram (3 states)", "1 :>x=1;", "Test B Allowed", "States 1", "y=2;", "Ok"])
-        self.assertEqual({"A": {frozenset({"x=1"})}, "B": {frozenset({"y=2"})}}, told)
-        self.assertEqual({"A": {frozenset()}}, logs.states_in(["Test A Allowed", "States 1", "", "Ok"]))
+        found = logs.read_states(["Test A Allowed", "Histogram (3 states)", "1 :>x=1;", "Test B Allowed", "States 1", "y=2;", "Ok"])
+        self.assertEqual({"A": {frozenset({"x=1"})}, "B": {frozenset({"y=2"})}}, found)
+        self.assertEqual({"A": {frozenset()}}, logs.read_states(["Test A Allowed", "States 1", "", "Ok"]))
 
-    def test_nothing_compared(self):
+    def test_nothing_compared(self) -> None:
         """A log without any of the tests is no agreement."""
-        self.assertEqual(1, self.told("--machine-log", "Test Other Allowed\nStates 0\nNo\n", ("SB-addresses",))[1])
+        self.assertEqual(1, self.compare_with_log("--machine-log", "Test Other Allowed\nStates 0\nNo\n", ("SB-addresses",))[1])
         self.assertEqual(2, run(["run_all.py", "--machine-log"])[2])
 
 

@@ -1,20 +1,20 @@
-#!/usr/bin/env python3
 """What tools/gate/check_names.py finds in pages that name what is not there, and tools/gate/check_trusted.py in docs/TRUSTED.md.
 
-    python3 tools/gate/test_names.py, or python3 -m unittest tools.gate.test_names
+    python3 tools gate.test_names, or in tools/ python3 -m unittest gate.test_names
 
 tools/check_documents.py calls this (tools/gate/cases.py).
 """
-import os
+from __future__ import annotations
+
 import sys
 
-sys.dont_write_bytecode = True
-sys.path.insert(0, os.path.dirname(os.path.dirname(os.path.abspath(__file__))))
 from gate import cases
-from gate.check_names import Names, crate_rows, linked_name_faults, logic_faults, path_faults, table_faults
-from gate.check_trusted import PAGE, differences, read
+from gate.check_names import (
+    Names, find_crate_path_faults, find_linked_name_faults, find_logic_faults, find_path_faults, find_table_faults, read_crate_rows,
+)
+from gate.check_trusted import PAGE, find_differences, read_text
 
-LINES = {"lw_base": [], "lw_text": ["lw_base"], "lw_bench": ["lw_base"], "lw_order_tests": ["lw_base", "lw_text"]}
+LINES: dict[str, list[str]] = {"lw_base": [], "lw_text": ["lw_base"], "lw_bench": ["lw_base"], "lw_order_tests": ["lw_base", "lw_text"]}
 TABLE = """| Wing | Crate | Its one job | Names |
 |---|---|---|---|
 | both | lw_base | types | std |
@@ -22,13 +22,30 @@ TABLE = """| Wing | Crate | Its one job | Names |
 | top | lw_bench | runs | all of the above but lw_text |
 | tests | lw_order_tests | tests | lw_base, lw_text |
 """
-PATHS = (
+PATHS: tuple[tuple[str, str, list[str]], ...] = (
     ("a link to a file", "see [a](../crates/lw_base/none.rt)", ["docs/X.md links to ../crates/lw_base/none.rt, which is not there"]),
     ("a link to a page and a place in it", "see [a](MAP.md#x), [b](https://example.org/none)", []),
     ("a path in a command", "`python3 tools/none.py --write`", ["docs/X.md names tools/none.py, which is not there"]),
+    ("a module in a command", "`python3 tools gate.none --write`", ["docs/X.md names tools/gate/none, which is not there"]),
     ("a path in a sentence", "as examples/none shows", ["docs/X.md names examples/none, which is not there"]),
-    ("files that are there", "tools/fences.py, `examples/SB+own.litmus`, examples/SB, crates/lw_base/specs/Outcomes", []),
+    ("files that are there", "tools/fences.py, `python3 tools gate.test_names`, `examples/SB+own.litmus`, examples/SB, crates/lw_base/specs/Outcomes", []),
     ("what stands for a name", "`examples/NAME.litmus`, `tools/*.py`, crates/lw/out/lw", []),
+)
+# Texts that name paths below crates, each with the paths and the crates of its faults. The first two are of docs/CONTRIBUTING.md as it once was.
+CRATE_PATHS: tuple[tuple[str, str, list[str]], ...] = (
+    ("a path after one of its crate", "6. The library: `lw_library/src/exports.rt` and `specs/Told.antt`, `include/lw.h`", ["specs/Told.antt of lw_library"]),
+    (
+        "paths after a crate",
+        "in three files of lw_base: `MAX_THREADS` in `src/limits.rt`, `most_threads` in `specs/Limits.antt`, and\n`Cpu::all` in `src/number.rt`",
+        ["src/number.rt of lw_base"],
+    ),
+    ("a path with its crate", "`lw_base/src/none.rt`", ["src/none.rt of lw_base"]),
+    ("a crate after the path", "lw_base has none; `src/cpu_set.rt` of lw_mesi, `src/limits.rt` of lw_mesi", ["src/limits.rt of lw_mesi"]),
+    ("a path of some crate", "`specs/inner/`, `proofs/api/`, `src/none.rt`", ["src/none.rt of a crate"]),
+    ("another item, paragraph or row", "- lw_base\n- `src/cpu_set.rt`\n\nlw_base\n\n`src/cpu_set.rt`\n| lw_base |\n| `src/cpu_set.rt` |", []),
+    ("a word that is no crate", "lw_base, `lw_states`, `src/limits`", []),
+    ("a declaration", "`specs/laws/Cases.written`, `specs/laws/Cases.none` of lw_mesi", ["specs/laws/Cases.none of lw_mesi"]),
+    ("a placeholder", "lw_base: `proofs/FILE/FUNCTION/Answers.antt`", []),
 )
 LOGIC = "logic dac8208d650f15bf"
 PROOF = """-- Why `gone` is not here.
@@ -59,58 +76,67 @@ TRUSTED = "".join(f"    {it}\n" for it in BUILT.splitlines()) + """
 class Table(cases.Case):
     """The table of crates of docs/MAP.md beside crates.txt."""
 
-    def test_same(self):
+    def test_same(self) -> None:
         """A table that is as crates.txt has no fault; `std` is no crate, and a row may name all above."""
-        self.assertEqual([], list(table_faults(crate_rows(TABLE), LINES)))
+        self.assertEqual([], list(find_table_faults(read_crate_rows(TABLE), LINES)))
 
-    def test_crate_of_any_name(self):
+    def test_crate_of_any_name(self) -> None:
         """A crate needs no row less because its name begins otherwise; the head of the table is no row."""
-        rows = crate_rows(TABLE + "| top | beyond | a program | lw_base |\n")
+        rows = read_crate_rows(TABLE + "| top | beyond | a program | lw_base |\n")
         self.assertEqual([*LINES, "beyond"], list(rows))
-        self.assertEqual([], list(table_faults(rows, {**LINES, "beyond": ["lw_base"]})))
+        self.assertEqual([], list(find_table_faults(rows, {**LINES, "beyond": ["lw_base"]})))
 
-    def test_crate_that_is_not_named_there(self):
+    def test_crate_that_is_not_named_there(self) -> None:
         """A row that names a further crate is a fault, and so is one that lacks a crate."""
         for named in ("lw_base, lw_text, linked_list_allocator", "lw_base"):
             with self.subTest(named):
-                found = list(table_faults(crate_rows(TABLE.replace("lw_base, lw_text |", f"{named} |")), LINES))
+                found = list(find_table_faults(read_crate_rows(TABLE.replace("lw_base, lw_text |", f"{named} |")), LINES))
                 self.assertEqual(["lw_order_tests"], [it.split()[3] for it in found])
 
-    def test_rows(self):
+    def test_rows(self) -> None:
         """A crate without a row, and a row without a crate, are faults."""
         self.assertEqual(
             ["docs/MAP.md has no row for lw_more, which crates.txt has"],
-            list(table_faults(crate_rows(TABLE), {**LINES, "lw_more": []})),
+            list(find_table_faults(read_crate_rows(TABLE), {**LINES, "lw_more": []})),
         )
         self.assertEqual(
             ["docs/MAP.md has a row for lw_text, which crates.txt has not"],
-            [it for it in table_faults(crate_rows(TABLE), {it: LINES[it] for it in LINES if it != "lw_text"}) if "row" in it],
+            [it for it in find_table_faults(read_crate_rows(TABLE), {it: LINES[it] for it in LINES if it != "lw_text"}) if "row" in it],
         )
 
 
 class Paths(cases.Case):
     """Links and whole paths of a page."""
 
-    def test_paths(self):
+    def test_paths(self) -> None:
         """A link or a path that leads to nothing is told."""
         for what, text, wanted in PATHS:
             with self.subTest(what):
-                self.assertEqual(wanted, list(path_faults("docs/X.md", text)))
+                self.assertEqual(wanted, list(find_path_faults("docs/X.md", text)))
 
-    def test_path_with_sign(self):
+    def test_paths_below_crates(self) -> None:
+        """A path that a sentence places below a crate is reported if that crate does not have it."""
+        crates = Names().crates
+        for what, text, wanted in CRATE_PATHS:
+            with self.subTest(what):
+                found = list(find_crate_path_faults("docs/X.md", text, crates))
+                self.assertEqual([f"docs/X.md names {it}, which is not there" for it in wanted], found)
+
+    def test_path_with_sign(self) -> None:
         """A path with a `+` is looked at too."""
         names = Names()
-        self.assertEqual((True, False), (names.is_there("examples/SB+own.litmus", False), names.is_there("examples/SB+none.litmus", False)))
+        self.assertEqual((True, False), (names.exists("examples/SB+own.litmus", False), names.exists("examples/SB+none.litmus", False)))
 
-    def test_path_of_a_build(self):
+    def test_path_of_a_build(self) -> None:
         """A path in a folder out/ is not looked at: a clean checkout has none."""
-        self.assertEqual(None, Names().is_there("crates/lw/out/none", False))
+        names = Names()
+        self.assertEqual([None, None, None], [names.exists(it, False) for it in ("crates/lw/out/none", "out/none.o", "out/")])
 
 
 class LinkedNames(cases.Case):
     """Names that link to the files that declare them."""
 
-    def test_declared(self):
+    def test_declared(self) -> None:
         """A name that the linked file does not declare is reported; a name in a comment is not declared."""
         files = {"crates/a/proofs/X.antt": PROOF, "crates/a/src/x.rt": CODE}
         for path, names, wanted in (
@@ -122,34 +148,34 @@ class LinkedNames(cases.Case):
         ):
             with self.subTest(path=path, names=names):
                 text = " ".join(f"[`{it}`](../{path})" for it in names)
-                self.assertEqual(wanted, len(list(linked_name_faults("docs/X.md", text, files.get))))
+                self.assertEqual(wanted, len(list(find_linked_name_faults("docs/X.md", text, files.get))))
 
 
 class Trusted(cases.Case):
     """docs/TRUSTED.md beside a verdict."""
 
-    def test_same(self):
+    def test_same(self) -> None:
         """A page that has the verdict has no fault, wherever the toolchain is, and also if `rt ci` has printed it, among others."""
-        self.assertEqual([], differences(BUILT, TRUSTED))
-        self.assertEqual([], differences(BUILT.replace("/opt/rattle", "/kit"), TRUSTED))
+        self.assertEqual([], find_differences(BUILT, TRUSTED))
+        self.assertEqual([], find_differences(BUILT.replace("/opt/rattle", "/kit"), TRUSTED))
         of_ci = BUILT.replace(" incremental=trusted", "").partition("linked")[0]
         others = "logic=proved functions=1 axioms=2 sum=dac8\n"
-        self.assertEqual([], differences(f"== lw_bench\n{others}== lw\n{of_ci}== lw_run_tests: its tests\n{others}", TRUSTED))
+        self.assertEqual([], find_differences(f"== lw_bench\n{others}== lw\n{of_ci}== lw_run_tests: its tests\n{others}", TRUSTED))
 
-    def test_linked_twice(self):
+    def test_linked_twice(self) -> None:
         """`rt ci` links the program as two compilers make it, and the page has the first."""
         twice = BUILT + "linked target=x86_64 files=out/lw.by-rattle.o,/opt/rattle/c/libos_c.a\n"
-        self.assertEqual([], differences(f"== lw\n{twice}== lw_library\nlogic=proved\n", TRUSTED))
+        self.assertEqual([], find_differences(f"== lw\n{twice}== lw_library\nlogic=proved\n", TRUSTED))
 
-    def test_listed(self):
+    def test_listed(self) -> None:
         """A report with a line for each function is compared by all of them."""
         names = "libc::chdir libc::read libc::write libc::zero".split()
         lines = "".join(f"  {it}   reached\n" for it in names) + "  libc::open\n"
         listed = f"axioms libc: 4 reached of the 128 declared\n{lines}{BUILT.partition('declared)')[2]}"
-        self.assertEqual([], differences(listed, TRUSTED))
-        self.assertEqual(1, len(differences(listed.replace("libc::zero", "libc::one"), TRUSTED)))
+        self.assertEqual([], find_differences(listed, TRUSTED))
+        self.assertEqual(1, len(find_differences(listed.replace("libc::zero", "libc::one"), TRUSTED) or ()))
 
-    def test_differing(self):
+    def test_differing(self) -> None:
         """Each number, word, function and file that differs is reported."""
         for old, new in (
             ("functions=12", "functions=13"),
@@ -162,34 +188,34 @@ class Trusted(cases.Case):
             ("libos_c.a", "libmore_c.a"),
         ):
             with self.subTest(old=old, new=new):
-                self.assertEqual(1, len(differences(BUILT.replace(old, new), TRUSTED)))
+                self.assertEqual(1, len(find_differences(BUILT.replace(old, new), TRUSTED) or ()))
 
-    def test_no_verdict(self):
+    def test_no_verdict(self) -> None:
         """A log without a verdict of `lw` is not compared, and a page without one is reported."""
         for log in ("", "fn lw::main: not proved\nlogic=not-proved\n", "== lw\nrt: lw is kept\n== beyond\n" + BUILT):
             with self.subTest(log=log):
-                self.assertEqual(None, differences(log, TRUSTED))
-        self.assertEqual(["docs/TRUSTED.md has no verdict"], differences(BUILT, "no verdict\n"))
+                self.assertEqual(None, find_differences(log, TRUSTED))
+        self.assertEqual(["docs/TRUSTED.md has no verdict"], find_differences(BUILT, "no verdict\n"))
 
-    def test_page(self):
+    def test_page(self) -> None:
         """The page itself has rows for the number of functions that its verdict says."""
-        page = read(PAGE)
-        self.assertEqual([], differences("\n".join(it[4:] for it in page.splitlines() if it.startswith("    ")), page))
+        page = read_text(PAGE)
+        self.assertEqual([], find_differences("\n".join(it[4:] for it in page.splitlines() if it.startswith("    ")), page))
 
 
 class Logic(cases.Case):
     """The logic that README.md names."""
 
-    def test_logic(self):
+    def test_logic(self) -> None:
         """It is that of `rt version`, whatever the kit is called; without an `rt` it is one."""
-        for page, told, wanted in (
+        for page, found, wanted in (
             (f"proved with\n\n    {LOGIC}\n", f"rattle-kit-13f {LOGIC}\n", 0),
             (f"proved with {LOGIC}", "", 0),
             (f"proved with {LOGIC}", "rattle-kit-13f logic 0000000000000000\n", 1),
             ("proved with rattle-kit-13b", "", 1),
         ):
-            with self.subTest(page=page, told=told):
-                self.assertEqual(wanted, len(list(logic_faults(page, told))))
+            with self.subTest(page=page, told=found):
+                self.assertEqual(wanted, len(list(find_logic_faults(page, found))))
 
 
 if __name__ == "__main__":

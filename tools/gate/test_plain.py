@@ -1,7 +1,6 @@
-#!/usr/bin/env python3
 """How tools/plain.py and its kin read files, and what they tell of faults.
 
-    python3 tools/gate/test_plain.py, or python3 -m unittest tools.gate.test_plain
+    python3 tools gate.test_plain, or in tools/ python3 -m unittest gate.test_plain
 
 - Each cause for which tools/plain.py takes a text for no test, with its line FILE:LINE:COLUMN.
 - plain.py, by each of its commands, fences.py, replay_state.py and picture.py: given a file by its name, by its name with line ends of
@@ -11,15 +10,17 @@
 Nothing here needs the program, or more than Python 3.8, on any system; picture.py, which needs the program, is looked at only for what it
 refuses before. tools/check_documents.py calls all this (tools/gate/cases.py).
 """
+from __future__ import annotations
+
 import errno
 import os
+import re
 import subprocess
 import sys
 import tempfile
+from collections.abc import Callable, Iterator
 from unittest import mock
 
-sys.dont_write_bytecode = True
-sys.path.insert(0, os.path.dirname(os.path.dirname(os.path.abspath(__file__))))
 import fences
 import given
 import plain
@@ -69,10 +70,39 @@ NO_COMMANDS = (
     ["plain.py", "replay", "P0", "--protocol", "msi"],
     ["plain.py", "replay", "P0", "--protocol", "mesi", "FILE", "FILE"],
     ["fences.py", "--all"],
-    ["fences.py", "FILE", "--everything"],
+    ["fences.py", "--every"],
+    ["fences.py", "FILE", "FILE"],
+    ["fences.py", "--tries", "-1"],
+    ["fences.py", "--order", "herd"],
+    ["graph.py"],
+    ["graph.py", "--text"],
+    ["graph.py", "P0", "FILE", "FILE"],
+    ["graph.py", "--why-not"],
+    ["graph.py", "--why-not", "all", "FILE", "FILE"],
+    ["graph.py", "--text", "--why-not", "all"],
+    ["graph.py", "--documents", "P0"],
     ["picture.py"],
     ["picture.py", "P0", "FILE", "FILE"],
+    ["picture.py", "P0", "--protocol", "msi"],
+    ["picture.py", "--documents", "P0"],
     ["replay_state.py", "FILE", "FILE"],
+    ["beyond.py", "--max-states", "0"],
+    ["beyond.py", "--max", "10"],
+    ["check_up.py"],
+    ["check_up.py", "no_crate"],
+    ["check_up.py", "lw_base", "--jobs", "none"],
+    ["build_wasm.py", "FOLDER", "--after-rt-ci"],
+    ["make_site.py"],
+    ["make_site.py", "FOLDER", "FOLDER"],
+    ["make_site.py", "FOLDER", "--module"],
+    ["make_lab.py"],
+    ["make_slides.py", "--x"],
+    ["make_quiz.py"],
+    ["make_wheel.py"],
+    ["make_deb.py", "FOLDER", "FOLDER"],
+    ["pack.py", "--help-me"],
+    ["random_tests.py", "many"],
+    ["check_documents.py", "--slow"],
 )
 # Texts that are no tests, and the message.
 TEXTS = (
@@ -125,7 +155,7 @@ TEXTS = (
     ("SRC A\n{}\n P0 ;\nexists (0:x=1)\n", "4:11: 'x' is no register of a source test"),
     ("SRC A\n{}\n P0 ;\nexists (r0=1)\n", "4:9: 'r0' is a reserved name, and no location"),
     ("SRC A\n{}\n P0 ;\nexists (3:r0=1)\n", "4:9: there is no thread 3"),
-    ("SRC A\n{}\n P0 ;\nexists (true) x\n", "4:15: 'x' stands behind the condition"),
+    ("SRC A\n{}\n P0 ;\nexists (true) x\n", "4:15: 'x' comes after the condition"),
     ("SRC A\n{}\n P0 ;\nexists (x=1 /\\ /\\ x=1)\n", "4:16: '/\\' stands where a location should"),
     ("SRC A\n{a=0;b=0;c=0;d=0;e=0;f=0;g=0}\n P0 ;\n h := 1 ;\n r0 := i ;\nexists (true)\n", "5:8: there are more than 8 locations"),
     ("SRC A\n{}\n P0 | P1 ;\n x := 1 | goto L ;\n L: | ;\nexists (true)\n", "4:16: the thread has no label 'L'"),
@@ -139,7 +169,7 @@ CELLS = (
     ("SRC", "x :=", "4:7: the end of the cell stands where a number or a register should"),
     ("SRC", "x := y", "4:7: 'y' is no register of a source test"),
     ("SRC", "r9 := 1", "4:2: 'r9' is a reserved name, and no location"),
-    ("SRC", "r0 := x 1", "4:10: '1' stands behind a statement"),
+    ("SRC", "r0 := x 1", "4:10: '1' comes after a statement"),
     ("SRC", "1 := x", "4:2: '1' stands where a location should"),
     ("SRC", "r0 := swap x 1", "4:15: '1' stands where a register should"),
     ("SRC", "r0 := r0 + x", "4:13: 'x' is no register of a source test"),
@@ -151,7 +181,7 @@ CELLS = (
     ("SRC", "r0 := exists", "4:8: 'exists' is a reserved name, and no location"),
     ("X86", "INC EAX", "4:2: 'INC' is no instruction that is read"),
     ("X86", "XADD [x],EAX", "4:2: 'XADD' is no instruction that is read without LOCK"),
-    ("X86", "LOCK INC [x]", "4:7: 'INC' is no instruction that is read behind LOCK"),
+    ("X86", "LOCK INC [x]", "4:7: 'INC' is no instruction that is read after LOCK"),
     ("X86", "LOCK", "4:7: the end of the cell stands where 'XCHG' or 'XADD' should"),
     ("X86", "MOV y,1", "4:6: 'y' is no register of an x86 test"),
     ("X86", "MOV EAX,y", "4:10: 'y' is no register of an x86 test"),
@@ -197,70 +227,71 @@ REPLAYS = (
 # Texts.
 
 
-def told_of(text, read):
+def make_fault_line(text: bytes, read: Callable[[str], object]) -> str:
     """Returns the line that says what is wrong in a text."""
     try:
-        read(given.decoded(text))
+        read(given.decode(text))
     except given.Fault as fault:
-        return given.line_of("T", text, fault)
+        return given.format_fault("T", text, fault)
     return "it is read"
 
 
-def of_one_thread(language, cells):
+def make_test(language: str, cells: list[str]) -> bytes:
+    """Returns the text of a test of one thread, with a cell in each row."""
     rows = "".join(f" {cell} ;\n" for cell in cells)
     return f"{language} A\n{{}}\n P0 ;\n{rows}exists (true)\n".encode()
 
 
-def no_tests():
+def list_no_tests() -> Iterator[tuple[bytes, str]]:
     """Returns all texts that are no tests: bytes, and the message."""
-    yield from ((text.encode(), told) for text, told in TEXTS)
-    yield from ((of_one_thread(language, [cell]), told) for language, cell, told in CELLS)
-    yield from ((of_one_thread(language, [cell] * number), told) for language, cell, number, told in MANY)
+    yield from ((text.encode(), message) for text, message in TEXTS)
+    yield from ((make_test(language, [cell]), message) for language, cell, message in CELLS)
+    yield from ((make_test(language, [cell] * number), message) for language, cell, number, message in MANY)
     yield from BYTES
 
 
 class Faults(cases.Case):
     """What is told of a text that is none."""
 
-    def test_causes(self):
+    def test_causes(self) -> None:
         """Each cause for which a text is no test is told with its place."""
-        for text, told in no_tests():
+        for text, message in list_no_tests():
             with self.subTest(text=text[:200]):
-                self.assertEqual(f"T:{told}", told_of(text, plain.read_test))
+                self.assertEqual(f"T:{message}", make_fault_line(text, plain.read_test))
 
-    def test_line_ends(self):
+    def test_line_ends(self) -> None:
         """The place is the same with line ends of Windows."""
-        for text, told in no_tests():
+        for text, message in list_no_tests():
             lines = text.replace(b"\n", b"\r\n")
             if len(text) < 1000 and b'"' not in text:
                 with self.subTest(text=lines):
-                    self.assertEqual(f"T:{told}", told_of(lines, plain.read_test))
+                    self.assertEqual(f"T:{message}", make_fault_line(lines, plain.read_test))
 
-    def test_replays(self):
+    def test_replays(self) -> None:
         """A text that no replay prints is told with its place."""
-        for text, told in REPLAYS:
+        for text, message in REPLAYS:
             with self.subTest(text=text):
-                self.assertEqual(f"T:{told}", told_of(text.encode(), replay_state.read_state))
+                self.assertEqual(f"T:{message}", make_fault_line(text.encode(), replay_state.read_state))
 
 
 class Numbers(cases.Case):
     """Numbers of many digits."""
 
-    def test_zeros(self):
+    def test_zeros(self) -> None:
         """A number is what its last digits say, however many zeros stand before them."""
         for number in ("0" * 9999 + "7", "0x" + "0" * 9999 + "7", "0", "00"):
             with self.subTest(number=number[:9]):
-                test = plain.read_test(of_one_thread("SRC", [f"r0 := {number}"]).decode())
-                self.assertEqual(("number", 7 if "7" in number else 0), test.threads[0][0].value)
+                test = plain.read_test(make_test("SRC", [f"r0 := {number}"]).decode())
+                self.assertEqual(plain.Number(7 if "7" in number else 0), test.threads[0][0].value)
 
 
 # Files.
 
 
-def run(words, text=b""):
+def run_tool(arguments: list[str], text: bytes = b"") -> tuple[bytes, bytes, int]:
     """Returns what a tool prints on both streams, and its exit status, if the console has another encoding."""
     ran = subprocess.run(
-        [sys.executable, os.path.join(TOOLS, words[0]), *words[1:]],
+        [sys.executable, os.path.join(TOOLS, arguments[0]), *arguments[1:]],
         input=text,
         stdout=subprocess.PIPE,
         stderr=subprocess.PIPE,
@@ -270,19 +301,20 @@ def run(words, text=b""):
     return ran.stdout, ran.stderr, ran.returncode
 
 
-def written(room, name, text):
+def write_file(folder: str, name: str, text: bytes) -> str:
     """Writes a new file, and returns its path."""
-    path = os.path.join(room, name)
-    with open(path, "wb") as it:
-        it.write(text)
+    path = os.path.join(folder, name)
+    with open(path, "wb") as file:
+        file.write(text)
     return path
 
 
-def spelled(words):
+def format_arguments(words: list[str]) -> str:
+    """Returns arguments in print."""
     return " ".join(f'"{word}"' if " " in word else word for word in words)
 
 
-def line(text):
+def make_refused_output(text: str) -> tuple[bytes, bytes, int]:
     """Returns what a tool prints that reports one line, and has no answer."""
     return b"", f"{text}\n".encode(), 1
 
@@ -290,7 +322,8 @@ def line(text):
 class InRoom(cases.Case):
     """Tests that write files, in a folder of their own."""
 
-    def setUp(self):
+    def setUp(self) -> None:
+        """Makes the folder."""
         room = tempfile.TemporaryDirectory(prefix="lw-plain-")
         self.addCleanup(room.cleanup)
         self.room = room.name
@@ -299,81 +332,90 @@ class InRoom(cases.Case):
 class Files(InRoom):
     """A tool answers the same, however it is given its text."""
 
-    def test_answers(self):
+    def test_answers(self) -> None:
         """Each command answers, with line ends of one byte, and with nothing on standard error."""
         for words, text in COMMANDS:
-            with self.subTest(spelled(words)):
-                out, err, _ = run(words, text.encode())
+            with self.subTest(format_arguments(words)):
+                out, err, _ = run_tool(words, text.encode())
                 self.assertEqual((True, b"", False), (len(out) > 20, err, b"\r" in out))
 
-    def test_file_by_its_name(self):
+    def test_file_by_its_name(self) -> None:
         """A file by its name is read as standard input is, whatever its line ends are."""
         for words, text in COMMANDS:
-            text = text.encode()
-            told = run(words, text)
-            for name, lines in (("é a.litmus", text), ("b", text.replace(b"\n", b"\r\n"))):
-                with self.subTest(spelled(words), lines=lines):
-                    self.assertEqual(told, run([*words, written(self.room, name, lines)]))
+            printed = run_tool(words, text.encode())
+            for name, lines in (("é a.litmus", text.encode()), ("b", text.replace("\n", "\r\n").encode())):
+                with self.subTest(format_arguments(words), lines=lines):
+                    self.assertEqual(printed, run_tool([*words, write_file(self.room, name, lines)]))
 
-    def test_hyphen(self):
+    def test_hyphen(self) -> None:
         """A hyphen is standard input."""
-        self.assertEqual(run(["plain.py", "states"], TEST.encode()), run(["plain.py", "states", "-"], TEST.encode()))
+        self.assertEqual(run_tool(["plain.py", "states"], TEST.encode()), run_tool(["plain.py", "states", "-"], TEST.encode()))
+
+
+    def test_options(self) -> None:
+        """Options may be before or after the other words."""
+        for words, others in ((["plain.py", "replay", "P0"], ["--protocol", "moesi"]), (["fences.py"], ["--everything"]), (["graph.py", "P0"], ["--text"])):
+            path = write_file(self.room, "c", TEST.encode())
+            with self.subTest(format_arguments(words)):
+                printed = run_tool([*words, *others, path])
+                self.assertEqual([printed] * 2, [run_tool([*words, path, *others]), run_tool([words[0], *others, *words[1:], path])])
 
 
 class Refusals(InRoom):
     """What a tool tells where it has no answer: one line, and the status 1."""
 
-    def test_faults(self):
+    def test_faults(self) -> None:
         """A fault is told by the file's name, or a hyphen for standard input, its place and its cause."""
-        for words, text, told in REFUSING:
-            text = text if isinstance(text, bytes) else text.encode()
-            path = written(self.room, "c.litmus", text)
-            with self.subTest(spelled(words), of="a file"):
-                self.assertEqual(line(f"{path}:{told}"), run([*words, path]))
-            with self.subTest(spelled(words), of="standard input"):
-                self.assertEqual(line(f"-:{told}"), run(words, text))
+        for words, text, message in REFUSING:
+            text = text if isinstance(text, bytes) else str(text).encode()
+            path = write_file(self.room, "c.litmus", text)
+            with self.subTest(format_arguments(words), of="a file"):
+                self.assertEqual(make_refused_output(f"{path}:{message}"), run_tool([*words, path]))
+            with self.subTest(format_arguments(words), of="standard input"):
+                self.assertEqual(make_refused_output(f"-:{message}"), run_tool(words, text))
 
-    def test_missing_file(self):
+    def test_missing_file(self) -> None:
         """A file that is not there is told in the system's words."""
         missing = os.path.join(self.room, "é")
         for words, _, _ in REFUSING:
-            with self.subTest(spelled(words)):
-                self.assertEqual(line(f"{words[0][:-3]}: {missing}: {os.strerror(errno.ENOENT)}"), run([*words, missing]))
+            with self.subTest(format_arguments(words)):
+                self.assertEqual(make_refused_output(f"{words[0][:-3]}: {missing}: {os.strerror(errno.ENOENT)}"), run_tool([*words, missing]))
 
-    def test_nesting(self):
+    def test_nesting(self) -> None:
         """A condition that is nested too deeply for Python is refused in words."""
         deep = "SRC A\n{}\n P0 ;\nexists " + "(" * 20000 + "true" + ")" * 20000
-        told = line("plain: -: the condition is nested too deeply for this tool")
-        self.assertEqual(told, run(["plain.py", "orders"], deep.encode()))
+        found = make_refused_output("plain: -: the condition is nested too deeply for this tool")
+        self.assertEqual(found, run_tool(["plain.py", "orders"], deep.encode()))
 
-    def test_schedules(self):
+    def test_schedules(self) -> None:
         """A schedule that is none is told as lw tells it."""
-        for schedule, told in (("P0 Q", "1 Word at 3"), ("P9", "2 Cpu at 0"), ("P0 E0:z", "3 Location at 3")):
+        for schedule, message in (("P0 Q", "1 Word at 3"), ("P9", "2 Cpu at 0"), ("P0 E0:z", "3 Location at 3")):
             with self.subTest(schedule):
-                path = written(self.room, "d", TEST.encode())
-                self.assertEqual(line(f"lw: schedule {told}"), run(["plain.py", "replay", schedule, path]))
+                path = write_file(self.room, "d", TEST.encode())
+                self.assertEqual(make_refused_output(f"lw: schedule {message}"), run_tool(["plain.py", "replay", schedule, path]))
 
-    def test_no_command(self):
-        """Words that are no command have the head comment shown, and the status 2."""
+    def test_no_command(self) -> None:
+        """Words that are no command have the lines of use and a cause shown, and the status 2."""
         for words in NO_COMMANDS:
-            with self.subTest(spelled(words)):
-                out, err, status = run(words)
+            with self.subTest(format_arguments(words)):
+                out, err, status = run_tool(words)
                 self.assertEqual((b"", 2), (out, status))
-                self.assertIn(f"python3 tools/{words[0]}".encode(), err)
+                pattern = rf"usage: .*python3 tools/{words[0]}.*\n{words[0][: -len('.py')]}: .+\n"
+                self.assertTrue(re.fullmatch(pattern, err.decode(), re.S))
 
 
 class WithoutProgram(InRoom):
     """Where the program does not start, as one of Linux does not on Windows."""
 
-    def test_fences(self):
+    def test_fences(self) -> None:
         """tools/fences.py does without it."""
-        broken = written(self.room, "lw", b"\x7fELF")
+        broken = write_file(self.room, "lw", b"\x7fELF")
         os.chmod(broken, 0o755)
         for path in (broken, os.path.join(self.room, "nothing"), self.room):
             with self.subTest(path), mock.patch.multiple(answers, PROGRAM=path, BEYOND=path):
                 fences.lists.clear()
-                states = fences.states_of(plain.read_test(FENCED))
-                self.assertEqual((3, {answers.Maker.SEARCH}), (len(states), fences.makers()))
+                states = fences.list_states(plain.read_test(FENCED))
+                self.assertEqual((3, {answers.Maker.SEARCH}), (len(states), fences.list_makers()))
 
 
 if __name__ == "__main__":

@@ -1,12 +1,13 @@
-#!/usr/bin/env python3
 """Whether python/lw.py looks at its arguments, refuses what is no answer, and whether threads may share a workbench; and what is said of stacks.
 
-    python3 tools/gate/test_python.py, or python3 -m unittest tools.gate.test_python
+    python3 tools gate.test_python, or in tools/ python3 -m unittest gate.test_python
 
 The calls are those of a stand-in for the library, in C, which copies its text through the memory that it is lent, slowly: two calls that
 use it at the same time spoil each other's answers. So cc is needed, and the library is not. tools/gate/check_library.py compares what the
 library itself answers. tools/check_documents.py calls all this (tools/gate/cases.py).
 """
+from __future__ import annotations
+
 import os
 import re
 import shutil
@@ -14,18 +15,17 @@ import subprocess
 import sys
 import tempfile
 import unittest
+from collections.abc import Callable
 from concurrent.futures import ThreadPoolExecutor
 
-sys.dont_write_bytecode = True
-sys.path.insert(0, os.path.dirname(os.path.dirname(os.path.abspath(__file__))))
 import plain
 from gate import cases
 from gate.examples import examples, read
+from shared import python_lw
 from shared.home import HOME
+from shared.matches import require_match
 
-sys.path.append(os.path.join(HOME, "python"))
-import lw
-
+lw = python_lw.load_lw()
 STAND_IN = r"""
 #include "lw.h"
 #include <string.h>
@@ -135,19 +135,19 @@ OF_SCHEDULES = ((r"^Test ", "Tests "), (r"^States (\d+)", r"States 1\1"), (r"\n\
 class Answers(cases.Case):
     """What is read from answers, here those of tools/plain.py."""
 
-    def is_refused(self, read_answer, text):
-        """Whether a text is no answer."""
+    def is_refused(self, read_answer: Callable[[bytes], object], text: str) -> bool:
+        """Returns whether a text is no answer."""
         try:
             read_answer(text.encode())
         except ValueError:
             return True
         return False
 
-    def test_reports(self):
+    def test_reports(self) -> None:
         """A report is read as it is, and none that is changed in a place."""
         for name, text in examples():
             test = plain.read_test(text)
-            report = plain.report(test)
+            report = plain.make_report(test)
             made = lw.report_of(report.encode())
             lines = report.splitlines()
             with self.subTest(name):
@@ -159,10 +159,10 @@ class Answers(cases.Case):
                 with self.subTest(name, old=old, new=new):
                     self.assertTrue(changed != report and self.is_refused(lw.report_of, changed))
 
-    def test_schedules(self):
+    def test_schedules(self) -> None:
         """So is a list of schedules."""
         for name in ("SB", "SB-x86", "MP", "IRIW-x86"):
-            listed = plain.schedules(plain.read_test(read(f"examples/{name}.litmus")))
+            listed = plain.format_schedules(plain.read_test(read(f"examples/{name}.litmus")))
             made = [line for it in lw.schedules_of(listed.encode()) for line in (str(it.state), f" {it.words}")]
             with self.subTest(name):
                 self.assertEqual(listed.splitlines()[2:], made)
@@ -175,45 +175,49 @@ class Answers(cases.Case):
 class Calls(cases.Case):
     """Calls of a stand-in for the library."""
 
+    room: tempfile.TemporaryDirectory
+    library: str
+
     @classmethod
-    def setUpClass(cls):
+    def setUpClass(cls) -> None:
+        """Compiles the stand-in."""
         if not shutil.which("cc"):
             raise unittest.SkipTest("cc is missing")
         cls.room = tempfile.TemporaryDirectory(prefix="lw-")
         cls.addClassCleanup(cls.room.cleanup)
         source, cls.library = (os.path.join(cls.room.name, name) for name in ("stand_in.c", "stand_in.so"))
-        with open(source, "w", encoding="utf-8") as it:
-            it.write(STAND_IN)
+        with open(source, "w", encoding="utf-8") as file:
+            file.write(STAND_IN)
         subprocess.run(["cc", "-shared", "-fPIC", "-I", f"{HOME}/include", source, "-o", cls.library], check=True)
 
-    def test_version(self):
+    def test_version(self) -> None:
         """The version is that of the library that is loaded."""
         self.assertEqual(("3.7", "3.7"), (lw.version(self.library), lw.Workbench(self.library, memory=1 << 16).version))
 
-    def refusal(self, call, *words):
-        """What a call raises: the exception's type and message."""
+    def find_refusal(self, call: Callable[..., object], *arguments: object) -> tuple[type, str]:
+        """Returns what a call raises: the exception's type and message."""
         try:
-            return type(None), repr(call(*words))
+            return type(None), repr(call(*arguments))
         except (TypeError, ValueError) as why:
             return type(why), str(why)
 
-    def test_arguments(self):
+    def test_arguments(self) -> None:
         """Arguments that are none raise, and say what is wanted."""
         bench = lw.Workbench(self.library, memory=1 << 16)
-        for kind, told, words in REFUSED:
+        for kind, message, words in REFUSED:
             with self.subTest(words):
-                raised, says = self.refusal(bench.run, *words)
+                raised, says = self.find_refusal(bench.run, *words)
                 self.assertTrue(issubclass(raised, kind))
-                self.assertIn(told, says)
+                self.assertIn(message, says)
 
-    def test_memory(self):
+    def test_memory(self) -> None:
         """So does memory that is no number of bytes."""
         for memory in (-1, -20, 1.5, "1"):
             with self.subTest(memory):
-                told = ValueError, f"memory has to be a number of bytes, and not {memory!r}"
-                self.assertEqual(told, self.refusal(lw.Workbench, self.library, memory))
+                found = ValueError, f"memory has to be a number of bytes, and not {memory!r}"
+                self.assertEqual(found, self.find_refusal(lw.Workbench, self.library, memory))
 
-    def test_answers(self):
+    def test_answers(self) -> None:
         """Each command gets its text, a replay its schedule and protocol, and all as much room as they need."""
         bench, long = lw.Workbench(self.library, memory=1 << 20), b"a" * (lw.LEAST_ROOM + 1)
         for command in ("states", "schedules", "compile"):
@@ -224,25 +228,25 @@ class Calls(cases.Case):
             with self.subTest(schedule):
                 self.assertEqual(wanted, bench.run("replay", TEXT, schedule, protocol))
 
-    def test_films(self):
+    def test_films(self) -> None:
         """A film gets its schedule and protocol, and is taken apart at its empty lines."""
         bench = lw.Workbench(self.library, memory=1 << 20)
         self.assertEqual([b"a\nb\n", b"c\n"], bench.film(TEXT, "a\nb\n\nc\n\n"))
         for words in ((TEXT, None), (TEXT, ["P0"]), ("a text", "P0")):
             with self.subTest(words):
-                self.assertIs(TypeError, self.refusal(bench.film, *words)[0])
-        self.assertEqual((ValueError, "no film"), self.refusal(bench.film, TEXT, "a\n\nb\n"))
+                self.assertIs(TypeError, self.find_refusal(bench.film, *words)[0])
+        self.assertEqual((ValueError, "no film"), self.find_refusal(bench.film, TEXT, "a\n\nb\n"))
 
-    def test_marks(self):
+    def test_marks(self) -> None:
         """States with marks are values, and bytes of another form are none."""
         bench = lw.Workbench(self.library, memory=1 << 20)
-        told = [(str(it.state), it.holds) for it in bench.marks(b"+ x=1; 0:EAX=2;\n- x=2; 0:EAX=0;\n")]
-        self.assertEqual([("x=1; 0:EAX=2;", True), ("x=2; 0:EAX=0;", False)], told)
+        found = [(str(it.state), it.holds) for it in bench.marks(b"+ x=1; 0:EAX=2;\n- x=2; 0:EAX=0;\n")]
+        self.assertEqual([("x=1; 0:EAX=2;", True), ("x=2; 0:EAX=0;", False)], found)
         for made in (b"x=1;\n", b"+ x=1;", b"+x=1;\n", b"* x=1;\n", b"+ x\n"):
             with self.subTest(made):
-                self.assertIs(ValueError, self.refusal(bench.marks, made)[0])
+                self.assertIs(ValueError, self.find_refusal(bench.marks, made)[0])
 
-    def test_threads(self):
+    def test_threads(self) -> None:
         """Threads that share a workbench get their own answers."""
         bench = lw.Workbench(self.library, memory=1 << 20)
         texts = [bytes([letter]) * (1000 + 997 * letter) for letter in range(64, 128)]
@@ -255,13 +259,13 @@ class Calls(cases.Case):
 class Documents(cases.Case):
     """What is said of the stack that a call takes."""
 
-    def test_stack(self):
+    def test_stack(self) -> None:
         """docs/LIBRARY.md, docs/TRUSTED.md and include/lw.h name the same bytes: less than what is called ample, more than what is too small."""
         texts = [read(it) for it in ("docs/LIBRARY.md", "docs/TRUSTED.md", "include/lw.h")]
-        told = [re.findall(r"(\d+,\d+) bytes(?:,| were)\s+measured", text) for text in texts]
-        self.assertEqual([told[0][:1]] * 3, told)
-        bytes_of_stack = int(told[0][0].replace(",", ""))
-        ample, too_small = map(int, re.search(r"(\d+) KiB of stack is ample, and one with (\d+) KiB", texts[0]).groups())
+        found = [re.findall(r"(\d+,\d+) bytes(?:,| were)\s+measured", text) for text in texts]
+        self.assertEqual([found[0][:1]] * 3, found)
+        bytes_of_stack = int(found[0][0].replace(",", ""))
+        ample, too_small = map(int, require_match(re.search(r"(\d+) KiB of stack are ample for a\s+thread, and (\d+) KiB", texts[0])).groups())
         self.assertTrue(too_small << 10 < bytes_of_stack < ample << 10)
 
 

@@ -1,12 +1,13 @@
-#!/usr/bin/env python3
 """Whether tools/replay_state.py and web/replays.js take the same pages, and read the same from them.
 
-    python3 tools/gate/test_replay_state.py, or python3 -m unittest tools.gate.test_replay_state
+    python3 tools gate.test_replay_state, or in tools/ python3 -m unittest gate.test_replay_state
 
 The pages are those of replays of examples by tools/plain.py, which both take, and the same with a line left out, doubled, exchanged or
 changed, which both refuse. web/replays.js is run by node, where that is. The program is not needed. tools/check_documents.py calls all
 this (tools/gate/cases.py).
 """
+from __future__ import annotations
+
 import json
 import os
 import shutil
@@ -14,10 +15,9 @@ import subprocess
 import sys
 import tempfile
 import unittest
+from collections.abc import Iterator
 from pathlib import Path
 
-sys.dont_write_bytecode = True
-sys.path.insert(0, os.path.dirname(os.path.dirname(os.path.abspath(__file__))))
 import plain
 import replay_state
 from gate import cases
@@ -76,7 +76,7 @@ process.stdout.write(JSON.stringify(JSON.parse(readFileSync(0, "utf-8")).map(sta
 """
 
 
-def pages():
+def list_pages() -> Iterator[str]:
     """Returns the pages of replays: of all examples by some schedules."""
     for _, text in examples():
         test = plain.read_test(text)
@@ -87,47 +87,48 @@ def pages():
                 pass  # The example has no location x.
 
 
-def two_pages():
+def make_two_pages() -> list[str]:
     """Returns a page of a source test, and one of an x86 test."""
     return [plain.replay(plain.read_test(read(f"examples/{name}.litmus")), X86)[0] for name in ("SB", "SB-x86")]
 
 
-def wrong_pages():
+def list_wrong_pages() -> Iterator[str]:
     """Returns pages that no replay prints."""
-    for page in two_pages():
+    for page in make_two_pages():
         lines = page.splitlines(keepends=True)
-        for at, line in enumerate(lines):
+        for index, line in enumerate(lines):
             if not (line.startswith("P1 at") and "r0" in line):  # A test of one thread has such a page.
-                yield "".join(lines[:at] + lines[at + 1 :])
-            yield "".join(lines[:at] + [line, line] + lines[at + 1 :])
-            yield "".join(lines[:at] + lines[at + 1 : at + 2] + [line] + lines[at + 2 :]) if at + 1 < len(lines) else page + "\n"
-            yield "".join(lines[:at])
-            yield "".join(lines[:at] + [" " + line] + lines[at + 1 :])
-            yield "".join(lines[:at] + [line[:-1] + " \n"] + lines[at + 1 :])
-            yield "".join(lines[:at] + [line[:-1] + "\u2028"] + lines[at + 1 :])
+                yield "".join(lines[:index] + lines[index + 1 :])
+            yield "".join(lines[:index] + [line, line] + lines[index + 1 :])
+            swapped = lines[:index] + lines[index + 1 : index + 2] + [line] + lines[index + 2 :]
+            yield "".join(swapped) if index + 1 < len(lines) else page + "\n"
+            yield "".join(lines[:index])
+            yield "".join(lines[:index] + [" " + line] + lines[index + 1 :])
+            yield "".join(lines[:index] + [line[:-1] + " \n"] + lines[index + 1 :])
+            yield "".join(lines[:index] + [line[:-1] + "\u2028"] + lines[index + 1 :])
         yield page[:-1]
         yield page.rstrip("\n") + " "
         yield page + "Content x=1 y=1"
         yield page.replace("\n", "\r")
         yield from (page.replace(old, new, 1) for old, new in CHANGES if old in page)
-    source, x86 = (it.splitlines(keepends=True) for it in two_pages())
+    source, x86 = (it.splitlines(keepends=True) for it in make_two_pages())
     yield "".join(source[:4] + x86[6:9] + source[5:])
     yield from ("", "\n", "\r\n", "Test SB\n")
 
 
-def read_by_python(page):
-    """Returns the state of a page by tools/replay_state.py; `None` if it refuses the page."""
+def read_in_python(page: str) -> object:
+    """Returns the state of a page by tools/replay_state.py, as JSON has it; `None` if it refuses the page."""
     try:
-        return replay_state.read_state(page)
+        return json.loads(json.dumps(replay_state.read_state(page)))
     except replay_state.NoReplay:
         return None
 
 
-def read_by_node(texts):
+def read_in_node(texts: list[str]) -> list[object]:
     """Returns the states of pages by web/replays.js."""
-    with tempfile.TemporaryDirectory(prefix="lw-") as room:
+    with tempfile.TemporaryDirectory(prefix="lw-") as folder:
         # Node takes a file for a module by its name, or by its folder.
-        module = os.path.join(room, "replays.mjs")
+        module = os.path.join(folder, "replays.mjs")
         shutil.copy(os.path.join(HOME, "web", "replays.js"), module)
         words = ["node", "--input-type=module", "--eval", BY_NODE % json.dumps(Path(module).as_uri())]
         ran = subprocess.run(words, input=json.dumps(texts).encode(), stdout=subprocess.PIPE, check=True)
@@ -137,45 +138,43 @@ def read_by_node(texts):
 class Pages(cases.Case):
     """Pages of replays."""
 
-    def test_all_changes(self):
+    def test_all_changes(self) -> None:
         """Each change is one of a page here."""
         for old, _ in CHANGES:
             with self.subTest(old):
-                self.assertTrue(any(old in page for page in two_pages()))
+                self.assertTrue(any(old in page for page in make_two_pages()))
 
-    def test_taken(self):
+    def test_taken(self) -> None:
         """tools/replay_state.py takes what a replay prints, with line ends of either kind."""
-        for page in pages():
-            state = read_by_python(page)
+        for page in list_pages():
+            state = read_in_python(page)
             with self.subTest(page):
                 self.assertTrue(state)
-                self.assertEqual(state, read_by_python(page.replace("\n", "\r\n")))
+                self.assertEqual(state, read_in_python(page.replace("\n", "\r\n")))
 
-    def test_refused(self):
+    def test_refused(self) -> None:
         """It refuses what no replay prints."""
-        for page in wrong_pages():
+        for page in list_wrong_pages():
             with self.subTest(page):
-                self.assertEqual(None, read_by_python(page))
+                self.assertEqual(None, read_in_python(page))
 
     @unittest.skipUnless(shutil.which("node"), "node is missing")
-    def test_same(self):
+    def test_same(self) -> None:
         """web/replays.js reads the same from all these pages, and refuses the same."""
-        texts = [*pages(), *(it.replace("\n", "\r\n") for it in pages()), *wrong_pages()]
-        for page, state in zip(texts, read_by_node(texts)):
+        texts = [*list_pages(), *(it.replace("\n", "\r\n") for it in list_pages()), *list_wrong_pages()]
+        for page, state in zip(texts, read_in_node(texts)):
             with self.subTest(page):
-                self.assertEqual(read_by_python(page), state)
+                self.assertEqual(read_in_python(page), state)
 
-    def test_content(self):
+    def test_content(self) -> None:
         """A page of an x86 test without its last line is refused where that line should be."""
-        page = two_pages()[1]
+        page = make_two_pages()[1]
         head = page[: page.index("Content")]
-        for text, told in ((head, "the text ends, and a replay prints more"), (page[:-1], "the last line has no end")):
-            with self.subTest(told):
-                try:
-                    why = replay_state.read_state(text)
-                except replay_state.NoReplay as fault:
-                    why = fault.args
-                self.assertEqual((told, len(head)), why)
+        for text, message in ((head, "the text ends, and a replay prints more"), (page[:-1], "the last line has no end")):
+            with self.subTest(message):
+                with self.assertRaises(replay_state.NoReplay) as raised:
+                    replay_state.read_state(text)
+                self.assertEqual((message, len(head)), raised.exception.args)
 
 
 if __name__ == "__main__":

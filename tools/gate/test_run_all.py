@@ -1,7 +1,6 @@
-#!/usr/bin/env python3
 """Whether tools/run_all.py answers a folder of mixed files by one table: tests of lw and of herd, and programs.
 
-    python3 tools/gate/test_run_all.py, or python3 -m unittest tools.gate.test_run_all
+    python3 tools gate.test_run_all, or in tools/ python3 -m unittest gate.test_run_all
 
 - A folder with tests of lw, one of them past the limits, tests in herd's form with compare-and-swap and loops, C, and files that are refused:
   a row for each file, in all forms, with how it was converted and by which method; its status, its notes and its causes.
@@ -11,6 +10,8 @@
 
 Programs are left out if there is no gcc. tools/check_documents.py calls all this (tools/gate/cases.py).
 """
+from __future__ import annotations
+
 import csv
 import io
 import json
@@ -19,10 +20,9 @@ import shutil
 import sys
 import tempfile
 import unittest
+from typing import Any, Dict, NoReturn
 from unittest import mock
 
-sys.dont_write_bytecode = True
-sys.path.insert(0, os.path.dirname(os.path.dirname(os.path.abspath(__file__))))
 from gate import cases
 from gate.examples import read, run
 from many import conversions, expected, files, lists, rows, statuses, table
@@ -58,6 +58,7 @@ Condition exists (0:R8=0 /\\ 1:R9=0)
 Observation SB-addresses Sometimes 1 3
 """
 # Of each file of the folder what its row has: the verdict, the observation, the method, how it was converted, and the cause.
+Row = Dict[str, Any]
 ANSWERED = {
     "Cas.litmus": ("Ok", "Sometimes 1 1", "assume.py, X86: 4 tests", None),
     "CasLoop.litmus": ("Ok", "Always 1 0", "assume.py, X86_64: 4 tests, loops gone through at most once", None),
@@ -82,114 +83,123 @@ PROGRAMS = {
 HAS_GCC = shutil.which("gcc") is not None
 
 
-def fail(_choices, _job):
+def fail_conversion(_choices: object, _job: object) -> NoReturn:
     """Fails as a conversion with a fault would."""
     raise KeyError("register")
 
 
-def end(_choices, _job):
+def end_process(_choices: object, _job: object) -> NoReturn:
     """Ends the process of a conversion."""
     os._exit(1)
 
 
-def write(room, name, text):
+def write_file(folder: str, name: str, text: str) -> str:
     """Writes a file of a folder. Returns its path."""
-    path = os.path.join(room, name)
-    with open(path, "w", encoding="utf-8") as it:
-        it.write(text)
+    path = os.path.join(folder, name)
+    with open(path, "w", encoding="utf-8") as file:
+        file.write(text)
     return path
 
 
-def folder(room):
+def make_folder(temporary_folder: str) -> str:
     """Writes the folder of mixed files. Returns its path."""
-    path = os.path.join(room, "mixed")
+    path = os.path.join(temporary_folder, "mixed")
     os.mkdir(path)
     for name in FROM_HERD:
-        write(path, f"{name}.litmus", read(f"tools/herd/tests/{name}.litmus"))
-    write(path, "SB.litmus", read("examples/SB.litmus"))
-    write(path, "Peterson3.litmus", read("tools/search/tests/Peterson3.litmus"))
-    write(path, "Waits.litmus", NO_RUN)
-    write(path, "notes.txt", "not a test\n")
+        write_file(path, f"{name}.litmus", read(f"tools/herd/tests/{name}.litmus"))
+    write_file(path, "SB.litmus", read("examples/SB.litmus"))
+    write_file(path, "Peterson3.litmus", read("tools/search/tests/Peterson3.litmus"))
+    write_file(path, "Waits.litmus", NO_RUN)
+    write_file(path, "notes.txt", "not a test\n")
     if HAS_GCC:
-        write(path, "SB-relaxed.litmus", HERD_C)
-        write(path, "Cut.c", WITHOUT_QUESTION)
-        write(path, "StoreBuffering.c", read("examples/from_c/StoreBuffering.c"))
+        write_file(path, "SB-relaxed.litmus", HERD_C)
+        write_file(path, "Cut.c", WITHOUT_QUESTION)
+        write_file(path, "StoreBuffering.c", read("examples/from_c/StoreBuffering.c"))
     return path
 
 
-def wanted_rows():
-    """What the rows of the folder are to have, by file."""
+def list_wanted_rows() -> dict[str, tuple[str | None, ...]]:
+    """Returns what the rows of the folder are to have, by file."""
     return {**ANSWERED, **(PROGRAMS if HAS_GCC else {})}
 
 
-def without_times(found):
-    """Rows without what differs from run to run."""
+def remove_times(found: list[Row]) -> list[Row]:
+    """Returns rows without what differs from run to run."""
     return [{key: it for key, it in row.items() if key != "milliseconds"} for row in found]
 
 
 class Mixed(cases.Case):
     """One command over a folder of mixed files."""
 
+    room: tempfile.TemporaryDirectory
+    folder: str
+    out: str
+    err: str
+    status: int
+    rows: list[Row]
+
     @classmethod
-    def setUpClass(cls):
+    def setUpClass(cls) -> None:
+        """Runs the tool on a folder with files of all kinds."""
         cls.room = tempfile.TemporaryDirectory(prefix="lw-run-all-")
-        cls.folder = folder(cls.room.name)
+        cls.folder = make_folder(cls.room.name)
         cls.out, cls.err, cls.status = run(["run_all.py", "--as", "json", cls.folder])
         cls.rows = json.loads(cls.out)
 
     @classmethod
-    def tearDownClass(cls):
+    def tearDownClass(cls) -> None:
+        """Removes the folder."""
         cls.room.cleanup()
 
-    def row(self, name):
-        """The row of a file."""
+    def find_row(self, name: str) -> dict[str, None | float | int | list[str] | str]:
+        """Returns the row of a file."""
         return next(it for it in self.rows if os.path.basename(it["file"]) == name)
 
-    def test_rows(self):
+    def test_rows(self) -> None:
         """Each file has a row, sorted by names, with its verdict, how it was converted, and why it is refused; other endings are left out."""
-        self.assertEqual(sorted(wanted_rows()), [os.path.basename(it["file"]) for it in self.rows])
-        for name, wanted in wanted_rows().items():
+        self.assertEqual(sorted(list_wanted_rows()), [os.path.basename(it["file"]) for it in self.rows])
+        for name, wanted in list_wanted_rows().items():
             with self.subTest(name):
-                self.assertEqual(wanted, tuple(self.row(name)[key] for key in ("verdict", "observation", "converted", "cause")))
+                self.assertEqual(wanted, tuple(self.find_row(name)[key] for key in ("verdict", "observation", "converted", "cause")))
 
-    def test_status(self):
+    def test_status(self) -> None:
         """A file without a verdict comes before a refused one."""
         self.assertEqual(6, self.status)
 
-    def test_methods(self):
+    def test_methods(self) -> None:
         """Each row says by which method its list is made; one that is refused has none, nor a count."""
         by = {it["method"] for it in self.rows if it["verdict"] != "Refused"}
         self.assertEqual({rows.ENUMERATED, rows.SEARCHED} if spawn.is_current() and spawn.is_current("beyond") else by, by)
         refused = [it for it in self.rows if it["verdict"] == "Refused"]
         self.assertEqual({(None, None, None, None)}, {(it["method"], it["states"], it["asked"], it["listed"]) for it in refused})
 
-    def test_weakest_method(self):
+    def test_weakest_method(self) -> None:
         """A report that is put together from lists of several makers has the method of the weakest."""
-        method_of = conversions.method_of
+        method_of = conversions.choose_method
         makers = answers.Maker
         self.assertEqual(rows.SEARCHED, method_of([makers.BEYOND, makers.PROGRAM]))
         self.assertEqual(rows.SEARCHED_UNPROVED, method_of([makers.SEARCH, makers.BEYOND]))
         self.assertEqual(rows.PLAIN_UNPROVED, method_of([makers.PROGRAM, makers.PLAIN, makers.SEARCH]))
 
-    def test_states(self):
+    def test_states(self) -> None:
         """JSON has the states of each test, in the names of the original: registers and locations have their names again."""
-        self.assertEqual(SB_HERE.splitlines()[2:6], self.row("SB-addresses.litmus")["listed"])
-        self.assertEqual(["0:EAX=1; 0:EBX=2;"], self.row("Reserved.litmus")["listed"])
-        self.assertEqual(["0:r0=0; 1:r0=1;", "0:r0=1; 1:r0=0;", "0:r0=1; 1:r0=1;"], self.row("SB.litmus")["listed"])
-        for it in self.rows:
-            with self.subTest(it["file"]):
-                self.assertEqual(it["states"], None if it["listed"] is None else len(it["listed"]))
+        self.assertEqual(SB_HERE.splitlines()[2:6], self.find_row("SB-addresses.litmus")["listed"])
+        self.assertEqual(["0:EAX=1; 0:EBX=2;"], self.find_row("Reserved.litmus")["listed"])
+        self.assertEqual(["0:r0=0; 1:r0=1;", "0:r0=1; 1:r0=0;", "0:r0=1; 1:r0=1;"], self.find_row("SB.litmus")["listed"])
+        for row in self.rows:
+            with self.subTest(row["file"]):
+                self.assertEqual(row["states"], None if row["listed"] is None else len(row["listed"]))
 
-    def test_notes(self):
+    def test_notes(self) -> None:
         """Notes are on standard error and in JSON; each refused file has a line with its place."""
         path = os.path.join(self.folder, "MP+filter.litmus")
-        self.assertEqual([f"{path}:{FILTERED}"], self.row("MP+filter.litmus")["notes"])
+        self.assertEqual([f"{path}:{FILTERED}"], self.find_row("MP+filter.litmus")["notes"])
         self.assertIn(f"{path}:{FILTERED}", self.err.splitlines())
-        for name, (verdict, _, _, cause) in wanted_rows().items():
+        for name, (verdict, _, _, cause) in list_wanted_rows().items():
             if verdict == "Refused":
                 self.assertIn(f"{os.path.join(self.folder, name)}:{cause}", self.err.splitlines())
 
-    def test_other_forms(self):
+    def test_other_forms(self) -> None:
         """CSV and text have the same rows, and a further column for how files were converted and for causes."""
         found = list(csv.DictReader(io.StringIO(run(["run_all.py", "--as", "csv", self.folder])[0])))
         keys = ("file", "verdict", "observation", "method", "converted", "cause")
@@ -200,14 +210,14 @@ class Mixed(cases.Case):
         refused = next(line for line in lines if line.startswith("Less "))
         self.assertTrue("Refused" in refused and refused.endswith("which is the only one that lw has"))
 
-    def test_shards(self):
+    def test_shards(self) -> None:
         """The tables of all shards, put together in any order, are the whole, with its status; no file is lost, and none is there twice."""
         paths = []
         for number in (3, 1, 2):
             out = run(["run_all.py", "--as", "json", "--shard", f"{number}/3", self.folder])[0]
-            paths.append(write(self.room.name, f"{number}.json", out))
+            paths.append(write_file(self.room.name, f"{number}.json", out))
         out, err, status = run(["run_all.py", "--as", "json", "--merge", *paths])
-        self.assertEqual((without_times(self.rows), self.status), (without_times(json.loads(out)), status))
+        self.assertEqual((remove_times(self.rows), self.status), (remove_times(json.loads(out)), status))
         self.assertEqual(sorted(it for it in self.err.splitlines() if "note: " not in it), sorted(err.splitlines()))
         text = run(["run_all.py", "--merge", *paths])[0].splitlines()
         self.assertEqual(len(self.rows) + 1, len(text))
@@ -218,15 +228,15 @@ class Mixed(cases.Case):
         first = json.loads(read(paths[0]))[0]["file"]
         self.assertEqual((f"run_all: {paths[0]}: {first} is in {paths[0]} too\n", 1), (err, status))
 
-    def test_against_itself(self):
+    def test_against_itself(self) -> None:
         """A folder of mixed files does not differ from its own earlier run, nor from logs of the original tests, in their names."""
-        log = write(self.room.name, "log", run(["run_all.py", "--as", "log", self.folder])[0])
+        log = write_file(self.room.name, "log", run(["run_all.py", "--as", "log", self.folder])[0])
         self.assertIn(SB_HERE, read(log))
         _, err, _ = run(["run_all.py", "--against", log, self.folder])
         count = sum(it["verdict"] != "Refused" for it in self.rows)
         self.assertEqual(f"{count} tests against {count} of {log}: 0 differ", err.splitlines()[-1])
         for text, differ in ((LOG_OF_HERD, 0), (LOG_OF_HERD.replace("x=2", "x=3"), 1)):
-            path = write(self.room.name, "of-herd", text)
+            path = write_file(self.room.name, "of-herd", text)
             names = [os.path.join(self.folder, f"{name}.litmus") for name in ("SB-addresses", "Cas", "Reserved")]
             _, err, status = run(["run_all.py", "--against", path, *names])
             self.assertEqual((f"3 tests against 3 of {path}: {differ} differ", differ), (err.splitlines()[-1], status))
@@ -254,7 +264,7 @@ Ok
 class Statuses(cases.Case):
     """Exit statuses, and words that are no command."""
 
-    def test_expected(self):
+    def test_expected(self) -> None:
         """With --expect-ok a verdict `No` has a status of its own, and a line; `Ok` has not, and without the option neither."""
         out, err, status = run(["run_all.py", "--expect-ok", "--as", "csv", "examples/SB.litmus", "examples/SB-x86.litmus"])
         self.assertEqual(("examples/SB.litmus: the verdict is No, and Ok is expected: Never 0 3\n", 7), (err, status))
@@ -262,11 +272,11 @@ class Statuses(cases.Case):
         self.assertEqual(("", 0), run(["run_all.py", "--expect-ok", "examples/SB-x86.litmus"])[1:])
         self.assertEqual(("", 0), run(["run_all.py", "examples/SB.litmus"])[1:])
 
-    def test_expected_by_table(self):
+    def test_expected_by_table(self) -> None:
         """A table says of each test or file what is expected: a verdict or an observation. What is otherwise has a line and status 7."""
-        with tempfile.TemporaryDirectory() as room:
+        with tempfile.TemporaryDirectory() as folder:
             names = ["examples/SB.litmus", "examples/SB-x86.litmus", "tools/herd/tests/Less.litmus"]
-            for lines, status, told in (
+            for lines, status, message in (
                 ("# kinds\nSB No  # by interleaving\nSB-x86 Sometimes\nLess Refused\n", 0, ""),
                 ("examples/SB.litmus Forbidden\nSB-x86.litmus Allowed\ntests/Less.litmus Refused\n", 0, ""),
                 ("SB Ok\nLess Refused\n", 7, "examples/SB.litmus: the verdict is No, and Ok is expected: Never 0 3\n"),
@@ -277,65 +287,65 @@ class Statuses(cases.Case):
                 ("SB No\n", 1, f"{names[2]}:6:2: 'JL'"),
                 ("MP Never\n", 1, ": no file here is meant by MP\n"),
             ):
-                path = write(room, "kinds.txt", lines)
+                path = write_file(folder, "kinds.txt", lines)
                 _, err, ended = run(["run_all.py", "--expect", path, *names])
                 with self.subTest(lines):
                     self.assertEqual(status, ended)
-                    self.assertTrue(told in err and (told or "expected" not in err))
-            path = write(room, "kinds.txt", "SB No\n")
+                    self.assertTrue(message in err and (message or "expected" not in err))
+            path = write_file(folder, "kinds.txt", "SB No\n")
             self.assertEqual(("", 0), run(["run_all.py", "--expect-ok", "--expect", path, *names[:2]])[1:])
-            told = "examples/SB.litmus: the verdict is No, and Ok is expected: Never 0 3\n"
-            table = write(room, "table", run(["run_all.py", "--as", "json", *names[:2]])[0])
-            self.assertEqual((told, 7), run(["run_all.py", "--expect-ok", "--merge", table])[1:])
+            message = "examples/SB.litmus: the verdict is No, and Ok is expected: Never 0 3\n"
+            table = write_file(folder, "table", run(["run_all.py", "--as", "json", *names[:2]])[0])
+            self.assertEqual((message, 7), run(["run_all.py", "--expect-ok", "--merge", table])[1:])
             self.assertEqual(("", 0), run(["run_all.py", "--expect-ok", "--expect", path, "--merge", table])[1:])
             self.assertEqual(("", 0), run(["run_all.py", "--expect", path, "--shard", "1/2", *names[:2]])[1:])
 
-    def test_no_table(self):
+    def test_no_table(self) -> None:
         """A table that is none is refused, with its line."""
-        with tempfile.TemporaryDirectory() as room:
+        with tempfile.TemporaryDirectory() as folder:
             words = ", ".join(expected.WORDS)
-            for lines, told in (
+            for lines, message in (
                 ("SB\n", f":1: a line has a name and one of {words}\n"), ("\nSB Maybe\n", f":2: a line has a name and one of {words}\n"),
                 ("SB Ok\nSB No\n", ":2: 'SB' is expected to be Ok before\n"),
             ):
-                path = write(room, "kinds.txt", lines)
+                path = write_file(folder, "kinds.txt", lines)
                 with self.subTest(lines):
-                    self.assertEqual(("", f"run_all: {path}{told}", 1), run(["run_all.py", "--expect", path, "examples/SB.litmus"]))
+                    self.assertEqual(("", f"run_all: {path}{message}", 1), run(["run_all.py", "--expect", path, "examples/SB.litmus"]))
             self.assertEqual("run_all: nowhere: No such file or directory\n", run(["run_all.py", "--expect", "nowhere", "examples/SB.litmus"])[1])
 
-    def test_names(self):
+    def test_names(self) -> None:
         """The text says of which file a row is, if two tests have one name, and only then."""
-        with tempfile.TemporaryDirectory() as room:
-            path = write(room, "other.litmus", read("examples/SB.litmus"))
+        with tempfile.TemporaryDirectory() as folder:
+            path = write_file(folder, "other.litmus", read("examples/SB.litmus"))
             lines = run(["run_all.py", "examples/SB.litmus", path])[0].splitlines()
             self.assertEqual(["Test", "File", "Asked"], lines[0].split()[:3])
             self.assertEqual([["SB", "examples/SB.litmus"], ["SB", path]], [it.split()[:2] for it in lines[1:]])
             self.assertEqual(["Test", "Asked"], run(["run_all.py", "examples/SB.litmus"])[0].split()[:2])
 
-    def test_sequence(self):
+    def test_sequence(self) -> None:
         """What a machine contradicts comes first; then a verdict that is not Ok, a file without a verdict, and one that is refused."""
-        row = rows.refused_row("a", "why")
+        row = rows.make_refused_row("a", "why")
         verdicts = [row._replace(verdict=it) for it in ("Ok", "No", rows.NO_VERDICT, rows.REFUSED)]
         with mock.patch.object(sys, "stderr", io.StringIO()):
             import run_all
 
-            told = [statuses.status_of({0} | run_all.tell_of(verdicts[at:], Expected(None, True))) for at in (0, 1, 2, 3)]
-            self.assertEqual([7, 7, 6, 1], told)
-            self.assertEqual(6, statuses.status_of(run_all.tell_of(verdicts, Expected(None, False))))
+            found = [statuses.choose_status({0} | run_all.report_rows(verdicts[begin:], Expected(None, True))) for begin in (0, 1, 2, 3)]
+            self.assertEqual([7, 7, 6, 1], found)
+            self.assertEqual(6, statuses.choose_status(run_all.report_rows(verdicts, Expected(None, False))))
             self.assertEqual(answers.NO_VERDICT, statuses.NO_VERDICT)
-            self.assertEqual(3, statuses.status_of({statuses.SEEN_AND_NOT_LISTED, 7, 6}))
+            self.assertEqual(3, statuses.choose_status({statuses.SEEN_AND_NOT_LISTED, 7, 6}))
 
-    def test_tries_and_order(self):
+    def test_tries_and_order(self) -> None:
         """Loops are gone through as often as --tries says; --order decides if marks contradict one another."""
         out, _, status = run(["run_all.py", "--as", "csv", "--tries", "2", "tools/herd/tests/Spin.litmus"])
         self.assertEqual((True, 0), ("loops gone through at most 2 times" in out, status))
         _, err, status = run(["run_all.py", "--tries", "0", "tools/herd/tests/Loop.litmus"])
-        told = "a jump leads backward: --tries N goes through each loop N times at most"
-        self.assertEqual((f"6:6: the jump to 'L' does not go forward; in herd's form: {told}", 1), (err.partition(".litmus:")[2].strip(), status))
+        message = "a jump leads backward: --tries N goes through each loop N times at most"
+        self.assertEqual((f"6:6: the jump to 'L' does not go forward; in herd's form: {message}", 1), (err.partition(".litmus:")[2].strip(), status))
         self.assertEqual(1, run(["run_all.py", "tools/herd/tests/MixedOrder.litmus"])[2])
         self.assertEqual(0, run(["run_all.py", "--order", "att", "tools/herd/tests/MixedOrder.litmus"])[2])
 
-    def test_no_command(self):
+    def test_no_command(self) -> None:
         """Words that are no command have status 2, and nothing is run; options may be between the names."""
         for words in (["--shard", "0/3"], ["--shard", "4/3"], ["--shard", "1"], ["--shard", "1/"], ["--shard", "-1/3"], ["--tries", "-1"],
                       ["--merge"], ["--merge", "a", "--shard", "1/2"], ["--merge", "a", "--as", "log"], ["--merge", "a", "--against", "b"],
@@ -343,12 +353,12 @@ class Statuses(cases.Case):
             with self.subTest(words):
                 out, err, status = run(["run_all.py", "examples/SB.litmus", *words] if words[0] != "--merge" else ["run_all.py", *words])
                 self.assertEqual(("", 2), (out, status))
-                self.assertIn("run_all.py: error: ", err.splitlines()[-1])
+                self.assertTrue(err.splitlines()[-1].startswith("run_all: "))
         out = run(["run_all.py", "examples/SB.litmus", "--as", "csv", "examples/MP.litmus"])[0]
         self.assertEqual(["name", "SB", "MP"], [line.split(",")[1] for line in out.splitlines()])
 
     @unittest.skipUnless(HAS_GCC, "there is no gcc")
-    def test_compiler(self):
+    def test_compiler(self) -> None:
         """--cc names the compiler of C; one that does not start refuses the file, and no other."""
         out, err, status = run(["run_all.py", "--as", "csv", "--cc", "no-cc -O1", "examples/SB.litmus", "examples/from_c/StoreBuffering.c"])
         self.assertEqual(("examples/from_c/StoreBuffering.c: the compiler 'no-cc' does not start: No such file or directory\n", 1), (err, status))
@@ -360,77 +370,77 @@ class Statuses(cases.Case):
 class Parts(cases.Case):
     """Shards, and tables of shards."""
 
-    def test_split(self):
+    def test_split(self) -> None:
         """A split is stable: it does not depend on the order of the names. All parts together are all files, and none is in two."""
         names = [f"{number:02}" for number in range(10)]
         for of in (1, 3, 10, 12):
-            parts = [files.part_of(names, files.Shard(number, of)) for number in range(1, of + 1)]
+            parts = [files.select_shard(names, files.Shard(number, of)) for number in range(1, of + 1)]
             self.assertEqual(names, sorted(it for part in parts for it in part))
-            self.assertEqual(parts, [files.part_of(names[::-1] + names[:3], files.Shard(number, of)) for number in range(1, of + 1)])
+            self.assertEqual(parts, [files.select_shard(names[::-1] + names[:3], files.Shard(number, of)) for number in range(1, of + 1)])
             self.assertTrue(max(map(len, parts)) - min(map(len, parts)) <= 1)
 
-    def test_empty_shards(self):
+    def test_empty_shards(self) -> None:
         """Shards without a file are put together with the others."""
-        with tempfile.TemporaryDirectory(prefix="lw-run-all-") as room:
+        with tempfile.TemporaryDirectory(prefix="lw-run-all-") as folder:
             paths = []
             for number in (1, 2):
                 out, _, status = run(["run_all.py", "--as", "json", "--shard", f"{number}/2", "examples/SB.litmus"])
                 self.assertEqual(0, status)
-                paths.append(write(room, f"{number}.json", out))
+                paths.append(write_file(folder, f"{number}.json", out))
             self.assertEqual([], json.loads(read(paths[1])))
             out, _, status = run(["run_all.py", "--as", "csv", "--merge", *paths])
             self.assertEqual((["file", "examples/SB.litmus"], 0), ([line.split(",")[0] for line in out.splitlines()], status))
 
-    def test_seen(self):
+    def test_seen(self) -> None:
         """A state that a machine showed and that is not listed gives the table that has it the status of the run."""
-        row = rows.refused_row("a", "why")._replace(verdict="Ok", cause=None)
-        with tempfile.TemporaryDirectory(prefix="lw-run-all-") as room:
+        row = rows.make_refused_row("a", "why")._replace(verdict="Ok", cause=None)
+        with tempfile.TemporaryDirectory(prefix="lw-run-all-") as folder:
             for seen, wanted in (("4 of 4", 0), ("4 of 4, and 1 not listed", 3)):
-                path = write(room, "table", json.dumps([row._replace(seen=seen)._asdict()]))
+                path = write_file(folder, "table", json.dumps([row._replace(seen=seen)._asdict()]))
                 out, _, status = run(["run_all.py", "--as", "json", "--merge", path])
                 self.assertEqual((seen, wanted), (json.loads(out)[0]["seen"], status))
 
-    def test_no_tables(self):
+    def test_no_tables(self) -> None:
         """What is no table, or was cut off, is refused by name, and nothing is printed; so are tables of two splits."""
-        row = {**rows.refused_row("a", "why")._asdict()}
-        with tempfile.TemporaryDirectory(prefix="lw-run-all-") as room:
-            whole = write(room, "whole", json.dumps([row]))
+        row = {**rows.make_refused_row("a", "why")._asdict()}
+        with tempfile.TemporaryDirectory(prefix="lw-run-all-") as folder:
+            whole = write_file(folder, "whole", json.dumps([row]))
             other = json.dumps([{**row, "file": "b", "part": "1/2", "parts": 2}])
-            third = write(room, "third", json.dumps([{**row, "file": "c", "part": "2/3", "parts": 2}]))
+            third = write_file(folder, "third", json.dumps([{**row, "file": "c", "part": "2/3", "parts": 2}]))
             for text, why in (("[{", "no whole table"), ("", "no whole table"), ("{}", "no table"), ('[{"file": 1}]', "no table"),
                               (json.dumps([{**row, "part": 3}]), "no table")):
-                path = write(room, "faulty", text)
+                path = write_file(folder, "faulty", text)
                 with self.subTest(text):
                     out, err, status = run(["run_all.py", "--merge", whole, path])
                     wanted = f"run_all: {path}: it is {why} of --as json"
                     self.assertEqual(("", 1, wanted), (out, status, err[: len(wanted)]))
-            path = write(room, "other", other)
+            path = write_file(folder, "other", other)
             for names in ([whole, path], [path, third]):
                 self.assertEqual(("", "run_all: the tables are not of shards of one split\n", 1), run(["run_all.py", "--merge", *names]))
-            self.assertEqual(("", f"run_all: {room}/none: No such file or directory\n", 1), run(["run_all.py", "--merge", f"{room}/none"]))
+            self.assertEqual(("", f"run_all: {folder}/none: No such file or directory\n", 1), run(["run_all.py", "--merge", f"{folder}/none"]))
 
 
 class Answers(cases.Case):
     """Who answers."""
 
-    def test_not_built(self):
+    def test_not_built(self) -> None:
         """Without the programs of the sources nothing is said to be proved."""
-        told = io.StringIO()
-        with mock.patch.object(spawn, "is_current", lambda name="lw": False), mock.patch.object(sys, "stderr", told):
-            done = lists.all_answers([f"{HOME}/examples/SB.litmus"], lists.Choices(1, None, None), lambda _: None)
+        found = io.StringIO()
+        with mock.patch.object(spawn, "is_current", lambda name="lw": False), mock.patch.object(sys, "stderr", found):
+            done = lists.answer_all([f"{HOME}/examples/SB.litmus"], lists.Choices(1, None, None), lambda _: None)
         self.assertEqual([rows.PLAIN_UNPROVED], [it.row.method for it in done])
-        self.assertIn("answered by tools/plain.py, not proved", told.getvalue())
+        self.assertIn("answered by tools/plain.py, not proved", found.getvalue())
 
-    def test_faulty_conversion(self):
+    def test_faulty_conversion(self) -> None:
         """A conversion that fails, or whose process ends, makes a row that says so, and the other files are answered."""
-        for conversion, why in ((fail, "KeyError: 'register'"), (end, "BrokenProcessPool: ")):
-            with mock.patch.object(conversions, "answer_of", conversion):
-                done = lists.all_answers([f"{HOME}/examples/SB.litmus", "a.c", "b.c"], lists.Choices(1, None, None), lambda _: None)
+        for conversion, why in ((fail_conversion, "KeyError: 'register'"), (end_process, "BrokenProcessPool: ")):
+            with mock.patch.object(conversions, "answer_file", conversion):
+                done = lists.answer_all([f"{HOME}/examples/SB.litmus", "a.c", "b.c"], lists.Choices(1, None, None), lambda _: None)
             self.assertEqual(["No", "Refused", "Refused"], [it.row.verdict for it in done])
-            for it in done[1:]:
-                self.assertIn(f"the conversion failed, which is a fault of it: {why}", it.row.cause)
+            for row in done[1:]:
+                self.assertIn(f"the conversion failed, which is a fault of it: {why}", row.row.cause)
 
-    def test_missing(self):
+    def test_missing(self) -> None:
         """A file that is not there is a row, and the others are answered."""
         for name in ("nowhere.litmus", "nowhere.c"):
             out, err, status = run(["run_all.py", "--as", "json", name, "examples/SB.litmus"])
@@ -438,29 +448,29 @@ class Answers(cases.Case):
             self.assertEqual([("nowhere", "Refused", "No such file or directory"), ("SB", "No", None)],
                              [(it["name"], it["verdict"], it["cause"]) for it in json.loads(out)])
 
-    def test_addresses(self):
+    def test_addresses(self) -> None:
         """States of programs are compared by their addresses and by what is after the begin of a global, too."""
         states = ["0:p=&x; x+8=1; y+8=1;", "0:p=&y; x+8=1; y+8=1;", "0:p=&y; x+8=1; y+8=2;", "0:p=0; x+8=2; y+8=1;"]
-        found = logs.states_in(["Test A Allowed", "States 4", *states, "Ok"])["A"]
+        found = logs.read_states(["Test A Allowed", "States 4", *states, "Ok"])["A"]
         self.assertEqual({frozenset(line.rstrip(";").split("; ")) for line in states}, found)
 
-    def test_two_names(self):
+    def test_two_names(self) -> None:
         """Two files of one name with different states are not compared."""
-        here = logs.listed_by([])
+        here = logs.collect_lists([])
         for line in ("x=1;", "x=2;"):
             logs.add_converted(here, f"Test A Allowed\nStates 1\n{line}\nOk\n", [], 0)
         self.assertEqual(logs.TWO_FILES, here.own["A"].why)
 
-    def test_columns(self):
+    def test_columns(self) -> None:
         """A table of tests of lw has the columns that it has always had; what only some rows have makes columns of its own."""
-        row = rows.refused_row("a", "why")
-        self.assertEqual(list(rows.ALWAYS), table.columns_of([row._replace(cause=None)]))
-        self.assertEqual([*rows.ALWAYS, "cause"], table.columns_of([row._replace(cause=None), row]))
-        self.assertEqual([*rows.ALWAYS, "seen", "converted", "cause"], table.columns_of([row._replace(seen="1 of 1", converted="by")]))
+        row = rows.make_refused_row("a", "why")
+        self.assertEqual(list(rows.ALWAYS), table.list_columns([row._replace(cause=None)]))
+        self.assertEqual([*rows.ALWAYS, "cause"], table.list_columns([row._replace(cause=None), row]))
+        self.assertEqual([*rows.ALWAYS, "seen", "converted", "cause"], table.list_columns([row._replace(seen="1 of 1", converted="by")]))
 
 
-def skipped():
-    """What was left out."""
+def skipped() -> str | None:
+    """Returns what was left out. None if nothing was."""
     return None if HAS_GCC else "run_all.py on C was left out: there is no gcc"
 
 

@@ -1,12 +1,13 @@
-#!/usr/bin/env python3
 """Whether the page's server runs tests on this processor for the page, and for nobody else.
 
-    python3 tools/gate/test_seen_here.py, or python3 -m unittest tools.gate.test_seen_here
+    python3 tools gate.test_seen_here, or in tools/ python3 -m unittest gate.test_seen_here
 
 The server is started in this process, and asked as the page asks it. A run needs a C compiler, objdump and the processor of tools/on_machine.py;
 without them it is looked that the reason comes back. tools/check_documents.py calls all this (tools/gate/cases.py); the page's own
 part is tried in a browser (tools/gate/browser/seen_here.py).
 """
+from __future__ import annotations
+
 import http.client
 import json
 import os
@@ -16,10 +17,9 @@ import sys
 import tempfile
 import threading
 import unittest
+from typing import Any
 from unittest import mock
 
-sys.dont_write_bytecode = True
-sys.path.insert(0, os.path.dirname(os.path.dirname(os.path.abspath(__file__))))
 from gate import cases
 from gate.examples import read
 from page import web_runs
@@ -31,8 +31,11 @@ SB = read("examples/SB-x86.litmus")
 class Served(cases.Case):
     """A server of the page."""
 
+    server: Server
+
     @classmethod
-    def setUpClass(cls):
+    def setUpClass(cls) -> None:
+        """Starts a server."""
         listening = socket.socket()
         listening.bind(("127.0.0.1", 0))
         listening.listen(8)
@@ -41,41 +44,45 @@ class Served(cases.Case):
         cls.addClassCleanup(cls.server.runs.end_all)
         threading.Thread(target=cls.server.serve, daemon=True).start()
 
-    def asked(self, said, **more):
-        """The status and the object that the server answers."""
+    def ask_server(self, question: object, **headers: str) -> tuple[int, dict[str, Any]]:
+        """Returns the status and the object that the server answers."""
         own = f"http://127.0.0.1:{self.server.port}"
         connection = http.client.HTTPConnection("127.0.0.1", self.server.port, timeout=60)
-        connection.request("POST", "/machine", json.dumps(said), {"Content-Type": "application/json", "Origin": own, **more})
+        connection.request("POST", "/machine", json.dumps(question), {"Content-Type": "application/json", "Origin": own, **headers})
         answer = connection.getresponse()
         return answer.status, json.loads(answer.read())
 
     @unittest.skipUnless(shutil.which("cc") and shutil.which("objdump"), "cc or objdump is missing")
-    def test_run(self):
+    def test_run(self) -> None:
         """A test is run, and each state that was seen says whether it is listed; a source test has its own names."""
         for name, states in (("SB-x86", 4), ("MP", 3)):
-            status, told = self.asked({"text": read(f"examples/{name}.litmus"), "seconds": 1})
+            status, found = self.ask_server({"text": read(f"examples/{name}.litmus"), "seconds": 1})
             with self.subTest(name):
-                self.assertEqual((200, states, [], name), (status, told["listed"], told["not_listed"], told["name"]))
-                self.assertEqual(states, len(told["seen"]) + len(told["not_seen"]))
-                self.assertTrue(told["runs"] > 0 and all(it["count"] > 0 and it["listed"] for it in told["seen"]))
+                self.assertEqual((200, states, [], name), (status, found["listed"], found["not_listed"], found["name"]))
+                self.assertEqual(states, len(found["seen"]) + len(found["not_seen"]))
+                self.assertTrue(found["runs"] > 0 and all(it["count"] > 0 and it["listed"] for it in found["seen"]))
 
-    def test_no_run(self):
+    def test_no_run(self) -> None:
         """Why nothing is run comes back: the text is none, or there is no compiler."""
-        status, told = self.asked({"text": "X86 A", "seconds": 1})
-        self.assertEqual((500, True), (status, told["error"].startswith("The test was not run on this machine: -:1:6: ")))
+        status, found = self.ask_server({"text": "X86 A", "seconds": 1})
+        self.assertEqual((500, True), (status, found["error"].startswith("The test was not run on this machine: -:1:6: ")))
         with tempfile.TemporaryDirectory(prefix="lw-bin-") as bin:
-            for it in filter(shutil.which, ("sh", "setpriv")):
-                os.symlink(shutil.which(it), f"{bin}/{it}")
+            for command in filter(shutil.which, ("sh", "setpriv")):
+                os.symlink(str(shutil.which(command)), f"{bin}/{command}")
             with mock.patch.dict(os.environ, PATH=bin):
-                status, told = self.asked({"text": SB, "seconds": 1})
-        self.assertEqual((500, True), (status, "on_machine: there is no objdump" in told["error"]))
+                status, found = self.ask_server({"text": SB, "seconds": 1})
+        self.assertEqual((500, True), (status, "on_machine: there is no objdump" in found["error"]))
 
-    def test_refused(self):
+    def test_refused(self) -> None:
         """What the page does not ask is refused, and nothing is run."""
-        with mock.patch.object(web_runs.Runs, "on_machine", side_effect=AssertionError):
+        with mock.patch.object(web_runs.Runs, "run_on_machine", side_effect=AssertionError):
             for said in ({"text": SB}, {"text": SB, "seconds": 0}, {"text": SB, "seconds": 11}, {"text": SB, "seconds": "1"}):
-                self.assertEqual(400, self.asked(said)[0])
-            self.assertEqual(403, self.asked({"text": SB, "seconds": 1}, Origin="http://another.example")[0])
+                self.assertEqual(400, self.ask_server(said)[0])
+            self.assertEqual(403, self.ask_server({"text": SB, "seconds": 1}, Origin="http://another.example")[0])
+            # (A compiler would quote words of the file.)
+            including = 'C A\n{}\nP0 (int *x) {\n#include "/etc/passwd"\n}\nexists (x=1)\n'
+            for text in (including, "(* A. *)\n" + including):
+                self.assertEqual(400, self.ask_server({"text": text, "seconds": 1})[0])
 
 
 if __name__ == "__main__":

@@ -1,15 +1,13 @@
-#!/usr/bin/env python3
 """What tools/gate/check_wings.py finds in lines of crates.txt that break a rule.
 
-    python3 tools/gate/test_wings.py, or python3 -m unittest tools.gate.test_wings
+    python3 tools gate.test_wings, or in tools/ python3 -m unittest gate.test_wings
 
 tools/check_documents.py calls this (tools/gate/cases.py).
 """
-import os
+from __future__ import annotations
+
 import sys
 
-sys.dont_write_bytecode = True
-sys.path.insert(0, os.path.dirname(os.path.dirname(os.path.abspath(__file__))))
 from gate import cases, check_wings
 
 BROKEN = (
@@ -22,21 +20,21 @@ BROKEN = (
 class Lines(cases.Case):
     """The lines of crates.txt, as they are and with one crate more."""
 
-    def test_as_it_is(self):
+    def test_as_it_is(self) -> None:
         """The repository breaks no rule."""
-        self.assertEqual([], check_wings.faults())
+        self.assertEqual([], check_wings.find_faults())
 
-    def test_broken(self):
+    def test_broken(self) -> None:
         """A crate that depends on one that it may not name is reported, with the way to it."""
         for crate, more, fault in BROKEN:
-            lines = check_wings.lines_of_crates()
+            lines = check_wings.read_dependencies()
             with self.subTest(crate, more=more):
-                self.assertIn(fault, check_wings.faults({**lines, crate: [*lines[crate], more]}))
+                self.assertIn(fault, check_wings.find_faults({**lines, crate: [*lines[crate], more]}))
 
-    def test_unplaced(self):
+    def test_unplaced(self) -> None:
         """A crate of no wing is reported."""
-        lines = {**check_wings.lines_of_crates(), "lw_more": []}
-        self.assertEqual(["lw_more is in no wing of tools/gate/check_wings.py"], check_wings.faults(lines))
+        lines: dict[str, list[str]] = {**check_wings.read_dependencies(), "lw_more": []}
+        self.assertEqual(["lw_more is in no wing of tools/gate/check_wings.py"], check_wings.find_faults(lines))
 
 
 if __name__ == "__main__":

@@ -1,7 +1,9 @@
 """The ways through a thread's instructions: flags that later branches read, and registers that hold addresses."""
-from typing import Dict, List, Optional
+from __future__ import annotations
 
-from herd.cells import Instruction
+
+from herd.cells import AddressOf, InMemory, Instruction, Operand
+from plain import Register
 
 # The target of a jump that abandons a run.
 GIVE_UP = -1
@@ -11,86 +13,86 @@ SETS_FLAG = ("ADD", "SUB", "INC", "DEC", "XOR", "AND", "OR", "CMP", "TEST", "XAD
 NUMBER, EITHER = "a number", "either"
 
 
-def followers(it: Instruction, at: int) -> List[int]:
-    """Returns the indices of the instructions that may be next."""
-    if it.target is None:
-        return [at + 1]
-    return [it.target] if it.mnemonic == "JMP" else [at + 1, it.target]
+def list_successors(instruction: Instruction, index: int) -> list[int]:
+    """Returns the indices of the instructions that may follow one, which has an index."""
+    if instruction.target is None:
+        return [index + 1]
+    return [instruction.target] if instruction.mnemonic == "JMP" else [index + 1, instruction.target]
 
 
 # Flags.
 
 
-def flags_read(code: List[Instruction]) -> List[bool]:
+def find_read_flags(code: list[Instruction]) -> list[bool]:
     """Returns, for each instruction, whether the zero flag that it leaves may be read by a later branch. Jumps go forward."""
     needed, read = [False] * (len(code) + 1), [False] * len(code)
-    for at in range(len(code) - 1, -1, -1):
-        it = code[at]
-        read[at] = any(next_one != GIVE_UP and needed[next_one] for next_one in followers(it, at))
-        needed[at] = it.mnemonic in READS_FLAG or read[at] and it.mnemonic not in SETS_FLAG
+    for index in range(len(code) - 1, -1, -1):
+        instruction = code[index]
+        read[index] = any(follower != GIVE_UP and needed[follower] for follower in list_successors(instruction, index))
+        needed[index] = instruction.mnemonic in READS_FLAG or read[index] and instruction.mnemonic not in SETS_FLAG
     return read
 
 
-def reads_unset_flag(code: List[Instruction]) -> Optional[Instruction]:
-    """Returns the first instruction that may read the zero flag before an instruction has set it, if there is one. Jumps go forward."""
+def find_unset_flag_read(code: list[Instruction]) -> Instruction | None:
+    """Returns the first instruction that may read the zero flag before an instruction has set it, if there is one. Jumps go forward. `None` if there
+    is none.
+    """
     unset = [True] + [False] * len(code)
-    for at, it in enumerate(code):
-        if unset[at] and it.mnemonic in READS_FLAG:
-            return it
-        if unset[at] and it.mnemonic not in SETS_FLAG:
-            for next_one in followers(it, at):
-                if next_one != GIVE_UP:
-                    unset[next_one] = True
+    for index, instruction in enumerate(code):
+        if unset[index] and instruction.mnemonic in READS_FLAG:
+            return instruction
+        if unset[index] and instruction.mnemonic not in SETS_FLAG:
+            for follower in list_successors(instruction, index):
+                if follower != GIVE_UP:
+                    unset[follower] = True
     return None
 
 
 # Addresses.
 
 
-def address_of(operand: tuple, held: Dict[str, str]) -> Optional[str]:
-    """Returns the location whose address an operand of MOV or LEA is, if it is one: `held` says which registers hold which."""
-    if operand[0] == "address":
-        return operand[1]
-    if operand[0] == "register":
-        found = held.get(operand[1], NUMBER)
-        return None if found in (NUMBER, EITHER) else found
+def find_address(operand: Operand, held: dict[str, str]) -> str | None:
+    """Returns the location whose address an operand of MOV or LEA is, if it is one: `held` says which registers hold which. `None` if it is none."""
+    if isinstance(operand, AddressOf):
+        return operand.location
+    if isinstance(operand, Register):
+        held_address = held.get(operand.register, NUMBER)
+        return None if held_address in (NUMBER, EITHER) else held_address
     return None
 
 
-def location_of(operand: tuple, held: Dict[str, str]) -> Optional[str]:
-    """Returns the location of an operand in memory, if it has one."""
-    _, location, registers, number = operand
-    if number or len(registers) + bool(location) != 1:
+def find_location(operand: InMemory, held: dict[str, str]) -> str | None:
+    """Returns the location of an operand in memory, if it has one. `None` if it has none."""
+    if operand.number or len(operand.registers) + bool(operand.location) != 1:
         return None
-    return location or address_of(("register", registers[0]), held)
+    return operand.location or find_address(Register(operand.registers[0]), held)
 
 
-def written_register(it: Instruction) -> List[str]:
+def list_written_registers(instruction: Instruction) -> list[str]:
     """Returns the registers that an instruction may write."""
-    if it.mnemonic in ("CMP", "TEST") or not it.operands:
+    if instruction.mnemonic in ("CMP", "TEST") or not instruction.operands:
         return []
-    both = it.operands if it.mnemonic in ("XCHG", "XADD") else it.operands[:1]
-    written = [operand[1] for operand in both if operand[0] == "register"]
-    return written + ["EAX"] if it.mnemonic == "CMPXCHG" else written
+    both = instruction.operands if instruction.mnemonic in ("XCHG", "XADD") else instruction.operands[:1]
+    written = [operand.register for operand in both if isinstance(operand, Register)]
+    return written + ["EAX"] if instruction.mnemonic == "CMPXCHG" else written
 
 
-def held_behind(it: Instruction, held: Dict[str, str]) -> Dict[str, str]:
+def update_held(instruction: Instruction, held: dict[str, str]) -> dict[str, str]:
     """Returns which registers hold which addresses after an instruction."""
-    written, behind = written_register(it), dict(held)
+    written, after, location = list_written_registers(instruction), dict(held), None
+    source = instruction.operands[1] if len(instruction.operands) > 1 else None
     for register in written:
-        behind.pop(register, None)
-    if it.mnemonic == "MOV" and written:
-        found = address_of(it.operands[1], held)
-    elif it.mnemonic == "LEA":
-        found = location_of(it.operands[1], held) if it.operands[1][1] or it.operands[1][2] else None
-    else:
-        found = None
-    if found:
-        behind[written[0]] = found
-    return behind
+        after.pop(register, None)
+    if instruction.mnemonic == "MOV" and written and source:
+        location = find_address(source, held)
+    elif instruction.mnemonic == "LEA" and isinstance(source, InMemory):
+        location = find_location(source, held) if source.location or source.registers else None
+    if location:
+        after[written[0]] = location
+    return after
 
 
-def joined(first: Optional[Dict[str, str]], second: Dict[str, str]) -> Dict[str, str]:
+def intersect_held(first: dict[str, str] | None, second: dict[str, str]) -> dict[str, str]:
     """Returns what is held where two ways meet."""
     if first is None:
         return dict(second)
@@ -98,14 +100,15 @@ def joined(first: Optional[Dict[str, str]], second: Dict[str, str]) -> Dict[str,
     return {name: first.get(name, NUMBER) if first.get(name) == second.get(name) else EITHER for name in names}
 
 
-def addresses_held(code: List[Instruction], initial: Dict[str, str]) -> List[Dict[str, str]]:
+def compute_held_addresses(code: list[Instruction], initial: dict[str, str]) -> list[dict[str, str]]:
     """Returns, before each instruction and at the end, the registers that hold the address of a location. Jumps go forward."""
-    held: List[Optional[Dict[str, str]]] = [None] * (len(code) + 1)
+    held: list[dict[str, str] | None] = [None] * (len(code) + 1)
     held[0] = dict(initial)
-    for at, it in enumerate(code):
-        if held[at] is not None:
-            behind = held_behind(it, held[at])
-            for next_one in followers(it, at):
-                if next_one != GIVE_UP:
-                    held[next_one] = joined(held[next_one], behind)
+    for index, instruction in enumerate(code):
+        before = held[index]
+        if before is not None:
+            after = update_held(instruction, before)
+            for follower in list_successors(instruction, index):
+                if follower != GIVE_UP:
+                    held[follower] = intersect_held(held[follower], after)
     return [it or {} for it in held]

@@ -1,10 +1,14 @@
 """The frame of a test in herd's form: the initial block, the header, the cells of each thread, the list of names, and the condition."""
-from dataclasses import dataclass, field
-from typing import Iterator, List, Optional, Tuple
+from __future__ import annotations
 
+from collections.abc import Iterator
+from dataclasses import dataclass, field
+
+from herd.cells import AddressOf
 from herd.propositions import PropositionReader
-from herd.registers import register_of
-from herd.text import Reader, Refused, Token, tokens_of
+from herd.registers import parse_register
+from herd.text import Reader, Refused, Token, read_tokens
+from plain import Constant, LocationSite, Number, Proposition, RegisterSite, Site
 
 WORDS = ("int", "unsigned", "signed", "uint32_t", "int32_t", "long", "uint64_t", "int64_t", "intptr_t", "uintptr_t")
 WIDE = ("uint64_t", "int64_t")
@@ -17,14 +21,12 @@ ENDS_OF_ROWS = ("locations", "exists", "forall", "~", "filter", "not", "")
 
 @dataclass
 class Entry:
-    """An entry of the initial block: a site, ("number", n) or ("address", location), its position, the bits that its type says, if any, and
-    whether the value is in the text.
-    """
+    """An entry of the initial block: a site, its value, its position, the bits that its type says, if any, and whether the value is in the text."""
 
-    site: tuple
-    value: tuple
-    at: int
-    bits: Optional[int] = None
+    site: Site
+    value: Number | AddressOf
+    offset: int
+    bits: int | None = None
     has_value: bool = True
 
 
@@ -32,93 +34,98 @@ class Entry:
 class Negative:
     """A negative number in the initial block, or in the condition: its site, the bits of the site's name, and the position."""
 
-    site: tuple
-    bits: Optional[int]
-    at: int
+    site: Site
+    bits: int | None
+    offset: int
     is_initial: bool
 
 
 @dataclass
 class Frame:
-    """A test without what its cells say. A site is ("register", thread, register) or ("location", name)."""
+    """A test without what its cells say. Its sites have names, and no indices."""
 
     language: str
     name: str
-    entries: List[Entry] = field(default_factory=list)
-    threads: List[List[List[Token]]] = field(default_factory=list)  # of each thread, the tokens of its cells, each with an end
-    listed: List[Tuple[tuple, int]] = field(default_factory=list)  # sites with their places
-    named: List[Tuple[tuple, int]] = field(default_factory=list)  # the sites of the condition and the filter, with their places
-    filter: Optional[tuple] = None
+    entries: list[Entry] = field(default_factory=list)
+    threads: list[list[list[Token]]] = field(default_factory=list)  # of each thread, the tokens of its cells, each with an end
+    listed: list[tuple[Site, int]] = field(default_factory=list)  # sites with their places
+    named: list[tuple[Site, int]] = field(default_factory=list)  # the sites of the condition and the filter, with their places
+    filter: Proposition | None = None
     quantifier: str = "exists"
-    proposition: tuple = ("true",)
-    notes: List[Tuple[int, str]] = field(default_factory=list)  # places, and what is said of them
+    proposition: Proposition = Constant(True)
+    notes: list[tuple[int, str]] = field(default_factory=list)  # places, and what is said of them
     is_wide: bool = False  # whether words of 64 bits are spoken of
-    negatives: List[Negative] = field(default_factory=list)
+    negatives: list[Negative] = field(default_factory=list)
 
 
 class FrameReader(PropositionReader):
     """A reader of the frame of a test from its tokens."""
 
-    def __init__(self, frame: Frame, tokens: List[Token]):
+    def __init__(self, frame: Frame, tokens: list[Token]) -> None:
+        """Makes a reader of a test's tokens, which fills a frame."""
         Reader.__init__(self, tokens)
         self.frame = frame
-        self.bits: Optional[int] = None  # of the register that was read last
+        self.bits: int | None = None  # of the register that was read last
         self.is_in_block = True
 
     def read(self) -> Frame:
         """Reads the whole frame."""
-        self.take("{")
-        while not self.take_if("}"):
-            self.entry()
+        self.take_token("{")
+        while not self.take_token_if("}"):
+            self.read_entry()
             if not self.is_next("}"):
-                self.take(";")
+                self.take_token(";")
         self.is_in_block = False
-        count = self.header()
-        self.rows(count)
-        self.behind_rows()
+        count = self.read_header()
+        self.read_rows(count)
+        self.read_list_filter_and_condition()
         self.check_threads(count)
         return self.frame
 
-    def types(self) -> Optional[int]:
-        """Reads the words of a type, which may precede a site. Returns the bits that they say."""
+    def read_types(self) -> int | None:
+        """Reads the words of a type, which may precede a site. Returns the bits that they say. `None` if they say none. Raises Refused for a type
+        that is not converted.
+        """
         bits, wide = None, WIDE + WIDE_IN_64_BITS * (self.frame.language == "X86_64")
         while self.token.kind == "name" and self.is_before_site(self.tokens[self.number + 1]):
-            it = self.take()
-            if it.text in NARROW:
-                raise Refused(f"'{it.text}' has fewer than 32 bits, and a word of lw has 32", it.at)
-            if it.text not in (*WORDS, *QUALIFIERS):
-                raise Refused(f"'{it.text}' is no type that is converted", it.at)
-            if it.text in WORDS:
-                bits = 64 if it.text in wide or bits == 64 else 32
-            while self.take_if("*"):
+            token = self.take_token()
+            if token.text in NARROW:
+                raise Refused(f"'{token.text}' has fewer than 32 bits, and a word of lw has 32", token.offset)
+            if token.text not in (*WORDS, *QUALIFIERS):
+                raise Refused(f"'{token.text}' is no type that is converted", token.offset)
+            if token.text in WORDS:
+                bits = 64 if token.text in wide or bits == 64 else 32
+            while self.take_token_if("*"):
                 bits = None
         self.frame.is_wide |= bits == 64
         if self.is_next("*"):
-            raise Refused("a location that a location leads to is not converted: name it", self.token.at)
+            raise Refused("a location that a location leads to is not converted: name it", self.token.offset)
         return bits
 
-    def is_before_site(self, behind: Token) -> bool:
+    def is_before_site(self, following: Token) -> bool:
         """Returns whether what follows a name says that the name is a word of a type."""
-        return behind.kind in ("name", "number") or behind.text in ("*", "%") or behind.text == "[" and self.token.text in TYPES
+        return following.kind in ("name", "number") or following.text in ("*", "%") or following.text == "[" and self.token.text in TYPES
 
-    def entry(self) -> None:
-        """Reads an entry of the initial block."""
+    def read_entry(self) -> None:
+        """Reads an entry of the initial block. Raises Refused if a location begins with an address."""
         if self.is_next(";"):
             return
-        bits = self.types()
-        at, site = self.token.at, self.site()
-        before = next((it for it in self.frame.entries if it.site == site), Entry(site, ("number", 0), at, None, False))
+        bits = self.read_types()
+        offset, site = self.token.offset, self.read_site()
+        before = next((it for it in self.frame.entries if it.site == site), Entry(site, Number(0), offset, None, False))
         value, has_value = before.value, before.has_value or self.is_next("=")
-        if self.take_if("="):
+        if self.take_token_if("="):
             self.frame.negatives = [it for it in self.frame.negatives if it.site != site]
-            value = self.initial_value(site)
+            value = self.read_initial_value(site)
         if before.has_value and value != before.value:
-            self.frame.notes.append((at, f"'{site[-1]}' has two values in the initial block: the last one is taken"))
-        if value[0] == "address" and site[0] == "location":
-            raise Refused(f"the location '{site[1]}' begins with an address, and words of lw are numbers: use a number for each", at)
-        self.put(Entry(site, value, at, bits or before.bits, has_value))
+            name = site.register if isinstance(site, RegisterSite) else site.location
+            self.frame.notes.append((offset, f"'{name}' has two values in the initial block: the last one is taken"))
+        if isinstance(value, AddressOf) and isinstance(site, LocationSite):
+            cause = f"the location '{site.location}' begins with an address, and words of lw are numbers: use a number for each"
+            raise Refused(cause, offset)
+        self.put_entry(Entry(site, value, offset, bits or before.bits, has_value))
 
-    def put(self, entry: Entry) -> None:
+    def put_entry(self, entry: Entry) -> None:
         """Adds an entry of a new site, or replaces that of a site that has one."""
         sites = [it.site for it in self.frame.entries]
         if entry.site in sites:
@@ -126,140 +133,140 @@ class FrameReader(PropositionReader):
         else:
             self.frame.entries.append(entry)
 
-    def initial_value(self, site: tuple) -> tuple:
-        """Reads what follows the `=` of an entry."""
+    def read_initial_value(self, site: Site) -> Number | AddressOf:
+        """Reads what follows the `=` of an entry. Raises Refused at an array."""
         if self.is_next("{"):
-            raise Refused("an array is not converted: use one location for each element", self.token.at)
-        self.take_if("&")
+            raise Refused("an array is not converted: use one location for each element", self.token.offset)
+        self.take_token_if("&")
         if self.token.kind == "name":
-            return "address", self.take().text
-        return "number", self.word(site)
+            return AddressOf(self.take_token().text)
+        return Number(self.read_word(site))
 
-    def word(self, site: tuple) -> int:
-        """Returns the number of a site as a word of 32 bits."""
-        at, number = self.token.at, self.signed()
+    def read_word(self, site: Site) -> int:
+        """Returns the number of a site as a word of 32 bits. Raises Refused if it does not fit."""
+        offset, number = self.token.offset, self.read_signed()
         if not -(2**31) <= number < 2**32:
-            raise Refused(f"{number} does not fit into a word of 32 bits", at)
+            raise Refused(f"{number} does not fit into a word of 32 bits", offset)
         if number < 0:
-            self.frame.negatives.append(Negative(site, self.bits, at, self.is_in_block))
+            self.frame.negatives.append(Negative(site, self.bits, offset, self.is_in_block))
         return number % 2**32
 
-    def thread_number(self) -> int:
-        """Reads a thread's number, with or without `P`."""
-        at, text = self.token.at, self.take().text
+    def read_thread_number(self) -> int:
+        """Reads a thread's number, with or without `P`. Raises Refused if it is none."""
+        offset, text = self.token.offset, self.take_token().text
         digits = text[1:] if text[:1] == "P" else text
         if not digits.isdigit():
-            raise Refused(f"'{text}' stands where the number of a thread should", at)
+            raise Refused(f"'{text}' stands where the number of a thread should", offset)
         return int(digits[:9])
 
-    def site(self) -> tuple:
-        """Reads a location, or a register of a thread."""
+    def read_site(self) -> Site:
+        """Reads a location, or a register of a thread. Raises Refused if it is neither, or an array."""
         self.bits = None
-        if self.take_if("["):
-            site = ("location", self.location())
-            self.take("]")
+        if self.take_token_if("["):
+            site = LocationSite(self.read_location())
+            self.take_token("]")
             return site
-        if self.ahead(1) == ":":
-            return self.thread_register()
-        site = ("location", self.location())
+        if self.peek(1) == ":":
+            return self.read_thread_register()
+        site = LocationSite(self.read_location())
         if self.is_next("["):
-            raise Refused("an array is not converted: use one location for each element", self.token.at)
+            raise Refused("an array is not converted: use one location for each element", self.token.offset)
         return site
 
-    def thread_register(self) -> tuple:
-        """Reads a register of a thread."""
-        thread = self.thread_number()
-        self.take(":")
-        self.types()
-        self.take_if("%")
-        it = self.take()
-        found = register_of(it.text)
-        if not found:
-            raise Refused(f"'{it.text}' is no register that is converted", it.at)
-        if found[1] < 32:
-            raise Refused(f"'{it.text}' has {found[1]} bits, and a word of lw has 32", it.at)
-        self.bits = found[1]
-        return "register", thread, found[0]
+    def read_thread_register(self) -> RegisterSite:
+        """Reads a register of a thread. Raises Refused if it is none, or has fewer than 32 bits."""
+        thread = self.read_thread_number()
+        self.take_token(":")
+        self.read_types()
+        self.take_token_if("%")
+        token = self.take_token()
+        register = parse_register(token.text)
+        if not register:
+            raise Refused(f"'{token.text}' is no register that is converted", token.offset)
+        if register[1] < 32:
+            raise Refused(f"'{token.text}' has {register[1]} bits, and a word of lw has 32", token.offset)
+        self.bits = register[1]
+        return RegisterSite(thread, register[0])
 
-    def location(self) -> str:
-        """Reads the name of a location."""
+    def read_location(self) -> str:
+        """Reads the name of a location. Raises Refused if it is none."""
         if self.token.kind != "name":
-            raise self.misplaced("a location")
-        if register_of(self.token.text):
-            raise Refused(f"'{self.token.text}' is a register: write of which thread, as 0:{self.token.text}", self.token.at)
-        return self.take().text
+            raise self.make_misplaced_refusal("a location")
+        if parse_register(self.token.text):
+            raise Refused(f"'{self.token.text}' is a register: write of which thread, as 0:{self.token.text}", self.token.offset)
+        return self.take_token().text
 
-    def header(self) -> int:
-        """Reads the header, and returns the number of threads."""
+    def read_header(self) -> int:
+        """Reads the header, and returns the number of threads. Raises Refused if there are more than four."""
         count = 0
         while True:
-            it = self.take(f"P{count}")
+            token = self.take_token(f"P{count}")
             if count == 4:
-                raise Refused("there is a fifth thread, and lw has four at most", it.at)
+                raise Refused("there is a fifth thread, and lw has four at most", token.offset)
             count += 1
             if self.is_next(":"):
-                self.frame.notes.append((self.token.at, f"what stands behind P{count - 1} is left out: lw has no places for threads"))
+                self.frame.notes.append((self.token.offset, f"what follows P{count - 1} is left out: lw has no places for threads"))
                 while not self.is_next("|", ";", ""):
-                    self.take()
-            if self.take("|", ";").text == ";":
+                    self.take_token()
+            if self.take_token("|", ";").text == ";":
                 return count
 
-    def rows(self, count: int) -> None:
-        """Reads the cells of all threads."""
+    def read_rows(self, count: int) -> None:
+        """Reads the cells of all threads. Raises Refused if a row has too few or too many."""
         self.frame.threads = [[] for _ in range(count)]
         while self.token.kind != "end" and self.token.text not in ENDS_OF_ROWS:
             for thread in range(count):
-                self.frame.threads[thread].append(self.cell())
-                it = self.take("|", ";")
-                if (it.text == ";") != (thread == count - 1):
-                    raise Refused(f"the row has {'fewer' if it.text == ';' else 'more'} cells than there are threads", it.at)
+                self.frame.threads[thread].append(self.take_cell())
+                token = self.take_token("|", ";")
+                if (token.text == ";") != (thread == count - 1):
+                    raise Refused(f"the row has {'fewer' if token.text == ';' else 'more'} cells than there are threads", token.offset)
 
-    def cell(self) -> List[Token]:
-        """Returns the tokens of a cell, and an end after them."""
+    def take_cell(self) -> list[Token]:
+        """Returns the tokens of a cell, and an end after them. Raises Refused if it has no end."""
         tokens = []
         while not self.is_next("|", ";"):
             if self.token.kind == "end":
-                raise self.misplaced("'|' or ';'")
-            tokens.append(self.take())
-        return [*tokens, Token("end", self.token.text, self.token.at)]
+                raise self.make_misplaced_refusal("'|' or ';'")
+            tokens.append(self.take_token())
+        return [*tokens, Token("end", self.token.text, self.token.offset)]
 
-    def behind_rows(self) -> None:
-        """Reads the list of names, the filter and the condition."""
+    def read_list_filter_and_condition(self) -> None:
+        """Reads the list of names, the filter and the condition. Raises Refused if something follows the condition."""
         while self.is_next("locations", "filter"):
-            it = self.take()
-            if it.text == "filter":
-                self.frame.filter = self.implied()
+            token = self.take_token()
+            if token.text == "filter":
+                self.frame.filter = self.read_implication()
             else:
-                self.frame.listed += self.list_of_names()
+                self.frame.listed += self.read_list_of_names()
         if self.token.kind == "end":
-            self.frame.notes.append((self.token.at, "there is no condition: forall (true) stands in its place"))
+            self.frame.notes.append((self.token.offset, "there is no condition: forall (true) stands in its place"))
             self.frame.quantifier = "forall"
             return
-        self.frame.quantifier = self.quantifier()
-        self.frame.proposition = self.implied()
+        self.frame.quantifier = self.read_quantifier()
+        self.frame.proposition = self.read_implication()
         if self.token.kind != "end":
-            raise Refused(f"'{self.token.text}' stands behind the condition", self.token.at)
+            raise Refused(f"'{self.token.text}' comes after the condition", self.token.offset)
 
-    def list_of_names(self) -> Iterator[Tuple[tuple, int]]:
+    def read_list_of_names(self) -> Iterator[tuple[Site, int]]:
         """Yields the elements of a list of names."""
-        self.take("[")
-        while not self.take_if("]"):
-            if self.take_if(";"):
+        self.take_token("[")
+        while not self.take_token_if("]"):
+            if self.take_token_if(";"):
                 continue
-            self.types()
-            yield self.site(), self.token.at
+            self.read_types()
+            yield self.read_site(), self.token.offset
             if not self.is_next("]"):
-                self.take(";")
+                self.take_token(";")
 
     def check_threads(self, count: int) -> None:
         """Checks that each thread that is named exists."""
-        entries = [(it.site, it.at) for it in self.frame.entries]
-        for site, at in [*entries, *self.frame.listed, *self.frame.named]:
-            if site[0] == "register" and site[1] >= count:
-                raise Refused(f"there is no thread {site[1]}", at)
+        entries = [(it.site, it.offset) for it in self.frame.entries]
+        for site, offset in [*entries, *self.frame.listed, *self.frame.named]:
+            if isinstance(site, RegisterSite) and site.thread >= count:
+                raise Refused(f"there is no thread {site.thread}", offset)
 
 
-def frame_of(text: str) -> Frame:
+def read_frame(text: str) -> Frame:
     """Returns the frame of a test in herd's form."""
-    language, name, tokens = tokens_of(text)
+    language, name, tokens = read_tokens(text)
     return FrameReader(Frame(language, name), tokens).read()

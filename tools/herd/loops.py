@@ -4,8 +4,11 @@ A loop is a cycle of the flow graph, and no jump backward by itself: compilers p
 middle, and no run goes through these twice. So the instructions become the nodes of a graph; each cycle is cut where it is entered, and
 written down in copies; and the nodes, of which no cycle is left, are put into an order in which each follows all that lead to it.
 """
+from __future__ import annotations
+
+from collections.abc import Iterator
 from dataclasses import replace
-from typing import Dict, Iterator, List, NamedTuple, Optional, Set, Tuple
+from typing import NamedTuple
 
 from herd.cells import Instruction
 from herd.flow import GIVE_UP
@@ -14,145 +17,146 @@ from herd.text import Refused
 # The node of a thread's end. GIVE_UP is that of a run that is given up.
 END = -2
 OPPOSITE = {"JE": "JNE", "JNE": "JE"}
-MOST_INSTRUCTIONS = 1000
+MAX_INSTRUCTIONS = 1000
 
 
 class Node(NamedTuple):
     """An instruction of the graph: its index in the text, and the nodes of what follows and of its jump's target, if it jumps."""
 
     origin: int
-    after: Optional[int]
-    target: Optional[int]
+    after: int | None
+    target: int | None
 
-    def successors(self) -> List[int]:
+    def list_successors(self) -> list[int]:
         """Returns the nodes that may be next. Neither the end nor an abandoned run is one."""
         return [it for it in (self.after, self.target) if it is not None and it >= 0]
 
 
-def graph_of(code: List[Instruction]) -> List[Node]:
+def make_graph(code: list[Instruction]) -> list[Node]:
     """Returns the flow graph of instructions."""
-    node_at = lambda at: END if at == len(code) else at
+    node_at = lambda index: END if index == len(code) else index
     nodes = []
-    for at, it in enumerate(code):
-        after = None if it.mnemonic == "JMP" else node_at(at + 1)
-        nodes.append(Node(at, after, None if it.target is None else node_at(it.target)))
+    for index, instruction in enumerate(code):
+        after = None if instruction.mnemonic == "JMP" else node_at(index + 1)
+        nodes.append(Node(index, after, None if instruction.target is None else node_at(instruction.target)))
     return nodes
 
 
-def reached_from(nodes: List[Node], first: int) -> Iterator[int]:
+def list_reachable(nodes: list[Node], first: int) -> Iterator[int]:
     """Yields the nodes that some way reaches from a node, each after its successors, unless they are on a cycle with it."""
-    seen, stack = {first}, [(first, iter(nodes[first].successors()))]
+    seen, stack = {first}, [(first, iter(nodes[first].list_successors()))]
     while stack:
-        at, rest = stack[-1]
-        found = next((it for it in rest if it not in seen), None)
-        if found is None:
-            yield at
+        node, rest = stack[-1]
+        successor = next((it for it in rest if it not in seen), None)
+        if successor is None:
+            yield node
             stack.pop()
         else:
-            seen.add(found)
-            stack.append((found, iter(nodes[found].successors())))
+            seen.add(successor)
+            stack.append((successor, iter(nodes[successor].list_successors())))
 
 
-def predecessors_of(nodes: List[Node], reached: List[int]) -> Dict[int, List[int]]:
+def find_predecessors(nodes: list[Node], reached: list[int]) -> dict[int, list[int]]:
     """Returns the predecessors of each node, once for each edge."""
-    before: Dict[int, List[int]] = {at: [] for at in reached}
-    for at in reached:
-        for it in nodes[at].successors():
-            before[it].append(at)
+    before: dict[int, list[int]] = {node: [] for node in reached}
+    for node in reached:
+        for successor in nodes[node].list_successors():
+            before[successor].append(node)
     return before
 
 
-def loops_of(nodes: List[Node]) -> Iterator[Tuple[Set[int], int]]:
+def find_loops(nodes: list[Node]) -> Iterator[tuple[set[int], int]]:
     """Yields the largest loops that can be entered: the nodes of each, and the first of those by which it is entered."""
-    reached = list(reached_from(nodes, 0))
-    before, seen = predecessors_of(nodes, reached), set()
+    reached = list(list_reachable(nodes, 0))
+    before, seen = find_predecessors(nodes, reached), set()
     for first in reversed(reached):
         if first in seen:
             continue
         loop, waiting = {first}, [first]
         seen.add(first)
         while waiting:
-            for it in before[waiting.pop()]:
-                if it not in seen:
-                    seen.add(it)
-                    loop.add(it)
-                    waiting.append(it)
-        if len(loop) > 1 or first in nodes[first].successors():
+            for predecessor in before[waiting.pop()]:
+                if predecessor not in seen:
+                    seen.add(predecessor)
+                    loop.add(predecessor)
+                    waiting.append(predecessor)
+        if len(loop) > 1 or first in nodes[first].list_successors():
             entries = [it for it in loop if it == 0 or any(other not in loop for other in before[it])]
-            yield loop, min(entries, key=lambda at: (nodes[at].origin, at))
+            yield loop, min(entries, key=lambda entry: (nodes[entry].origin, entry))
 
 
-def add_copies(nodes: List[Node], loop: Set[int], entry: int, tries: int) -> None:
+def add_copies(nodes: list[Node], loop: set[int], entry: int, tries: int) -> None:
     """Writes a loop in this number of copies. A way back to its entry goes to the next copy, and abandons the run in the last one."""
     ordered = sorted(loop)
     originals, numbers = [nodes[it] for it in ordered], [{it: it for it in ordered}]
     for _ in range(tries - 1):
-        numbers.append({it: len(nodes) + at for at, it in enumerate(ordered)})
+        numbers.append({it: len(nodes) + index for index, it in enumerate(ordered)})
         nodes += originals
     for copy, number in enumerate(numbers):
         next_entry = numbers[copy + 1][entry] if copy + 1 < tries else GIVE_UP
-        moved = lambda to: next_entry if to == entry else number.get(to, to)
-        for it, node in zip(ordered, originals):
-            nodes[number[it]] = Node(node.origin, moved(node.after), moved(node.target))
+        moved = lambda target: next_entry if target == entry else number.get(target, target)
+        for node_index, node in zip(ordered, originals):
+            nodes[number[node_index]] = Node(node.origin, moved(node.after), moved(node.target))
 
 
-def unroll(nodes: List[Node], code: List[Instruction], tries: int) -> None:
-    """Unrolls all loops, the outer ones first."""
-    loops = list(loops_of(nodes))
+def unroll_loops(nodes: list[Node], code: list[Instruction], tries: int) -> None:
+    """Unrolls all loops, the outer ones first. Raises Refused if there is a loop and no limit of tries, or if the copies are too long."""
+    loops = list(find_loops(nodes))
     while loops:
         for loop, entry in loops:
             if tries < 1:
-                back = max(at for at in loop if code[at].target is not None and code[at].target <= at)
-                raise Refused("a jump leads backward: --tries N goes through each loop N times at most", code[back].at)
+                back = max(index for index in loop if code[index].target is not None and code[index].target <= index)
+                raise Refused("a jump leads backward: --tries N goes through each loop N times at most", code[back].offset)
             add_copies(nodes, loop, entry, tries)
-            if len(nodes) > MOST_INSTRUCTIONS:
-                raise Refused("the loops make too many instructions", code[nodes[entry].origin].at)
-        loops = list(loops_of(nodes))
+            if len(nodes) > MAX_INSTRUCTIONS:
+                raise Refused("the loops make too many instructions", code[nodes[entry].origin].offset)
+        loops = list(find_loops(nodes))
 
 
-def order_of(nodes: List[Node]) -> List[int]:
+def sort_nodes(nodes: list[Node]) -> list[int]:
     """Returns the nodes that can be reached, each after its predecessors, and if possible after one that falls through to it."""
-    before = predecessors_of(nodes, list(reached_from(nodes, 0)))
-    missing = {at: len(them) for at, them in before.items()}
-    ready, order = {0}, []
+    before = find_predecessors(nodes, list(list_reachable(nodes, 0)))
+    missing = {node_index: len(them) for node_index, them in before.items()}
+    ready = {0}
+    order: list[int] = []
     while ready:
-        near = [it for it in nodes[order[-1]].successors() if it in ready] if order else []
-        at = near[0] if near else min(ready, key=lambda it: (nodes[it].origin, it))
-        ready.remove(at)
-        order.append(at)
-        for it in nodes[at].successors():
-            missing[it] -= 1
-            if not missing[it]:
-                ready.add(it)
+        near = [it for it in nodes[order[-1]].list_successors() if it in ready] if order else []
+        node_index = near[0] if near else min(ready, key=lambda it: (nodes[it].origin, it))
+        ready.remove(node_index)
+        order.append(node_index)
+        for successor in nodes[node_index].list_successors():
+            missing[successor] -= 1
+            if not missing[successor]:
+                ready.add(successor)
     return order
 
 
-def spelled(it: Instruction, node: Node, following: int) -> List[Tuple[Instruction, Optional[int]]]:
+def write_node(instruction: Instruction, node: Node, following: int) -> list[tuple[Instruction, int | None]]:
     """Returns the instructions of a node, each with the node to which it jumps, if it does; `following` is the node that is written next.
     """
-    goes_on = lambda to: [] if to == following else [(Instruction("JMP", (), it.at), to)]
-    if it.target is None:
-        return [(it, None), *goes_on(node.after)]
-    if it.mnemonic == "JMP" or node.after == node.target:
+    goes_on = lambda target: [] if target == following else [(Instruction("JMP", (), instruction.offset), target)]
+    if instruction.target is None:
+        return [(instruction, None), *goes_on(node.after)]
+    if instruction.mnemonic == "JMP" or node.after == node.target:
         return goes_on(node.target)
     if node.target == following:
-        return [(replace(it, mnemonic=OPPOSITE[it.mnemonic]), node.after)]
-    return [(it, node.target), *goes_on(node.after)]
+        return [(replace(instruction, mnemonic=OPPOSITE[instruction.mnemonic]), node.after)]
+    return [(instruction, node.target), *goes_on(node.after)]
 
 
-def unrolled(code: List[Instruction], tries: int) -> List[Instruction]:
+def unroll_code(code: list[Instruction], tries: int) -> list[Instruction]:
     """Returns the instructions in an order in which all jumps go forward. Each loop is passed at most `tries` times, and a run that would
     continue is abandoned.
     """
-    if all(it.target is None or it.target > at for at, it in enumerate(code)):
+    if all(it.target is None or it.target > node for node, it in enumerate(code)):
         return code
-    nodes = graph_of(code)
-    unroll(nodes, code, tries)
-    order = order_of(nodes)
-    made: List[Tuple[Instruction, Optional[int]]] = []
-    begins: Dict[int, int] = {}
-    for at, following in zip(order, [*order[1:], END]):
-        begins[at] = len(made)
-        made += spelled(code[nodes[at].origin], nodes[at], following)
-    begins.update({END: len(made), GIVE_UP: GIVE_UP})
-    return [it if to is None else replace(it, target=begins[to]) for it, to in made]
+    nodes = make_graph(code)
+    unroll_loops(nodes, code, tries)
+    order = sort_nodes(nodes)
+    jumping: list[tuple[Instruction, int | None]] = []
+    begins: dict[int, int] = {}
+    for node, following in zip(order, [*order[1:], END]):
+        begins[node] = len(jumping)
+        jumping += write_node(code[nodes[node].origin], nodes[node], following)
+    begins.update({END: len(jumping), GIVE_UP: GIVE_UP})
+    return [it if to is None else replace(it, target=begins[to]) for it, to in jumping]

@@ -1,6 +1,7 @@
 """Names of herd's tests as names of lw: registers beyond the six of lw, and locations with names that lw reserves."""
+from __future__ import annotations
+
 import re
-from typing import Dict, List, Optional, Tuple
 
 import plain
 from herd.text import Refused
@@ -8,8 +9,10 @@ from herd.text import Refused
 SIX = plain.REGISTERS["X86"]
 
 
-def registers_for(thread: int, names: Dict[str, int], mark: Optional[str]) -> Dict[str, int]:
-    """Returns an index for each register of a thread, whose names have the first ones; and for its mark, if one is left."""
+def number_registers(thread: int, names: dict[str, int], mark: str | None) -> dict[str, int]:
+    """Returns an index for each register of a thread, whose names have the first ones; and for its mark, if one is left. Raises Refused if six are
+    not enough.
+    """
     numbers = {name: SIX.index(name) for name in names if name in SIX}
     free = [it for it in reversed(range(len(SIX))) if it not in numbers.values()]
     for name in sorted(set(names) - set(SIX)):
@@ -21,8 +24,9 @@ def registers_for(thread: int, names: Dict[str, int], mark: Optional[str]) -> Di
     return numbers
 
 
-def number_of_register(name: str, numbers: Dict[str, int]) -> Optional[int]:
-    """Returns the index of a register that the initial block names; one that the thread does not use keeps its own, or has none."""
+def number_initial_register(name: str, numbers: dict[str, int]) -> int | None:
+    """Returns the index of a register that the initial block names; one that the thread does not use keeps its own, or has none. `None` in this case.
+    """
     if name in numbers or name not in SIX or SIX.index(name) in numbers.values():
         return numbers.get(name)
     return SIX.index(name)
@@ -32,16 +36,16 @@ class LocationNames:
     """The table of locations: names of the text, each with a name that lw accepts."""
 
     def __init__(self) -> None:
-        self.of: Dict[str, int] = {}
-        self.names: List[str] = []
+        self.of: dict[str, int] = {}
+        self.names: list[str] = []
 
-    def number(self, name: str) -> int:
+    def number_location(self, name: str) -> int:
         """Returns the index of a location, which is appended to the table if it is new."""
         if name not in self.of:
-            self.add(name)
+            self.insert_location(name)
         return self.of[name]
 
-    def add(self, name: str, shown: Optional[str] = None) -> None:
+    def insert_location(self, name: str, shown: str | None = None) -> None:
         """Inserts a location into the table, by a name that is free and that lw accepts, and is like its own or like the one that is shown.
         """
         taken = re.sub(r"\W", "_", shown or name)[:28]
@@ -50,7 +54,7 @@ class LocationNames:
         self.of[name] = len(self.names)
         self.names.append(taken)
 
-    def renamed(self) -> List[Tuple[str, str]]:
+    def list_renamed(self) -> list[tuple[str, str]]:
         """Returns the locations that have another name in lw: both names."""
         shown = {name: number for name, number in self.of.items() if not name.startswith("(")}
         return [(name, self.names[number]) for name, number in shown.items() if name != self.names[number]]

@@ -3,37 +3,39 @@
 A comparison with a log of the original test speaks of the original's names. So the comment has each name that was replaced, what marks the
 runs that are given up, the filter, and the guesses; and a converted test's states are translated back.
 """
+from __future__ import annotations
+
 import re
+from collections.abc import Iterable, Iterator
 from dataclasses import dataclass, field
-from typing import Dict, Iterable, Iterator, List, Optional, Set
 
 import plain
 from herd.convert import MARK, Conversion, Converted
 from herd.rewrite import SCRATCH
-from herd.together import outcome_of, words_in
+from herd.together import make_outcome, parse_state
 
 COMMENT = re.compile(r"X86 \S+\n\(\* (From the X86(?:_64)? test .*?) \*\)\n", re.S)
 GUESSES = {"succeeds": True, "fails": False}
 TRIES = re.compile(r"Runs that go through a loop more often than (\d+) times are given up\.")
 
 
-def comment_of(made: Converted, it: Conversion) -> str:
+def make_comment(original: Converted, conversion: Conversion) -> str:
     """Returns the comment of a converted test, one sentence in each line."""
-    lines = [f"From the {made.frame.language} test {made.frame.name}."]
-    lines += [f"{old} is {new} here." for old, new in made.renamed if not old.endswith((SCRATCH, MARK))]
-    lines += [f"{new} is a register that rewritings use." for old, new in made.renamed if old.endswith(SCRATCH)]
-    if it.filter:
-        lines.append(f"Its filter is {plain.proposition_text(it.test, it.filter)} here.")
-    if it.guesses:
-        words = ", ".join("succeeds" if guess else "fails" for guess in it.guesses)
+    lines = [f"From the {original.frame.language} test {original.frame.name}."]
+    lines += [f"{old} is {new} here." for old, new in original.renamed if not old.endswith((SCRATCH, MARK))]
+    lines += [f"{new} is a register that rewritings use." for old, new in original.renamed if old.endswith(SCRATCH)]
+    if conversion.filter:
+        lines.append(f"Its filter is {plain.format_proposition(conversion.test, conversion.filter)} here.")
+    if conversion.guesses:
+        words = ", ".join("succeeds" if guess else "fails" for guess in conversion.guesses)
         lines.append(f"Assumed of its LOCK CMPXCHG, in turn: {words}.")
-    if it.marks:
-        names = " /\\ ".join(f"{plain.site_name(it.test, site)}=1" for site in it.marks)
+    if conversion.marks:
+        names = " /\\ ".join(f"{plain.format_site(conversion.test, site)}=1" for site in conversion.marks)
         lines.append(f"Runs that are given up end without {names}.")
-    if it.shown_here_only:
-        lines.append(f"Shown here only: {', '.join(plain.site_name(it.test, site) for site in it.shown_here_only)}.")
-    if made.tries:
-        lines.append(f"Runs that go through a loop more often than {made.tries} times are given up.")
+    if conversion.shown_here_only:
+        lines.append(f"Shown here only: {', '.join(plain.format_site(conversion.test, site) for site in conversion.shown_here_only)}.")
+    if original.tries:
+        lines.append(f"Runs that go through a loop more often than {original.tries} times are given up.")
     return "(* " + "\n   ".join(lines).replace("*)", "* )") + " *)\n"
 
 
@@ -43,7 +45,7 @@ class Origin:
     the sites that only the last two name, and how often each loop is written down."""
 
     name: str
-    names: Dict[str, str] = field(default_factory=dict)
+    names: dict[str, str] = field(default_factory=dict)
     filter: str = "true"
     guesses: tuple = ()
     marks: str = "true"
@@ -51,12 +53,12 @@ class Origin:
     tries: int = 0
 
 
-def origin_of(text: str) -> Optional[Origin]:
+def read_origin(text: str) -> Origin | None:
     """Returns the origin of a test's text, or `None` if it has no comment of tools/from_herd.py."""
-    found = COMMENT.match(text)
-    if not found:
+    match = COMMENT.match(text)
+    if not match:
         return None
-    first, *lines = [line.strip() for line in found[1].split("\n")]
+    first, *lines = [line.strip() for line in match[1].split("\n")]
     origin = Origin(first[:-1].split(" ", 4)[4])
     for line in lines:
         renamed, tries = re.fullmatch(r"(\S+) is (\S+) here\.", line), TRIES.fullmatch(line)
@@ -75,9 +77,9 @@ def origin_of(text: str) -> Optional[Origin]:
     return origin
 
 
-def proposition_of(test: plain.Test, text: str) -> tuple:
+def parse_proposition(test: plain.Test, text: str) -> plain.Proposition:
     """Returns a proposition over the sites of a test."""
-    heading = plain.canonical_text(test).rsplit("\n", 2)[0]
+    heading = plain.format_canonical_text(test).rsplit("\n", 2)[0]
     return plain.read_test(f"{heading}\nexists ({text})\n").proposition
 
 
@@ -87,32 +89,32 @@ class Translated:
     number of copies of each loop.
     """
 
-    lines: List[str] = field(default_factory=list)
-    extra: Set[str] = field(default_factory=set)
-    guesses: Dict[tuple, Set[str]] = field(default_factory=dict)  # each with its lines
+    lines: list[str] = field(default_factory=list)
+    extra: set[str] = field(default_factory=set)
+    guesses: dict[tuple, set[str]] = field(default_factory=dict)  # each with its lines
     tries: int = 0
     is_twice: bool = False  # whether two tests with different lines stand for one guess
 
-    def missing_guesses(self) -> int:
+    def count_missing_guesses(self) -> int:
         """Returns the number of guesses for which there is no test."""
         return 2 ** len(next(iter(self.guesses), ())) - len(self.guesses)
 
 
-def translated(test: plain.Test, origin: Origin, lines: Iterable[str]) -> Iterator[str]:
+def translate_states(test: plain.Test, origin: Origin, lines: Iterable[str]) -> Iterator[str]:
     """Yields the states of a test that its marks and its filter admit, in the names of the original."""
-    both = proposition_of(test, f"({origin.marks}) /\\ ({origin.filter})")
+    both = parse_proposition(test, f"({origin.marks}) /\\ ({origin.filter})")
     for line in lines:
-        words = words_in(line)
-        if plain.holds(both, outcome_of(test, words)):
+        words = parse_state(line)
+        if plain.is_true(both, make_outcome(test, words)):
             yield " ".join(f"{origin.names.get(name, name)}={word};" for name, word in words.items())
 
 
-def add_states(into: Dict[str, Translated], origin: Origin, text: str, lines: Iterable[str]) -> None:
+def add_states(translations: dict[str, Translated], origin: Origin, text: str, lines: Iterable[str]) -> None:
     """Adds the states of a converted test to those of its original. Fails if the comment names what the test does not have."""
     test = plain.read_test(text)
-    found = list(translated(test, origin, lines))
-    of = into.setdefault(origin.name, Translated())
-    of.lines += found
-    of.is_twice |= of.guesses.setdefault(origin.guesses, set(found)) != set(found)
-    of.tries = origin.tries
-    of.extra |= {origin.names.get(name, name) for name in origin.shown_here_only}
+    states = list(translate_states(test, origin, lines))
+    original = translations.setdefault(origin.name, Translated())
+    original.lines += states
+    original.is_twice |= original.guesses.setdefault(origin.guesses, set(states)) != set(states)
+    original.tries = origin.tries
+    original.extra |= {origin.names.get(name, name) for name in origin.shown_here_only}

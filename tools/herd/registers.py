@@ -1,8 +1,9 @@
 """The registers of x86 by all their names: a register is known by the name of its 32 bits, or R8 to R15."""
-from typing import Dict, Optional, Tuple
+from __future__ import annotations
+
 
 # The register of each name, and its bits.
-NAMES: Dict[str, Tuple[str, int]] = {}
+NAMES: dict[str, tuple[str, int]] = {}
 for letter in "ABCD":
     for name, bits in ((f"R{letter}X", 64), (f"E{letter}X", 32), (f"{letter}X", 16), (f"{letter}L", 8), (f"{letter}H", 8)):
         NAMES[name] = (f"E{letter}X", bits)
@@ -15,11 +16,11 @@ for number in range(8, 16):
 INSTRUCTION_POINTERS = ("RIP", "EIP")
 
 
-def register_of(text: str) -> Optional[Tuple[str, int]]:
+def parse_register(text: str) -> tuple[str, int] | None:
     """Returns the register that a name means, and its bits; `None` if it means none."""
     return NAMES.get(text.upper())
 
 
-def name_in_64_bits(name: str) -> str:
+def widen_register_name(name: str) -> str:
     """Returns the name of a register of 32 bits, in lower case, as one of 64 bits."""
     return "r" + name[1:].lower()

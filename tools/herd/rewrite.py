@@ -3,12 +3,15 @@
 A rewriting that sets the zero flag where the instruction does not, or does not set it where the instruction does, is done only where no
 later branch reads the flag.
 """
-from typing import Callable, Dict, List, Optional, Tuple
+from __future__ import annotations
 
-from herd.cells import Instruction
-from herd.flow import EITHER, GIVE_UP, NUMBER, address_of, location_of
+from collections.abc import Callable
+
+
+from herd.cells import AddressOf, InMemory, Instruction, Operand
+from herd.flow import EITHER, GIVE_UP, NUMBER, find_address, find_location
 from herd.text import Refused
-from plain import Statement
+from plain import Number, Register, Statement, Value
 
 # The register that a rewriting may use, and the one that CMPXCHG compares.
 SCRATCH, COMPARED = "(scratch)", "EAX"
@@ -17,260 +20,278 @@ FENCE_ALONE = "is left out: on write-back memory it orders nothing that x86-TSO 
 SUCCEEDS, FAILS = True, False
 
 
+def as_in_memory(operand: Operand) -> InMemory:
+    """Returns an operand of which it is known that it is in memory."""
+    assert isinstance(operand, InMemory)
+    return operand
+
+
 class Rewriter:
     """A rewriter of one instruction of a thread."""
 
-    def __init__(self, it: Instruction, at: int, held: Dict[str, str], is_flag_read: bool, guess: Optional[bool]):
-        self.it = it
-        self.at = at  # its number
+    def __init__(self, instruction: Instruction, index: int, held: dict[str, str], is_flag_read: bool, guess: bool | None) -> None:
+        """Rewrites the instruction at an index. `held` says which registers hold the address of which location."""
+        self.instruction = instruction
+        self.index = index  # its number
         self.held = held  # which registers hold which addresses
         self.is_flag_read = is_flag_read
         self.guess = guess  # of a CMPXCHG
-        self.notes: List[Tuple[int, str]] = []
+        self.notes: list[tuple[int, str]] = []
 
-    def refused(self, cause: str) -> Refused:
+    def make_refusal(self, cause: str) -> Refused:
         """Returns why the instruction is not converted."""
-        return Refused(cause, self.it.at)
+        return Refused(cause, self.instruction.offset)
 
-    def statements(self) -> List[Statement]:
+    def rewrite_statements(self) -> list[Statement]:
         """Returns the instructions of lw."""
-        if self.it.is_locked:
-            return self.locked()
-        return REWRITINGS[self.it.mnemonic](self)
+        if self.instruction.is_locked:
+            return self.rewrite_locked()
+        return REWRITINGS[self.instruction.mnemonic](self)
 
     # Operands.
 
-    def value(self, operand: tuple) -> tuple:
-        """Returns a register or a number as a value."""
-        if operand[0] == "memory":
-            raise self.refused("an instruction has one location at most")
-        if operand[0] == "address":
-            raise self.refused(f"the address of '{operand[1]}' is used as a word, and words of lw are numbers")
-        if operand[0] == "register":
-            found = self.held.get(operand[1], NUMBER)
-            if found not in (NUMBER, EITHER):
-                raise self.refused(f"{operand[1]} holds the address of '{found}', which is used as a word, and words of lw are numbers")
-            if found == EITHER:
-                raise self.refused(f"{operand[1]} may hold an address or a number")
+    def rewrite_value(self, operand: Operand) -> Value:
+        """Returns a register or a number as a value. Raises Refused if it is in memory, or is or may hold an address."""
+        if isinstance(operand, InMemory):
+            raise self.make_refusal("an instruction has one location at most")
+        if isinstance(operand, AddressOf):
+            raise self.make_refusal(f"the address of '{operand.location}' is used as a word, and words of lw are numbers")
+        if isinstance(operand, Register):
+            held_address = self.held.get(operand.register, NUMBER)
+            if held_address not in (NUMBER, EITHER):
+                raise self.make_refusal(
+                    f"{operand.register} holds the address of '{held_address}', which is used as a word, and words of lw are numbers"
+                )
+            if held_address == EITHER:
+                raise self.make_refusal(f"{operand.register} may hold an address or a number")
         return operand
 
-    def register(self, operand: tuple) -> str:
-        """Returns a register that is read as a word."""
-        if operand[0] != "register":
-            raise self.refused("a register should stand here")
-        return self.value(operand)[1]
+    def rewrite_register(self, operand: Operand) -> str:
+        """Returns a register that is read as a word. Raises Refused if it is none."""
+        if not isinstance(operand, Register):
+            raise self.make_refusal("a register should stand here")
+        self.rewrite_value(operand)
+        return operand.register
 
-    def location(self, operand: tuple) -> str:
-        """Returns the location of an operand in memory."""
-        found = location_of(operand, self.held)
-        if not found or found in (NUMBER, EITHER):
-            raise self.refused("the address is computed, or not known: use one location for each")
-        return found
+    def rewrite_location(self, operand: InMemory) -> str:
+        """Returns the location of an operand in memory. Raises Refused if it is not known."""
+        location = find_location(operand, self.held)
+        if not location or location in (NUMBER, EITHER):
+            raise self.make_refusal("the address is computed, or not known: use one location for each")
+        return location
 
-    def load(self, operand: tuple) -> Statement:
+    def make_load(self, operand: InMemory) -> Statement:
         """Returns the load of a location into the scratch register."""
-        return Statement("load", SCRATCH, self.location(operand))
+        return Statement("load", SCRATCH, self.rewrite_location(operand))
 
-    def clear(self, register: str) -> List[Statement]:
+    def clear_register(self, register: str) -> list[Statement]:
         """Sets a register to 0, and the zero flag if it is read."""
-        return [Statement("set", register, value=("number", 0)), *self.flag_of(register)]
+        return [Statement("set", register, value=Number(0)), *self.set_flag(register)]
 
-    def flag_of(self, register: str) -> List[Statement]:
+    def set_flag(self, register: str) -> list[Statement]:
         """Sets the zero flag by whether a register is 0, if the flag is read."""
-        return [Statement("cmp", register, value=("number", 0))] if self.is_flag_read else []
+        return [Statement("cmp", register, value=Number(0))] if self.is_flag_read else []
 
-    def without_flag(self) -> None:
+    def check_flag_unread(self) -> None:
         """Refuses to add if the sum's flag would be read in place of an older one."""
         if self.is_flag_read:
-            raise self.refused(f"{self.it.mnemonic} leaves the flags alone, a sum of lw sets them, and a later branch reads them")
+            raise self.make_refusal(f"{self.instruction.mnemonic} leaves the flags alone, a sum of lw sets them, and a later branch reads them")
 
     # Instructions that are not locked.
 
-    def mov(self) -> List[Statement]:
-        """Rewrites MOV: a store, a load, or a register that is set."""
-        to, what = self.it.operands
-        if to[0] == "memory":
-            return [Statement("store", location=self.location(to), value=self.value(what))]
-        if to[0] != "register":
-            raise self.refused("a register or a location should stand here")
-        if what[0] == "memory":
-            return [Statement("load", to[1], self.location(what))]
-        return [] if address_of(what, self.held) else [Statement("set", to[1], value=self.value(what))]
+    def rewrite_mov(self) -> list[Statement]:
+        """Rewrites MOV: a store, a load, or a register that is set. Raises Refused for other operands."""
+        target, source = self.instruction.operands
+        if isinstance(target, InMemory):
+            return [Statement("store", location=self.rewrite_location(target), value=self.rewrite_value(source))]
+        if not isinstance(target, Register):
+            raise self.make_refusal("a register or a location should stand here")
+        if isinstance(source, InMemory):
+            return [Statement("load", target.register, self.rewrite_location(source))]
+        return [] if find_address(source, self.held) else [Statement("set", target.register, value=self.rewrite_value(source))]
 
-    def lea(self) -> List[Statement]:
-        """Rewrites LEA: the address of a location, which is known from here on, or a sum."""
-        to, (_, location, registers, number) = self.it.operands
-        if location_of(self.it.operands[1], self.held):
+    def rewrite_lea(self) -> list[Statement]:
+        """Rewrites LEA: the address of a location, which is known from here on, or a sum. Raises Refused if an address is computed."""
+        destination, address = self.instruction.operands
+        assert isinstance(destination, Register) and isinstance(address, InMemory)  # the reader takes no others
+        if find_location(address, self.held):
             return []
-        if location or not registers:
-            raise self.refused("the address is computed: use one location for each")
-        to, first, *others = to[1], *(self.register(("register", it)) for it in registers)
-        if to in others:
-            first, others = to, [first]
-        values = [("register", it) for it in others] + [("number", number % 2**32)] * bool(number)
+        if address.location or not address.registers:
+            raise self.make_refusal("the address is computed: use one location for each")
+        sum_register, first, *others = destination.register, *(self.rewrite_register(Register(it)) for it in address.registers)
+        if sum_register in others:
+            first, others = sum_register, [first]
+        values: list[Value] = [*map(Register, others), *[Number(address.number % 2**32)] * bool(address.number)]
         if values:
-            self.without_flag()
-        return [Statement("set", to, value=("register", first))] * (to != first) + [Statement("add", to, value=it) for it in values]
+            self.check_flag_unread()
+        copies = [Statement("set", sum_register, value=Register(first))] * (sum_register != first)
+        return copies + [Statement("add", sum_register, value=value) for value in values]
 
-    def sum(self, value: tuple) -> List[Statement]:
+    def rewrite_sum(self, value: Operand) -> list[Statement]:
         """Rewrites a sum into the first operand. If that is a location, it takes a load and a store, between which others may act."""
-        to = self.it.operands[0]
-        if to[0] == "memory":
-            added = [self.load(to), Statement("add", SCRATCH, value=self.value(value))]
-            return [*added, Statement("store", location=self.location(to), value=("register", SCRATCH))]
-        if value[0] == "memory":
-            return [self.load(value), Statement("add", self.register(to), value=("register", SCRATCH))]
-        return [Statement("add", self.register(to), value=self.value(value))]
+        target = self.instruction.operands[0]
+        if isinstance(target, InMemory):
+            added = [self.make_load(target), Statement("add", SCRATCH, value=self.rewrite_value(value))]
+            return [*added, Statement("store", location=self.rewrite_location(target), value=Register(SCRATCH))]
+        if isinstance(value, InMemory):
+            return [self.make_load(value), Statement("add", self.rewrite_register(target), value=Register(SCRATCH))]
+        return [Statement("add", self.rewrite_register(target), value=self.rewrite_value(value))]
 
-    def sub(self) -> List[Statement]:
-        """Rewrites a difference: a sum if a number is subtracted, and 0 if a register is subtracted from itself."""
-        to, what = self.it.operands
-        if what[0] == "number":
-            return self.sum(("number", -what[1] % 2**32))
-        if to == what and to[0] == "register":
-            return self.clear(to[1])
-        raise self.refused("a difference of two words is no sum of lw's")
+    def rewrite_sub(self) -> list[Statement]:
+        """Rewrites a difference: a sum if a number is subtracted, and 0 if a register is subtracted from itself. Raises Refused for any other
+        difference.
+        """
+        target, source = self.instruction.operands
+        if isinstance(source, Number):
+            return self.rewrite_sum(Number(-source.word % 2**32))
+        if target == source and isinstance(target, Register):
+            return self.clear_register(target.register)
+        raise self.make_refusal("a difference of two words is no sum of lw's")
 
-    def bits(self) -> List[Statement]:
-        """Rewrites XOR, AND and OR, if they preserve a register or give 0."""
-        (to, what), name = self.it.operands, self.it.mnemonic
-        if to[0] == "register" and (to == what and name == "XOR" or what == ("number", 0) and name == "AND"):
-            return self.clear(to[1])
-        if to[0] == "register" and (to == what or what == ("number", 0) or what == ("number", MINUS_ONE) and name == "AND"):
-            return self.flag_of(self.register(to))
-        raise self.refused(f"{name} of two words is no sum of lw's: only that of a register with itself, or with 0, is converted")
+    def rewrite_bits(self) -> list[Statement]:
+        """Rewrites XOR, AND and OR, if they preserve a register or give 0. Raises Refused if they do neither."""
+        (target, source), name = self.instruction.operands, self.instruction.mnemonic
+        if isinstance(target, Register) and (target == source and name == "XOR" or source == Number(0) and name == "AND"):
+            return self.clear_register(target.register)
+        if isinstance(target, Register) and (target == source or source == Number(0) or source == Number(MINUS_ONE) and name == "AND"):
+            return self.set_flag(self.rewrite_register(target))
+        raise self.make_refusal(f"{name} of two words is no sum of lw's: only that of a register with itself, or with 0, is converted")
 
-    def test(self) -> List[Statement]:
-        """Rewrites a comparison with 0."""
-        first, second = self.it.operands
-        if first[0] != "register" or second not in (first, ("number", MINUS_ONE)):
-            raise self.refused("TEST is converted for a register and itself alone")
-        return self.flag_of(self.register(first))
+    def rewrite_test(self) -> list[Statement]:
+        """Rewrites a comparison with 0. Raises Refused unless a register is tested with itself or with -1."""
+        first, second = self.instruction.operands
+        if not isinstance(first, Register) or second not in (first, Number(MINUS_ONE)):
+            raise self.make_refusal("TEST is converted for a register and itself alone")
+        return self.set_flag(self.rewrite_register(first))
 
-    def cmp(self) -> List[Statement]:
+    def rewrite_cmp(self) -> list[Statement]:
         """Rewrites a comparison, of which one side may be a location."""
-        first, second = self.it.operands
-        if first[0] == "memory":
-            return [self.load(first), Statement("cmp", SCRATCH, value=self.value(second))]
-        if second[0] == "memory":
-            return [self.load(second), Statement("cmp", self.register(first), value=("register", SCRATCH))]
-        return [Statement("cmp", self.register(first), value=self.value(second))]
+        first, second = self.instruction.operands
+        if isinstance(first, InMemory):
+            return [self.make_load(first), Statement("cmp", SCRATCH, value=self.rewrite_value(second))]
+        if isinstance(second, InMemory):
+            return [self.make_load(second), Statement("cmp", self.rewrite_register(first), value=Register(SCRATCH))]
+        return [Statement("cmp", self.rewrite_register(first), value=self.rewrite_value(second))]
 
-    def xchg(self) -> List[Statement]:
+    def rewrite_xchg(self) -> list[Statement]:
         """Rewrites an exchange. One with a location is always locked; that of two registers goes through a third."""
-        first, second = self.it.operands
-        if "memory" in (first[0], second[0]):
-            to, register = (first, second) if first[0] == "memory" else (second, first)
-            return [Statement("xchg", self.register(register), self.location(to))]
-        a, b = self.register(first), self.register(second)
-        moves = ((SCRATCH, a), (a, b), (b, SCRATCH))
-        return [Statement("set", to, value=("register", of)) for to, of in moves if a != b]
+        first, second = self.instruction.operands
+        if isinstance(first, InMemory):
+            return [Statement("xchg", self.rewrite_register(second), self.rewrite_location(first))]
+        if isinstance(second, InMemory):
+            return [Statement("xchg", self.rewrite_register(first), self.rewrite_location(second))]
+        first_register, second_register = self.rewrite_register(first), self.rewrite_register(second)
+        moves = ((SCRATCH, first_register), (first_register, second_register), (second_register, SCRATCH))
+        return [Statement("set", target, value=Register(source)) for target, source in moves if first_register != second_register]
 
-    def xadd(self) -> List[Statement]:
+    def rewrite_xadd(self) -> list[Statement]:
         """Rewrites XADD without LOCK: a load, a sum and a store, between which others may act."""
-        to, register = self.it.operands[0], self.register(self.it.operands[1])
-        back = Statement("set", register, value=("register", SCRATCH))
-        if to[0] == "memory":
-            added = Statement("add", register, value=("register", SCRATCH))
-            return [self.load(to), added, Statement("store", location=self.location(to), value=("register", register)), back]
-        if self.register(to) == register:
-            return [Statement("add", register, value=("register", register))]
-        return [Statement("set", SCRATCH, value=to), Statement("add", to[1], value=("register", register)), back]
+        target, register = self.instruction.operands[0], self.rewrite_register(self.instruction.operands[1])
+        back = Statement("set", register, value=Register(SCRATCH))
+        if isinstance(target, InMemory):
+            added = Statement("add", register, value=Register(SCRATCH))
+            return [self.make_load(target), added, Statement("store", location=self.rewrite_location(target), value=Register(register)), back]
+        sum_ = self.rewrite_register(target)
+        if sum_ == register:
+            return [Statement("add", register, value=Register(register))]
+        return [Statement("set", SCRATCH, value=Register(sum_)), Statement("add", sum_, value=Register(register)), back]
 
-    def cmov(self) -> List[Statement]:
+    def rewrite_cmov(self) -> list[Statement]:
         """Rewrites a move that a branch may skip. A load is done on both ways."""
-        to, what = self.it.operands
-        branch = Statement("jne" if self.it.mnemonic == "CMOVE" else "je", target=self.at + 1)
-        if what[0] == "memory":
-            return [self.load(what), branch, Statement("set", self.register(to), value=("register", SCRATCH))]
-        return [branch, Statement("set", self.register(to), value=self.value(what))]
+        target, source = self.instruction.operands
+        branch = Statement("jne" if self.instruction.mnemonic == "CMOVE" else "je", target=self.index + 1)
+        if isinstance(source, InMemory):
+            return [self.make_load(source), branch, Statement("set", self.rewrite_register(target), value=Register(SCRATCH))]
+        return [branch, Statement("set", self.rewrite_register(target), value=self.rewrite_value(source))]
 
-    def nothing(self) -> List[Statement]:
+    def rewrite_no_effect(self) -> list[Statement]:
         """Rewrites an instruction that has no effect on write-back memory."""
-        if self.it.mnemonic in ("LFENCE", "SFENCE"):
-            self.notes.append((self.it.at, f"{self.it.mnemonic} {FENCE_ALONE}"))
+        if self.instruction.mnemonic in ("LFENCE", "SFENCE"):
+            self.notes.append((self.instruction.offset, f"{self.instruction.mnemonic} {FENCE_ALONE}"))
         return []
 
-    def jump(self) -> List[Statement]:
+    def rewrite_jump(self) -> list[Statement]:
         """Rewrites a jump."""
-        return [Statement(self.it.mnemonic.lower(), target=self.it.target)]
+        return [Statement(self.instruction.mnemonic.lower(), target=self.instruction.target)]
 
-    def no_lock(self) -> List[Statement]:
+    def refuse_unlocked(self) -> list[Statement]:
         """Refuses CMPXCHG without LOCK."""
-        raise self.refused("CMPXCHG without LOCK is a load and a store that others may part: write them, and a branch")
+        raise self.make_refusal("CMPXCHG without LOCK is a load and a store that others may part: write them, and a branch")
 
     # Locked instructions.
 
-    def locked(self) -> List[Statement]:
-        """Rewrites an instruction after LOCK."""
-        name, operands = self.it.mnemonic, self.it.operands
-        memory = [operand for operand in operands if operand[0] == "memory"]
-        if not memory or name in ("MOV", "LEA", "CMP", "TEST") or operands[0][0] != "memory" and name != "XCHG":
-            raise self.refused(f"LOCK stands before {name} without a location that is written")
-        if memory[0][2] == ("ESP",) and not memory[0][1]:
-            return self.locked_stack()
+    def rewrite_locked(self) -> list[Statement]:
+        """Rewrites an instruction after LOCK. Raises Refused if no location is written."""
+        name, operands = self.instruction.mnemonic, self.instruction.operands
+        memory = [operand for operand in operands if isinstance(operand, InMemory)]
+        if not memory or name in ("MOV", "LEA", "CMP", "TEST") or operands[0] is not memory[0] and name != "XCHG":
+            raise self.make_refusal(f"LOCK stands before {name} without a location that is written")
+        if memory[0].registers == ("ESP",) and not memory[0].location:
+            return self.rewrite_locked_stack()
         if name in ("XCHG", "XADD", "CMPXCHG"):
-            return {"XCHG": self.xchg, "XADD": self.locked_xadd, "CMPXCHG": self.cmpxchg}[name]()
-        added = {"INC": ("number", 1), "DEC": ("number", MINUS_ONE)}.get(name) or self.value(operands[1])
+            return {"XCHG": self.rewrite_xchg, "XADD": self.rewrite_locked_xadd, "CMPXCHG": self.rewrite_cmpxchg}[name]()
+        added = {"INC": Number(1), "DEC": Number(MINUS_ONE)}.get(name) or self.rewrite_value(operands[1])
         if name in ("SUB", "OR", "XOR", "AND"):
-            added = self.as_added(added)
-        return [Statement("set", SCRATCH, value=added), Statement("xadd", SCRATCH, self.location(operands[0]))]
+            added = self.make_addend(added)
+        return [Statement("set", SCRATCH, value=added), Statement("xadd", SCRATCH, self.rewrite_location(memory[0]))]
 
-    def as_added(self, value: tuple) -> tuple:
-        """Returns the number whose addition has the effect of a locked SUB, OR, XOR or AND."""
-        name = self.it.mnemonic
-        if value[0] == "number" and name == "SUB":
-            return "number", -value[1] % 2**32
-        if value == ("number", MINUS_ONE if name == "AND" else 0) and name != "SUB":
-            return "number", 0
-        raise self.refused(f"LOCK {name} of these words is no LOCK XADD of lw's")
+    def make_addend(self, value: Value) -> Number:
+        """Returns the number whose addition has the effect of a locked SUB, OR, XOR or AND. Raises Refused if there is none."""
+        name = self.instruction.mnemonic
+        if isinstance(value, Number) and name == "SUB":
+            return Number(-value.word % 2**32)
+        if value == Number(MINUS_ONE if name == "AND" else 0) and name != "SUB":
+            return Number(0)
+        raise self.make_refusal(f"LOCK {name} of these words is no LOCK XADD of lw's")
 
-    def locked_stack(self) -> List[Statement]:
-        """Rewrites a locked instruction that changes nothing on the stack, which is used as a fence."""
-        changes_nothing = self.it.mnemonic in ("ADD", "OR", "XOR", "SUB") and self.it.operands[1] == ("number", 0)
+    def rewrite_locked_stack(self) -> list[Statement]:
+        """Rewrites a locked instruction that changes nothing on the stack, which is used as a fence. Raises Refused if it changes something, or if
+        its flags are read.
+        """
+        changes_nothing = self.instruction.mnemonic in ("ADD", "OR", "XOR", "SUB") and self.instruction.operands[1] == Number(0)
         if not changes_nothing:
-            raise self.refused("lw has no stack: only a locked addition of 0 to it is converted, to MFENCE")
+            raise self.make_refusal("lw has no stack: only a locked addition of 0 to it is converted, to MFENCE")
         if self.is_flag_read:
-            raise self.refused("a later branch reads the flags of this locked instruction on the stack, and MFENCE sets none")
-        self.notes.append((self.it.at, "the locked instruction on the stack is MFENCE"))
+            raise self.make_refusal("a later branch reads the flags of this locked instruction on the stack, and MFENCE sets none")
+        self.notes.append((self.instruction.offset, "the locked instruction on the stack is MFENCE"))
         return [Statement("mfence")]
 
-    def locked_xadd(self) -> List[Statement]:
+    def rewrite_locked_xadd(self) -> list[Statement]:
         """Rewrites LOCK XADD."""
-        to, register = self.it.operands
-        return [Statement("xadd", self.register(register), self.location(to))]
+        target, register = self.instruction.operands
+        return [Statement("xadd", self.rewrite_register(register), self.rewrite_location(as_in_memory(target)))]
 
-    def cmpxchg(self) -> List[Statement]:
+    def rewrite_cmpxchg(self) -> list[Statement]:
         """Rewrites LOCK CMPXCHG with a guess: what it finds must confirm the guess, or the run is abandoned."""
-        to, new = self.location(self.it.operands[0]), self.register(self.it.operands[1])
-        self.value(("register", COMPARED))
-        compare = Statement("cmp", SCRATCH, value=("register", COMPARED))
+        target, new = self.rewrite_location(as_in_memory(self.instruction.operands[0])), self.rewrite_register(self.instruction.operands[1])
+        self.rewrite_value(Register(COMPARED))
+        compare = Statement("cmp", SCRATCH, value=Register(COMPARED))
         if self.guess == SUCCEEDS:
-            first = Statement("set", SCRATCH, value=("register", new))
-            return [first, Statement("xchg", SCRATCH, to), compare, Statement("jne", target=GIVE_UP)]
-        first = Statement("set", SCRATCH, value=("number", 0))
-        found = Statement("set", COMPARED, value=("register", SCRATCH))
-        return [first, Statement("xadd", SCRATCH, to), compare, Statement("je", target=GIVE_UP), found]
+            first = Statement("set", SCRATCH, value=Register(new))
+            return [first, Statement("xchg", SCRATCH, target), compare, Statement("jne", target=GIVE_UP)]
+        first = Statement("set", SCRATCH, value=Number(0))
+        set_compared = Statement("set", COMPARED, value=Register(SCRATCH))
+        return [first, Statement("xadd", SCRATCH, target), compare, Statement("je", target=GIVE_UP), set_compared]
 
 
-REWRITINGS: Dict[str, Callable[[Rewriter], List[Statement]]] = {
-    "MOV": Rewriter.mov,
-    "LEA": Rewriter.lea,
-    "ADD": lambda it: it.sum(it.it.operands[1]),
-    "INC": lambda it: it.sum(("number", 1)),
-    "DEC": lambda it: it.sum(("number", MINUS_ONE)),
-    "SUB": Rewriter.sub,
-    "XOR": Rewriter.bits,
-    "AND": Rewriter.bits,
-    "OR": Rewriter.bits,
-    "TEST": Rewriter.test,
-    "CMP": Rewriter.cmp,
-    "XCHG": Rewriter.xchg,
-    "XADD": Rewriter.xadd,
-    "CMPXCHG": Rewriter.no_lock,
-    "CMOVE": Rewriter.cmov,
-    "CMOVNE": Rewriter.cmov,
+REWRITINGS: dict[str, Callable[[Rewriter], list[Statement]]] = {
+    "MOV": Rewriter.rewrite_mov,
+    "LEA": Rewriter.rewrite_lea,
+    "ADD": lambda rewriter: rewriter.rewrite_sum(rewriter.instruction.operands[1]),
+    "INC": lambda rewriter: rewriter.rewrite_sum(Number(1)),
+    "DEC": lambda rewriter: rewriter.rewrite_sum(Number(MINUS_ONE)),
+    "SUB": Rewriter.rewrite_sub,
+    "XOR": Rewriter.rewrite_bits,
+    "AND": Rewriter.rewrite_bits,
+    "OR": Rewriter.rewrite_bits,
+    "TEST": Rewriter.rewrite_test,
+    "CMP": Rewriter.rewrite_cmp,
+    "XCHG": Rewriter.rewrite_xchg,
+    "XADD": Rewriter.rewrite_xadd,
+    "CMPXCHG": Rewriter.refuse_unlocked,
+    "CMOVE": Rewriter.rewrite_cmov,
+    "CMOVNE": Rewriter.rewrite_cmov,
     "MFENCE": lambda _it: [Statement("mfence")],
-    **dict.fromkeys(("LFENCE", "SFENCE", "NOP", "PAUSE"), Rewriter.nothing),
-    **dict.fromkeys(("JMP", "JE", "JNE"), Rewriter.jump),
+    **dict.fromkeys(("LFENCE", "SFENCE", "NOP", "PAUSE"), Rewriter.rewrite_no_effect),
+    **dict.fromkeys(("JMP", "JE", "JNE"), Rewriter.rewrite_jump),
 }

@@ -1,6 +1,8 @@
 """The text of a test in herd's form: its heading and its tokens, each with its position."""
+from __future__ import annotations
+
 import re
-from typing import List, NamedTuple, Tuple
+from typing import NamedTuple
 
 import given
 import plain
@@ -23,46 +25,46 @@ class Token(NamedTuple):
 
     kind: str
     text: str
-    at: int
+    offset: int
 
 
-def heading_of(text: str) -> Tuple[str, str, int]:
-    """Returns the language and the name of a test, and where its heading ends."""
+def read_heading(text: str) -> tuple[str, str, int]:
+    """Returns the language and the name of a test, and where its heading ends. Raises Refused if there is none, or for another language."""
     if text.startswith(BYTE_ORDER_MARK):
         if text == BYTE_ORDER_MARK:
             raise Refused("the text is a byte order mark (U+FEFF) and nothing else", 0)
         raise Refused("the text begins with a byte order mark (U+FEFF): save it without one", 0)
-    at = 0
-    while text[at : at + 1] and text[at] in " \t\r\n" or text.startswith("(*", at):
-        at = plain.skip_comment(text, at) if text.startswith("(*", at) else at + 1
-    found = HEADING.match(text, at)
-    if not found:
-        raise Refused("the language and the name of a test should stand here", at)
-    if found[1] not in LANGUAGES:
-        raise Refused(f"a test of '{found[1]}' is not converted: only tests of X86 and X86_64 are", at)
-    if len(found[2]) > 128:
-        raise Refused("the name of the test has more than 128 letters", found.start(2))
-    return found[1], found[2], found.end()
+    offset = 0
+    while text[offset : offset + 1] and text[offset] in " \t\r\n" or text.startswith("(*", offset):
+        offset = plain.skip_comment(text, offset) if text.startswith("(*", offset) else offset + 1
+    match = HEADING.match(text, offset)
+    if not match:
+        raise Refused("the language and the name of a test should stand here", offset)
+    if match[1] not in LANGUAGES:
+        raise Refused(f"a test of '{match[1]}' is not converted: only tests of X86 and X86_64 are", offset)
+    if len(match[2]) > 128:
+        raise Refused("the name of the test has more than 128 letters", match.start(2))
+    return match[1], match[2], match.end()
 
 
-def tokens_of(text: str) -> Tuple[str, str, List[Token]]:
-    """Returns the language and the name of a test, and its tokens from the initial block on."""
-    language, name, at = heading_of(text)
-    at, tokens = plain.skip_notes(text, at), []
-    while at < len(text):
-        if text.startswith("(*", at):
-            at = plain.skip_comment(text, at)
+def read_tokens(text: str) -> tuple[str, str, list[Token]]:
+    """Returns the language and the name of a test, and its tokens from the initial block on. Raises Refused at a character that begins none."""
+    language, name, offset = read_heading(text)
+    offset, tokens = plain.skip_notes(text, offset), []
+    while offset < len(text):
+        if text.startswith("(*", offset):
+            offset = plain.skip_comment(text, offset)
             continue
-        found = TOKEN.match(text, at)
-        if not found:
-            raise Refused(f"{plain.letters_at(text, at)} is no token of herd's form that is known here", at)
-        if found.lastgroup != "blank":
-            tokens.append(Token(found.lastgroup, found[0], at))
-        at = found.end()
+        match = TOKEN.match(text, offset)
+        if not match:
+            raise Refused(f"{plain.quote_at(text, offset)} is no token of herd's form that is known here", offset)
+        if match.lastgroup != "blank":
+            tokens.append(Token(match.lastgroup or "", match[0], offset))
+        offset = match.end()
     return language, name, [*tokens, Token("end", "", len(text))]
 
 
-def number_of(token: Token) -> int:
+def parse_number(token: Token) -> int:
     """Returns the number that a token represents."""
     digits = token.text.lower()
     base = {"0x": 16, "0b": 2}.get(digits[:2], 10)
@@ -72,7 +74,7 @@ def number_of(token: Token) -> int:
 class Reader:
     """A reader of tokens, from left to right."""
 
-    def __init__(self, tokens: List[Token]):
+    def __init__(self, tokens: list[Token]) -> None:
         self.tokens = tokens
         self.number = 0
 
@@ -81,38 +83,38 @@ class Reader:
         """Returns the next token. The last one is the end."""
         return self.tokens[min(self.number, len(self.tokens) - 1)]
 
-    def ahead(self, number: int) -> str:
+    def peek(self, number: int) -> str:
         """Returns the text of a token after the next one."""
-        at = self.number + number
-        return self.tokens[at].text if at < len(self.tokens) else ""
+        offset = self.number + number
+        return self.tokens[offset].text if offset < len(self.tokens) else ""
 
     def is_next(self, *texts: str) -> bool:
         """Returns whether the next token is one of these."""
         return self.token.kind != "end" and self.token.text in texts
 
-    def misplaced(self, wanted: str) -> Refused:
+    def make_misplaced_refusal(self, wanted: str) -> Refused:
         """Returns the fault of the next token if something else is expected."""
-        it = self.token
-        shown = plain.quoted(it.text) if it.kind != "end" else "the end of the text" if not it.text else "the end of the cell"
-        return Refused(f"{shown} stands where {wanted} should", it.at)
+        token = self.token
+        shown = plain.quote(token.text) if token.kind != "end" else "the end of the text" if not token.text else "the end of the cell"
+        return Refused(f"{shown} stands where {wanted} should", token.offset)
 
-    def take(self, *texts: str) -> Token:
-        """Reads the next token, which must be one of the texts, if there are any."""
+    def take_token(self, *texts: str) -> Token:
+        """Reads the next token, which must be one of the texts, if there are any. Raises Refused if it is not."""
         if texts and not self.is_next(*texts) or self.token.kind == "end":
-            raise self.misplaced(" or ".join(plain.quoted(it) for it in texts) or "more")
+            raise self.make_misplaced_refusal(" or ".join(plain.quote(it) for it in texts) or "more")
         self.number += 1
         return self.tokens[self.number - 1]
 
-    def take_if(self, *texts: str) -> bool:
+    def take_token_if(self, *texts: str) -> bool:
         """Reads the next token if it is one of these. Returns whether it was."""
         if self.is_next(*texts):
-            self.take()
+            self.take_token()
             return True
         return False
 
-    def signed(self, wanted: str = "a number") -> int:
-        """Reads a number, which may have a sign."""
-        sign = -1 if self.take_if("-") else 1
+    def read_signed(self, wanted: str = "a number") -> int:
+        """Reads a number, which may have a sign. Raises Refused, which says what is `wanted`, if there is none."""
+        sign = -1 if self.take_token_if("-") else 1
         if self.token.kind != "number":
-            raise self.misplaced(wanted)
-        return sign * number_of(self.take())
+            raise self.make_misplaced_refusal(wanted)
+        return sign * parse_number(self.take_token())

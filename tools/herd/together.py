@@ -1,6 +1,8 @@
 """The reports of tests that stand for guesses, put together into one: the states whose marks are all set."""
+from __future__ import annotations
+
 import re
-from typing import Callable, Dict, Iterable, List, Set, Tuple
+from collections.abc import Callable, Iterable
 
 import plain
 from herd.convert import Conversion, Converted
@@ -10,61 +12,53 @@ WORD = re.compile(r"(\S+?)=(\d+);")
 NAME = re.compile(r"(?:\d+:)?[A-Za-z_]\w*")
 
 
-def words_in(line: str) -> Dict[str, int]:
-    """The names and the words of a state's line."""
+def parse_state(line: str) -> dict[str, int]:
+    """Returns the names and the words of a state's line."""
     return {name: int(word) for name, word in WORD.findall(line)}
 
 
-def outcome_of(test: plain.Test, words: Dict[str, int]) -> tuple:
-    """An outcome that shows a state: what is not observed is 0."""
-    registers = [[0] * 6 for _ in test.threads]
-    memory = [0] * len(test.locations)
-    for site in plain.observed(test):
-        word = words[plain.site_name(test, site)]
-        if site[0] == "register":
-            registers[site[1]][site[2]] = word
-        else:
-            memory[site[1]] = word
-    return tuple(tuple(it) for it in registers), tuple(memory)
+def make_outcome(test: plain.Test, words: dict[str, int]) -> plain.Outcome:
+    """Returns an outcome that shows a state, whose words have names: what is not observed is 0."""
+    return plain.make_outcome_from_words(test, [words[plain.format_site(test, site)] for site in plain.list_observed_sites(test)])
 
 
-def marked(it: Conversion, lines: Iterable[str]) -> List[Dict[str, int]]:
-    """The states that are not given up."""
-    names = [plain.site_name(it.test, site) for site in it.marks]
-    states = [words_in(line) for line in lines]
+def list_marked_states(conversion: Conversion, lines: Iterable[str]) -> list[dict[str, int]]:
+    """Returns the states that are not given up."""
+    names = [plain.format_site(conversion.test, site) for site in conversion.marks]
+    states = [parse_state(line) for line in lines]
     return [words for words in states if all(words[name] == 1 for name in names)]
 
 
-def answers_of(conversions: List[Conversion]) -> List[answers.Answer]:
-    """The reports of tests, each with its maker."""
-    return [answers.answer(["states"], it.test) for it in conversions]
+def collect_answers(conversions: list[Conversion]) -> list[answers.Answer]:
+    """Returns the reports of tests, each with its maker."""
+    return [answers.make_answer(["states"], it.test) for it in conversions]
 
 
-def together(conversions: List[Conversion], told: List[answers.Answer]) -> str:
-    """The report of the question, from the reports of the tests."""
+def merge_reports(conversions: list[Conversion], reports: list[answers.Answer]) -> str:
+    """Returns the report of the question, from the reports of the tests."""
     question = conversions[0].question
-    found = set()
-    for it, answer in zip(conversions, told):
-        found |= {outcome_of(question, words) for words in marked(it, answers.states_in(answer.text))}
-    return plain.report(question, found)
+    outcomes: set[plain.Outcome] = set()
+    for conversion, answer in zip(conversions, reports):
+        outcomes |= {make_outcome(question, words) for words in list_marked_states(conversion, answers.filter_state_lines(answer.text))}
+    return plain.make_report(question, outcomes)
 
 
-def put_together(conversions: List[Conversion]) -> Tuple[str, Set[answers.Maker]]:
-    """The report of the question, and by which the lists are answered."""
-    told = answers_of(conversions)
-    return together(conversions, told), {it.by for it in told}
+def make_merged_report(conversions: list[Conversion]) -> tuple[str, set[answers.Maker]]:
+    """Returns the report of the question, and the makers of the lists from which it results."""
+    reports = collect_answers(conversions)
+    return merge_reports(conversions, reports), {it.by for it in reports}
 
 
-def in_original_names(made: Converted) -> Callable[[str], str]:
-    """How a line is said in the names of the original test."""
-    names = {new: old for old, new in made.renamed}
+def make_renamer(original: Converted) -> Callable[[str], str]:
+    """Returns a function that writes a line in the names of the original test."""
+    names = {new: old for old, new in original.renamed}
     return lambda line: NAME.sub(lambda it: names.get(it[0], it[0]), line)
 
 
-def in_names(report: str, made: Converted) -> str:
+def translate_report(report: str, original: Converted) -> str:
     """Returns a report in the names of the original test."""
-    named, lines = in_original_names(made), report.splitlines()
-    end = 2 + len(answers.states_in(report))
+    named, lines = make_renamer(original), report.splitlines()
+    end = 2 + len(answers.filter_state_lines(report))
     lines[2:end] = map(named, lines[2:end])
     lines[-2] = named(lines[-2])
     return "".join(f"{line}\n" for line in lines)

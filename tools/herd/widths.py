@@ -13,13 +13,17 @@ the other threads stored in the round before. Each store is done once at most, s
 stores have all words of all runs; and an instruction that loads and stores reads no word that results from its own, so for it one round
 less has all.
 """
-from dataclasses import dataclass, field
-from typing import Callable, Dict, Iterable, List, Optional, Set, Tuple
+from __future__ import annotations
 
-from herd.cells import Instruction
-from herd.flow import GIVE_UP, address_of, addresses_held, followers, location_of
+from collections.abc import Callable, Iterable
+from dataclasses import dataclass, field
+from typing import Any, Dict, Optional, Tuple
+
+from herd.cells import AddressOf, InMemory, Instruction, Operand
+from herd.flow import GIVE_UP, compute_held_addresses, find_address, find_location, list_successors
 from herd.frame import Frame, Negative
 from herd.text import Refused
+from plain import LocationSite, Number, Register, RegisterSite, Site
 
 Range = Tuple[int, int]  # the least and the greatest word
 Registers = Dict[str, Optional[Range]]
@@ -29,33 +33,39 @@ LARGEST_SIGNED = 2**31 - 1
 ANY: Range = (0, LARGEST)
 
 
-def union(first: Optional[Range], second: Optional[Range]) -> Optional[Range]:
+def merge_optional_ranges(first: Range | None, second: Range | None) -> Range | None:
+    """Returns the range of what is in one of two ranges, None if one of them is not known."""
+    return merge_ranges(first, second) if first and second else None
+
+
+def merge_ranges(first: Range, second: Range) -> Range:
     """Returns the range of what is in one of two ranges."""
-    return (min(first[0], second[0]), max(first[1], second[1])) if first and second else None
+    return min(first[0], second[0]), max(first[1], second[1])
 
 
-def join(first: Optional[Registers], second: Registers) -> Registers:
+def merge_registers(first: Registers | None, second: Registers) -> Registers:
     """Returns the ranges of registers where two ways meet."""
     if first is None:
         return dict(second)
-    return {name: union(first.get(name, (0, 0)), second.get(name, (0, 0))) for name in {*first, *second}}
+    return {name: merge_optional_ranges(first.get(name, (0, 0)), second.get(name, (0, 0))) for name in {*first, *second}}
 
 
 class Thread:
     """The code of a thread, and what is known of its registers: which hold addresses at first, and the ranges of the others."""
 
-    def __init__(self, code: List[Instruction], held: Dict[str, str], registers: Registers):
+    def __init__(self, code: list[Instruction], held: dict[str, str], registers: Registers) -> None:
+        """Finds where the registers of a thread hold addresses."""
         self.code = code
-        self.held = addresses_held(code, held)
+        self.held = compute_held_addresses(code, held)
         self.registers = registers
 
-    def accesses(self) -> Iterable[Tuple[Instruction, str]]:
+    def list_accesses(self) -> Iterable[tuple[Instruction, str]]:
         """Yields the instructions that access a location, each with its location. LEA accesses none."""
-        for it, held in zip(self.code, self.held):
-            for operand in it.operands:
-                found = location_of(operand, held) if operand[0] == "memory" and it.mnemonic != "LEA" else None
-                if found:
-                    yield it, found
+        for instruction, held in zip(self.code, self.held):
+            for operand in instruction.operands:
+                location = find_location(operand, held) if isinstance(operand, InMemory) and instruction.mnemonic != "LEA" else None
+                if location:
+                    yield instruction, location
 
 
 @dataclass
@@ -69,276 +79,289 @@ class Memory:
     own: Words = field(default_factory=dict)
     stores: int = 0
 
-    def read(self, location: str, is_update: bool) -> Range:
+    def read_location(self, location: str, is_update: bool) -> Range:
         """Returns the words that a location may have."""
         words = (self.words_for_updates if is_update else self.words).get(location, (0, 0))
-        return union(words, self.own.get(location, words))
+        return merge_ranges(words, self.own.get(location, words))
 
-    def add(self, stored: List[Tuple[str, Range]]) -> None:
+    def add_stores(self, stored: list[tuple[str, Range]]) -> None:
         """Records that the thread may have stored some words."""
         self.stores += len(stored)
         for location, words in stored:
-            self.own[location] = union(self.own.get(location, words), words)
+            self.own[location] = merge_ranges(self.own.get(location, words), words)
 
 
 class Step:
     """The effect of one instruction on ranges."""
 
-    def __init__(self, it: Instruction, held: Dict[str, str], registers: Registers, memory: Memory, wide: Set[str]):
-        self.it = it
+    def __init__(self, instruction: Instruction, held: dict[str, str], registers: Registers, memory: Memory, wide: set[str]) -> None:
+        """Prepares an instruction on these registers and this memory. `wide` are the locations of 64 bits."""
+        self.instruction = instruction
         self.held = held
         self.registers = dict(registers)
         self.memory = memory
-        self.stored: List[Tuple[str, Range]] = []
-        self.bits = it.bits or (64 if any(self.location(operand) in wide for operand in it.operands) else 32)
+        self.stored: list[tuple[str, Range]] = []
+        self.bits = instruction.bits or (64 if any(self.find_location(operand) in wide for operand in instruction.operands) else 32)
 
-    def refused(self, cause: str) -> Refused:
+    def make_refusal(self, cause: str) -> Refused:
         """Returns why the instruction is not converted."""
-        return Refused(f"{cause}, and a word of lw has 32 bits", self.it.at)
+        return Refused(f"{cause}, and a word of lw has 32 bits", self.instruction.offset)
 
-    def location(self, operand: tuple) -> Optional[str]:
-        """Returns the location of an operand, if it is one."""
-        return location_of(operand, self.held) if operand[0] == "memory" else None
+    def find_location(self, operand: Operand) -> str | None:
+        """Returns the location of an operand, if it is one. `None` if it is none."""
+        return find_location(operand, self.held) if isinstance(operand, InMemory) else None
 
-    def register(self, name: str, bits: int) -> Range:
-        """Returns the words that the lowest bits of a register may have."""
-        found = self.registers.get(name, (0, 0))
-        if found is None and bits == 64:
-            raise self.refused(f"it reads 64 bits of {name}, which may not fit into 32")
-        return found or ANY
+    def read_register(self, name: str, bits: int) -> Range:
+        """Returns the words that the lowest bits of a register may have. Raises Refused if 64 bits are read that may not fit into 32."""
+        register = self.registers.get(name, (0, 0))
+        if register is None and bits == 64:
+            raise self.make_refusal(f"it reads 64 bits of {name}, which may not fit into 32")
+        return register or ANY
 
-    def read(self, operand: tuple) -> Range:
-        """Returns the words that an operand may have."""
-        if operand[0] == "memory":
-            is_update = self.it.mnemonic in ("XCHG", "XADD", "CMPXCHG") or operand is self.it.operands[0] and self.it.mnemonic != "CMP"
-            return self.memory.read(self.location(operand) or "", is_update)
-        if operand[0] == "register":
-            return self.register(operand[1], self.bits)
-        if self.bits == 64 and self.it.number == -1 and self.it.mnemonic in ("AND", "TEST"):
-            return operand[1], operand[1]  # which leaves all 64 bits as they are
-        if self.bits == 64 and self.it.number < 0:
-            raise self.refused(f"it extends the sign of {self.it.number} to 64 bits")
-        is_any_number = self.it.mnemonic == "MOV" and self.it.operands[0][0] == "register"
-        if self.bits == 64 and self.it.number > LARGEST_SIGNED and not is_any_number:
-            raise self.refused(f"no instruction of 64 bits has the number {self.it.number}: it would extend a sign")
-        return operand[1], operand[1]
+    def read_operand(self, operand: Operand) -> Range:
+        """Returns the words that an operand may have. Raises Refused for a number that no instruction of 64 bits has."""
+        if isinstance(operand, InMemory):
+            mnemonic = self.instruction.mnemonic
+            is_update = mnemonic in ("XCHG", "XADD", "CMPXCHG") or operand is self.instruction.operands[0] and mnemonic != "CMP"
+            return self.memory.read_location(self.find_location(operand) or "", is_update)
+        if isinstance(operand, Register):
+            return self.read_register(operand.register, self.bits)
+        assert isinstance(operand, Number)  # an address is moved, and no instruction reads it as a word
+        if self.bits == 64 and self.instruction.number == -1 and self.instruction.mnemonic in ("AND", "TEST"):
+            return operand.word, operand.word  # which leaves all 64 bits as they are
+        if self.bits == 64 and self.instruction.number < 0:
+            raise self.make_refusal(f"it extends the sign of {self.instruction.number} to 64 bits")
+        is_any_number = self.instruction.mnemonic == "MOV" and isinstance(self.instruction.operands[0], Register)
+        if self.bits == 64 and self.instruction.number > LARGEST_SIGNED and not is_any_number:
+            raise self.make_refusal(f"no instruction of 64 bits has the number {self.instruction.number}: it would extend a sign")
+        return operand.word, operand.word
 
-    def write(self, operand: tuple, words: Range) -> None:
+    def write_operand(self, operand: Operand, words: Any) -> None:
         """Records that an operand gets some word of a range."""
-        if operand[0] == "register":
-            self.registers[operand[1]] = words
-        elif self.location(operand):
-            self.stored.append((self.location(operand), words))
+        if isinstance(operand, Register):
+            self.registers[operand.register] = words
+        elif location := self.find_location(operand):
+            self.stored.append((location, words))
 
-    def wrapped(self, words: Range, bits: int) -> Range:
-        """Returns the words of a sum, which wraps in 32 bits, and must fit in 64."""
+    def wrap_range(self, words: Range, bits: int) -> Range:
+        """Returns the words of a sum, which wraps in 32 bits, and must fit in 64. Raises Refused if one does not."""
         if 0 <= words[0] and words[1] <= LARGEST:
             return words
         if bits == 64:
-            raise self.refused(f"it works on 64 bits, and its result may be {'negative' if words[0] < 0 else 'as large as %d' % words[1]}")
+            raise self.make_refusal(f"it works on 64 bits, and its result may be {'negative' if words[0] < 0 else 'as large as %d' % words[1]}")
         return ANY
 
-    def run(self) -> None:
+    def execute(self) -> None:
         """Executes the instruction."""
-        ACTIONS[self.it.mnemonic](self)
+        ACTIONS[self.instruction.mnemonic](self)
 
-    def nothing(self) -> None:
+    def execute_no_effect(self) -> None:
         """Executes an instruction that reads and writes no word."""
 
-    def compare(self) -> None:
+    def execute_comparison(self) -> None:
         """Executes a comparison, which only reads words."""
-        for operand in self.it.operands:
-            self.read(operand)
+        for operand in self.instruction.operands:
+            self.read_operand(operand)
 
-    def mov(self) -> None:
+    def execute_mov(self) -> None:
         """Executes a move. An address may be moved by 64 bits."""
-        to, what = self.it.operands
-        if to[0] == "register" and address_of(what, self.held):
-            self.registers[to[1]] = None
+        target, source = self.instruction.operands
+        if isinstance(target, Register) and find_address(source, self.held):
+            self.registers[target.register] = None
         else:
-            self.write(to, self.read(what))
+            self.write_operand(target, self.read_operand(source))
 
-    def lea(self) -> None:
+    def execute_lea(self) -> None:
         """Executes LEA: an address, or a sum of as many bits as both the address and the result have."""
-        to, address = self.it.operands
-        if location_of(address, self.held):
-            self.registers[to[1]] = None
+        target, address = self.instruction.operands
+        assert isinstance(target, Register) and isinstance(address, InMemory)  # the reader takes no others
+        if find_location(address, self.held):
+            self.registers[target.register] = None
             return
-        bits = min(self.bits, self.it.address_bits or 64)
-        parts = [self.register(name, bits) for name in address[2]]
-        self.registers[to[1]] = self.wrapped((sum(it[0] for it in parts) + address[3], sum(it[1] for it in parts) + address[3]), bits)
+        bits = min(self.bits, self.instruction.address_bits or 64)
+        parts = [self.read_register(name, bits) for name in address.registers]
+        least, greatest = sum(it[0] for it in parts) + address.number, sum(it[1] for it in parts) + address.number
+        self.registers[target.register] = self.wrap_range((least, greatest), bits)
 
-    def sum(self) -> None:
+    def execute_sum(self) -> None:
         """Executes a sum, or the difference with a number."""
-        to, name = self.it.operands[0], self.it.mnemonic
-        if name == "SUB" and self.it.operands[1] == to:
-            return self.write(to, (0, 0))
-        added = self.added(name)
-        old = self.read(to)
-        self.write(to, self.wrapped((old[0] + added[0], old[1] + added[1]), self.bits))
+        target, name = self.instruction.operands[0], self.instruction.mnemonic
+        if name == "SUB" and self.instruction.operands[1] == target:
+            return self.write_operand(target, (0, 0))
+        added = self.compute_addend(name)
+        old = self.read_operand(target)
+        self.write_operand(target, self.wrap_range((old[0] + added[0], old[1] + added[1]), self.bits))
 
-    def added(self, name: str) -> Range:
+    def compute_addend(self, name: str) -> Range:
         """Returns what ADD, SUB, INC or DEC adds."""
         if name in ("INC", "DEC"):
             return (1, 1) if name == "INC" else (-1, -1)
-        if self.it.operands[1][0] != "number" or self.it.number >= 0:
-            read = self.read(self.it.operands[1])
+        if not isinstance(self.instruction.operands[1], Number) or self.instruction.number >= 0:
+            read = self.read_operand(self.instruction.operands[1])
             return read if name == "ADD" else (-read[1], -read[0])
-        number = self.it.number if name == "ADD" else -self.it.number
+        number = self.instruction.number if name == "ADD" else -self.instruction.number
         return number, number  # of a negative number
 
-    def bits_of_word(self) -> None:
+    def execute_bits(self) -> None:
         """Executes XOR, AND or OR, which preserve the word or give 0."""
-        (to, what), name = self.it.operands, self.it.mnemonic
-        if to == what and name == "XOR" or what == ("number", 0) and name == "AND":
-            return self.write(to, (0, 0))
-        self.read(what)
-        self.write(to, self.read(to))
+        (target, source), name = self.instruction.operands, self.instruction.mnemonic
+        if target == source and name == "XOR" or source == Number(0) and name == "AND":
+            return self.write_operand(target, (0, 0))
+        self.read_operand(source)
+        self.write_operand(target, self.read_operand(target))
 
-    def xchg(self) -> None:
+    def execute_xchg(self) -> None:
         """Executes an exchange."""
-        first, second = self.it.operands
-        a, b = self.read(first), self.read(second)
-        self.write(first, b)
-        self.write(second, a)
+        first, second = self.instruction.operands
+        first_words, second_words = self.read_operand(first), self.read_operand(second)
+        self.write_operand(first, second_words)
+        self.write_operand(second, first_words)
 
-    def xadd(self) -> None:
+    def execute_xadd(self) -> None:
         """Executes XADD: a sum, and the old word in the register."""
-        to, register = self.it.operands
-        old, added = self.read(to), self.read(register)
-        self.write(register, old)
-        self.write(to, self.wrapped((old[0] + added[0], old[1] + added[1]), self.bits))
+        target, register = self.instruction.operands
+        old, added = self.read_operand(target), self.read_operand(register)
+        self.write_operand(register, old)
+        self.write_operand(target, self.wrap_range((old[0] + added[0], old[1] + added[1]), self.bits))
 
-    def cmpxchg(self) -> None:
+    def execute_cmpxchg(self) -> None:
         """Executes CMPXCHG: the location may get the new word, and EAX the old one."""
-        to, new = self.it.operands
-        old, wanted = self.read(to), ("register", "EAX")
-        self.read(wanted)
-        self.write(to, union(self.read(new), old))
-        self.write(wanted, union(self.registers.get("EAX", (0, 0)), old))
+        target, new = self.instruction.operands
+        old, wanted = self.read_operand(target), Register("EAX")
+        self.read_operand(wanted)
+        self.write_operand(target, merge_optional_ranges(self.read_operand(new), old))
+        self.write_operand(wanted, merge_optional_ranges(self.registers.get("EAX", (0, 0)), old))
 
-    def cmov(self) -> None:
+    def execute_cmov(self) -> None:
         """Executes a move that may be skipped; in 32 bits the upper half becomes 0 then too."""
-        to, what = self.it.operands
-        old = self.registers.get(to[1], (0, 0))
-        self.write(to, union(old or (ANY if self.bits == 32 else None), self.read(what)))
+        target, source = self.instruction.operands
+        assert isinstance(target, Register)  # the rewriting refuses others
+        old = self.registers.get(target.register, (0, 0))
+        self.write_operand(target, merge_optional_ranges(old or (ANY if self.bits == 32 else None), self.read_operand(source)))
 
 
-ACTIONS: Dict[str, Callable[[Step], None]] = {
-    "MOV": Step.mov,
-    "LEA": Step.lea,
-    "XCHG": Step.xchg,
-    "XADD": Step.xadd,
-    "CMPXCHG": Step.cmpxchg,
-    **dict.fromkeys(("CMOVE", "CMOVNE"), Step.cmov),
-    **dict.fromkeys(("ADD", "SUB", "INC", "DEC"), Step.sum),
-    **dict.fromkeys(("AND", "OR", "XOR"), Step.bits_of_word),
-    **dict.fromkeys(("CMP", "TEST"), Step.compare),
-    **dict.fromkeys(("MFENCE", "LFENCE", "SFENCE", "NOP", "PAUSE", "JMP", "JE", "JNE"), Step.nothing),
+ACTIONS: dict[str, Callable[[Step], None]] = {
+    "MOV": Step.execute_mov,
+    "LEA": Step.execute_lea,
+    "XCHG": Step.execute_xchg,
+    "XADD": Step.execute_xadd,
+    "CMPXCHG": Step.execute_cmpxchg,
+    **dict.fromkeys(("CMOVE", "CMOVNE"), Step.execute_cmov),
+    **dict.fromkeys(("ADD", "SUB", "INC", "DEC"), Step.execute_sum),
+    **dict.fromkeys(("AND", "OR", "XOR"), Step.execute_bits),
+    **dict.fromkeys(("CMP", "TEST"), Step.execute_comparison),
+    **dict.fromkeys(("MFENCE", "LFENCE", "SFENCE", "NOP", "PAUSE", "JMP", "JE", "JNE"), Step.execute_no_effect),
 }
 
 
-def pass_over(thread: Thread, memory: Memory, wide: Set[str]) -> Registers:
+def follow_thread(thread: Thread, memory: Memory, wide: set[str]) -> Registers:
     """Follows a thread, which stores into the memory. Returns the ranges of its registers at its end."""
-    before: List[Optional[Registers]] = [None] * (len(thread.code) + 1)
+    before: list[Registers | None] = [None] * (len(thread.code) + 1)
     before[0], end = dict(thread.registers), None
-    for at, it in enumerate(thread.code):
-        if before[at] is None:
+    for index, instruction in enumerate(thread.code):
+        registers = before[index]
+        if registers is None:
             continue
-        step = Step(it, thread.held[at], before[at], memory, wide)
-        step.run()
-        memory.add(step.stored)
-        for next_one in followers(it, at):
-            if next_one == GIVE_UP:
-                end = join(end, step.registers)
+        step = Step(instruction, thread.held[index], registers, memory, wide)
+        step.execute()
+        memory.add_stores(step.stored)
+        for follower in list_successors(instruction, index):
+            if follower == GIVE_UP:
+                end = merge_registers(end, step.registers)
             else:
-                before[next_one] = join(before[next_one], step.registers)
+                before[follower] = merge_registers(before[follower], step.registers)
     if before[-1] is not None:
-        end = join(end, before[-1])
+        end = merge_registers(end, before[-1])
     return end or {}
 
 
 class Widths:
     """The ranges of all registers and locations of a test. A test is refused if some word may not fit."""
 
-    def __init__(self, frame: Frame, codes: List[List[Instruction]]):
+    def __init__(self, frame: Frame, codes: list[list[Instruction]]) -> None:
+        """Finds the ranges of a test's words, and refuses the test if some may not fit."""
         self.frame = frame
-        self.threads = [self.thread(number, code) for number, code in enumerate(codes)]
+        self.threads = [self.make_thread(number, code) for number, code in enumerate(codes)]
         self.check_sizes()
-        self.wide = {name for thread in self.threads for it, name in thread.accesses() if it.bits == 64}
-        self.wide |= {it.site[1] for it in frame.entries if it.site[0] == "location" and it.bits == 64}
-        self.words, self.ends = self.ranges()
+        self.wide = {name for thread in self.threads for it, name in thread.list_accesses() if it.bits == 64}
+        self.wide |= {it.site.location for it in frame.entries if isinstance(it.site, LocationSite) and it.bits == 64}
+        self.words, self.ends = self.compute_ranges()
         self.check_negatives()
         self.check_observed()
 
-    def thread(self, number: int, code: List[Instruction]) -> Thread:
+    def make_thread(self, number: int, code: list[Instruction]) -> Thread:
         """Returns a thread, with the ranges of its registers at the start."""
-        entries = [it for it in self.frame.entries if it.site[0] == "register" and it.site[1] == number]
-        held = {it.site[2]: it.value[1] for it in entries if it.value[0] == "address"}
-        registers: Registers = {name: None for name in held}
-        registers.update({it.site[2]: (it.value[1], it.value[1]) for it in entries if it.value[0] == "number"})
-        for it in self.frame.negatives:
-            if it.is_initial and it.site[:2] == ("register", number) and it.bits == 64:
-                registers[it.site[2]] = None
+        of_thread = lambda site: isinstance(site, RegisterSite) and site.thread == number
+        values = {it.site.register: it.value for it in self.frame.entries if isinstance(it.site, RegisterSite) and of_thread(it.site)}
+        held = {name: it.location for name, it in values.items() if isinstance(it, AddressOf)}
+        registers: Registers = {name: (it.word, it.word) if isinstance(it, Number) else None for name, it in values.items()}
+        for negative in self.frame.negatives:
+            if negative.is_initial and isinstance(negative.site, RegisterSite) and of_thread(negative.site) and negative.bits == 64:
+                registers[negative.site.register] = None
         return Thread(code, held, registers)
 
     def check_sizes(self) -> None:
         """Checks that no location of 32 bits is accessed by 64."""
-        narrow = {it.site[1] for it in self.frame.entries if it.site[0] == "location" and it.bits == 32}
+        narrow = {it.site.location for it in self.frame.entries if isinstance(it.site, LocationSite) and it.bits == 32}
         for thread in self.threads:
-            for it, name in thread.accesses():
-                if it.bits == 64 and name in narrow:
-                    raise Refused(f"it accesses 64 bits of '{name}', whose type has 32", it.at)
+            for instruction, name in thread.list_accesses():
+                if instruction.bits == 64 and name in narrow:
+                    raise Refused(f"it accesses 64 bits of '{name}', whose type has 32", instruction.offset)
 
-    def ranges(self) -> Tuple[Words, List[Registers]]:
+    def compute_ranges(self) -> tuple[Words, list[Registers]]:
         """Returns the ranges of all locations, and of each thread's registers at its end."""
-        entries = [it for it in self.frame.entries if it.site[0] == "location" and it.value[0] == "number"]
-        initial = {it.site[1]: (it.value[1], it.value[1]) for it in entries}
+        values = {it.site.location: it.value for it in self.frame.entries if isinstance(it.site, LocationSite)}
+        initial = {name: (it.word, it.word) for name, it in values.items() if isinstance(it, Number)}
         seen = [initial] * len(self.threads)
-        memories, ends = self.round(seen, seen)
-        for left in reversed(range(sum(it.stores for it in memories))):
-            before, seen = seen, [self.united(initial, [*memories[:at], *memories[at + 1 :]]) for at in range(len(memories))]
+        memories, ends = self.run_round(seen, seen)
+        for remaining_rounds in reversed(range(sum(it.stores for it in memories))):
+            before, seen = seen, [self.merge_words(initial, [*memories[:index], *memories[index + 1 :]]) for index in range(len(memories))]
             if seen == before:
                 break
-            memories, ends = self.round(seen, seen if left else before)
-        return self.united(initial, memories), ends
+            memories, ends = self.run_round(seen, seen if remaining_rounds else before)
+        return self.merge_words(initial, memories), ends
 
-    def round(self, seen: List[Words], seen_by_updates: List[Words]) -> Tuple[List[Memory], List[Registers]]:
+    def run_round(self, seen: list[Words], seen_by_updates: list[Words]) -> tuple[list[Memory], list[Registers]]:
         """Returns what each thread stores, and its registers at its end, if it reads some words of others."""
         memories = [Memory(*words) for words in zip(seen, seen_by_updates)]
-        return memories, [pass_over(thread, memory, self.wide) for thread, memory in zip(self.threads, memories)]
+        return memories, [follow_thread(thread, memory, self.wide) for thread, memory in zip(self.threads, memories)]
 
     @staticmethod
-    def united(initial: Words, memories: List[Memory]) -> Words:
+    def merge_words(initial: Words, memories: list[Memory]) -> Words:
         """Returns the initial words, and those that some threads may have stored."""
         words = dict(initial)
         for name, stored in (it for memory in memories for it in memory.own.items()):
-            words[name] = union(words.get(name, (0, 0)), stored)
+            words[name] = merge_ranges(words.get(name, (0, 0)), stored)
         return words
 
-    def range_of(self, site: tuple) -> Optional[Range]:
-        """Returns the words that a site may have at the end."""
-        return self.words.get(site[1], (0, 0)) if site[0] == "location" else self.ends[site[1]].get(site[2], (0, 0))
+    def find_range(self, site: Site) -> Range | None:
+        """Returns the words that a site may have at the end. `None` if a register may hold any word."""
+        if isinstance(site, LocationSite):
+            return self.words.get(site.location, (0, 0))
+        return self.ends[site.thread].get(site.register, (0, 0))
 
     def check_negatives(self) -> None:
         """Checks that each negative number means the same in 32 and in 64 bits."""
-        for it in self.frame.negatives:
-            is_wide = it.site[1] in self.wide if it.site[0] == "location" else it.bits == 64
-            if not is_wide or it.is_initial and it.site[0] == "register":
+        for negative in self.frame.negatives:
+            is_wide = negative.site.location in self.wide if isinstance(negative.site, LocationSite) else negative.bits == 64
+            if not is_wide or negative.is_initial and isinstance(negative.site, RegisterSite):
                 continue
-            if it.is_initial:
-                raise Refused(f"'{it.site[1]}' has 64 bits, and begins with a negative number, and a word of lw has 32 bits", it.at)
-            found = self.range_of(it.site)
-            if found is None or found[1] > LARGEST_SIGNED:
-                raise Refused(f"a negative number is compared with 64 bits: {self.as_32_bits(it)}", it.at)
+            if negative.is_initial and isinstance(negative.site, LocationSite):
+                cause = f"'{negative.site.location}' has 64 bits, and begins with a negative number, and a word of lw has 32 bits"
+                raise Refused(cause, negative.offset)
+            site_range = self.find_range(negative.site)
+            if site_range is None or site_range[1] > LARGEST_SIGNED:
+                raise Refused(f"a negative number is compared with 64 bits: {self.spell_in_32_bits(negative)}", negative.offset)
 
     @staticmethod
-    def as_32_bits(it: Negative) -> str:
+    def spell_in_32_bits(negative: Negative) -> str:
         """Returns how a comparison with a negative number of 32 bits is written."""
-        return "write it modulo 2 to the 32" + (", or the register by its name of 32 bits" if it.site[0] == "register" else "")
+        is_register = isinstance(negative.site, RegisterSite)
+        return "write it modulo 2 to the 32" + (", or the register by its name of 32 bits" if is_register else "")
 
     def check_observed(self) -> None:
         """Checks that each register that the condition mentions has a word of 32 bits at the end."""
-        for site, at in [*self.frame.listed, *self.frame.named]:
-            if self.range_of(site) is None:
-                raise Refused(f"{site[1]}:{site[2]} may end with a word of 64 bits that does not fit into 32", at)
+        for site, offset in [*self.frame.listed, *self.frame.named]:
+            if self.find_range(site) is None:
+                assert isinstance(site, RegisterSite)  # a location always has a range
+                raise Refused(f"{site.thread}:{site.register} may end with a word of 64 bits that does not fit into 32", offset)

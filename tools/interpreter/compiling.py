@@ -1,108 +1,120 @@
 """Compiles a source test, and writes the canonical text of an x86 test."""
 from __future__ import annotations
 
+from collections.abc import Sequence
 from dataclasses import replace
-from typing import List, Sequence, Set, Tuple
 
-from interpreter.conditions import condition_text, site_name, site_order
-from interpreter.tests import REGISTERS, Statement, Test, text_of
+from interpreter.conditions import format_condition, format_site, site_sort_key
+from interpreter.tests import REGISTERS, Number, Register, Statement, Test, Value, join_lines
 
 
-def followers(statement: Statement, at: int) -> List[int]:
-    """Returns the positions that may follow a statement."""
+def list_successors(statement: Statement, position: int) -> list[int]:
+    """Returns the positions that may follow a statement, which is at a position of its thread."""
     if statement.target is None:
-        return [at + 1]
-    return [statement.target] if statement.kind in ("goto", "jmp") else [at + 1, statement.target]
+        return [position + 1]
+    return [statement.target] if statement.kind in ("goto", "jmp") else [position + 1, statement.target]
 
 
-def fenced_loads(statements: Sequence[Statement]) -> Set[int]:
-    """Returns the positions of the loads that some way through a thread reaches from a store with nothing between that waits for it."""
+def find_fenced_loads(statements: Sequence[Statement]) -> set[int]:
+    """Returns the positions of the loads that need a fence: those that some way through a thread reaches from a store, with nothing between
+    that waits for the store.
+    """
     fenced, reached = set(), set()
-    waiting = [next_one for at, it in enumerate(statements) if it.kind == "store" for next_one in followers(it, at)]
+    waiting = [
+        follower for position, statement in enumerate(statements) if statement.kind == "store" for follower in list_successors(statement, position)
+    ]
     while waiting:
-        at = waiting.pop()
-        if at == len(statements) or at in reached:
+        position = waiting.pop()
+        if position == len(statements) or position in reached:
             continue
-        reached.add(at)
-        if statements[at].kind == "load":
-            fenced.add(at)
-        elif statements[at].kind not in ("swap", "fetchadd"):
-            waiting += followers(statements[at], at)
+        reached.add(position)
+        if statements[position].kind == "load":
+            fenced.add(position)
+        elif statements[position].kind not in ("swap", "fetchadd"):
+            waiting += list_successors(statements[position], position)
     return fenced
 
 
-def instructions_of(it: Statement) -> List[Statement]:
+def compile_statement(statement: Statement) -> list[Statement]:
     """Returns the instructions of a source statement, without a fence. Jumps still target statements."""
-    if it.kind in ("store", "load", "set"):
-        return [it]
-    if it.kind in ("swap", "fetchadd"):
-        before = [] if it.value == ("register", it.register) else [Statement("set", it.register, value=it.value)]
-        return before + [Statement("xchg" if it.kind == "swap" else "xadd", it.register, it.location)]
-    if it.kind == "sum":
-        if it.left == it.register:
-            return [Statement("add", it.register, value=it.value)]
-        if it.value == ("register", it.register):
-            return [Statement("add", it.register, value=("register", it.left))]
-        return [Statement("set", it.register, value=("register", it.left)), Statement("add", it.register, value=it.value)]
-    if it.kind == "goto":
-        return [Statement("jmp", target=it.target)]
-    jump = "je" if it.kind == "if equal" else "jne"
-    return [Statement("cmp", it.register, value=it.value), Statement(jump, target=it.target)]
+    if statement.kind in ("store", "load", "set"):
+        return [statement]
+    if statement.kind in ("swap", "fetchadd"):
+        before = [] if statement.value == Register(statement.register) else [Statement("set", statement.register, value=statement.value)]
+        return before + [Statement("xchg" if statement.kind == "swap" else "xadd", statement.register, statement.location)]
+    if statement.kind == "sum":
+        if statement.left == statement.register:
+            return [Statement("add", statement.register, value=statement.value)]
+        if statement.value == Register(statement.register):
+            return [Statement("add", statement.register, value=Register(statement.left))]
+        copy = Statement("set", statement.register, value=Register(statement.left))
+        return [copy, Statement("add", statement.register, value=statement.value)]
+    if statement.kind == "goto":
+        return [Statement("jmp", target=statement.target)]
+    jump = "je" if statement.kind == "if equal" else "jne"
+    return [Statement("cmp", statement.register, value=statement.value), Statement(jump, target=statement.target)]
 
 
-def compiled_thread(statements: Sequence[Statement], with_fences: bool) -> Tuple[Statement, ...]:
-    fenced = fenced_loads(statements) if with_fences else set()
-    program, begins = [], []
-    for at, statement in enumerate(statements):
+def compile_thread(statements: Sequence[Statement], with_fences: bool) -> tuple[Statement, ...]:
+    """Returns the instructions of a source thread. Jumps target instructions."""
+    fenced = find_fenced_loads(statements) if with_fences else set()
+    program: list[Statement] = []
+    begins: list[int] = []
+    for index, statement in enumerate(statements):
         begins.append(len(program))
-        program += [Statement("mfence")] * (at in fenced) + instructions_of(statement)
+        program += [Statement("mfence")] * (index in fenced) + compile_statement(statement)
     begins.append(len(program))
-    return tuple(it if it.target is None else replace(it, target=begins[it.target]) for it in program)
+    return tuple(instruction if instruction.target is None else replace(instruction, target=begins[instruction.target]) for instruction in program)
 
 
-def compiled(test: Test, with_fences: bool = True) -> Test:
+def compile_test(test: Test, with_fences: bool = True) -> Test:
     """Returns the x86 program of a source test, with the fences that it needs or with none; an x86 test is its own program."""
     if test.language == "X86":
         return test
-    return replace(test, language="X86", threads=[compiled_thread(it, with_fences) for it in test.threads])
+    return replace(test, language="X86", threads=[compile_thread(it, with_fences) for it in test.threads])
 
 
-def instruction_text(test: Test, it: Statement) -> str:
+def format_value(value: Value) -> str:
+    """Returns a number or a register in the canonical text."""
+    return f"${value.word}" if isinstance(value, Number) else REGISTERS["X86"][value.register]
+
+
+def format_instruction(test: Test, statement: Statement) -> str:
     """Returns an instruction in the canonical text."""
     names = REGISTERS["X86"]
-    register = "" if it.register is None else names[it.register]
-    location = "" if it.location is None else f"[{test.locations[it.location]}]"
-    value = "" if it.value is None else names[it.value[1]] if it.value[0] == "register" else f"${it.value[1]}"
-    if it.kind == "store":
+    register = "" if statement.register is None else names[statement.register]
+    location = "" if statement.location is None else f"[{test.locations[statement.location]}]"
+    value = "" if statement.value is None else format_value(statement.value)
+    if statement.kind == "store":
         return f"MOV {location},{value}"
-    if it.kind in ("load", "set"):
+    if statement.kind in ("load", "set"):
         return f"MOV {register},{location or value}"
-    if it.kind in ("add", "cmp"):
-        return f"{it.kind.upper()} {register},{value}"
-    if it.kind in ("xchg", "xadd"):
-        return f"{'XCHG' if it.kind == 'xchg' else 'LOCK XADD'} {location},{register}"
-    return "MFENCE" if it.kind == "mfence" else f"{it.kind.upper()} L{it.target}"
+    if statement.kind in ("add", "cmp"):
+        return f"{statement.kind.upper()} {register},{value}"
+    if statement.kind in ("xchg", "xadd"):
+        return f"{'XCHG' if statement.kind == 'xchg' else 'LOCK XADD'} {location},{register}"
+    return "MFENCE" if statement.kind == "mfence" else f"{statement.kind.upper()} L{statement.target}"
 
 
-def cells_of(test: Test, program: Sequence[Statement]) -> List[str]:
+def format_cells(test: Test, program: Sequence[Statement]) -> list[str]:
     """Returns the cells of a thread in the canonical text."""
     targets = {it.target for it in program}
-    cells = [(f"L{at}: " if at in targets else "") + instruction_text(test, it) for at, it in enumerate(program)]
+    cells = [(f"L{index}: " if index in targets else "") + format_instruction(test, it) for index, it in enumerate(program)]
     return cells + [f"L{len(program)}:"] * (len(program) in targets)
 
 
-def canonical_text(test: Test) -> str:
+def format_canonical_text(test: Test) -> str:
     """Returns the canonical text of an x86 test."""
     row = lambda cells: f" {' | '.join(cells)} ;"
-    columns = [cells_of(test, program) for program in test.threads]
+    columns = [format_cells(test, program) for program in test.threads]
     lines = [f"X86 {test.name}", "{"]
     for thread, words in enumerate(test.registers):
         lines += [f" {thread}:{name}={word};" for name, word in zip(REGISTERS["X86"], words) if word]
     lines += [f" {name}={word};" for name, word in zip(test.locations, test.words)]
     lines += ["}", row(f"P{thread}" for thread in range(len(columns)))]
-    for at in range(max(len(column) for column in columns)):
-        lines.append(row(column[at] if at < len(column) else "" for column in columns))
+    for index in range(max(len(column) for column in columns)):
+        lines.append(row(column[index] if index < len(column) else "" for column in columns))
     if test.listed:
-        names = (f"{site_name(test, site)};" for site in sorted(test.listed, key=site_order))
+        names = (f"{format_site(test, site)};" for site in sorted(test.listed, key=site_sort_key))
         lines.append(f"locations [{' '.join(names)}]")
-    return text_of(lines + [condition_text(test)])
+    return join_lines(lines + [format_condition(test)])

@@ -1,62 +1,80 @@
 """Conditions: the sites that a proposition names, whether it is true, and its text."""
 from __future__ import annotations
 
-from typing import Set
-
-from interpreter.tests import Outcome, Proposition, REGISTERS, Site, Test
+from collections.abc import Callable
 
 
-def sites_in(proposition: Proposition) -> Set[Site]:
+from interpreter.tests import And, Constant, Eq, LocationSite, Not, Or, Outcome, Proposition, REGISTERS, RegisterSite, Site, Test
+
+
+def list_parts(proposition: Not | And | Or) -> tuple[Proposition, ...]:
+    """Returns the propositions of which one is made."""
+    return (proposition.part,) if isinstance(proposition, Not) else (proposition.left, proposition.right)
+
+
+def replace_atoms(proposition: Proposition, replacement_of: Callable[[Eq], Proposition]) -> Proposition:
+    """Returns a proposition with another one in place of each atom."""
+    if isinstance(proposition, Eq):
+        return replacement_of(proposition)
+    if isinstance(proposition, Constant):
+        return proposition
+    return type(proposition)(*(replace_atoms(part, replacement_of) for part in list_parts(proposition)))
+
+
+def list_sites(proposition: Proposition) -> set[Site]:
     """Returns the sites that a proposition names."""
-    if proposition[0] == "is":
-        return {proposition[1]}
-    return set().union(*(sites_in(part) for part in proposition[1:]))
+    if isinstance(proposition, Eq):
+        return {proposition.site}
+    return set() if isinstance(proposition, Constant) else set().union(*map(list_sites, list_parts(proposition)))
 
 
-def holds(proposition: Proposition, outcome: Outcome) -> bool:
-    """Returns whether a proposition is true in an outcome, which is a pair of all threads' registers and the locations' words."""
-    kind, *parts = proposition
-    if kind == "is":
-        return word_at(parts[0], outcome) == parts[1]
-    if kind == "and":
-        return holds(parts[0], outcome) and holds(parts[1], outcome)
-    if kind == "or":
-        return holds(parts[0], outcome) or holds(parts[1], outcome)
-    return not holds(parts[0], outcome) if kind == "not" else kind == "true"
+def is_true(proposition: Proposition, outcome: Outcome) -> bool:
+    """Returns whether a proposition is true in an outcome."""
+    if isinstance(proposition, Eq):
+        return read_word(proposition.site, outcome) == proposition.word
+    if isinstance(proposition, And):
+        return is_true(proposition.left, outcome) and is_true(proposition.right, outcome)
+    if isinstance(proposition, Or):
+        return is_true(proposition.left, outcome) or is_true(proposition.right, outcome)
+    return not is_true(proposition.part, outcome) if isinstance(proposition, Not) else proposition.is_true
 
 
-def word_at(site: Site, outcome: Outcome) -> int:
-    registers, words = outcome
-    return registers[site[1]][site[2]] if site[0] == "register" else words[site[1]]
+def read_word(site: Site, outcome: Outcome) -> int:
+    """Returns the word of a site in an outcome."""
+    return outcome.registers[site.thread][site.register] if isinstance(site, RegisterSite) else outcome.words[site.location]
 
 
-def site_name(test: Test, site: Site) -> str:
-    return f"{site[1]}:{REGISTERS[test.language][site[2]]}" if site[0] == "register" else test.locations[site[1]]
+def format_site(test: Test, site: Site) -> str:
+    """Returns a site as it is written."""
+    if isinstance(site, LocationSite):
+        return test.locations[site.location]
+    return f"{site.thread}:{REGISTERS[test.language][site.register]}"
 
 
-def site_order(site: Site) -> tuple:
+def site_sort_key(site: Site) -> tuple[int, ...]:
     """Returns the key of the order of sites: registers by thread and index, then locations."""
-    return site[0] == "location", site[1:]
+    return (0, site.thread, site.register) if isinstance(site, RegisterSite) else (1, site.location)
 
 
-def proposition_text(test: Test, proposition: Proposition) -> str:
+def format_proposition(test: Test, proposition: Proposition) -> str:
     """Returns a proposition with only the parentheses that reading needs."""
 
-    def part(inner, kinds):
-        text = proposition_text(test, inner)
-        return f"({text})" if inner[0] in kinds else text
+    def format_part(inner: Proposition, *bracketed: type) -> str:
+        """Returns the text of a part, in parentheses if it is of these types."""
+        text = format_proposition(test, inner)
+        return f"({text})" if isinstance(inner, bracketed) else text
 
-    kind, *parts = proposition
-    if kind == "is":
-        return f"{site_name(test, parts[0])}={parts[1]}"
-    if kind == "not":
-        return "~" + part(parts[0], ("and", "or"))
-    if kind == "and":
-        return part(parts[0], ("or",)) + " /\\ " + part(parts[1], ("and", "or"))
-    if kind == "or":
-        return part(parts[0], ()) + " \\/ " + part(parts[1], ("or",))
-    return kind
+    if isinstance(proposition, Eq):
+        return f"{format_site(test, proposition.site)}={proposition.word}"
+    if isinstance(proposition, Not):
+        return "~" + format_part(proposition.part, And, Or)
+    if isinstance(proposition, And):
+        return format_part(proposition.left, Or) + " /\\ " + format_part(proposition.right, And, Or)
+    if isinstance(proposition, Or):
+        return format_part(proposition.left) + " \\/ " + format_part(proposition.right, Or)
+    return "true" if proposition.is_true else "false"
 
 
-def condition_text(test: Test) -> str:
-    return f"{test.quantifier} ({proposition_text(test, test.proposition)})"
+def format_condition(test: Test) -> str:
+    """Returns the condition of a test: its quantifier and its proposition."""
+    return f"{test.quantifier} ({format_proposition(test, test.proposition)})"

@@ -3,42 +3,47 @@ behave the same on both.
 """
 from __future__ import annotations
 
-from typing import Callable, List, NamedTuple, Sequence, Union
+from collections.abc import Callable, Sequence
+from typing import Any, NamedTuple, Union
 
-from interpreter.tests import Refused, Statement, Test, Value, WORD
+from interpreter.tests import Number, Refused, Statement, Test, Value, WORD, Words
 
 
-def put(row: tuple, at: int, item: object) -> tuple:
+def replace_item(items: Sequence[Any], index: int, item: object) -> tuple[Any, ...]:
     """Returns a tuple with one item replaced."""
-    return row[:at] + (item,) + row[at + 1 :]
+    return (*items[:index], item, *items[index + 1 :])
 
 
-def word_of(value: Value, registers: tuple) -> int:
-    return registers[value[1]] if value[0] == "register" else value[1]
+def read_value(value: Value | None, registers: Words) -> int:
+    """Returns the word of a statement's value, by its thread's registers. The statement must have one."""
+    assert value is not None
+    return value.word if isinstance(value, Number) else registers[value.register]
 
 
-def source_statement(it: Statement, at: int, registers: tuple, words: tuple) -> tuple:
-    """Returns a thread's position and registers, and memory, after a source statement."""
-    get = lambda value: word_of(value, registers)
-    if it.kind == "goto":
-        return it.target, registers, words
-    if it.kind in ("if equal", "if unequal"):
-        jumps = (registers[it.register] == get(it.value)) == (it.kind == "if equal")
-        return it.target if jumps else at + 1, registers, words
-    if it.kind == "store":
-        words = put(words, it.location, get(it.value))
-    elif it.kind == "set":
-        registers = put(registers, it.register, get(it.value))
-    elif it.kind == "sum":
-        registers = put(registers, it.register, (registers[it.left] + get(it.value)) % WORD)
+def execute_statement(statement: Statement, position: int, registers: Words, words: Words) -> tuple[int, Words, Words]:
+    """Executes a source statement, which is at a position of its thread. Returns the thread's next position, its registers, and the words
+    of memory.
+    """
+    operand_word = lambda value: read_value(value, registers)
+    if statement.kind == "goto":
+        return statement.target, registers, words
+    if statement.kind in ("if equal", "if unequal"):
+        jumps = (registers[statement.register] == operand_word(statement.value)) == (statement.kind == "if equal")
+        return statement.target if jumps else position + 1, registers, words
+    if statement.kind == "store":
+        words = replace_item(words, statement.location, operand_word(statement.value))
+    elif statement.kind == "set":
+        registers = replace_item(registers, statement.register, operand_word(statement.value))
+    elif statement.kind == "sum":
+        registers = replace_item(registers, statement.register, (registers[statement.left] + operand_word(statement.value)) % WORD)
     else:
-        old, operand = words[it.location], get(it.value) if it.value else None
-        registers = put(registers, it.register, old)
-        if it.kind == "swap":
-            words = put(words, it.location, operand)
-        if it.kind == "fetchadd":
-            words = put(words, it.location, (old + operand) % WORD)
-    return at + 1, registers, words
+        old, operand = words[statement.location], operand_word(statement.value) if statement.value else None
+        registers = replace_item(registers, statement.register, old)
+        if statement.kind == "swap":
+            words = replace_item(words, statement.location, operand)
+        if statement.kind == "fetchadd":
+            words = replace_item(words, statement.location, (old + operand) % WORD)
+    return position + 1, registers, words
 
 
 class OneMemory:
@@ -48,13 +53,15 @@ class OneMemory:
         self.words = list(words)
 
     def load(self, _cpu: int, location: int) -> int:
+        """Returns the word of a location."""
         return self.words[location]
 
     def store(self, _cpu: int, location: int, word: int) -> None:
+        """Stores a word to a location."""
         self.words[location] = word
 
     def exchange(self, _cpu: int, location: int, new_of_old: Callable[[int], int]) -> int:
-        """Replaces a word at once, and returns the old one."""
+        """Replaces the word of a location by a function of it. Returns the old word."""
         old = self.words[location]
         self.words[location] = new_of_old(old)
         return old
@@ -63,17 +70,18 @@ class OneMemory:
 class Caches:
     """Caches on a bus, by MESI or by MOESI, over memory. A line is one location's word."""
 
-    def __init__(self, processors: int, words: tuple, protocol: str) -> None:
+    def __init__(self, processors: int, words: Words, protocol: str) -> None:
+        """Creates empty caches of some processors over the words of memory. The protocol is `mesi` or `moesi`."""
         self.memory = list(words)
         self.states = [["I"] * len(words) for _ in range(processors)]
         self.copies = [[0] * len(words) for _ in range(processors)]
         self.keeps_owner = protocol == "moesi"
 
-    def others_with(self, cpu: int, location: int) -> List[int]:
+    def list_other_holders(self, cpu: int, location: int) -> list[int]:
         """Returns the other caches that hold a line."""
-        return [it for it in range(len(self.states)) if it != cpu and self.states[it][location] != "I"]
+        return [other for other in range(len(self.states)) if other != cpu and self.states[other][location] != "I"]
 
-    def content(self, location: int) -> int:
+    def read_current_word(self, location: int) -> int:
         """Returns the word that a load finds."""
         for states, copies in zip(self.states, self.copies):
             if states[location] in "MO":
@@ -81,15 +89,16 @@ class Caches:
         return self.memory[location]
 
     def load(self, cpu: int, location: int) -> int:
+        """Returns the word of a location, after its line is brought into the processor's cache."""
         if self.states[cpu][location] == "I":
-            word, others = self.content(location), self.others_with(cpu, location)
+            word, others = self.read_current_word(location), self.list_other_holders(cpu, location)
             for other in others:
-                self.share(other, location)
+                self.share_line(other, location)
             self.states[cpu][location] = "S" if others else "E"
             self.copies[cpu][location] = word
         return self.copies[cpu][location]
 
-    def share(self, cpu: int, location: int) -> None:
+    def share_line(self, cpu: int, location: int) -> None:
         """Downgrades a line that another cache loads."""
         state = self.states[cpu][location]
         if state == "M" and self.keeps_owner:
@@ -100,18 +109,20 @@ class Caches:
             self.states[cpu][location] = "S"
 
     def store(self, cpu: int, location: int, word: int) -> None:
+        """Stores a word to a line, which the processor's cache then holds exclusively."""
         self.exchange(cpu, location, lambda _old: word)
 
     def exchange(self, cpu: int, location: int, new_of_old: Callable[[int], int]) -> int:
-        """Takes a line exclusively, replaces its word, and returns the old one."""
-        old = self.copies[cpu][location] if self.states[cpu][location] == "E" else self.content(location)
-        for other in self.others_with(cpu, location):
+        """Brings a line into the processor's cache exclusively, and replaces its word by a function of it. Returns the old word."""
+        old = self.copies[cpu][location] if self.states[cpu][location] == "E" else self.read_current_word(location)
+        for other in self.list_other_holders(cpu, location):
             self.states[other][location] = "I"
         self.states[cpu][location] = "M"
         self.copies[cpu][location] = new_of_old(old)
         return old
 
     def evict(self, cpu: int, location: int) -> None:
+        """Writes a line back if it is modified, and removes it from the processor's cache. Raises Refused if the cache does not hold the line."""
         if self.states[cpu][location] == "I":
             raise Refused(7, "NotHeld")
         if self.states[cpu][location] in "MO":
@@ -119,63 +130,69 @@ class Caches:
         self.states[cpu][location] = "I"
 
 
+Memory = Union[OneMemory, Caches]
+
+
 class Processor(NamedTuple):
     """A position, registers, the zero flag, and the store buffer: pairs of a location and a word, the oldest first."""
 
-    at: int
-    registers: tuple
+    position: int
+    registers: Words
     zero: bool = False
-    buffer: tuple = ()
+    buffer: tuple[tuple[int, int], ...] = ()
 
-    def set(self, register: int, word: int) -> Processor:
-        return self._replace(at=self.at + 1, registers=put(self.registers, register, word))
+    def set_register(self, register: int, word: int) -> Processor:
+        """Returns the processor with another word in a register, at the next position."""
+        return self._replace(position=self.position + 1, registers=replace_item(self.registers, register, word))
 
 
-def instruction_step(it: Statement, cpu: int, processor: Processor, memory: Union[OneMemory, Caches]) -> Processor:
-    """Returns a processor after an instruction. Requests go to the memory."""
-    if it.kind == "mfence":
+def execute_instruction(instruction: Statement, cpu: int, processor: Processor, memory: Memory) -> Processor:
+    """Executes an instruction of a processor. Returns the processor after it. Its loads and exchanges go to the memory. Raises Refused if MFENCE has
+    to wait.
+    """
+    if instruction.kind == "mfence":
         if processor.buffer:
             raise Refused(4, "FenceWaits")
-        return processor._replace(at=processor.at + 1)
-    if it.kind in ("xchg", "xadd"):
-        return locked_step(it, cpu, processor, memory)
-    if it.kind in ("je", "jne", "jmp"):
-        jumps = it.kind == "jmp" or processor.zero == (it.kind == "je")
-        return processor._replace(at=it.target if jumps else processor.at + 1)
-    if it.kind == "load":
-        own = [word for location, word in processor.buffer if location == it.location]
-        return processor.set(it.register, own[-1] if own else memory.load(cpu, it.location))
-    word = word_of(it.value, processor.registers)
-    if it.kind == "store":
-        return processor._replace(at=processor.at + 1, buffer=processor.buffer + ((it.location, word),))
-    if it.kind == "set":
-        return processor.set(it.register, word)
-    if it.kind == "add":
-        total = (processor.registers[it.register] + word) % WORD
-        return processor.set(it.register, total)._replace(zero=total == 0)
-    return processor._replace(at=processor.at + 1, zero=processor.registers[it.register] == word)
+        return processor._replace(position=processor.position + 1)
+    if instruction.kind in ("xchg", "xadd"):
+        return execute_locked(instruction, cpu, processor, memory)
+    if instruction.kind in ("je", "jne", "jmp"):
+        jumps = instruction.kind == "jmp" or processor.zero == (instruction.kind == "je")
+        return processor._replace(position=instruction.target if jumps else processor.position + 1)
+    if instruction.kind == "load":
+        own = [word for location, word in processor.buffer if location == instruction.location]
+        return processor.set_register(instruction.register, own[-1] if own else memory.load(cpu, instruction.location))
+    word = read_value(instruction.value, processor.registers)
+    if instruction.kind == "store":
+        return processor._replace(position=processor.position + 1, buffer=processor.buffer + ((instruction.location, word),))
+    if instruction.kind == "set":
+        return processor.set_register(instruction.register, word)
+    if instruction.kind == "add":
+        total = (processor.registers[instruction.register] + word) % WORD
+        return processor.set_register(instruction.register, total)._replace(zero=total == 0)
+    return processor._replace(position=processor.position + 1, zero=processor.registers[instruction.register] == word)
 
 
-def locked_step(it: Statement, cpu: int, processor: Processor, memory: Union[OneMemory, Caches]) -> Processor:
-    """Executes XCHG or LOCK XADD with a location."""
+def execute_locked(instruction: Statement, cpu: int, processor: Processor, memory: Memory) -> Processor:
+    """Executes XCHG or LOCK XADD with a location. Returns the processor after it. Raises Refused if the store buffer is not empty."""
     if processor.buffer:
         raise Refused(5, "SwapWaits")
-    operand = processor.registers[it.register]
-    if it.kind == "xchg":
-        return processor.set(it.register, memory.exchange(cpu, it.location, lambda _old: operand))
-    old = memory.exchange(cpu, it.location, lambda old: (old + operand) % WORD)
-    return processor.set(it.register, old)._replace(zero=(old + operand) % WORD == 0)
+    operand = processor.registers[instruction.register]
+    if instruction.kind == "xchg":
+        return processor.set_register(instruction.register, memory.exchange(cpu, instruction.location, lambda _old: operand))
+    old = memory.exchange(cpu, instruction.location, lambda old: (old + operand) % WORD)
+    return processor.set_register(instruction.register, old)._replace(zero=(old + operand) % WORD == 0)
 
 
-def step(test: Test, cpu: int, processor: Processor, memory: Union[OneMemory, Caches]) -> Processor:
-    """Executes the next instruction of a processor."""
-    if processor.at == len(test.threads[cpu]):
+def execute_next(test: Test, cpu: int, processor: Processor, memory: Memory) -> Processor:
+    """Executes the next instruction of a processor. Returns the processor after it. Raises Refused if there is none."""
+    if processor.position == len(test.threads[cpu]):
         raise Refused(3, "Ended")
-    return instruction_step(test.threads[cpu][processor.at], cpu, processor, memory)
+    return execute_instruction(test.threads[cpu][processor.position], cpu, processor, memory)
 
 
-def drain(cpu: int, processor: Processor, memory: Union[OneMemory, Caches]) -> Processor:
-    """Drains the oldest entry of a processor's store buffer to memory."""
+def drain_oldest(cpu: int, processor: Processor, memory: Memory) -> Processor:
+    """Drains the oldest entry of a processor's store buffer to memory. Returns the processor after it. Raises Refused if the buffer is empty."""
     if not processor.buffer:
         raise Refused(6, "BufferEmpty")
     memory.store(cpu, *processor.buffer[0])

@@ -1,47 +1,61 @@
 """The items of a path assignment, and the number of their orders."""
 from __future__ import annotations
 
+from collections.abc import Sequence
 from itertools import combinations, product
-from typing import List, Sequence, Tuple
+from typing import NamedTuple
 
-from interpreter.compiling import followers
+from interpreter.compiling import list_successors
 from interpreter.tests import Statement, Test
 
 
-def paths(statements: Sequence[Statement], at: int = 0) -> List[tuple]:
-    """Returns the flow paths from a position to the end, as lists of positions."""
-    if at == len(statements):
-        return [()]
-    behind = sorted(set(followers(statements[at], at)))
-    return [(at, *path) for after in behind for path in paths(statements, after)]
+class Accesses(NamedTuple):
+    """What a path of a thread contributes to the orders: its accesses, its number of items, and its number of conflicts within.
 
-
-def accesses_of(statements: Sequence[Statement], path: Sequence[int], is_x86: bool) -> tuple:
-    """Returns the accesses on a path, pairs of a location and whether it is written; its number of items; its number of conflicts within.
+    An access is a location, and whether it is written.
     """
-    accesses, waiting, inner = [], [], 0
-    for it in (statements[at] for at in path):
-        if it.kind in ("mfence", "xchg", "xadd"):
+
+    accesses: list[tuple[int, bool]]
+    items: int
+    conflicts: int
+
+
+def list_paths(statements: Sequence[Statement], position: int = 0) -> list[tuple[int, ...]]:
+    """Returns the flow paths from a position to the end, each as the positions on it."""
+    if position == len(statements):
+        return [()]
+    successors = sorted(set(list_successors(statements[position], position)))
+    return [(position, *path) for successor in successors for path in list_paths(statements, successor)]
+
+
+def count_accesses(statements: Sequence[Statement], path: Sequence[int], is_x86: bool) -> Accesses:
+    """Returns what a path of a thread contributes to the orders."""
+    accesses: list[tuple[int, bool]] = []
+    waiting: list[int] = []
+    inner = 0
+    for statement in (statements[position] for position in path):
+        if statement.kind in ("mfence", "xchg", "xadd"):
             waiting = []
-        if it.kind == "load":
-            inner += waiting.count(it.location)
-        if it.kind == "store" and is_x86:
-            waiting.append(it.location)
-        if it.location is not None:
-            accesses.append((it.location, it.kind != "load"))
-    drains = sum(statements[at].kind == "store" for at in path) if is_x86 else 0
-    return accesses, len(path) + drains, inner
+        if statement.kind == "load":
+            inner += waiting.count(statement.location)
+        if statement.kind == "store" and is_x86:
+            waiting.append(statement.location)
+        if statement.location is not None:
+            accesses.append((statement.location, statement.kind != "load"))
+    drains = sum(statements[position].kind == "store" for position in path) if is_x86 else 0
+    return Accesses(accesses, len(path) + drains, inner)
 
 
-def conflicts_between(first: list, second: list) -> int:
-    return sum(a == b and (a_writes or b_writes) for a, a_writes in first for b, b_writes in second)
+def count_conflicts(first: list[tuple[int, bool]], second: list[tuple[int, bool]]) -> int:
+    """Counts the pairs of accesses of two threads to the same location, at least one of them a write."""
+    return sum(location == other_location and (is_write or is_other_write) for location, is_write in first for other_location, is_other_write in second)
 
 
-def orders_of(test: Test) -> Tuple[int, int]:
+def count_orders(test: Test) -> tuple[int, int]:
     """Returns the maximal number of items of a path assignment, and the number of orders of all path assignments."""
-    is_x86, most, orders = test.language == "X86", 0, 0
-    for choice in product(*([accesses_of(code, path, is_x86) for path in paths(code)] for code in test.threads)):
-        open_conflicts = sum(inner for _, _, inner in choice)
-        open_conflicts += sum(conflicts_between(a, b) for (a, _, _), (b, _, _) in combinations(choice, 2))
-        most, orders = max(most, sum(items for _, items, _ in choice)), orders + 2**open_conflicts
-    return most, orders
+    is_x86, max_items, orders = test.language == "X86", 0, 0
+    for choice in product(*([count_accesses(code, path, is_x86) for path in list_paths(code)] for code in test.threads)):
+        open_conflicts = sum(thread.conflicts for thread in choice)
+        open_conflicts += sum(count_conflicts(one.accesses, other.accesses) for one, other in combinations(choice, 2))
+        max_items, orders = max(max_items, sum(thread.items for thread in choice)), orders + 2**open_conflicts
+    return max_items, orders

@@ -2,10 +2,14 @@
 from __future__ import annotations
 
 import re
+from collections.abc import Callable, Iterator
 from dataclasses import replace
+from typing import Tuple, TypeVar
 
-from interpreter.tests import NoTest, REGISTERS, Statement, Test, WORD
-from interpreter.tokens import letters_at, quoted, skip_comment, skip_notes, tokens_of
+from interpreter.tests import (
+    And, Constant, Eq, LocationSite, NoTest, Not, Number, Or, Proposition, REGISTERS, Register, RegisterSite, Site, Statement, Test, Value, WORD,
+)
+from interpreter.tokens import Token, quote, quote_at, read_tokens, skip_comment, skip_notes
 
 RESERVED = re.compile(
     r"r\d+|if|goto|swap|fetchadd|exists|forall|locations|filter|true|false|not|(?i:EAX|EBX|ECX|EDX|ESI|EDI|EBP|ESP)"
@@ -13,385 +17,413 @@ RESERVED = re.compile(
 BLANKS = re.compile(r"[ \t\r\n]*")
 LANGUAGE = re.compile(r"(SRC|X86)(?!\w)")
 NAME_OF_TEST = re.compile(r"[!-~]{1,128}(?![^ \t\r\n])")
-MOST_BYTES = 65536
-MOST_ROWS = 64
-MOST_NODES = 256
-MOST_STATEMENTS = {"SRC": 16, "X86": 32}
+MAX_BYTES = 65536
+MAX_ROWS = 64
+MAX_NODES = 256
+MAX_STATEMENTS = {"SRC": 16, "X86": 32}
+Entry = TypeVar("Entry")
+# The indices of a cell's first token and of the one after it.
+Cell = Tuple[int, int]
 
 
 class Reader:
     """A reader of the tokens of a test after its notes, from left to right, and then of those of each cell."""
 
-    def __init__(self, language, name, tokens, places):
+    def __init__(self, language: str, name: str, tokens: list[Token], offsets: list[int]) -> None:
+        """Makes a reader of the tokens of a test, with the offset of each in the text."""
         self.test = Test(language, name)
         self.names = REGISTERS[language]
         self.tokens = tokens
-        self.places = places
-        self.at = 0
-        self.end = len(tokens)
+        self.offsets = offsets
+        self.index = 0
+        self.end = len(tokens)  # of the cell that is read, or of the tokens
         self.nodes = 0  # of the condition, as far as it is read
-        self.threads_named = []  # numbers of threads, each with the number of its token
+        self.threads_named: list[tuple[int, int]] = []  # numbers of threads, each with the number of its token
 
-    def next(self):
-        return self.tokens[self.at][1] if self.at < self.end else None
+    def peek_text(self) -> str | None:
+        """Returns the text of the next token, or `None` at the end."""
+        return self.tokens[self.index][1] if self.index < self.end else None
 
-    def kind(self):
-        return self.tokens[self.at][0] if self.at < self.end else None
+    def peek_kind(self) -> str | None:
+        """Returns the kind of the next token, or `None` at the end."""
+        return self.tokens[self.index][0] if self.index < self.end else None
 
-    def last(self):
+    def quote_last(self) -> str:
         """Returns the token that was read last, in quotes."""
-        return quoted(self.tokens[self.at - 1][1])
+        return quote(self.tokens[self.index - 1][1])
 
-    def refused(self, cause, at=None):
+    def make_fault(self, cause: str, index: int | None = None) -> NoTest:
         """Returns the fault at a token, by default the next one."""
-        return NoTest(cause, self.places[self.at if at is None else at])
+        return NoTest(cause, self.offsets[self.index if index is None else index])
 
-    def refused_last(self, cause):
+    def make_fault_at_last(self, cause: str) -> NoTest:
         """Returns the fault at the token that was read last."""
-        return self.refused(cause, self.at - 1)
+        return self.make_fault(cause, self.index - 1)
 
-    def misplaced(self, wanted):
+    def make_misplaced_fault(self, wanted: str) -> NoTest:
         """Returns the fault of the next token if something else is expected."""
-        end = "the end of the text" if self.at == len(self.tokens) else "the end of the cell"
-        return self.refused(f"{end if self.next() is None else quoted(self.next())} stands where {wanted} should")
+        end, text = "the end of the text" if self.index == len(self.tokens) else "the end of the cell", self.peek_text()
+        return self.make_fault(f"{end if text is None else quote(text)} stands where {wanted} should")
 
-    def take(self, wanted=None):
-        """Reads the next token, which must be the expected one, if there is one."""
-        text = self.next()
+    def take_token(self, wanted: str | None = None) -> str:
+        """Reads the next token, which must be the wanted one, if one is. Returns its text, which is empty at the end. Raises NoTest if it is another.
+        """
+        text = self.peek_text()
         if wanted is not None and text != wanted:
-            raise self.misplaced(quoted(wanted))
-        self.at += 1
-        return text
+            raise self.make_misplaced_fault(quote(wanted))
+        self.index += 1
+        return text or ""
 
-    def number(self):
-        if self.kind() != "number":
-            raise self.misplaced("a number")
-        text = self.take()
+    def read_number(self) -> int:
+        """Reads a number, which is a word. Raises NoTest if it is none, or too large."""
+        if self.peek_kind() != "number":
+            raise self.make_misplaced_fault("a number")
+        text = self.take_token()
         # Eleven digits are too many, and Python reads no number of thousands.
         value = int(text, 16) if text.startswith("0x") else int(text.lstrip("0")[:11] or "0")
         if value >= WORD:
-            raise self.refused_last(f"the number is larger than {WORD - 1}")
+            raise self.make_fault_at_last(f"the number is larger than {WORD - 1}")
         return value
 
-    def name(self, wanted="a name"):
-        if self.kind() != "name":
-            raise self.misplaced(wanted)
-        if len(self.next()) > 32:
-            raise self.refused("the name has more than 32 letters")
-        return self.take()
+    def read_name(self, wanted: str = "a name") -> str:
+        """Reads a name. `wanted` says in a fault what is missing. Raises NoTest if it is none, or too long."""
+        if self.peek_kind() != "name":
+            raise self.make_misplaced_fault(wanted)
+        if len(self.peek_text() or "") > 32:
+            raise self.make_fault("the name has more than 32 letters")
+        return self.take_token()
 
-    def register_of(self, text):
+    def find_register(self, text: str) -> int | None:
         """Returns the index of a register, or `None`."""
         text = text.upper() if self.test.language == "X86" else text
         return self.names.index(text) if text in self.names else None
 
-    def register(self, wanted="a register"):
-        found = self.register_of(self.name(wanted))
-        if found is None:
+    def read_register(self, wanted: str = "a register") -> int:
+        """Reads a register. Returns its index. Raises NoTest if it is none."""
+        register = self.find_register(self.read_name(wanted))
+        if register is None:
             kind = "a source test" if self.test.language == "SRC" else "an x86 test"
-            raise self.refused_last(f"{self.last()} is no register of {kind}")
-        return found
+            raise self.make_fault_at_last(f"{self.quote_last()} is no register of {kind}")
+        return register
 
-    def location(self):
-        """Returns the index of a location; a new one is appended to the table."""
-        name = self.name("a location")
+    def read_location(self) -> int:
+        """Reads a location. Returns its index; a new one is appended to the table. Raises NoTest if it is none, or the table is full."""
+        name = self.read_name("a location")
         if RESERVED.fullmatch(name):
-            raise self.refused_last(f"{self.last()} is a reserved name, and no location")
+            raise self.make_fault_at_last(f"{self.quote_last()} is a reserved name, and no location")
         if name not in self.test.locations:
             self.test.locations.append(name)
         if len(self.test.locations) > 8:
-            raise self.refused_last("there are more than 8 locations")
+            raise self.make_fault_at_last("there are more than 8 locations")
         return self.test.locations.index(name)
 
-    def in_brackets(self):
-        self.take("[")
-        location = self.location()
-        self.take("]")
+    def read_bracketed_location(self) -> int:
+        """Reads a location in brackets. Returns its index."""
+        self.take_token("[")
+        location = self.read_location()
+        self.take_token("]")
         return location
 
-    def site(self):
+    def read_site(self) -> Site:
         """Reads a location or a thread's register, as the block, the list and the condition name it."""
-        if self.next() == "[":
-            return ("location", self.in_brackets())
-        if self.kind() == "number":
-            self.threads_named.append((self.number(), self.at - 1))
+        if self.peek_text() == "[":
+            return LocationSite(self.read_bracketed_location())
+        if self.peek_kind() == "number":
+            self.threads_named.append((self.read_number(), self.index - 1))
             thread = self.threads_named[-1][0]
-            self.take(":")
-            return ("register", thread, self.register())
-        return ("location", self.location())
+            self.take_token(":")
+            return RegisterSite(thread, self.read_register())
+        return LocationSite(self.read_location())
 
-    def entries(self, read_one, end):
+    def read_entries(self, read_entry: Callable[[], Entry], end: str) -> Iterator[Entry]:
         """Reads the entries up to the closing bracket, each ended by `;`, which may be absent after the last."""
-        while self.next() != end:
-            yield read_one()
-            if self.next() != end:
-                self.take(";")
-        self.take(end)
+        while self.peek_text() != end:
+            yield read_entry()
+            if self.peek_text() != end:
+                self.take_token(";")
+        self.take_token(end)
 
-    def initial_entry(self):
-        site = self.site()
-        self.take("=")
-        return site, self.number()
+    def read_initial_entry(self) -> tuple[Site, int]:
+        """Reads a site, `=` and a number."""
+        site = self.read_site()
+        self.take_token("=")
+        return site, self.read_number()
 
-    def header(self):
-        """Reads the header, and returns the number of threads."""
+    def read_header(self) -> int:
+        """Reads the header. Returns the number of threads. Raises NoTest if there are more than four."""
         threads = 0
         while True:
-            self.take(f"P{threads}")
+            self.take_token(f"P{threads}")
             threads += 1
             if threads > 4:
-                raise self.refused_last("there are more than 4 threads")
-            if self.next() != "|":
-                self.take(";")
+                raise self.make_fault_at_last("there are more than 4 threads")
+            if self.peek_text() != "|":
+                self.take_token(";")
                 return threads
-            self.take("|")
+            self.take_token("|")
 
-    def rows(self, threads):
-        """Returns, for each thread, its cells, each by the indices of its first token and of that after it."""
-        columns = [[] for _ in range(threads)]
-        while self.next() not in ("locations", "exists", "forall", "filter", "~"):
-            if len(columns[0]) == MOST_ROWS and self.next() is not None:
-                raise self.refused(f"there are more than {MOST_ROWS} rows")
+    def read_rows(self, threads: int) -> list[list[Cell]]:
+        """Reads the rows of the program. Returns the cells of each thread. Raises NoTest if there are too many."""
+        columns: list[list[Cell]] = [[] for _ in range(threads)]
+        while self.peek_text() not in ("locations", "exists", "forall", "filter", "~"):
+            if len(columns[0]) == MAX_ROWS and self.peek_text() is not None:
+                raise self.make_fault(f"there are more than {MAX_ROWS} rows")
             for column in columns:
-                begin = self.at
-                while self.next() not in ("|", ";"):
-                    if self.next() is None:
-                        raise self.misplaced("'|' or ';'")
-                    self.take()
-                column.append((begin, self.at))
-                self.end_of_cell(is_last=column is columns[-1])
+                begin = self.index
+                while self.peek_text() not in ("|", ";"):
+                    if self.peek_text() is None:
+                        raise self.make_misplaced_fault("'|' or ';'")
+                    self.take_token()
+                column.append((begin, self.index))
+                self.read_cell_end(is_last=column is columns[-1])
         return columns
 
-    def end_of_cell(self, is_last):
-        if self.next() != (";" if is_last else "|"):
-            raise self.refused(f"the row has {'more' if is_last else 'fewer'} cells than there are threads")
-        self.take()
+    def read_cell_end(self, is_last: bool) -> None:
+        """Reads what ends a cell: `|`, or `;` after the last of a row. Raises NoTest if the row has too few or too many cells."""
+        if self.peek_text() != (";" if is_last else "|"):
+            raise self.make_fault(f"the row has {'more' if is_last else 'fewer'} cells than there are threads")
+        self.take_token()
 
-    def quantifier(self):
-        if self.next() == "~":
-            self.take("~")
-            return "~" + self.take("exists")
-        if self.next() not in ("exists", "forall"):
-            raise self.misplaced("the condition")
-        return self.take()
+    def read_quantifier(self) -> str:
+        """Reads `exists`, `~exists` or `forall`. Raises NoTest if it is none of them."""
+        if self.peek_text() == "~":
+            self.take_token("~")
+            return "~" + self.take_token("exists")
+        if self.peek_text() not in ("exists", "forall"):
+            raise self.make_misplaced_fault("the condition")
+        return self.take_token()
 
-    def take_node(self):
-        """Reads the next token, which is a node of the condition."""
+    def take_node(self) -> str:
+        """Reads the next token, which is a node of the condition. Returns its text."""
         self.count_node()
-        return self.take()
+        return self.take_token()
 
-    def count_node(self):
+    def count_node(self) -> None:
+        """Counts a node of the condition, and refuses more than MAX_NODES."""
         self.nodes += 1
-        if self.nodes > MOST_NODES:
-            raise self.refused(f"the condition has more than {MOST_NODES} nodes")
+        if self.nodes > MAX_NODES:
+            raise self.make_fault(f"the condition has more than {MAX_NODES} nodes")
 
-    def atom(self):
+    def read_atom(self) -> Proposition:
         """Reads an atom, a proposition in parentheses, or a negation."""
-        if self.next() in ("~", "not"):
+        if self.peek_text() in ("~", "not"):
             self.take_node()
-            return ("not", self.atom())
-        if self.next() == "(":
-            self.take("(")
-            inner = self.either()
-            self.take(")")
+            return Not(self.read_atom())
+        if self.peek_text() == "(":
+            self.take_token("(")
+            inner = self.read_disjunction()
+            self.take_token(")")
             return inner
-        if self.next() in ("true", "false"):
-            return (self.take_node(),)
+        if self.peek_text() in ("true", "false"):
+            return Constant(self.take_node() == "true")
         self.count_node()
-        return ("is", *self.initial_entry())
+        return Eq(*self.read_initial_entry())
 
-    def both(self):
-        left = self.atom()
-        while self.next() == "/\\":
+    def read_conjunction(self) -> Proposition:
+        r"""Reads atoms between which there is `/\`."""
+        left = self.read_atom()
+        while self.peek_text() == "/\\":
             self.take_node()
-            left = ("and", left, self.atom())
+            left = And(left, self.read_atom())
         return left
 
-    def either(self):
-        left = self.both()
-        while self.next() == "\\/":
+    def read_disjunction(self) -> Proposition:
+        r"""Reads conjunctions between which there is `\/`."""
+        left = self.read_conjunction()
+        while self.peek_text() == "\\/":
             self.take_node()
-            left = ("or", left, self.both())
+            left = Or(left, self.read_conjunction())
         return left
 
     # Cells.
 
-    def value(self):
+    def read_value(self) -> Value:
         """Reads a number, with or without `$` before it in an x86 test, or a register."""
-        if self.test.language == "X86" and self.next() == "$":
-            self.take("$")
-            return ("number", self.number())
-        if self.kind() == "number":
-            return ("number", self.number())
-        return ("register", self.register("a number or a register"))
+        if self.test.language == "X86" and self.peek_text() == "$":
+            self.take_token("$")
+            return Number(self.read_number())
+        if self.peek_kind() == "number":
+            return Number(self.read_number())
+        return Register(self.read_register("a number or a register"))
 
-    def statement(self):
-        """Reads a statement of a source test."""
-        if self.next() == "if":
-            self.take("if")
-            register, sign = self.register(), self.next()
+    def read_statement(self) -> Statement:
+        """Reads a statement of a source test. Raises NoTest if it is none."""
+        if self.peek_text() == "if":
+            self.take_token("if")
+            register, sign = self.read_register(), self.peek_text()
             if sign not in ("=", "!="):
-                raise self.misplaced("'=' or '!='")
-            self.take()
-            number = self.number()
-            self.take("goto")
+                raise self.make_misplaced_fault("'=' or '!='")
+            self.take_token()
+            number = self.read_number()
+            self.take_token("goto")
             kind = "if equal" if sign == "=" else "if unequal"
-            return Statement(kind, register=register, value=("number", number), target=self.name("a label"))
-        if self.next() == "goto":
-            self.take("goto")
-            return Statement("goto", target=self.name("a label"))
-        register = self.register_of(self.next() or "")
-        if register is None:
-            location = self.location()
-            self.take(":=")
-            return Statement("store", location=location, value=self.value())
-        self.take()
-        self.take(":=")
-        return self.assignment(register)
+            return Statement(kind, register=register, value=Number(number), target=self.read_name("a label"))
+        if self.peek_text() == "goto":
+            self.take_token("goto")
+            return Statement("goto", target=self.read_name("a label"))
+        assigned = self.find_register(self.peek_text() or "")
+        if assigned is None:
+            location = self.read_location()
+            self.take_token(":=")
+            return Statement("store", location=location, value=self.read_value())
+        self.take_token()
+        self.take_token(":=")
+        return self.read_assignment(assigned)
 
-    def assignment(self, register):
+    def read_assignment(self, register: int) -> Statement:
         """Reads what follows `d :=` for a register d."""
-        if self.next() in ("swap", "fetchadd"):
-            kind, location = self.take(), self.location()
-            return Statement(kind, register, location, ("register", self.register()))
-        if self.kind() == "number":
-            return Statement("set", register, value=("number", self.number()))
-        if self.register_of(self.next() or "") is None:
-            return Statement("load", register, self.location())
-        left = self.register()
-        if self.next() == "+":
-            self.take("+")
-            return Statement("sum", register, value=self.value(), left=left)
-        return Statement("set", register, value=("register", left))
+        if self.peek_text() in ("swap", "fetchadd"):
+            kind, location = self.take_token(), self.read_location()
+            return Statement(kind, register, location, Register(self.read_register()))
+        if self.peek_kind() == "number":
+            return Statement("set", register, value=Number(self.read_number()))
+        if self.find_register(self.peek_text() or "") is None:
+            return Statement("load", register, self.read_location())
+        left = self.read_register()
+        if self.peek_text() == "+":
+            self.take_token("+")
+            return Statement("sum", register, value=self.read_value(), left=left)
+        return Statement("set", register, value=Register(left))
 
-    def instruction(self):
-        """Reads an instruction of an x86 test."""
-        mnemonic = self.name("an instruction").upper()
+    def read_instruction(self) -> Statement:
+        """Reads an instruction of an x86 test. Raises NoTest if it is none that lw has."""
+        mnemonic = self.read_name("an instruction").upper()
         if mnemonic == "MFENCE":
             return Statement("mfence")
         if mnemonic in ("JE", "JNE", "JMP"):
-            return Statement(mnemonic.lower(), target=self.name("a label"))
+            return Statement(mnemonic.lower(), target=self.read_name("a label"))
         if mnemonic == "MOV":
-            return self.move()
+            return self.read_move()
         if mnemonic in ("ADD", "CMP"):
-            register = self.register()
-            self.take(",")
-            return Statement(mnemonic.lower(), register, value=self.value())
+            register = self.read_register()
+            self.take_token(",")
+            return Statement(mnemonic.lower(), register, value=self.read_value())
         locked = mnemonic == "LOCK"
-        mnemonic = self.name("'XCHG' or 'XADD'").upper() if locked else mnemonic
+        mnemonic = self.read_name("'XCHG' or 'XADD'").upper() if locked else mnemonic
         if mnemonic == "XCHG" or mnemonic == "XADD" and locked:
-            return self.exchange(mnemonic.lower())
-        where = " behind LOCK" if locked else " without LOCK" if mnemonic == "XADD" else ""
-        raise self.refused_last(f"{self.last()} is no instruction that is read{where}")
+            return self.read_exchange(mnemonic.lower())
+        where = " after LOCK" if locked else " without LOCK" if mnemonic == "XADD" else ""
+        raise self.make_fault_at_last(f"{self.quote_last()} is no instruction that is read{where}")
 
-    def move(self):
-        if self.next() == "[":
-            location = self.in_brackets()
-            self.take(",")
-            return Statement("store", location=location, value=self.value())
-        register = self.register()
-        self.take(",")
-        if self.next() == "[":
-            return Statement("load", register, self.in_brackets())
-        return Statement("set", register, value=self.value())
+    def read_move(self) -> Statement:
+        """Reads the operands of MOV."""
+        if self.peek_text() == "[":
+            location = self.read_bracketed_location()
+            self.take_token(",")
+            return Statement("store", location=location, value=self.read_value())
+        register = self.read_register()
+        self.take_token(",")
+        if self.peek_text() == "[":
+            return Statement("load", register, self.read_bracketed_location())
+        return Statement("set", register, value=self.read_value())
 
-    def exchange(self, kind):
+    def read_exchange(self, kind: str) -> Statement:
         """Reads XCHG with its operands in either order, or XADD with the location first."""
-        if self.next() == "[" or kind == "xadd":
-            location = self.in_brackets()
-            self.take(",")
-            return Statement(kind, self.register(), location)
-        register = self.register()
-        self.take(",")
-        return Statement(kind, register, self.in_brackets())
+        if self.peek_text() == "[" or kind == "xadd":
+            location = self.read_bracketed_location()
+            self.take_token(",")
+            return Statement(kind, self.read_register(), location)
+        register = self.read_register()
+        self.take_token(",")
+        return Statement(kind, register, self.read_bracketed_location())
 
-    def labels_before(self, labels, number):
-        """Reads the labels at the start of a cell, whose target is the statement of this index."""
-        while self.at + 1 < self.end and self.tokens[self.at + 1][1] == ":":
-            label = self.name("a label")
+    def read_labels(self, labels: dict[str, int], position: int) -> None:
+        """Reads the labels at the start of a cell, and records their target, which is the position of the cell's statement. Raises NoTest if one is
+        reserved, or there twice.
+        """
+        while self.index + 1 < self.end and self.tokens[self.index + 1][1] == ":":
+            label = self.read_name("a label")
             if RESERVED.fullmatch(label):
-                raise self.refused_last(f"{self.last()} is a reserved name, and no label")
+                raise self.make_fault_at_last(f"{self.quote_last()} is a reserved name, and no label")
             if label in labels:
-                raise self.refused_last(f"the label {self.last()} stands twice in its thread")
-            labels[label] = number
-            self.take(":")
+                raise self.make_fault_at_last(f"the label {self.quote_last()} stands twice in its thread")
+            labels[label] = position
+            self.take_token(":")
 
-    def thread(self, cells):
-        """Returns the statements of a thread, with its jumps resolved."""
-        statements, ends, labels = [], [], {}
+    def read_thread(self, cells: list[Cell]) -> tuple[Statement, ...]:
+        """Returns the statements of a thread, with its jumps resolved. Raises NoTest if a cell has more than its statement."""
+        statements: list[Statement] = []
+        ends: list[int] = []
+        labels: dict[str, int] = {}
         for begin, end in cells:
-            self.at, self.end = begin, end
-            self.labels_before(labels, len(statements))
-            if self.next() is not None:
-                self.check_room(statements)
-                statements.append(self.statement() if self.test.language == "SRC" else self.instruction())
-                ends.append(self.at)
-            if self.next() is not None:
-                raise self.refused(f"{quoted(self.next())} stands behind a statement")
+            self.index, self.end = begin, end
+            self.read_labels(labels, len(statements))
+            if self.peek_text() is not None:
+                self.check_statement_count(statements)
+                statements.append(self.read_statement() if self.test.language == "SRC" else self.read_instruction())
+                ends.append(self.index)
+            further = self.peek_text()
+            if further is not None:
+                raise self.make_fault(f"{quote(further)} comes after a statement")
         # A statement's last token is its label, if it jumps.
-        return tuple(self.resolved(it, at, labels, ends[at] - 1) for at, it in enumerate(statements))
+        return tuple(self.resolve_jump(it, index, labels, ends[index] - 1) for index, it in enumerate(statements))
 
-    def check_room(self, statements):
-        most = MOST_STATEMENTS[self.test.language]
-        if len(statements) == most:
-            raise self.refused(f"the thread has more than {most} {'statements' if self.test.language == 'SRC' else 'instructions'}")
+    def check_statement_count(self, statements: list[Statement]) -> None:
+        """Refuses a further statement if the thread has the maximal number of them."""
+        max_statements = MAX_STATEMENTS[self.test.language]
+        if len(statements) == max_statements:
+            raise self.make_fault(f"the thread has more than {max_statements} {'statements' if self.test.language == 'SRC' else 'instructions'}")
 
-    def resolved(self, statement, at, labels, token):
-        """Returns a statement with the position that its jump targets, whose label is the token at an index."""
+    def resolve_jump(self, statement: Statement, position: int, labels: dict[str, int], token: int) -> Statement:
+        """Returns a statement with the position that its jump targets in place of the label, which is the token at an index. Raises NoTest if there
+        is no such label, or it does not follow.
+        """
         if statement.target is None:
             return statement
         if statement.target not in labels:
-            raise self.refused(f"the thread has no label {quoted(statement.target)}", token)
-        if labels[statement.target] <= at:
-            raise self.refused(f"the jump to {quoted(statement.target)} does not go forward", token)
+            raise self.make_fault(f"the thread has no label {quote(statement.target)}", token)
+        if labels[statement.target] <= position:
+            raise self.make_fault(f"the jump to {quote(statement.target)} does not go forward", token)
         return replace(statement, target=labels[statement.target])
 
-    def read(self):
-        """Reads the whole test."""
+    def read(self) -> Test:
+        """Reads the whole test. Raises NoTest if it is none."""
         test = self.test
-        self.take("{")
-        initial = dict(self.entries(self.initial_entry, "}"))
-        threads = self.header()
-        columns = self.rows(threads)
+        self.take_token("{")
+        initial = dict(self.read_entries(self.read_initial_entry, "}"))
+        threads = self.read_header()
+        columns = self.read_rows(threads)
         test.columns = [[self.tokens[begin:end] for begin, end in cells] for cells in columns]
-        if self.next() == "locations":
-            self.take("locations")
-            self.take("[")
-            test.listed = set(self.entries(self.site, "]"))
-        test.quantifier = self.quantifier()
-        test.proposition = self.either()
-        if self.next() is not None:
-            raise self.refused(f"{quoted(self.next())} stands behind the condition")
-        for thread, at in self.threads_named:
+        if self.peek_text() == "locations":
+            self.take_token("locations")
+            self.take_token("[")
+            test.listed = set(self.read_entries(self.read_site, "]"))
+        test.quantifier = self.read_quantifier()
+        test.proposition = self.read_disjunction()
+        further = self.peek_text()
+        if further is not None:
+            raise self.make_fault(f"{quote(further)} comes after the condition")
+        for thread, index in self.threads_named:
             if thread >= threads:
-                raise self.refused(f"there is no thread {thread}", at)
-        test.threads = [self.thread(cells) for cells in columns]
-        test.registers = [tuple(initial.get(("register", it, r), 0) for r in range(6)) for it in range(threads)]
-        test.words = tuple(initial.get(("location", it), 0) for it in range(len(test.locations)))
+                raise self.make_fault(f"there is no thread {thread}", index)
+        test.threads = [self.read_thread(cells) for cells in columns]
+        test.registers = [tuple(initial.get(RegisterSite(thread, number), 0) for number in range(6)) for thread in range(threads)]
+        test.words = tuple(initial.get(LocationSite(number), 0) for number in range(len(test.locations)))
         return test
 
 
-def heading_of(text: str) -> tuple:
-    """Returns the language and the name of a test, and where its heading ends."""
-    at = 0
-    while text[at : at + 1] and text[at] in " \t\r\n" or text.startswith("(*", at):
-        at = skip_comment(text, at) if text.startswith("(*", at) else at + 1
-    language = LANGUAGE.match(text, at)
+def read_heading(text: str) -> tuple[str, str, int]:
+    """Returns the language and the name of a test, and the offset of the heading's end. Raises NoTest if there is none."""
+    offset = 0
+    while text[offset : offset + 1] and text[offset] in " \t\r\n" or text.startswith("(*", offset):
+        offset = skip_comment(text, offset) if text.startswith("(*", offset) else offset + 1
+    language = LANGUAGE.match(text, offset)
     if not language:
-        raise NoTest(f"{letters_at(text, at)} stands where 'SRC' or 'X86' should", at)
-    at = BLANKS.match(text, language.end()).end()
-    if at == language.end():
-        raise NoTest(f"{letters_at(text, at)} stands where a blank should", at)
-    name = NAME_OF_TEST.match(text, at)
+        raise NoTest(f"{quote_at(text, offset)} stands where 'SRC' or 'X86' should", offset)
+    blanks = BLANKS.match(text, language.end())
+    offset = blanks.end() if blanks else language.end()
+    if offset == language.end():
+        raise NoTest(f"{quote_at(text, offset)} stands where a blank should", offset)
+    name = NAME_OF_TEST.match(text, offset)
     if not name:
-        raise NoTest("the name of the test, 1 to 128 printing letters of ASCII, should stand here", at)
+        raise NoTest("the name of the test, 1 to 128 printing letters of ASCII, should stand here", offset)
     return language[1], name[0], name.end()
 
 
 def read_test(text: str) -> Test:
-    """Returns the test of a text."""
+    """Reads a test. Raises NoTest if the text is none."""
     given_bytes = text.encode()
-    if len(given_bytes) > MOST_BYTES:
-        raise NoTest(f"the text has more than {MOST_BYTES} bytes", len(given_bytes[:MOST_BYTES].decode(errors="ignore")))
-    language, name, at = heading_of(text)
-    return Reader(language, name, *tokens_of(text, skip_notes(text, at))).read()
+    if len(given_bytes) > MAX_BYTES:
+        raise NoTest(f"the text has more than {MAX_BYTES} bytes", len(given_bytes[:MAX_BYTES].decode(errors="ignore")))
+    language, name, offset = read_heading(text)
+    return Reader(language, name, *read_tokens(text, skip_notes(text, offset))).read()

@@ -1,65 +1,81 @@
 """Reports, lists of schedules, and the words of the examples' comments."""
 from __future__ import annotations
 
-from typing import Iterable, List, Optional, Tuple
-
-from interpreter.compiling import compiled
-from interpreter.conditions import condition_text, holds, site_name, site_order, sites_in, word_at
-from interpreter.tests import Outcome, Site, Test, text_of
-from interpreter.walks import interleaved_moves, outcomes, walk, way_to, x86_moves, x86_start
+from collections.abc import Iterable, Sequence
 
 
-def observed(test: Test) -> List[Site]:
+from interpreter.compiling import compile_test
+from interpreter.conditions import format_condition, format_site, is_true, list_sites, read_word, site_sort_key
+from interpreter.tests import REGISTERS, Outcome, RegisterSite, Site, Test, join_lines
+from interpreter.walks import explore_states, list_interleaved_moves, list_outcomes, list_x86_moves, make_schedule, make_x86_start
+
+
+def list_observed_sites(test: Test) -> list[Site]:
     """Returns the sites that a report shows, in its order."""
-    return sorted(test.listed | sites_in(test.proposition), key=site_order)
+    return sorted(test.listed | list_sites(test.proposition), key=site_sort_key)
 
 
-def state_line(test: Test, words: tuple) -> str:
-    return " ".join(f"{site_name(test, site)}={word};" for site, word in zip(observed(test), words))
+def format_state(test: Test, words: Sequence[int]) -> str:
+    """Returns the line of a report for a state, with the words of the observed sites."""
+    return " ".join(f"{format_site(test, site)}={word};" for site, word in zip(list_observed_sites(test), words))
 
 
-def states_of(test: Test, found: Iterable[Outcome]) -> list:
-    """Returns the states of outcomes, sorted, each with the smallest outcome that has it."""
-    sites, states = observed(test), {}
-    for outcome in sorted(found):
-        states.setdefault(tuple(word_at(site, outcome) for site in sites), outcome)
+def make_outcome_from_words(test: Test, words: Sequence[int]) -> Outcome:
+    """Returns an outcome with the observed words: what is not observed is 0."""
+    registers = [[0] * len(REGISTERS[test.language]) for _ in test.threads]
+    memory = [0] * len(test.locations)
+    for site, word in zip(list_observed_sites(test), words):
+        if isinstance(site, RegisterSite):
+            registers[site.thread][site.register] = word
+        else:
+            memory[site.location] = word
+    return Outcome(tuple(map(tuple, registers)), tuple(memory))
+
+
+def collect_states(test: Test, reached: Iterable[Outcome]) -> list[tuple[tuple[int, ...], Outcome]]:
+    """Returns the states that outcomes show, sorted: the words of the observed sites, each with the smallest outcome that has them."""
+    sites = list_observed_sites(test)
+    states: dict[tuple, Outcome] = {}
+    for outcome in sorted(reached):
+        states.setdefault(tuple(read_word(site, outcome) for site in sites), outcome)
     return sorted(states.items())
 
 
-def report(test: Test, found: Optional[Iterable[Outcome]] = None) -> str:
-    """Returns the report of a test."""
-    states = states_of(test, outcomes(test) if found is None else found)
-    holding = sum(holds(test.proposition, outcome) for _, outcome in states)
+def make_report(test: Test, reached: Iterable[Outcome] | None = None) -> str:
+    """Returns the report of a test, by default of all outcomes that it has."""
+    states = collect_states(test, list_outcomes(test) if reached is None else reached)
+    holding = sum(is_true(test.proposition, outcome) for _, outcome in states)
     others = len(states) - holding
     is_ok = {"exists": holding > 0, "~exists": holding == 0, "forall": others == 0}[test.quantifier]
     often = "Never" if holding == 0 else "Sometimes" if others else "Always"
     asked = {"exists": "Allowed", "~exists": "Forbidden", "forall": "Required"}[test.quantifier]
     lines = [f"Test {test.name} {asked}", f"States {len(states)}"]
-    lines += [state_line(test, words) for words, _ in states]
-    lines += ["Ok" if is_ok else "No", f"Positive: {holding} Negative: {others}", f"Condition {condition_text(test)}"]
-    return text_of(lines + [f"Observation {test.name} {often} {holding} {others}"])
+    lines += [format_state(test, words) for words, _ in states]
+    lines += ["Ok" if is_ok else "No", f"Positive: {holding} Negative: {others}", f"Condition {format_condition(test)}"]
+    return join_lines(lines + [f"Observation {test.name} {often} {holding} {others}"])
 
 
-def schedules(test: Test) -> str:
+def format_schedules(test: Test) -> str:
     """Returns a schedule to each state of the report: for a source test one of its compiled program."""
-    program = compiled(test)
-    finals, came_from = walk(program, x86_start(program), x86_moves)
-    states = states_of(test, finals)
+    program = compile_test(test)
+    finals, origins = explore_states(program, make_x86_start(program), list_x86_moves)
+    states = collect_states(test, finals)
     lines = [f"Test {test.name}", f"States {len(states)}"]
     for words, outcome in states:
-        lines += [state_line(test, words), f" {way_to(finals[outcome], came_from)}"]
-    return text_of(lines)
+        lines += [format_state(test, words), f" {make_schedule(finals[outcome], origins)}"]
+    return join_lines(lines)
 
 
-def words_on(test: Test) -> Tuple[str, str]:
+def find_verdicts(test: Test) -> tuple[str, str]:
     """Returns what interleaving and x86-TSO say of a test's condition. A source test is taken without fences, each store a plain store."""
-    program = compiled(test, with_fences=False)
-    interleaved = walk(program, x86_start(program), interleaved_moves)[0]
-    return word_on(test, interleaved), word_on(test, outcomes(program))
+    program = compile_test(test, with_fences=False)
+    interleaved = explore_states(program, make_x86_start(program), list_interleaved_moves)[0]
+    return find_verdict(test, interleaved), find_verdict(test, list_outcomes(program))
 
 
-def word_on(test: Test, found: Iterable[Outcome]) -> str:
-    truths = [holds(test.proposition, outcome) for outcome in found]
+def find_verdict(test: Test, reached: Iterable[Outcome]) -> str:
+    """Returns what outcomes say of a test's condition: `allowed`, `forbidden`, `required` or `not required`."""
+    truths = [is_true(test.proposition, outcome) for outcome in reached]
     if test.quantifier == "forall":
         return "required" if all(truths) else "not required"
     return "allowed" if any(truths) else "forbidden"

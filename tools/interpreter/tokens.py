@@ -2,7 +2,7 @@
 from __future__ import annotations
 
 import re
-from typing import List, Tuple
+from typing import Tuple
 
 import given
 from interpreter.tests import NoTest
@@ -12,73 +12,77 @@ TOKEN = re.compile(
     r"|(?P<symbol>:=|!=|/\\|\\/|[{}\[\]()|;:,$=+~])"
 )
 KEY = re.compile(r"[A-Za-z0-9_-]+[ \t]*=[^\n]*")
+# A token's kind and its text.
+Token = Tuple[str, str]
 LETTERS = re.compile(r"\w{1,32}|.", re.S)
 
 
-def quoted(text: str) -> str:
+def quote(text: str) -> str:
     """Returns a text in quotes; one with invisible characters has their codes."""
     return f"'{text}'" if text.isprintable() else repr(text)
 
 
-def letters_at(text: str, at: int) -> str:
-    """Returns what is at a position, in quotes: a word, one character, or the end."""
-    return quoted(LETTERS.match(text, at)[0]) if at < len(text) else "the end of the text"
+def quote_at(text: str, offset: int) -> str:
+    """Returns what is at an offset, in quotes: a word, one character, or the end."""
+    match = LETTERS.match(text, offset)
+    return quote(match[0]) if match and offset < len(text) else "the end of the text"
 
 
-def skip_comment(text: str, at: int) -> int:
-    """Returns where the comment that starts at a position ends; comments nest."""
-    depth, begin = 0, at
+def skip_comment(text: str, offset: int) -> int:
+    """Returns the offset of the end of the comment that starts at an offset; comments nest. Raises NoTest if it has no end."""
+    depth, begin = 0, offset
     while True:
-        opens, closes = text.find("(*", at), text.find("*)", at)
+        opens, closes = text.find("(*", offset), text.find("*)", offset)
         if closes < 0:
-            raise NoTest(f"the comment that begins at {given.place(text, begin)} is left open", len(text))
+            raise NoTest(f"the comment that begins at {given.format_place(text, begin)} is left open", len(text))
         if 0 <= opens < closes:
-            depth, at = depth + 1, opens + 2
+            depth, offset = depth + 1, opens + 2
         else:
-            depth, at = depth - 1, closes + 2
+            depth, offset = depth - 1, closes + 2
         if depth == 0:
-            return at
+            return offset
 
 
-def tokens_of(text: str, at: int) -> Tuple[list, List[int]]:
-    """Returns the tokens from a position on, as pairs of a kind and a text; and the position of each, followed by the end's."""
-    tokens, places = [], []
-    while at < len(text):
-        if text.startswith("(*", at):
-            at = skip_comment(text, at)
+def read_tokens(text: str, offset: int) -> tuple[list[Token], list[int]]:
+    """Returns the tokens from an offset on, and the offset of each, followed by the end's. Raises NoTest at a character that begins none."""
+    tokens: list[Token] = []
+    offsets: list[int] = []
+    while offset < len(text):
+        if text.startswith("(*", offset):
+            offset = skip_comment(text, offset)
             continue
-        found = TOKEN.match(text, at)
-        if not found:
-            raise NoTest(f"{letters_at(text, at)} is no token", at)
-        if found.lastgroup != "blank":
-            tokens.append((found.lastgroup, found[0]))
-            places.append(at)
-        at = found.end()
-    return tokens, [*places, len(text)]
+        match = TOKEN.match(text, offset)
+        if not match:
+            raise NoTest(f"{quote_at(text, offset)} is no token", offset)
+        if match.lastgroup != "blank":
+            tokens.append((match.lastgroup or "", match[0]))
+            offsets.append(offset)
+        offset = match.end()
+    return tokens, [*offsets, len(text)]
 
 
-def skip_notes(text: str, at: int) -> int:
-    """Returns where the initial block starts: after quoted texts, lines `Key=value`, blanks and comments."""
-    while at < len(text):
-        key = KEY.match(text, at)
-        if text[at] in " \t\r\n":
-            at += 1
-        elif text.startswith("(*", at):
-            at = skip_comment(text, at)
-        elif text[at] == '"':
-            at = skip_quoted(text, at)
+def skip_notes(text: str, offset: int) -> int:
+    """Returns the offset of the initial block, which follows quoted texts, lines `Key=value`, blanks and comments. Raises NoTest if there is none."""
+    while offset < len(text):
+        key = KEY.match(text, offset)
+        if text[offset] in " \t\r\n":
+            offset += 1
+        elif text.startswith("(*", offset):
+            offset = skip_comment(text, offset)
+        elif text[offset] == '"':
+            offset = skip_quoted(text, offset)
         elif key:
-            at = key.end()
-        elif text[at] == "{":
-            return at
+            offset = key.end()
+        elif text[offset] == "{":
+            return offset
         else:
             break
-    raise NoTest(f"{letters_at(text, at)} stands where the initial block should", at)
+    raise NoTest(f"{quote_at(text, offset)} stands where the initial block should", offset)
 
 
-def skip_quoted(text: str, at: int) -> int:
-    """Returns where the quoted text that starts at a position ends."""
-    end = text.find('"', at + 1)
+def skip_quoted(text: str, offset: int) -> int:
+    """Returns the offset of the end of the quoted text that starts at an offset. Raises NoTest if it has no end."""
+    end = text.find('"', offset + 1)
     if end < 0:
-        raise NoTest(f"the quoted text that begins at {given.place(text, at)} is left open", len(text))
+        raise NoTest(f"the quoted text that begins at {given.format_place(text, offset)} is left open", len(text))
     return end + 1

@@ -2,85 +2,97 @@
 from __future__ import annotations
 
 from collections import deque
-from typing import Callable, Iterator, Set, Tuple
+from collections.abc import Callable, Iterator
+from typing import Dict, Optional, Tuple
 
-from interpreter.machines import OneMemory, Processor, drain, put, source_statement, step
+from interpreter.machines import OneMemory, Processor, drain_oldest, execute_next, execute_statement, replace_item
 from interpreter.tests import Outcome, Refused, State, Test
 
+# An event, and the state after it.
+Move = Tuple[str, State]
+# Of each state that a walk has reached, the event and the state before it; `None` for the start.
+Origins = Dict[State, Optional[Tuple[str, State]]]
 
-def source_moves(test: Test, state: State) -> Iterator[tuple]:
+
+def list_source_moves(test: Test, state: State) -> Iterator[Move]:
     """Yields the successors of a source test's state, each with its event: a step of one thread on one memory."""
     places, words = state
-    for thread, (at, registers) in enumerate(places):
-        if at < len(test.threads[thread]):
-            at, registers, new_words = source_statement(test.threads[thread][at], at, registers, words)
-            yield f"P{thread}", (put(places, thread, (at, registers)), new_words)
+    for thread, (position, registers) in enumerate(places):
+        if position < len(test.threads[thread]):
+            position, registers, new_words = execute_statement(test.threads[thread][position], position, registers, words)
+            yield f"P{thread}", (replace_item(places, thread, (position, registers)), new_words)
 
 
-def source_start(test: Test) -> State:
+def make_source_start(test: Test) -> State:
+    """Returns the state in which a source test starts."""
     return tuple((0, registers) for registers in test.registers), test.words
 
 
-def x86_moves(test: Test, state: State) -> Iterator[tuple]:
+def list_x86_moves(test: Test, state: State) -> Iterator[Move]:
     """Yields the successors of an x86 test's state, each with its event: a step or a drain of one processor."""
     processors, words = state
     for cpu, processor in enumerate(processors):
         for event in "PD":
             memory = OneMemory(words)
             try:
-                after = step(test, cpu, processor, memory) if event == "P" else drain(cpu, processor, memory)
+                after = execute_next(test, cpu, processor, memory) if event == "P" else drain_oldest(cpu, processor, memory)
             except Refused:
                 continue
-            yield f"{event}{cpu}", (put(processors, cpu, after), tuple(memory.words))
+            yield f"{event}{cpu}", (replace_item(processors, cpu, after), tuple(memory.words))
 
 
-def x86_start(test: Test) -> State:
+def make_x86_start(test: Test) -> State:
+    """Returns the state in which an x86 test starts."""
     return tuple(Processor(0, registers) for registers in test.registers), test.words
 
 
-def interleaved_moves(test: Test, state: State) -> Iterator[tuple]:
+def list_interleaved_moves(test: Test, state: State) -> Iterator[Move]:
     """Yields the successors by interleaving on one memory: each store is drained at once."""
-    for event, (processors, words) in x86_moves(test, state):
+    for event, (processors, words) in list_x86_moves(test, state):
         cpu = int(event[1])
         memory = OneMemory(words)
         if processors[cpu].buffer:
-            processors = put(processors, cpu, drain(cpu, processors[cpu], memory))
+            processors = replace_item(processors, cpu, drain_oldest(cpu, processors[cpu], memory))
         yield event, (processors, tuple(memory.words))
 
 
-def outcome_of(state: State) -> Outcome:
-    """Returns the registers and the words of a state."""
+def make_outcome(state: State) -> Outcome:
+    """Returns the outcome of a final state."""
     places, words = state
-    return tuple(place.registers if isinstance(place, Processor) else place[1] for place in places), words
+    return Outcome(tuple(place.registers if isinstance(place, Processor) else place[1] for place in places), words)
 
 
-def walk(test: Test, start: State, moves: Callable) -> Tuple[dict, dict]:
-    """Returns all outcomes of a test, each with a final state that has it; and the shortest way to each state."""
-    came_from, waiting, finals = {start: None}, deque([start]), {}
+def explore_states(test: Test, start: State, moves: Callable[[Test, State], Iterator[Move]]) -> tuple[dict[Outcome, State], Origins]:
+    """Walks through all states that a test reaches. Returns all outcomes, each with a final state that has it, and the origin of each state
+    on a shortest way.
+    """
+    origins: Origins = {start: None}
+    finals: dict[Outcome, State] = {}
+    waiting = deque([start])
     while waiting:
         state = waiting.popleft()
-        ended = True
+        is_final = True
         for event, after in moves(test, state):
-            ended = False
-            if after not in came_from:
-                came_from[after] = (event, state)
+            is_final = False
+            if after not in origins:
+                origins[after] = (event, state)
                 waiting.append(after)
-        if ended:
-            finals.setdefault(outcome_of(state), state)
-    return finals, came_from
+        if is_final:
+            finals.setdefault(make_outcome(state), state)
+    return finals, origins
 
 
-def way_to(state: State, came_from: dict) -> str:
-    """Returns the events that reach a state."""
+def make_schedule(state: State, origins: Origins) -> str:
+    """Returns the events that reach a state, separated by blanks."""
     events = []
-    while came_from[state]:
-        event, state = came_from[state]
+    while origin := origins[state]:
+        event, state = origin
         events.append(event)
     return " ".join(reversed(events))
 
 
-def outcomes(test: Test) -> Set[Outcome]:
+def list_outcomes(test: Test) -> set[Outcome]:
     """Returns all outcomes of a test: of a source test by interleaving, of an x86 test with store buffers."""
     if test.language == "SRC":
-        return set(walk(test, source_start(test), source_moves)[0])
-    return set(walk(test, x86_start(test), x86_moves)[0])
+        return set(explore_states(test, make_source_start(test), list_source_moves)[0])
+    return set(explore_states(test, make_x86_start(test), list_x86_moves)[0])

@@ -1,15 +1,17 @@
 """Compiles the harness, once for all tests of a command, and each test with it."""
+from __future__ import annotations
+
 import glob
 import os
 import platform
 import shutil
 import subprocess
 import sys
-from typing import List, Sequence
+from collections.abc import Sequence
 
 from machine import assembly, disassembly
 from machine.assembly import Code
-from machine.disassembly import last_line
+from machine.disassembly import read_last_line
 from machine.faults import NotRun
 
 SOURCES = sorted(glob.glob(os.path.join(os.path.dirname(os.path.abspath(__file__)), "harness", "*.c")))
@@ -17,7 +19,7 @@ SOURCES = sorted(glob.glob(os.path.join(os.path.dirname(os.path.abspath(__file__
 FLAGS = ["-O2", "-pthread"]
 
 
-def look_at_system() -> None:
+def check_system() -> None:
     """Refuses a system that cannot run x86 tests, or that lacks objdump."""
     if sys.platform != "linux" or platform.machine() not in ("x86_64", "AMD64"):
         raise NotRun(f"a test is run on Linux on x86-64 only, and this is {platform.system()} on {platform.machine()}")
@@ -26,29 +28,30 @@ def look_at_system() -> None:
 
 
 def run_compiler(command: Sequence[str], folder: str) -> None:
-    """Runs the compiler in a folder."""
+    """Runs the compiler in a folder. Raises NotRun if it fails or does not start."""
     try:
         ran = subprocess.run(command, cwd=folder, stdin=subprocess.DEVNULL, stdout=subprocess.DEVNULL, stderr=subprocess.PIPE, check=False)
     except OSError as why:
         raise NotRun(f"the compiler '{command[0]}' does not start: {why.strerror}; --cc names another (Debian: gcc)") from None
     if ran.returncode:
-        raise NotRun(f"the compiler '{command[0]}' fails: {last_line(ran.stderr)}")
+        raise NotRun(f"the compiler '{command[0]}' fails: {read_last_line(ran.stderr)}")
 
 
 class Builder:
     """The compiled harness, in a folder."""
 
-    def __init__(self, compiler: List[str], folder: str):
+    def __init__(self, compiler: list[str], folder: str) -> None:
+        """Compiles programs in a folder."""
         self.compiler, self.folder = compiler, folder
-        look_at_system()
+        check_system()
         run_compiler([*compiler, *FLAGS, "-c", *SOURCES], folder)
         self.objects = [os.path.basename(it)[:-2] + ".o" for it in SOURCES]
 
-    def program_of(self, threads: Sequence[Code], first: Sequence[Sequence[int]]) -> str:
+    def build_program(self, threads: Sequence[Code], first: Sequence[Sequence[int]]) -> str:
         """Returns the program of a test, after objdump has shown that its code is that of the threads."""
-        with open(os.path.join(self.folder, "test.s"), "w", encoding="ascii") as it:
-            it.write(assembly.text_of(threads, first))
+        with open(os.path.join(self.folder, "test.s"), "w", encoding="ascii") as file:
+            file.write(assembly.format_assembly(threads, first))
         program = os.path.join(self.folder, "test")
         run_compiler([*self.compiler, *FLAGS, "test.s", *self.objects, "-o", program], self.folder)
-        disassembly.check(threads, first, program)
+        disassembly.check_program(threads, first, program)
         return program

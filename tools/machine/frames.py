@@ -1,10 +1,12 @@
 """Reads what is around a test's instructions in the disassembly of a thread's function: before them, what is saved, the addresses of the
 locations, the first words of the registers, a clear zero flag, and the trap flag; after them, the results, and what is restored.
 """
-import re
-from typing import Dict, List, Optional, Sequence
+from __future__ import annotations
 
-from plain import Statement
+import re
+from collections.abc import Sequence
+
+from plain import Register, Statement
 
 REGISTERS = ("eax", "ebx", "ecx", "edx", "esi", "edi")
 KEPT = ("rbx", "rbp", "r12", "r13", "r14", "r15")
@@ -16,61 +18,62 @@ CLEAR_FLAG = ("test rsp,rsp",)
 SET_TRAP_FLAG = ("pushf", "or QWORD PTR [rsp],0x100", "popf", "nop")
 
 
-def run_of(pattern, texts: List[str]) -> List[re.Match]:
+def take_leading_matches(pattern: re.Pattern[str], texts: list[str]) -> list[re.Match[str]]:
     """Removes the instructions of one kind from the front of a list, and returns their matches."""
     taken = []
-    while texts and pattern.fullmatch(texts[0]):
-        taken.append(pattern.fullmatch(texts.pop(0)))
+    while texts and (match := pattern.fullmatch(texts[0])):
+        taken.append(match)
+        texts.pop(0)
     return taken
 
 
-def used_by(code: Sequence[Statement]) -> List[int]:
+def list_used_registers(code: Sequence[Statement]) -> list[int]:
     """Returns the registers that a thread uses."""
-    values = [it.value[1] for it in code if it.value and it.value[0] == "register"]
+    values = [it.value.register for it in code if isinstance(it.value, Register)]
     return sorted({it.register for it in code if it.register is not None} | {*values})
 
 
-def changed_by(code: Sequence[Statement], saved: List[str]) -> List[str]:
+def list_unsaved_changes(code: Sequence[Statement], saved: list[str]) -> list[str]:
     """Returns the registers that a thread's function changes, must restore, and does not save."""
     numbers = {8 + it.location for it in code if it.location is not None} | ({15} if any(it.kind == "scratch" for it in code) else set())
-    changed = {"rbp", *(f"r{it}" for it in numbers)} | ({"rbx"} if 1 in used_by(code) else set())
+    changed = {"rbp", *(f"r{it}" for it in numbers)} | ({"rbx"} if 1 in list_used_registers(code) else set())
     return sorted(changed & {*KEPT} - {*saved})
 
 
-def fault_before(texts: List[str], code: Sequence[Statement], first: Sequence[int], is_trapped: bool) -> Optional[str]:
+def find_fault_before(texts: list[str], code: Sequence[Statement], first: Sequence[int], is_trapped: bool) -> str | None:
     """Returns what is wrong between the saved registers and the test's instructions, or None. Addresses are loaded before EDI changes."""
     if texts[:1] != ["mov rbp,rsi"]:
         return "the place of the results is not taken"
     texts = texts[1:]
-    addresses = {int(it[1]) - 8: int(it[2] or "0", 16) for it in run_of(ADDRESS, texts)}
+    addresses = {int(it[1]) - 8: int(it[2] or "0", 16) for it in take_leading_matches(ADDRESS, texts)}
     wanted = {it.location: 8 * it.location for it in code if it.location is not None}
     if addresses != wanted:
         return f"the addresses of locations are taken from {addresses}, and not from {wanted}"
-    words = {it[1]: int(it[2], 16) for it in run_of(WORD, texts)}
-    begins = {REGISTERS[it]: first[it] for it in used_by(code)}
+    words = {it[1]: int(it[2], 16) for it in take_leading_matches(WORD, texts)}
+    begins = {REGISTERS[it]: first[it] for it in list_used_registers(code)}
     if words != begins:
         return f"registers begin with {words}, and not with {begins}"
     rest = CLEAR_FLAG + (SET_TRAP_FLAG if is_trapped else ())
     return None if tuple(texts) == rest else f"before the test there is {'; '.join(texts)}, and not {'; '.join(rest)}"
 
 
-def fault_after(texts: List[str], code: Sequence[Statement], saved: List[str]) -> Optional[str]:
+def find_fault_after(texts: list[str], code: Sequence[Statement], saved: list[str]) -> str | None:
     """Returns what is wrong with the instructions after the test's, or None."""
-    results: Dict[str, int] = {it[2]: int(it[1], 16) for it in run_of(RESULT, texts)}
-    wanted = {REGISTERS[it]: 4 * it for it in used_by(code)}
+    results: dict[str, int] = {it[2]: int(it[1], 16) for it in take_leading_matches(RESULT, texts)}
+    wanted = {REGISTERS[it]: 4 * it for it in list_used_registers(code)}
     if results != wanted:
         return f"results are {results}, and not {wanted}"
-    restored = [it[1] for it in run_of(RESTORED, texts)]
+    restored = [it[1] for it in take_leading_matches(RESTORED, texts)]
     if restored != saved[::-1] or texts[:1] != ["ret"]:
         return f"{', '.join(saved)} are saved, and {', '.join(restored)} are restored"
     return None
 
 
-def fault_of(before: List[str], after: List[str], code: Sequence[Statement], first: Sequence[int], is_trapped: bool) -> Optional[str]:
+def find_fault(before: list[str], after: list[str], code: Sequence[Statement], first: Sequence[int], is_trapped: bool) -> str | None:
     """Returns what is wrong with the instructions around a test's, or None."""
     before, after = ([re.sub(r"\s+", " ", it) for it in texts] for texts in (before, after))
-    saved = [it[1] for it in run_of(SAVED, before)]
-    lacking = changed_by(code, saved)
+    saved = [it[1] for it in take_leading_matches(SAVED, before)]
+    lacking = list_unsaved_changes(code, saved)
     if lacking:
         return f"{', '.join(lacking)} is changed and not saved"
-    return fault_before(before, code, first, is_trapped) or fault_after(after, code, saved)
+    return find_fault_before(before, code, first, is_trapped) or find_fault_after(after, code, saved)

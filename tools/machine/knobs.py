@@ -1,11 +1,14 @@
 """The knobs of a run: what recipes may do. They are for those who measure; a run without them uses everything."""
-from typing import Dict, Iterable, Tuple
+from __future__ import annotations
+
+from collections.abc import Iterable
+from typing import Dict
 
 from machine.faults import NotRun
 
 SWITCH = ("0", "1")
 # The words of each knob, of which the harness is passed the index; or the least and the largest number.
-WORDS: Dict[str, Tuple[str, ...]] = {
+WORDS: dict[str, tuple[str, ...]] = {
     "sync": ("none", "flag", "time", "mixed"),
     "stores": ("plain", "nontemporal"),
     **{name: SWITCH for name in ("prepare", "ballast", "delay", "learn", "move", "halts", "schedules", "light", "pin")},
@@ -20,28 +23,28 @@ class NoKnob(NotRun):
     """A word that sets no knob, and why."""
 
 
-def number_of(name: str, value: str) -> int:
-    """Reads the number that a knob is set to."""
-    least, most = NUMBERS[name]
-    if not value.isdecimal() or not least <= int(value) <= most:
-        raise NoKnob(f"{name} is a number from {least} to {most}, and not '{value}'")
+def parse_number(name: str, value: str) -> int:
+    """Reads the number that a knob is set to. Raises NoKnob if it is out of its bounds."""
+    minimum, maximum = NUMBERS[name]
+    if not value.isdecimal() or not minimum <= int(value) <= maximum:
+        raise NoKnob(f"{name} is a number from {minimum} to {maximum}, and not '{value}'")
     if name == "instances" and int(value) & (int(value) - 1):
         raise NoKnob(f"instances is a power of 2, and not {value}")
     return int(value)
 
 
-def read_knob(word: str) -> Tuple[str, int]:
-    """Reads a word `NAME=VALUE`. Returns the knob that it sets, and the number that the harness is passed."""
+def parse_knob(word: str) -> tuple[str, int]:
+    """Reads a word `NAME=VALUE`. Returns the knob that it sets, and the number that the harness is passed. Raises NoKnob if the word sets none."""
     name, sign, value = word.partition("=")
     if not sign or name not in DEFAULTS:
         raise NoKnob(f"'{word}' sets no knob; NAME=VALUE does, and a NAME is one of {', '.join(sorted(DEFAULTS))}")
     if name in NUMBERS:
-        return name, number_of(name, value)
+        return name, parse_number(name, value)
     if value not in WORDS[name]:
         raise NoKnob(f"{name} is one of {', '.join(WORDS[name])}, and not '{value}'")
     return name, WORDS[name].index(value)
 
 
-def knobs_of(pairs: Iterable[Tuple[str, int]]) -> Knobs:
+def make_knobs(pairs: Iterable[tuple[str, int]]) -> Knobs:
     """Returns all knobs: those that are set, and the others as they are by default."""
     return {**DEFAULTS, **dict(pairs)}

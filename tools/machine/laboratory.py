@@ -1,6 +1,9 @@
 """Runs one test after another with one compiled harness, and compares each with its list."""
+from __future__ import annotations
+
+from collections.abc import Sequence
 from random import Random
-from typing import List, NamedTuple, Optional, Sequence
+from typing import NamedTuple
 
 import plain
 from machine import assembly, processors, runs, scripts
@@ -9,7 +12,7 @@ from machine.build import Builder
 from machine.faults import NotRun
 from machine.knobs import DEFAULTS, Knobs
 from machine.plans import Limits, Plan
-from machine.subjects import Subject, listed_against, listed_of, subject_of
+from machine.subjects import Subject, Words, make_list, make_other_list, make_subject
 from machine.summary import Result
 
 NONTEMPORAL = "A CONTROL: stores are MOVNTI, which go past the caches, in place of MOV. This is not the test, and states beyond the list are due."
@@ -23,17 +26,17 @@ class Settings(NamedTuple):
     limits: Limits = Limits()
     knobs: Knobs = DEFAULTS
     everything: bool = False
-    against: Optional[Subject] = None
+    against: Subject | None = None
 
 
-def threads_of(subject: Subject, knobs: Knobs) -> List[Code]:
-    """Returns the code of each thread."""
+def list_threads(subject: Subject, knobs: Knobs) -> list[Code]:
+    """Returns the code of each thread. Raises NotRun if a control needs a register and none is free."""
     threads = [tuple(code) for code in subject.x86.threads]
     if not knobs["stores"]:
         return threads
     if len(subject.x86.locations) > assembly.SCRATCH - assembly.FIRST_ADDRESS:
         raise NotRun("stores=nontemporal needs a free register, and a test of 8 locations has none")
-    return [assembly.with_nontemporal_stores(code) for code in threads]
+    return [assembly.make_stores_nontemporal(code) for code in threads]
 
 
 class Ran(NamedTuple):
@@ -44,37 +47,37 @@ class Ran(NamedTuple):
     here: processors.Processors
 
 
-def notes_on(seen: runs.Seen, ran: Ran, settings: Settings) -> List[str]:
+def list_notes(seen: runs.Seen, ran: Ran, settings: Settings) -> list[str]:
     """Returns what must be known of what was seen, in runs of which one is passed."""
     control = [NONTEMPORAL] * bool(settings.knobs["stores"])
-    return control + processors.sentences_on(ran.here, len(ran.plan.threads)) + runs.sentences_on(seen, ran.plan)
+    return control + processors.list_obstacles(ran.here, len(ran.plan.threads)) + runs.list_missing(seen, ran.plan)
 
 
 class Laboratory:
     """A compiled harness, and the processors that it runs on."""
 
-    def __init__(self, compiler: Sequence[str], folder: str):
+    def __init__(self, compiler: Sequence[str], folder: str) -> None:
         self.builder = Builder(list(compiler), folder)
 
-    def plan_of(self, subject: Subject, settings: Settings, listed: Sequence[tuple], here: processors.Processors) -> Plan:
+    def make_plan(self, subject: Subject, settings: Settings, listed: Sequence[Words], processors_here: processors.Processors) -> Plan:
         """Returns the plan of a run."""
-        threads, knobs = threads_of(subject, settings.knobs), settings.knobs
-        led = scripts.scripts_of(subject.x86, plain.canonical_text(subject.x86)) if knobs["schedules"] else []
-        placements = processors.placements_on(here, len(threads), Random())
-        is_scarce = len(here.allowed) < len(threads)
-        return Plan(subject, threads, listed, led, placements, here.has_clock, is_scarce, settings.limits, knobs)
+        threads, knobs = list_threads(subject, settings.knobs), settings.knobs
+        led = scripts.make_scripts(subject.x86, plain.format_canonical_text(subject.x86)) if knobs["schedules"] else []
+        placements = processors.make_placements(processors_here, len(threads), Random())
+        is_scarce = len(processors_here.allowed) < len(threads)
+        return Plan(subject, threads, listed, led, placements, processors_here.has_clock, is_scarce, settings.limits, knobs)
 
-    def run(self, subject: Subject, settings: Settings, states: Sequence[tuple]) -> Ran:
+    def run(self, subject: Subject, settings: Settings, states: Sequence[Words]) -> Ran:
         """Runs a test, of which some states are looked for."""
-        here = processors.processors_here()
-        plan = self.plan_of(subject, settings, states, here)
-        return Ran(runs.run(self.builder.program_of(plan.threads, subject.x86.registers), plan), plan, here)
+        processors_here = processors.read_processors()
+        plan = self.make_plan(subject, settings, states, processors_here)
+        return Ran(runs.run_plan(self.builder.build_program(plan.threads, subject.x86.registers), plan), plan, processors_here)
 
-    def result_of(self, file: str, text: str, settings: Settings) -> Result:
+    def run_and_compare(self, file: str, text: str, settings: Settings) -> Result:
         """Runs a test, and compares it with its list or that of another test."""
-        subject = subject_of(text, settings.everything)
+        subject = make_subject(text, settings.everything)
         other = settings.against
-        listed = listed_against(subject, other) if other else listed_of(subject)
+        listed = make_other_list(subject, other) if other else make_list(subject)
         ran = self.run(subject, settings, listed.states)
-        notes = notes_on(ran.seen, ran, settings)
+        notes = list_notes(ran.seen, ran, settings)
         return Result(file, subject, listed, ran.seen, len(ran.here.allowed), other.shown.name if other else "", notes)

@@ -1,6 +1,10 @@
 """Writes the plan of a run, which the harness reads: names and numbers in a fixed order."""
-from typing import List, NamedTuple, Optional, Sequence
+from __future__ import annotations
 
+from collections.abc import Sequence
+from typing import NamedTuple
+
+import plain
 from machine.assembly import Code
 from machine.knobs import DEFAULTS, Knobs
 from machine.processors import Placement
@@ -15,7 +19,7 @@ class Limits(NamedTuple):
     listed states were seen.
     """
 
-    seconds: Optional[float] = 10.0
+    seconds: float | None = 10.0
     runs: int = 0
     until_complete: bool = False
 
@@ -38,35 +42,35 @@ class Plan(NamedTuple):
     knobs: Knobs = DEFAULTS
 
 
-def numbers(words: Sequence[int]) -> str:
+def format_numbers(words: Sequence[int]) -> str:
     """Returns the text of numbers, each after a space."""
     return "".join(f" {it}" for it in words)
 
 
-def lines_of_test(plan: Plan) -> List[str]:
+def format_test(plan: Plan) -> list[str]:
     """Returns what the harness must know of the test."""
     test, sites = plan.subject.x86, plan.subject.sites
-    pairs = [(site[1], site[2]) if site[0] == "register" else (-1, site[1]) for site in sites]
+    pairs = [(it.thread, it.register) if isinstance(it, plain.RegisterSite) else (-1, it.location) for it in sites]
     return [
         f"threads {len(plan.threads)}",
         f"locations {len(test.locations)}",
-        "words" + numbers(test.words),
-        "registers" + "".join(map(numbers, test.registers)),
-        "lengths" + numbers([len(code) for code in plan.threads]),
-        f"sites {len(sites)}" + "".join(map(numbers, pairs)),
+        "words" + format_numbers(test.words),
+        "registers" + "".join(map(format_numbers, test.registers)),
+        "lengths" + format_numbers([len(code) for code in plan.threads]),
+        f"sites {len(sites)}" + "".join(map(format_numbers, pairs)),
     ]
 
 
-def text_of(plan: Plan) -> str:
+def format_plan(plan: Plan) -> str:
     """Returns the plan as a text."""
     limits = plan.limits
     milliseconds = UNLIMITED if limits.seconds is None else round(1000 * limits.seconds)
     lines = [
-        *lines_of_test(plan),
-        f"listed {len(plan.states)}" + "".join(map(numbers, plan.states)),
+        *format_test(plan),
+        f"listed {len(plan.states)}" + "".join(map(format_numbers, plan.states)),
         f"scripts {len(plan.scripts)}",
-        *(f"script {len(it)}" + "".join(map(numbers, it)) for it in plan.scripts),
-        f"placements {len(plan.placements)}" + "".join(map(numbers, plan.placements)),
+        *(f"script {len(it)}" + "".join(map(format_numbers, it)) for it in plan.scripts),
+        f"placements {len(plan.placements)}" + "".join(map(format_numbers, plan.placements)),
         *(f"{name} {plan.knobs[name]}" for name in OF_HARNESS),
         f"clock {int(plan.has_clock)}",
         f"scarce {int(plan.is_scarce)}",

@@ -1,10 +1,12 @@
 """Runs a compiled test by its plan, and reads what the harness prints."""
+from __future__ import annotations
+
 import signal
 import subprocess
-from typing import Dict, List, NamedTuple
+from typing import NamedTuple
 
 from machine import plans
-from machine.disassembly import last_line
+from machine.disassembly import read_last_line
 from machine.faults import NotRun
 from machine.plans import Plan
 from machine.subjects import Words
@@ -14,13 +16,13 @@ KINDS = ("by a race", "by a halt", "by a schedule")
 # What became of the trap flag, as the harness numbers it.
 TRAPS_UNUSED, TRAPS_WORK, TRAPS_TRACED, TRAPS_CAUGHT = range(4)
 # The maximal number of times a second that threads lose their processor on a machine that is not busy.
-MOST_SWITCHES = 100
+MAX_SWITCHES = 100
 
 
-class Sight(NamedTuple):
+class Sighting(NamedTuple):
     """How often a state was seen, after how many seconds first, and by which kind of recipe."""
 
-    count: int
+    times: int
     first: float
     kind: str
 
@@ -28,10 +30,10 @@ class Sight(NamedTuple):
 class Seen(NamedTuple):
     """What was seen in a run: how each state was seen; the number of runs, the seconds, and the facts that the harness reports."""
 
-    states: Dict[Words, Sight]
+    states: dict[Words, Sighting]
     runs: int
     seconds: float
-    facts: Dict[str, int]
+    facts: dict[str, int]
 
     @property
     def rate(self) -> float:
@@ -39,70 +41,70 @@ class Seen(NamedTuple):
         return self.runs / self.seconds if self.seconds else 0.0
 
 
-def together(one: Sight, other: Sight) -> Sight:
+def merge_sights(first: Sighting, second: Sighting) -> Sighting:
     """Returns how a state was seen, if two threads have counted it."""
-    earlier = min(one, other, key=lambda it: it.first)
-    return Sight(one.count + other.count, earlier.first, earlier.kind)
+    earlier = min(first, second, key=lambda it: it.first)
+    return Sighting(first.times + second.times, earlier.first, earlier.kind)
 
 
-def read_seen(lines: List[str]) -> Seen:
-    """Reads what the harness prints."""
-    states: Dict[Words, Sight] = {}
-    facts: Dict[str, int] = {}
+def parse_seen(lines: list[str]) -> Seen:
+    """Reads what the harness prints. Raises NotRun if its last line is missing."""
+    states: dict[Words, Sighting] = {}
+    facts: dict[str, int] = {}
     for line in lines:
         name, *rest = line.split()
         if name == "facts":
             facts = {key: int(value) for key, value in zip(rest[::2], rest[1::2])}
         else:
-            words, sight = tuple(map(int, rest[3:])), Sight(int(rest[0]), float(rest[1]), KINDS[int(rest[2])])
-            states[words] = together(states[words], sight) if words in states else sight
+            words, sight = tuple(map(int, rest[3:])), Sighting(int(rest[0]), float(rest[1]), KINDS[int(rest[2])])
+            states[words] = merge_sights(states[words], sight) if words in states else sight
     if "runs" not in facts:
         raise NotRun("the harness ends without its line of facts")
     return Seen(states, facts.pop("runs"), facts.pop("microseconds") / 1e6, facts)
 
 
-def patience_for(plan: Plan):
+def choose_patience(plan: Plan) -> float | None:
     """Returns the seconds after which a run that should have ended is killed, or `None` if it has no limit of time."""
     return None if plan.limits.seconds is None else 60 + 10 * plan.limits.seconds
 
 
-def why_ended(status: int, printed: bytes) -> str:
+def explain_status(status: int, printed: bytes) -> str:
     """Returns why the harness ended with a status that is not 0."""
     if status < 0:
         return f"the harness is ended by {signal.Signals(-status).name}"
-    return last_line(printed)
+    return read_last_line(printed)
 
 
-def run(program: str, plan: Plan) -> Seen:
-    """Runs the program of a test by a plan."""
-    patience = patience_for(plan)
+def run_plan(program: str, plan: Plan) -> Seen:
+    """Runs the program of a test by a plan. Raises NotRun if it does not start, fails, or does not end in time."""
+    patience = choose_patience(plan)
     try:
         ran = subprocess.run(
-            [program], input=plans.text_of(plan).encode(), stdout=subprocess.PIPE, stderr=subprocess.PIPE, timeout=patience, check=False
+            [program], input=plans.format_plan(plan).encode(), stdout=subprocess.PIPE, stderr=subprocess.PIPE, timeout=patience, check=False
         )
     except OSError as why:
         raise NotRun(f"{program} does not start: {why.strerror}; TMPDIR names another folder for it") from None
     except subprocess.TimeoutExpired:
         raise NotRun(f"the run does not end within {patience:.0f} seconds, and is given up") from None
     if ran.returncode:
-        raise NotRun(why_ended(ran.returncode, ran.stderr))
-    return read_seen(ran.stdout.decode().splitlines())
+        raise NotRun(explain_status(ran.returncode, ran.stderr))
+    return parse_seen(ran.stdout.decode().splitlines())
 
 
-def sentences_on(seen: Seen, plan: Plan) -> List[str]:
+def list_missing(seen: Seen, plan: Plan) -> list[str]:
     """Returns what was missing in a run, each in a sentence."""
-    facts, said = seen.facts, []
+    facts, sentences = seen.facts, []
     lost = facts["switches"] / seen.seconds if seen.seconds else 0.0
-    if lost > MOST_SWITCHES and not plan.is_scarce:
-        said.append(f"Others took processors away {lost:.0f} times a second: the machine is busy, and fewer runs are made.")
+    if lost > MAX_SWITCHES and not plan.is_scarce:
+        sentences.append(f"Others took processors away {lost:.0f} times a second: the machine is busy, and fewer runs are made.")
     if plan.knobs["pin"] and not plan.is_scarce and not facts["is_pinned"]:
-        said.append("Threads could not be pinned to processors.")
+        sentences.append("Threads could not be pinned to processors.")
     if facts["traps"] == TRAPS_TRACED:
-        said.append("Another process traces this one, as a debugger does: there were no halts, and no schedules led the threads.")
+        sentences.append("Another process traces this one, as a debugger does: there were no halts, and no schedules led the threads.")
     if facts["traps"] == TRAPS_CAUGHT:
-        said.append("The trap flag does not work here, as in some sandboxes: there were no halts, and no schedules led the threads.")
+        sentences.append("The trap flag does not work here, as in some sandboxes: there were no halts, and no schedules led the threads.")
     if facts["clocks_differ"]:
-        said.append("The time-stamp counters of two processors differ: threads met by flags in place of times.")
+        sentences.append("The time-stamp counters of two processors differ: threads met by flags in place of times.")
     if facts["is_full"]:
-        said.append("There were more different states than the harness counts, and some were not counted.")
-    return said
+        sentences.append("There were more different states than the harness counts, and some were not counted.")
+    return sentences

@@ -1,10 +1,13 @@
 """A test that is run: as it was read, as the x86 test that the processor runs, and with the list of its states; or a program, which is several."""
+from __future__ import annotations
+
+from collections.abc import Callable
 from dataclasses import replace
-from typing import Callable, List, NamedTuple, Optional, Tuple
+from typing import NamedTuple, Tuple
 
 import given
 import plain
-from fences import showing_everything
+from fences import show_everything
 from shared import answers
 
 Words = Tuple[int, ...]
@@ -17,77 +20,70 @@ class Subject(NamedTuple):
 
     shown: plain.Test
     x86: plain.Test
-    sites: List[tuple]
-    compiled_by: Optional[answers.Maker] = None
+    sites: list[plain.Site]
+    compiled_by: answers.Maker | None = None
     named: Callable[[str], str] = str
     asked: str = ""
-    listed: Optional["Listed"] = None
+    listed: 'Listed' | None = None
 
     @property
     def condition(self) -> str:
         """Returns the text of the condition."""
-        return self.asked or plain.condition_text(self.shown)
+        return self.asked or plain.format_condition(self.shown)
 
-    def line_of(self, words: Words) -> str:
+    def format_state(self, words: Words) -> str:
         """Returns a state as a line."""
-        return self.named(plain.state_line(self.shown, words))
+        return self.named(plain.format_state(self.shown, words))
 
-    def names(self) -> List[str]:
+    def list_names(self) -> list[str]:
         """Returns the names that states mention."""
-        return [self.named(f"{plain.site_name(self.shown, site)}=0;").partition("=")[0] for site in self.sites]
+        return [self.named(f"{plain.format_site(self.shown, site)}=0;").partition("=")[0] for site in self.sites]
 
-    def holds(self, words: Words) -> bool:
+    def is_true(self, words: Words) -> bool:
         """Returns whether the proposition is true in a state."""
-        registers = [[0] * len(plain.REGISTERS["X86"]) for _ in self.x86.threads]
-        memory = [0] * len(self.x86.locations)
-        for site, word in zip(self.sites, words):
-            if site[0] == "register":
-                registers[site[1]][site[2]] = word
-            else:
-                memory[site[1]] = word
-        return plain.holds(self.shown.proposition, (registers, memory))
+        return plain.is_true(self.shown.proposition, plain.make_outcome_from_words(self.shown, words))
 
 
 class Listed(NamedTuple):
     """The listed states, who made the list, and who compiled its test, if that is a source test; or of which tests it is, if it is a program's."""
 
-    states: List[Words]
+    states: list[Words]
     by: answers.Maker
-    compiled_by: Optional[answers.Maker] = None
+    compiled_by: answers.Maker | None = None
     of_tests: str = ""
 
-    def by_whom(self) -> str:
+    def describe_maker(self) -> str:
         """Returns who made the list, and whether that is proved."""
         is_proved = answers.are_proved(it for it in (self.by, self.compiled_by) if it)
         compiled = f", of the test that {self.compiled_by.value} compiled" if self.compiled_by else self.of_tests and f", {self.of_tests}"
         return f"{self.by.value}{compiled}, {'proved complete' if is_proved else 'not proved'}"
 
 
-def subject_of(text: str, everything: bool) -> Subject:
+def make_subject(text: str, everything: bool) -> Subject:
     """Reads a test. A source test is compiled."""
     shown = x86 = plain.read_test(text)
-    by = None
+    compiled_by = None
     if shown.language == "SRC":
-        made = answers.answer(["compile"], shown, text)
-        x86, by = plain.read_test(made.text), made.by
+        compiled = answers.make_answer(["compile"], shown, text)
+        x86, compiled_by = plain.read_test(compiled.text), compiled.by
     if everything:
-        x86 = showing_everything(x86)
+        x86 = show_everything(x86)
         shown = replace(shown, listed=x86.listed)
-    return Subject(shown, x86, plain.observed(x86), by)
+    return Subject(shown, x86, plain.list_observed_sites(x86), compiled_by)
 
 
-def listed_of(subject: Subject) -> Listed:
+def make_list(subject: Subject) -> Listed:
     """Returns the list of the states of a test, or of a program."""
     if subject.listed:
         return subject.listed
-    made = answers.answer(["states"], subject.x86)
-    lines = answers.states_in(made.text)
-    return Listed([tuple(int(it.partition("=")[2]) for it in line.split(";")[:-1]) for line in lines], made.by, subject.compiled_by)
+    report = answers.make_answer(["states"], subject.x86)
+    lines = answers.filter_state_lines(report.text)
+    return Listed([tuple(int(it.partition("=")[2]) for it in line.split(";")[:-1]) for line in lines], report.by, subject.compiled_by)
 
 
-def listed_against(subject: Subject, other: Subject) -> Listed:
+def make_other_list(subject: Subject, other: Subject) -> Listed:
     """Returns the list of another test, and refuses one of other names."""
-    if subject.names() != other.names():
-        names = " ".join(other.names())
-        raise given.Fault(f"it is held against a test that speaks of other names: {names}, and not {' '.join(subject.names())}", 0)
-    return listed_of(other)
+    if subject.list_names() != other.list_names():
+        names = " ".join(other.list_names())
+        raise given.Fault(f"it is held against a test that speaks of other names: {names}, and not {' '.join(subject.list_names())}", 0)
+    return make_list(other)

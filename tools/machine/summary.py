@@ -1,11 +1,14 @@
 """What is said of a run after its log: how many of the listed states were seen, which not, and which are not listed; or all of it as JSON."""
-from typing import Dict, List, NamedTuple, Sequence
+from __future__ import annotations
+
+from collections.abc import Sequence
+from typing import NamedTuple
 
 from machine import logs
 from machine.runs import Seen
 from machine.subjects import Listed, Subject, Words
 
-MOST_RARE = 3
+MAX_RARE_STATES = 3
 NOT_LISTED = "SEEN AND NOT LISTED"
 
 
@@ -25,78 +28,78 @@ class Result(NamedTuple):
 
     def is_contradicted(self) -> bool:
         """Returns whether a state was seen that is not listed."""
-        return bool(self.not_listed() or self.others)
+        return bool(self.list_not_listed() or self.others)
 
-    def seen_and_listed(self) -> List[Words]:
+    def list_seen_and_listed(self) -> list[Words]:
         """Returns the listed states that were seen, the rarest first."""
-        return sorted((it for it in self.listed.states if it in self.seen.states), key=lambda it: (self.seen.states[it].count, it))
+        return sorted((it for it in self.listed.states if it in self.seen.states), key=lambda it: (self.seen.states[it].times, it))
 
-    def not_seen(self) -> List[Words]:
+    def list_not_seen(self) -> list[Words]:
         """Returns the listed states that were not seen."""
         return [it for it in self.listed.states if it not in self.seen.states]
 
-    def not_listed(self) -> List[Words]:
+    def list_not_listed(self) -> list[Words]:
         """Returns the states that were seen and are not listed."""
         return sorted(set(self.seen.states) - set(self.listed.states))
 
-    def list_name(self) -> str:
+    def describe_list(self) -> str:
         """Returns who made the list, and of which test it is."""
         whose = f" of {self.against}" if self.against else ""
-        return f"The list{whose} by {self.listed.by_whom()}"
+        return f"The list{whose} by {self.listed.describe_maker()}"
 
 
-def count_of(number: int, what: str) -> str:
+def format_count(number: int, noun: str) -> str:
     """Returns a number of things in words."""
-    return f"{number} {what}{'s' * (number != 1)}"
+    return f"{number} {noun}{'s' * (number != 1)}"
 
 
-def lines_of(result: Result) -> List[str]:
+def format_summary(result: Result) -> list[str]:
     """Returns the lines after the log."""
-    seen, found = result.seen, result.seen_and_listed()
-    on = count_of(result.processors, "processor")
+    seen, seen_and_listed = result.seen, result.list_seen_and_listed()
+    on = format_count(result.processors, "processor")
     lines = [
         *result.notes,
         f"Runs {seen.runs}, {seen.rate:.0f} a second, on {on}",
-        f"{result.list_name()}, has {count_of(len(result.listed.states), 'state')}; seen here: {len(found)}",
+        f"{result.describe_list()}, has {format_count(len(result.listed.states), 'state')}; seen here: {len(seen_and_listed)}",
     ]
-    for words in found[:MOST_RARE]:
+    for words in seen_and_listed[:MAX_RARE_STATES]:
         sight = seen.states[words]
-        lines.append(f"  rarest: {sight.count} of {seen.runs}, first after {sight.first:.3f} s {sight.kind}: {result.subject.line_of(words)}")
-    lines += [f"  not seen: {result.subject.line_of(words)}" for words in result.not_seen()]
-    return [*lines, *(line_of_contradiction(seen, words, result.subject.line_of(words)) for words in result.not_listed()), *result.others]
+        lines.append(f"  rarest: {sight.times} of {seen.runs}, first after {sight.first:.3f} s {sight.kind}: {result.subject.format_state(words)}")
+    lines += [f"  not seen: {result.subject.format_state(words)}" for words in result.list_not_seen()]
+    return [*lines, *(format_contradiction(seen, words, result.subject.format_state(words)) for words in result.list_not_listed()), *result.others]
 
 
-def line_of_contradiction(seen: Seen, words: Words, line: str) -> str:
+def format_contradiction(seen: Seen, words: Words, line: str) -> str:
     """Returns the line on a state that is not listed."""
     sight = seen.states[words]
-    return f"  {NOT_LISTED}: {sight.count} of {seen.runs}, first after {sight.first:.3f} s {sight.kind}: {line}"
+    return f"  {NOT_LISTED}: {sight.times} of {seen.runs}, first after {sight.first:.3f} s {sight.kind}: {line}"
 
 
-def text_of(result: Result) -> str:
+def format_result(result: Result) -> str:
     """Returns the log and what follows."""
-    return "".join(f"{line}\n" for line in [*logs.lines_of(result.subject, result.seen), *lines_of(result), ""])
+    return "".join(f"{line}\n" for line in [*logs.format_log(result.subject, result.seen), *format_summary(result), ""])
 
 
-def json_of(result: Result) -> Dict[str, object]:
+def make_json(result: Result) -> dict[str, object]:
     """Returns the same as a value of JSON."""
-    seen, subject, line_of = result.seen, result.subject, result.subject.line_of
+    seen, subject, line_of = result.seen, result.subject, result.subject.format_state
     listed = set(result.listed.states)
-    states = []
-    for words, it in sorted(seen.states.items()):
-        facts = {"count": it.count, "first": it.first, "how": it.kind, "holds": subject.holds(words), "listed": words in listed}
+    states: list[dict[str, object]] = []
+    for words, sight in sorted(seen.states.items()):
+        facts = {"count": sight.times, "first": sight.first, "how": sight.kind, "holds": subject.is_true(words), "listed": words in listed}
         states.append({"state": line_of(words), **facts})
     return {
         "file": result.file,
         "name": result.subject.shown.name,
-        "list": result.listed.by_whom(),
+        "list": result.listed.describe_maker(),
         "against": result.against or None,
         "runs": seen.runs,
         "seconds": seen.seconds,
         "processors": result.processors,
         "listed": len(listed),
         "seen": states,
-        "not_seen": [line_of(words) for words in result.not_seen()],
-        "not_listed": [line_of(words) for words in result.not_listed()],
+        "not_seen": [line_of(words) for words in result.list_not_seen()],
+        "not_listed": [line_of(words) for words in result.list_not_listed()],
         "not_listed_in_tests": [it.strip() for it in result.others],
         "notes": list(result.notes),
     }

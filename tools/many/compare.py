@@ -5,74 +5,83 @@ import sys
 
 from many.statuses import NOT_RUN, SEEN_AND_NOT_LISTED
 
+TYPE_CHECKING = False
+if TYPE_CHECKING:
+    from collections.abc import Callable
 
-def listed_and_logged(done: list, name: str) -> tuple:
+    from many.rows import Answered, Row
+    from shared.logs import ListedTests, State
+
+
+def read_lists_and_log(answers: list[Answered], name: str) -> tuple[ListedTests, dict[str, set[State]]]:
     """Returns the states of each test that is listed here, and of each that is in a log."""
     from shared import logs
 
-    texts, converted = [], [it for it in done if it.row.converted is not None]
-    as_they_are = [it for it in done if it.row.converted is None]
-    for it in as_they_are:
-        with open(it.row.file, encoding="utf-8", errors="replace") as file:
+    texts, converted = [], [it for it in answers if it.row.converted is not None]
+    as_they_are = [it for it in answers if it.row.converted is None]
+    for answer in as_they_are:
+        with open(answer.row.file, encoding="utf-8", errors="replace") as file:
             texts.append(file.read())
-    here = logs.listed_by(zip(texts, (it.report for it in as_they_are)))
-    for it in converted:
-        logs.add_converted(here, it.report, it.tests, it.tries)
+    here = logs.collect_lists(zip(texts, (it.report for it in as_they_are)))
+    for answer in converted:
+        logs.add_converted(here, answer.report, answer.tests, answer.tries)
     with open(name, encoding="utf-8", errors="replace") as file:
-        return here, logs.states_in(file)
+        return here, logs.read_states(file)
 
 
-def tell_differences(done: list, name: str) -> int:
+def report_differences(answers: list[Answered], name: str) -> int:
     """Reports what differs from a log. Returns the exit status."""
     from shared import logs
 
-    here, there = listed_and_logged(done, name)
-    found = list(logs.differences(here, there))
-    for it in found:
-        sys.stderr.write(logs.told(it))
-    print(f"{len(here.beside(there))} tests against {len(there)} of {name}: {len(found)} differ", file=sys.stderr)
-    return 1 if found else 0
+    listed, logged = read_lists_and_log(answers, name)
+    differences = list(logs.find_differences(listed, logged))
+    for difference in differences:
+        sys.stderr.write(logs.format_difference(difference))
+    print(f"{len(listed.match_log_names(logged))} tests against {len(logged)} of {name}: {len(differences)} differ", file=sys.stderr)
+    return 1 if differences else 0
 
 
-def tell_of_machine(done: list, name: str) -> int:
+def report_machine_log(answers: list[Answered], name: str) -> int:
     """Reports the tests of which a machine showed a state that is not listed. Returns the exit status."""
     from shared import logs
 
-    here, there = listed_and_logged(done, name)
-    found = list(logs.differences(here, there))
-    not_compared = [it for it in found if it.why and it.why not in (logs.NOT_IN_LOG, logs.IN_LOG_ONLY)]
-    contradicting = [it for it in found if it.missing]
-    not_all_seen = [it for it in found if it.too_much]
-    for it in [*not_compared, *contradicting]:
-        sys.stderr.write(logs.told_of_machine(it))
-    tests = here.beside(there)
-    both = len({*tests} & {*there})
+    listed, logged = read_lists_and_log(answers, name)
+    differences = list(logs.find_differences(listed, logged))
+    not_compared = [it for it in differences if it.why and it.why not in (logs.NOT_IN_LOG, logs.IN_LOG_ONLY)]
+    contradicting = [it for it in differences if it.missing]
+    not_all_seen = [it for it in differences if it.too_much]
+    for difference in [*not_compared, *contradicting]:
+        sys.stderr.write(logs.format_machine_difference(difference))
+    tests = listed.match_log_names(logged)
+    both = len({*tests} & {*logged})
     counts = f"{len(contradicting)} showed states that are not listed, {len(not_all_seen)} did not show all"
     print(f"{both} of {len(tests)} tests are in the machine's log {name}: {counts}, {len(not_compared)} are not compared", file=sys.stderr)
     return SEEN_AND_NOT_LISTED if contradicting else 1 if not_compared or not both else 0
 
 
-def is_run(it) -> bool:
+def can_be_run(answer: Answered) -> bool:
     """Says whether an answer can be run: that of a program, or of one test of lw, as it is or converted, whose runs are all runs."""
-    converted = it.row.converted
-    is_one_test = converted is None or converted.startswith("from_c.py") or len(it.tests) == 1 and not it.tries
-    return bool(it.row.listed) and is_one_test
+    converted = answer.row.converted
+    is_one_test = converted is None or converted.startswith("from_c.py") or len(answer.tests) == 1 and not answer.tries
+    return bool(answer.row.listed) and is_one_test
 
 
-def rows_with_seen(done: list, seconds: float, tell, compiler: str | None, tries: int) -> tuple:
+def add_seen_column(
+    answers: list[Answered], seconds: float, report: Callable[[str], None], compiler: str | None, tries: int
+) -> tuple[list[Row], int]:
     """Runs each answer's test on this machine, if anything can be run. Returns the rows with what was seen, and the exit status. Files that are
     refused are not run, nor such as are converted from herd's form to several tests."""
-    rows = [it.row for it in done]
+    rows = [it.row for it in answers]
     from machine import column
     from machine.faults import NotRun
 
     try:
-        texts = {it.row.file: it.tests[0][0] if it.tests else None for it in done if is_run(it)}
-        made = column.column_of(texts, seconds, tell, compiler, tries)
+        texts = {it.row.file: it.tests[0][0] if it.tests else None for it in answers if can_be_run(it)}
+        made = column.run_column(texts, seconds, report, compiler, tries)
     except NotRun as why:
         print(f"run_all: {why}", file=sys.stderr)
         return rows, NOT_RUN
-    others = [it.row.file for it in done if it.row.listed is not None and not is_run(it)]
+    others = [it.row.file for it in answers if it.row.listed is not None and not can_be_run(it)]
     left_out = [f"{it}: a test in herd's form that is converted to several, or has loops, is not run on this machine" for it in others]
     for line in [*made.faults, *left_out]:
         print(line, file=sys.stderr)

@@ -13,12 +13,13 @@ from typing import Iterable
 import from_herd
 import given
 from c.source import is_herd_form
-from herd.convert import converted
+from herd.convert import convert
 from herd.order import ORDERS
-from herd.text import heading_of
-from herd.together import answers_of, in_names, together
+from herd.text import read_heading
+from herd.together import collect_answers, merge_reports, translate_report
 from many import rows
 from many.files import is_program
+from many.lists import Choices
 from shared import answers, batch, command, spawn
 
 # A maker's method, the strongest first.
@@ -32,7 +33,7 @@ METHODS = {
 }
 
 
-def method_of(makers: Iterable[answers.Maker]) -> str:
+def choose_method(makers: Iterable[answers.Maker]) -> str:
     """Returns the method of a report that is put together from lists of several makers: the weakest of theirs."""
     made_by = {*makers}
     return [method for maker, method in METHODS.items() if maker in made_by][-1]
@@ -41,127 +42,128 @@ def method_of(makers: Iterable[answers.Maker]) -> str:
 class Clock:
     """Measures the processor time of this process, and of those that it started and that have ended."""
 
-    def __init__(self):
-        self.begin = self.now()
+    def __init__(self) -> None:
+        self.begin = self.read_time()
 
     @staticmethod
-    def now() -> float:
+    def read_time() -> float:
         """Returns the processor time so far."""
         used = os.times()
         return time.process_time() + used.children_user + used.children_system
 
-    def seconds(self) -> float:
+    def measure_seconds(self) -> float:
         """Returns the processor time since the begin."""
-        return self.now() - self.begin
+        return self.read_time() - self.begin
 
 
-def times(count: int) -> str:
+def format_times(count: int) -> str:
     """Returns a number of times in words."""
     return "once" if count == 1 else f"{count} times"
 
 
-def tests_in_words(count: int, tries: int) -> str:
+def describe_tests(count: int, tries: int) -> str:
     """Says how many tests a report is put together from, and how often its runs go through loops, if that has a limit."""
     made = f"{count} tests" if count != 1 else "1 test"
-    return made + (f", loops gone through at most {times(tries)}" if tries else "")
+    return made + (f", loops gone through at most {format_times(tries)}" if tries else "")
 
 
-def without_runs(tries: int) -> str:
+def describe_no_run(tries: int) -> str:
     """Says why no run is left."""
     return f"no run goes through every loop within {tries} tr{'ies' if tries != 1 else 'y'}"
 
 
-def answer_of(choices, job: tuple) -> rows.Answered:
+def answer_file(choices: Choices, job: tuple[str, spawn.Run | None]) -> rows.Answered:
     """Returns the answer of a file, of which lw's run is known if it was asked."""
     file, run = job
     try:
-        with open(file, "rb") as it:
-            read = it.read()
+        with open(file, "rb") as source_file:
+            read = source_file.read()
     except OSError as why:
-        return rows.refused(file, f"{file}: {why.strerror or why}")
+        return rows.make_refusal(file, f"{file}: {why.strerror or why}")
     try:
-        text = given.decoded(read)
+        text = given.decode(read)
         if is_program(file) or is_herd_form(text):
-            return answer_of_program(file, text, choices)
-        return answer_of_test(file, text, choices, run)
+            return answer_program(file, text, choices)
+        assert run is not None  # lw was asked about each test.
+        return answer_test(file, text, choices, run)
     except given.Fault as fault:
-        return rows.refused(file, given.line_of(file, read, fault))
+        return rows.make_refusal(file, given.format_fault(file, read, fault))
     except RecursionError:
-        return rows.refused(file, f"{file}: the condition is nested too deeply for this tool")
+        return rows.make_refusal(file, f"{file}: the condition is nested too deeply for this tool")
 
 
 # Tests in herd's form.
 
 
-def answer_of_test(file: str, text: str, choices, run: spawn.Run) -> rows.Answered:
+def answer_test(file: str, text: str, choices: Choices, run: spawn.Run) -> rows.Answered:
     """Returns the answer of a test that lw refuses: converted from herd's form, or refused."""
-    clock, at = Clock(), batch.place_of_fault(text)
-    if at is None:
-        return rows.refused(file, batch.fault_of(run))
+    clock, fault_offset = Clock(), batch.find_fault(text)
+    if fault_offset is None:
+        return rows.make_refusal(file, batch.format_fault(run))
     try:
-        language = heading_of(text)[0]
-        made = converted(text, choices.tries, ORDERS[choices.order])
+        language = read_heading(text)[0]
+        made = convert(text, choices.tries, ORDERS[choices.order])
     except given.Fault as fault:
-        return rows.refused(file, first_fault(file, text, run, at, fault))
-    notes = tuple(command.note(file, text, at, says) for at, says in made.notes)
+        return rows.make_refusal(file, choose_fault(file, text, run, fault_offset, fault))
+    notes = tuple(command.format_note(file, text, at, says) for at, says in made.notes)
     count = len(made.conversions)
     by = "from_herd.py" if count == 1 and not made.tries else "assume.py"
-    how = f"{by}, {language}: {tests_in_words(count, made.tries)}"
+    how = f"{by}, {language}: {describe_tests(count, made.tries)}"
     try:
-        told = answers_of(made.conversions)
+        test_answers = collect_answers(made.conversions)
     except given.Fault as fault:
-        return rows.refused(file, f"{file}: {fault.args[0]}", how, notes)
-    report = together(made.conversions, told)
-    if answers.states_in(report):
-        report = in_names(report, made)
+        return rows.make_refusal(file, f"{file}: {fault.args[0]}", how, notes)
+    report = merge_reports(made.conversions, test_answers)
+    if answers.filter_state_lines(report):
+        report = translate_report(report, made)
     else:
-        report = answers.without_verdict(made.conversions[0].question, without_runs(choices.tries))
-    row = rows.row_of(file, report, clock.seconds(), method_of(it.by for it in told))
-    tests = [(from_herd.text_of(made, it), answer.text) for it, answer in zip(made.conversions, told)]
+        report = answers.format_no_verdict(made.conversions[0].question, describe_no_run(choices.tries))
+    row = rows.make_row(file, report, clock.measure_seconds(), choose_method(it.by for it in test_answers))
+    tests = [(from_herd.write_converted_text(made, it), answer.text) for it, answer in zip(made.conversions, test_answers)]
     return rows.Answered(row._replace(converted=how, notes=list(notes)), report, tests, made.tries)
 
 
-def first_fault(file: str, text: str, run: spawn.Run, at: int, fault: given.Fault) -> str:
+def choose_fault(file: str, text: str, run: spawn.Run, lw_offset: int, fault: given.Fault) -> str:
     """Returns the line of what is wrong in a text that neither lw, at a place, nor tools/from_herd.py takes: of the two, what the one says that
     reads further, and what both say if they end in one line and differ."""
-    cause, place = fault.args
+    cause, herd_offset = fault.args
     try:
-        is_x86 = heading_of(text)[0] == "X86"
+        is_x86 = read_heading(text)[0] == "X86"
     except given.Fault:
-        return batch.fault_of(run)
-    line_of_lw, line_of_herd = text.count("\n", 0, at), text.count("\n", 0, place)
+        return batch.format_fault(run)
+    line_of_lw, line_of_herd = text.count("\n", 0, lw_offset), text.count("\n", 0, herd_offset)
     if not is_x86 or line_of_lw < line_of_herd:
-        return given.line_of(file, text.encode(), fault)
-    line = batch.fault_of(run)
+        return given.format_fault(file, text.encode(), fault)
+    line = batch.format_fault(run)
     return line if line_of_lw > line_of_herd or line.endswith(cause) else f"{line}; in herd's form: {cause}"
 
 
 # Programs.
 
 
-def answer_of_program(file: str, text: str, choices) -> rows.Answered:
+def answer_program(file: str, text: str, choices: Choices) -> rows.Answered:
     """Returns the answer of a program, by the compiler that is chosen, or by that of tools/from_c.py."""
     import from_c
-    from c.compiler import default_compiler
+    from c.compiler import choose_compiler
     from c.refused import NoRun, Refused
     from c.source import read_source
 
     clock = Clock()
     sys.setrecursionlimit(from_c.RECURSION)
     source = read_source(file, text)
-    compiler = choices.compiler if choices.compiler and not source.is_rust else default_compiler(source.ending)
+    compiler = choices.compiler if choices.compiler and not source.is_rust else choose_compiler(source.ending)
     how = f"from_c.py, {compiler}"
     try:
-        answer, _ = from_c.converted(source, compiler, choices.tries, include=os.path.dirname(os.path.abspath(file)))
+        answer, _ = from_c.convert_source(source, compiler, choices.tries, include=os.path.dirname(os.path.abspath(file)))
     except NoRun as why:
-        report = from_c.without_verdict(source, why.cause)
-        row = rows.row_of(file, report, clock.seconds(), None)
+        report = from_c.format_no_run(source, why.cause)
+        row = rows.make_row(file, report, clock.measure_seconds(), None)
         return rows.Answered(row._replace(converted=how), report, [], choices.tries)
     except Refused as why:
-        return rows.refused(file, why.text(file), how)
+        return rows.make_refusal(file, why.format_line(file), how)
     tries = choices.tries if answer.bounded else 0
-    report = answer.report if answer.has_run else from_c.without_verdict(source, without_runs(choices.tries))
-    row = rows.row_of(file, report, clock.seconds(), method_of(answer.makers))
-    how = f"{how}: {tests_in_words(len(answer.tests), tries)}"
+    report = answer.report if answer.has_run else from_c.format_no_run(source, describe_no_run(choices.tries))
+    row = rows.make_row(file, report, clock.measure_seconds(), choose_method(answer.makers))
+    how = f"{how}: {describe_tests(len(answer.tests), tries)}"
     notes = [f"{file}: note: {note}" for note in answer.notes]
     return rows.Answered(row._replace(converted=how, notes=notes), report, [], tries)

@@ -6,35 +6,36 @@ what the observation has to be: of Allowed, that the proposition is true in some
 from __future__ import annotations
 
 import os
+from typing import Dict, Tuple
 
 from many import rows
 from many.statuses import NoTable
 
 VERDICTS = (rows.AS_ASKED, "No", rows.NO_VERDICT, rows.REFUSED)
 # Of each word the observations that it allows.
-OBSERVATIONS = {
+OBSERVATIONS: Dict[str, Tuple[str, ...]] = {
     **{it: (it,) for it in ("Never", "Sometimes", "Always")},
-    **dict.fromkeys(("Allowed", "Allow"), ("Sometimes", "Always")),
-    **dict.fromkeys(("Forbidden", "Forbid"), ("Never",)),
-    **dict.fromkeys(("Required", "Require"), ("Always",)),
+    **{it: ("Sometimes", "Always") for it in ("Allowed", "Allow")},
+    **{it: ("Never",) for it in ("Forbidden", "Forbid")},
+    **{it: ("Always",) for it in ("Required", "Require")},
 }
 WORDS = (*VERDICTS, *OBSERVATIONS)
 
 
-def expectations_in(name: str) -> dict:
-    """Reads a table. Returns of each name its word."""
-    found = {}
+def read_expectations(name: str) -> dict[str, str]:
+    """Reads a table. Returns of each name its word. Raises NoTable if a line is none of a table, or contradicts another."""
+    expectations: Dict[str, str] = {}
     with open(name, encoding="utf-8", errors="replace") as file:
         for number, line in enumerate(file, 1):
             its, _, word = line.partition("#")[0].strip().rpartition(" ")
-            its, place = its.strip(), f"{name}:{number}"
+            its, position = its.strip(), f"{name}:{number}"
             if not its and not word:
                 continue
             if not its or word not in WORDS:
-                raise NoTable(f"{place}: a line has a name and one of {', '.join(WORDS)}")
-            if found.setdefault(its, word) != word:
-                raise NoTable(f"{place}: '{its}' is expected to be {found[its]} before")
-    return found
+                raise NoTable(f"{position}: a line has a name and one of {', '.join(WORDS)}")
+            if expectations.setdefault(its, word) != word:
+                raise NoTable(f"{position}: '{its}' is expected to be {expectations[its]} before")
+    return expectations
 
 
 def is_met(row: rows.Row, word: str) -> bool:
@@ -42,7 +43,7 @@ def is_met(row: rows.Row, word: str) -> bool:
     return row.verdict == word if word in VERDICTS else (row.observation or "").split(" ")[0] in OBSERVATIONS[word]
 
 
-def name_for(row: rows.Row, table: dict) -> str | None:
+def find_name(row: rows.Row, table: dict[str, str]) -> str | None:
     """Returns the name in a table that means a row: the longest end of its path, or the test's name. None if there is none."""
     path = os.path.normpath(row.file).replace(os.sep, "/")
     paths = [it for it in table if f"/{path}".endswith(f"/{os.path.normpath(it)}".replace(os.sep, "/"))]
@@ -52,27 +53,29 @@ def name_for(row: rows.Row, table: dict) -> str | None:
 class Expected:
     """What is expected of rows: by a table, if there is one, and Ok of all others, if that is expected."""
 
-    def __init__(self, name: str | None, is_ok_expected: bool, is_shard: bool = False):
+    def __init__(self, name: str | None, is_ok_expected: bool, is_shard: bool = False) -> None:
         self.name, self.others, self.is_shard = name, rows.AS_ASKED if is_ok_expected else None, is_shard
-        self.table = expectations_in(name) if name else {}
-        self.met_names: set = set()
+        self.table = read_expectations(name) if name else {}
+        self.met_names: set[str] = set()
 
-    def word_for(self, row: rows.Row) -> str | None:
+    def find_word(self, row: rows.Row) -> str | None:
         """Returns what is expected of a row, or None."""
-        name = name_for(row, self.table)
-        self.met_names |= {name} - {None}
-        return self.table[name] if name else self.others
+        name = find_name(row, self.table)
+        if name is None:
+            return self.others
+        self.met_names.add(name)
+        return self.table[name]
 
-    def unmet(self, table: list) -> list:
-        """Returns the rows that are not as expected, each with the word. A file that has no answer is not told twice, unless the table names it."""
-        found = [(row, self.word_for(row)) for row in table]
-        told = [(row, word) for row, word in found if word and not is_met(row, word)]
-        return [(row, word) for row, word in told if row.verdict not in (rows.REFUSED, rows.NO_VERDICT) or name_for(row, self.table)]
+    def list_unmet(self, table: list[rows.Row]) -> list[tuple[rows.Row, str]]:
+        """Returns the rows that are not as expected, each with the word. A file that has no answer is not reported twice, unless the table names it."""
+        expected_words = [(row, self.find_word(row)) for row in table]
+        unmet = [(row, word) for row, word in expected_words if word and not is_met(row, word)]
+        return [(row, word) for row, word in unmet if row.verdict not in (rows.REFUSED, rows.NO_VERDICT) or find_name(row, self.table)]
 
     def is_expected(self, row: rows.Row) -> bool:
         """Returns whether the table expects that a row has no answer, and it has none."""
-        return self.word_for(row) == row.verdict
+        return self.find_word(row) == row.verdict
 
-    def missing(self) -> list:
+    def list_missing(self) -> list[str]:
         """Returns the names of the table that mean no row, of those that were asked for. A shard has a part of the files, so there none is missing."""
         return [] if self.is_shard else [it for it in self.table if it not in self.met_names]

@@ -12,7 +12,7 @@ ENDINGS = (".litmus", *PROGRAMS)
 Shard = namedtuple("Shard", "number of")
 
 
-def files_of(names: list) -> list:
+def list_files(names: list) -> list:
     """Returns the files that names mean: of a folder those with a suffix of tests or programs. Reads the names from standard input if there
     is none.
     """
@@ -30,13 +30,13 @@ def is_program(file: str) -> bool:
     return file.endswith(PROGRAMS)
 
 
-def shard_in(text: str) -> Shard | None:
+def parse_shard(text: str) -> Shard | None:
     """Reads `I/N`. Returns `None` if the text is no shard."""
     number, slash, of = text.partition("/")
     is_number = slash and all(it.isascii() and it.isdigit() for it in (number, of))
     return Shard(int(number), int(of)) if is_number and 1 <= int(number) <= int(of) else None
 
 
-def part_of(files: list, shard: Shard) -> list:
+def select_shard(files: list, shard: Shard) -> list:
     """Returns the files of a shard: of all sorted names, every N-th from the I-th on. No file is in two shards."""
     return sorted(set(files))[shard.number - 1 :: shard.of]

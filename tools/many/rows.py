@@ -20,17 +20,17 @@ ALWAYS, MORE = Row._fields[:8], Row._fields[8:11]
 Answered = namedtuple("Answered", "row report tests tries")
 
 
-def name_of(file: str) -> str:
+def format_name(file: str) -> str:
     """Returns what a refused file is called, whose test may have no name."""
     return os.path.splitext(os.path.basename(file))[0]
 
 
-def refused_row(file: str, cause: str, converted: str | None = None, notes: tuple = ()) -> Row:
+def make_refused_row(file: str, cause: str, converted: str | None = None, notes: tuple = ()) -> Row:
     """Returns the row of a file that has no answer."""
-    return Row(file, name_of(file), None, REFUSED, None, None, None, None, None, converted, cause, list(notes), None)
+    return Row(file, format_name(file), None, REFUSED, None, None, None, None, None, converted, cause, list(notes), None)
 
 
-def row_of(file: str, report: str, seconds: float, method: str | None) -> Row:
+def make_row(file: str, report: str, seconds: float, method: str | None) -> Row:
     """Returns the row of a file whose report was made by a method. If no run is left, the report says so in place of a verdict."""
     lines = report.splitlines()
     _, name, asked = lines[0].split(" ")
@@ -42,19 +42,19 @@ def row_of(file: str, report: str, seconds: float, method: str | None) -> Row:
     return Row(file, name, asked, verdict, observation, states, milliseconds, method, None, None, None, [], lines[2 : 2 + states])
 
 
-def answered(run: spawn.Run, method: str) -> Answered | None:
-    """Returns the answer of a run that has a report."""
+def make_answer(run: spawn.Run, method: str) -> Answered | None:
+    """Returns the answer of a run that has a report. `None` if the run has none."""
     if run.status != 0 or len(run.out.splitlines()) < 6:
         return None
-    return Answered(row_of(run.file, run.out, run.seconds, method), run.out, [], 0)
+    return Answered(make_row(run.file, run.out, run.seconds, method), run.out, [], 0)
 
 
-def refused(file: str, line: str, converted: str | None = None, notes: tuple = ()) -> Answered:
+def make_refusal(file: str, line: str, converted: str | None = None, notes: tuple = ()) -> Answered:
     """Returns the answer of a file that has none, of which a line `FILE:LINE:COLUMN: cause` says why."""
     cause = line[len(file) + 1 :].strip() if line.startswith(f"{file}:") else line
-    return Answered(refused_row(file, cause, converted, notes), "", [], 0)
+    return Answered(make_refused_row(file, cause, converted, notes), "", [], 0)
 
 
-def line_of(row: Row) -> str:
+def format_refusal(row: Row) -> str:
     """Returns the line on standard error that says why a file is refused."""
     return f"{row.file}:{'' if row.cause[:1].isdigit() else ' '}{row.cause}"

@@ -9,6 +9,6 @@ class NoTable(Exception):
     """Why a table is not taken."""
 
 
-def status_of(statuses: set) -> int:
+def choose_status(statuses: set) -> int:
     """Returns the exit status of a command if several apply: a contradiction comes first, then the largest."""
     return SEEN_AND_NOT_LISTED if SEEN_AND_NOT_LISTED in statuses else max(statuses)

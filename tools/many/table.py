@@ -11,17 +11,17 @@ HEADS = dict(zip((*ALWAYS, *MORE), ("File", "Test", "Asked", "Verdict", "Observa
 RIGHT = ("states", "milliseconds")
 
 
-def columns_of(rows: list) -> list:
+def list_columns(rows: list) -> list:
     """Returns the columns of a table: those that every table has, and those that some of its rows need."""
     return [*ALWAYS, *(it for it in MORE if any(getattr(row, it) is not None for row in rows))]
 
 
-def text_of(rows: list) -> str:
+def format_text(rows: list) -> str:
     """Returns the table in columns. The column of what was seen on this machine is the first. The file follows the test's name, if two tests have
     one name, and is left out otherwise.
     """
     is_unique = len({it.name for it in rows}) == len(rows)
-    file, name, *others = columns_of(rows)
+    file, name, *others = list_columns(rows)
     columns = [*(["seen"] if "seen" in others else []), name, *([] if is_unique else [file]), *(it for it in others if it != "seen")]
     cells = [tuple(HEADS[it] for it in columns)]
     cells += [tuple("-" if getattr(row, it) is None else str(getattr(row, it)) for it in columns) for row in rows]
@@ -30,7 +30,7 @@ def text_of(rows: list) -> str:
     return "".join(f"{form.format(*row).rstrip()}\n" for row in cells)
 
 
-def json_of(rows: list, shard: Shard | None, total: int) -> str:
+def format_json(rows: list, shard: Shard | None, total: int) -> str:
     """Returns the table as JSON. A row of a shard says of which, and how many files all shards have."""
     import json
 
@@ -45,9 +45,9 @@ def print_table(rows: list, form: str, shard: Shard | None = None, total: int = 
     if form == "csv":
         import csv
 
-        columns = columns_of(rows)
+        columns = list_columns(rows)
         csv.writer(sys.stdout, lineterminator="\n").writerows([columns, *([getattr(row, it) for it in columns] for row in rows)])
     elif form == "json":
-        print(json_of(rows, shard, total))
+        print(format_json(rows, shard, total))
     elif form == "text":
-        sys.stdout.write(text_of(rows))
+        sys.stdout.write(format_text(rows))

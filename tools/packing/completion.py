@@ -1,7 +1,10 @@
 """Makes the completions of bash, zsh and fish for all commands, from one table: the words of the programs, and the options of the tools."""
+from __future__ import annotations
+
 import ast
 import re
-from typing import Dict, Iterable, List, NamedTuple, Sequence, Tuple
+from collections.abc import Iterable, Mapping, Sequence
+from typing import NamedTuple
 
 OPTION = re.compile(r"(?<![\w-])--[a-z][a-z-]*")
 PROGRAMS = ("lw", "beyond")
@@ -14,9 +17,9 @@ class Row(NamedTuple):
     program: str
     position: object
     before: object
-    words: Tuple[str, ...]
+    words: tuple[str, ...]
 
-    def pattern(self) -> str:
+    def make_pattern(self) -> str:
         """Returns the row as a pattern of `PROGRAM:POSITION:WORD`, which all three shells match."""
         return f"{self.program}:{'*' if self.position is None else self.position}:{'*' if self.before is None else self.before}"
 
@@ -31,15 +34,15 @@ ROWS = (
 )
 
 
-def options_of(source: str) -> List[str]:
+def list_options(source: str) -> list[str]:
     """Returns the options of a tool, given its source: those that its --help names or its reader of arguments knows."""
     added = re.findall(r'add_argument\("(--[a-z-]+)"', source)
     return sorted({*OPTION.findall(ast.get_docstring(ast.parse(source)) or ""), *added, "--help"})
 
 
-def bash(tools: Dict[str, Sequence[str]]) -> str:
+def make_bash(tools: Mapping[str, Sequence[str]]) -> str:
     """Returns the completion for bash. It is loaded by the name of any of the commands."""
-    rows = "".join(f'        {it.pattern()}) words="{" ".join(it.words)}" ;;\n' for it in ROWS)
+    rows = "".join(f'        {it.make_pattern()}) words="{" ".join(it.words)}" ;;\n' for it in ROWS)
     options = "".join(f'        {name}:*) options="{" ".join(its)}" ;;\n' for name, its in tools.items())
     return f"""# Completion of bash for lw, beyond and the tools. {MADE}
 _lw() {{
@@ -57,9 +60,9 @@ complete -F _lw {" ".join([*PROGRAMS, *tools])}
 """
 
 
-def zsh(tools: Dict[str, Sequence[str]]) -> str:
+def make_zsh(tools: Mapping[str, Sequence[str]]) -> str:
     """Returns the completion for zsh: a function that is loaded by its first line."""
-    rows = "".join(f"    {it.pattern()}) compadd -- {' '.join(it.words)} ;;\n" if it.words else f"    {it.pattern()}) ;;\n" for it in ROWS)
+    rows = "".join(f"    {it.make_pattern()}) compadd -- {' '.join(it.words)} ;;\n" if it.words else f"    {it.make_pattern()}) ;;\n" for it in ROWS)
     options = "".join(f"    {name}:*) long=({' '.join(its)}) ;;\n" for name, its in tools.items())
     return f"""#compdef {" ".join([*PROGRAMS, *tools])}
 # Completion of zsh for lw, beyond and the tools. {MADE}
@@ -74,9 +77,9 @@ fi
 """
 
 
-def fish(tools: Dict[str, Sequence[str]]) -> str:
+def make_fish(tools: Mapping[str, Sequence[str]]) -> str:
     """Returns the completion for fish. It is loaded by the name of any of the commands."""
-    rows = "".join(f"        case '{it.pattern()}'\n" + "".join(f"            echo {word}\n" for word in it.words) for it in ROWS)
+    rows = "".join(f"        case '{it.make_pattern()}'\n" + "".join(f"            echo {word}\n" for word in it.words) for it in ROWS)
     programs = "".join(f"complete -c {it} -f -a '(__lw_words)'\n" for it in PROGRAMS)
     options = "".join(f"complete -c {name} -l {it[2:]}\n" for name, its in tools.items() for it in its)
     return f"""# Completion of fish for lw, beyond and the tools. {MADE}
@@ -88,16 +91,16 @@ end
 {programs}{options}"""
 
 
-def files_of(tools: Dict[str, Sequence[str]]) -> Dict[str, str]:
+def make_files(tools: Mapping[str, Sequence[str]]) -> dict[str, str]:
     """Returns the file of each shell, by its path in a system of Debian."""
     return {
-        "usr/share/bash-completion/completions/lw": bash(tools),
-        "usr/share/zsh/vendor-completions/_lw": zsh(tools),
-        "usr/share/fish/vendor_completions.d/lw.fish": fish(tools),
+        "usr/share/bash-completion/completions/lw": make_bash(tools),
+        "usr/share/zsh/vendor-completions/_lw": make_zsh(tools),
+        "usr/share/fish/vendor_completions.d/lw.fish": make_fish(tools),
     }
 
 
-def links_of(commands: Iterable[str]) -> Dict[str, str]:
+def list_links(commands: Iterable[str]) -> dict[str, str]:
     """Returns the further names by which bash and fish find the file of another command."""
     others = [it for it in commands if it != "lw"]
     bash_file, fish_file = "usr/share/bash-completion/completions/{}", "usr/share/fish/vendor_completions.d/{}.fish"

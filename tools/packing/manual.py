@@ -1,4 +1,6 @@
 """Makes manual pages of the tools from their module docstrings, which are what `--help` prints."""
+from __future__ import annotations
+
 import ast
 import re
 
@@ -9,46 +11,46 @@ NAMED = re.compile(r"(?:python3 )?(?:tools/(\w+)\.py|\./(page)\b)")
 ITEM = "- "
 
 
-def named_as_command(words):
+def name_as_command(match: re.Match[str]) -> str:
     """Returns a tool's name as that of its command, if it is one."""
-    tool = words[1] or words[2]
-    return tree.command_of(tool) if tool in tree.TOOLS else words[0]
+    tool = match[1] or match[2]
+    return tree.name_command(tool) if tool in tree.TOOLS else match[0]
 
 
-def roff(text):
+def escape_roff(text: str) -> str:
     """Returns a text for roff, in which no character is a request or an escape."""
     escaped = text.replace("\\", "\\e").replace("-", "\\-")
     return re.sub(r"^(?=[.'])", r"\\&", escaped, flags=re.M)
 
 
-def items_of(lines):
+def split_items(lines: list[str]) -> list[str]:
     """Returns the items of a list, each with the lines that continue it."""
-    found = []
+    items = []
     for line in lines:
         if line.startswith(ITEM):
-            found.append([line[len(ITEM) :]])
+            items.append([line[len(ITEM) :]])
         else:
-            found[-1].append(line.strip())
-    return ["\n".join(it) for it in found]
+            items[-1].append(line.strip())
+    return ["\n".join(it) for it in items]
 
 
-def paragraph(text):
+def format_paragraph(text: str) -> str:
     """Returns a paragraph of a docstring: lines of commands, items, or text."""
     lines = text.split("\n")
     if all(it.startswith("    ") for it in lines):
         shown = "\n".join(it[4:] for it in lines)
-        return f".PP\n.nf\n.RS 4\n{roff(shown)}\n.RE\n.fi\n"
+        return f".PP\n.nf\n.RS 4\n{escape_roff(shown)}\n.RE\n.fi\n"
     if lines[0].startswith(ITEM):
-        return "".join(f".IP \\(bu 2\n{roff(it)}\n" for it in items_of(lines))
-    return f".PP\n{roff(text)}\n"
+        return "".join(f".IP \\(bu 2\n{escape_roff(it)}\n" for it in split_items(lines))
+    return f".PP\n{escape_roff(text)}\n"
 
 
-def page_of(tool, source):
+def make_page(tool: str, source: str) -> str:
     """Returns the manual page of a tool, given its source."""
-    command = tree.command_of(tool)
-    first, *more = NAMED.sub(named_as_command, ast.get_docstring(ast.parse(source))).split("\n\n")
+    command = tree.name_command(tool)
+    first, *more = NAMED.sub(name_as_command, ast.get_docstring(ast.parse(source)) or "").split("\n\n")
     title, _, rest = first.replace("\n", " ").partition(". ")
     title = (title[:1].lower() + title[1:]).rstrip(".")
-    body = "".join(paragraph(it) for it in ([rest] if rest else []) + more)
+    body = "".join(format_paragraph(it) for it in ([rest] if rest else []) + more)
     see_also = ".SH SEE ALSO\n.BR lw (1)\n.PP\nThe files that are named are in /usr/share/lw.\n"
-    return f'.TH "{roff(command.upper())}" 1\n.SH NAME\n{roff(command)} \\- {roff(title)}\n.SH DESCRIPTION\n{body}{see_also}'
+    return f'.TH "{escape_roff(command.upper())}" 1\n.SH NAME\n{escape_roff(command)} \\- {escape_roff(title)}\n.SH DESCRIPTION\n{body}{see_also}'

@@ -1,8 +1,7 @@
-#!/usr/bin/env python3
 """Proves and builds a program of the sources beside it, for ./lw and ./beyond.
 
-    python3 tools/program/build.py [--program NAME]
-    python3 tools/program/build.py [--program NAME] --first-answer WORD..
+    python3 tools program.build [--program NAME]
+    python3 tools program.build [--program NAME] --first-answer WORD..
 
 The program is lw where none is named. For each, no crate is proved that it does not stand on.
 
@@ -17,6 +16,9 @@ once the proof is done, and it is told where the two differ. The exit status is 
 
 A build that fails ends with status 5, and nothing goes to standard output.
 """
+from __future__ import annotations
+
+import argparse
 import contextlib
 import fcntl
 import os
@@ -28,18 +30,19 @@ import sys
 import tempfile
 import threading
 import time
+from collections.abc import Callable
+from typing import Any, NoReturn
 
-sys.dont_write_bytecode = True
-sys.path.insert(0, os.path.dirname(os.path.dirname(os.path.abspath(__file__))))
-from program.estimate import Estimate, Plan, Running
-from program.minutes import proof_minutes
+from program.estimate import Bounds, Estimate, Plan, Running
+from program.minutes import read_proof_minutes
+from shared import command, start
 from shared.home import HOME
 
 # Builds of all programs share their crates, so they share these too.
 LOCK = f"{HOME}/crates/lw/out/lock"
 COPIES = f"{HOME}/crates/lw/out/build"
 PARTS = ("src", "specs", "proofs")
-MOST_INPUT = 65537
+MAX_INPUT_BYTES = 65537
 FAILED = 5
 SIGNALS = (signal.SIGINT, signal.SIGTERM, signal.SIGHUP)
 
@@ -51,26 +54,28 @@ class Failed(Exception):
 class Program:
     """A program of the repository: its name, which is that of its crate, its path, and the file that says of which sources it is."""
 
-    def __init__(self, name):
+    def __init__(self, name: str) -> None:
+        """Finds the files of a program."""
         self.name = name
         self.crate = f"{HOME}/crates/{name}"
         self.path = f"{self.crate}/out/{name}"
         self.made_of = f"{self.crate}/out/made-of"
 
-    def tell(self, text):
+    def report(self, text: str) -> None:
         """Prints a line on standard error, over the progress on a terminal."""
-        print(f"{clear()}{self.name}: {text}", file=sys.stderr, flush=True)
+        print(f"{make_clear_sequence()}{self.name}: {text}", file=sys.stderr, flush=True)
 
 
 LW = Program("lw")
 BEYOND = Program("beyond")
 
 
-def clear():
+def make_clear_sequence() -> str:
+    """Returns what clears the line of progress on a terminal."""
     return "\r\033[K" if sys.stderr.isatty() else ""
 
 
-def ask_program_sh(command, program=LW):
+def ask_program_sh(command: str, program: Program = LW) -> bytes | None:
     """Returns what a command over the functions of tools/program/program.sh prints, or `None` if it fails."""
     words = ["sh", "-c", f'home=$1; . "$home/tools/program/program.sh"; use_program {program.name}; {command}', "sh", HOME]
     ran = subprocess.run(words, stdout=subprocess.PIPE, check=False)
@@ -80,66 +85,72 @@ def ask_program_sh(command, program=LW):
 class Crate:
     """A crate of the program: those on which it depends, and its minutes of proof by tools/program/minutes.txt."""
 
-    def __init__(self, name, below, minutes):
+    def __init__(self, name: str, below: list[Crate], minutes: float) -> None:
+        """Makes a crate of its name, of those on which it depends, and of its minutes."""
         self.name, self.below, self.minutes = name, below, minutes
         self.folder = f"{HOME}/crates/{name}"
         self.log = f"{self.folder}/out/log"
-        self.started = None
 
-    def all_below(self):
-        found = []
-        for it in self.below:
-            found += [crate for crate in [*it.all_below(), it] if crate not in found]
-        return found
+    def list_dependencies(self) -> list[Crate]:
+        """Returns the crates on which this one depends, directly or not, lowest first."""
+        lower = []
+        for crate in self.below:
+            lower += [added for added in [*crate.list_dependencies(), crate] if added not in lower]
+        return lower
 
-    def newest(self):
+    def find_newest_change(self) -> float:
         """Returns when the crate was last changed, or one on which it depends."""
-        own = [f"{at}/{name}" for part in PARTS for at, _, names in os.walk(f"{self.folder}/{part}") for name in names]
-        return max([os.path.getctime(it) for it in own] + [it.newest() for it in self.below])
+        own = [f"{folder}/{name}" for part in PARTS for folder, _, names in os.walk(f"{self.folder}/{part}") for name in names]
+        return max([os.path.getctime(it) for it in own] + [it.find_newest_change() for it in self.below])
 
-    def seems_built(self):
+    def seems_built(self) -> bool:
         """Returns whether its library is younger than its sources; a guess, for how long the build takes."""
         with contextlib.suppress(OSError):
-            return os.path.getmtime(f"{self.folder}/out/rlib/stamp") > self.newest()
+            return os.path.getmtime(f"{self.folder}/out/rlib/stamp") > self.find_newest_change()
         return False
 
-    def functions(self):
-        """Returns how many of its functions the log reports as checked, and how many it has."""
-        with contextlib.suppress(OSError), open(self.log, errors="replace", encoding="utf-8") as it:
-            told = re.findall(r"(\d+) of (\d+) functions", it.read())
-            if told:
-                return int(told[-1][0]), int(told[-1][1])
+    def count_functions(self) -> tuple[int, int]:
+        """Returns the number of its functions that the log reports as checked, and the number of all; 0 and 0 if the log says nothing."""
+        with contextlib.suppress(OSError), open(self.log, errors="replace", encoding="utf-8") as file:
+            counts = re.findall(r"(\d+) of (\d+) functions", file.read())
+            if counts:
+                return int(counts[-1][0]), int(counts[-1][1])
         return 0, 0
 
-    def share_done(self):
+    def measure_share_done(self) -> float:
         """Returns the share of its functions that are checked."""
-        done, number = self.functions()
+        done, number = self.count_functions()
         return done / max(number, 1)
 
 
-def crates_of_program(program=LW):
+def list_crates(program: Program = LW) -> list[Crate]:
     """Returns the crates of a program, lowest first."""
-    with open(f"{HOME}/crates.txt", encoding="utf-8") as it:
-        named = dict(re.findall(r"^(\w+):(.*)$", it.read(), re.M))
-    minutes = proof_minutes()
-    found = {}
+    with open(f"{HOME}/crates.txt", encoding="utf-8") as file:
+        named = dict(re.findall(r"^(\w+):(.*)$", file.read(), re.M))
+    minutes = read_proof_minutes()
+    crates = {}
 
-    def find(name):
-        if name not in found:
-            below = [find(it) for it in named[name].split() if it in named]
-            found[name] = Crate(name, below, minutes.get(name, 0))
-        return found[name]
+    def find_crate(name: str) -> Crate:
+        """Returns a crate, after those on which it depends are found."""
+        if name not in crates:
+            below = [find_crate(file) for file in named[name].split() if file in named]
+            crates[name] = Crate(name, below, minutes.get(name, 0))
+        return crates[name]
 
-    find(program.name)
-    return list(found.values())
+    find_crate(program.name)
+    return list(crates.values())
 
 
 class Build:
     """A build of crates: those that run, those that are proved, and how long it has taken."""
 
-    def __init__(self, program, crates):
+    def __init__(self, program: Program, crates: list[Crate]) -> None:
+        """Plans a build."""
         self.program = program
-        self.left, self.running, self.jobs, self.proved = list(crates), {}, {}, []
+        self.left = list(crates)
+        self.proved: list[Crate] = []
+        self.running: dict[Crate, subprocess.Popen] = {}
+        self.jobs: dict[Crate, int] = {}
         self.number = len(crates)
         self.processors = len(os.sched_getaffinity(0))
         self.began = time.monotonic()
@@ -147,105 +158,108 @@ class Build:
         self.plan = Plan({it: it.below for it in crates}, self.weight, self.processors)
         self.estimate = Estimate(self.plan, list(crates))
 
-    def to_go(self):
+    def estimate_minutes(self) -> Bounds:
         """Returns the bounds of the minutes to go."""
-        running = {it: Running(1 - it.share_done(), self.jobs[it]) for it in self.running}
-        return self.estimate.bounds(self.left, running, (time.monotonic() - self.began) / 60)
+        running = {it: Running(1 - it.measure_share_done(), self.jobs[it]) for it in self.running}
+        return self.estimate.find_bounds(self.left, running, (time.monotonic() - self.began) / 60)
 
-    def start_ready(self):
+    def start_ready(self) -> None:
         """Starts the crates whose dependencies are proved."""
-        for crate, jobs in self.plan.next_jobs(self.left, list(self.running)).items():
+        for crate, jobs in self.plan.choose_next_jobs(self.left, list(self.running)).items():
             self.left.remove(crate)
             self.jobs[crate] = jobs
-            self.running[crate] = start(crate, jobs, crate.name == self.program.name)
+            self.running[crate] = start_build(crate, jobs, crate.name == self.program.name)
 
-    def end_ended(self):
+    def end_ended(self) -> None:
+        """Ends the crates whose processes have ended. Raises Failed if one of them is not proved."""
         for crate, process in list(self.running.items()):
             if process.poll() is not None:
                 del self.running[crate]
-                end(crate)
+                finish_crate(crate)
                 # The exit status of the program itself says nothing about its build.
                 if process.returncode and not (crate.name == self.program.name and os.path.exists(self.program.path)):
-                    with open(crate.log, errors="replace", encoding="utf-8") as it:
-                        print(clear() + "".join(it.readlines()[-20:]), end="", file=sys.stderr)
+                    with open(crate.log, errors="replace", encoding="utf-8") as file:
+                        print(make_clear_sequence() + "".join(file.readlines()[-20:]), end="", file=sys.stderr)
                     raise Failed(f"the build failed at {crate.name}")
                 self.proved.append(crate)
-                to_go = f", {self.to_go()} to go" if self.left or self.running else ""
-                self.program.tell(f"{crate.name} is proved ({len(self.proved)} of {self.number}){to_go}")
+                to_go = f", {self.estimate_minutes()} to go" if self.left or self.running else ""
+                self.program.report(f"{crate.name} is proved ({len(self.proved)} of {self.number}){to_go}")
 
-    def show(self):
+    def show_progress(self) -> None:
         """Shows on a terminal how far the build is, and how long it has taken."""
         whole = sum(self.weight.values()) or 1
-        running = sum(self.weight[it] * it.share_done() for it in self.running)
+        running = sum(self.weight[it] * it.measure_share_done() for it in self.running)
         done = (sum(self.weight[it] for it in self.proved) + running) / whole
-        functions = sum(it.functions()[1] for it in self.proved if self.weight[it]) + sum(it.functions()[0] for it in self.running)
+        functions = sum(it.count_functions()[1] for it in self.proved if self.weight[it]) + sum(it.count_functions()[0] for it in self.running)
         seconds = int(time.monotonic() - self.began)
         names = ", ".join(it.name for it in self.running)
-        told = f"{functions} functions proved, {done:.0%}; {seconds // 60}:{seconds % 60:02} gone, {self.to_go()} to go: {names}"
-        print(f"{clear()}{self.program.name}: {told}", end="", file=sys.stderr, flush=True)
+        progress = f"{functions} functions proved, {done:.0%}; {seconds // 60}:{seconds % 60:02} gone, {self.estimate_minutes()} to go: {names}"
+        print(f"{make_clear_sequence()}{self.program.name}: {progress}", end="", file=sys.stderr, flush=True)
 
-    def run(self, at_each_turn):
+    def build_all(self, at_each_turn: Callable[[], None]) -> None:
+        """Builds all crates. Calls a function several times each second meanwhile."""
         try:
             while self.left or self.running:
                 self.start_ready()
                 if sys.stderr.isatty():
-                    self.show()
+                    self.show_progress()
                 time.sleep(0.2)
                 at_each_turn()
                 self.end_ended()
         finally:
             for process in self.running.values():
-                stop(process)
+                stop_process(process)
             for crate in self.running:
-                end(crate)
+                finish_crate(crate)
 
 
-def start(crate, jobs, is_program):
+def start_build(crate: Crate, jobs: int, is_program: bool) -> subprocess.Popen:
     """Starts the build of a crate. Two processes of rt that depend on the same crate wait for each other, so each library has its own
     copies of those below it, with what is built of them. A program, run without arguments, only prints its usage line.
     """
     os.makedirs(f"{crate.folder}/out", exist_ok=True)
-    verb, folder = ("run", crate.folder) if is_program else ("lib", copy(crate))
+    verb, folder = ("run", crate.folder) if is_program else ("lib", copy_crate(crate))
     with open(crate.log, "wb") as log:
-        how = {"cwd": folder, "stdin": subprocess.DEVNULL, "stdout": log, "stderr": log, "start_new_session": True}
+        how: dict[str, Any] = {"cwd": folder, "stdin": subprocess.DEVNULL, "stdout": log, "stderr": log, "start_new_session": True}
         return subprocess.Popen(["rt", verb, "--jobs", str(jobs)], **how)
 
 
-def copy(crate):
+def copy_crate(crate: Crate) -> str:
     """Makes a repository of the crate and those below it, with links to what is built of these and with the intermediate results that are
     kept of it, and returns the crate's folder there.
     """
     top = f"{COPIES}/{crate.name}"
     shutil.rmtree(top, ignore_errors=True)
-    taken = [*crate.all_below(), crate]
-    for it in taken:
+    taken = [*crate.list_dependencies(), crate]
+    for taken_crate in taken:
         for part in PARTS:
-            if os.path.isdir(f"{it.folder}/{part}"):
-                shutil.copytree(f"{it.folder}/{part}", f"{top}/crates/{it.name}/{part}")
-        if os.path.isdir(f"{it.folder}/out/rlib"):
-            shutil.copytree(f"{it.folder}/out/rlib", f"{top}/crates/{it.name}/out/rlib", copy_function=os.link)
-    with open(f"{HOME}/crates.txt", encoding="utf-8") as listed, open(f"{top}/crates.txt", "w", encoding="utf-8") as it:
-        it.writelines(line for line in listed if line.partition(":")[0] in [crate.name for crate in taken])
+            if os.path.isdir(f"{taken_crate.folder}/{part}"):
+                shutil.copytree(f"{taken_crate.folder}/{part}", f"{top}/crates/{taken_crate.name}/{part}")
+        if os.path.isdir(f"{taken_crate.folder}/out/rlib"):
+            shutil.copytree(f"{taken_crate.folder}/out/rlib", f"{top}/crates/{taken_crate.name}/out/rlib", copy_function=os.link)
+    with open(f"{HOME}/crates.txt", encoding="utf-8") as listed, open(f"{top}/crates.txt", "w", encoding="utf-8") as file:
+        file.writelines(line for line in listed if line.partition(":")[0] in [crate.name for crate in taken])
     os.makedirs(f"{top}/crates/{crate.name}/out", exist_ok=True)
-    move(f"{crate.folder}/out/incremental", f"{top}/crates/{crate.name}/out/incremental")
+    move_folder(f"{crate.folder}/out/incremental", f"{top}/crates/{crate.name}/out/incremental")
     return f"{top}/crates/{crate.name}"
 
 
-def end(crate):
+def finish_crate(crate: Crate) -> None:
     """Moves back what the build of a crate has made, and removes its copies."""
-    made = f"{COPIES}/{crate.name}/crates/{crate.name}/out"
+    built = f"{COPIES}/{crate.name}/crates/{crate.name}/out"
     for part in ("incremental", "rlib"):
-        move(f"{made}/{part}", f"{crate.folder}/out/{part}")
+        move_folder(f"{built}/{part}", f"{crate.folder}/out/{part}")
     shutil.rmtree(f"{COPIES}/{crate.name}", ignore_errors=True)
 
 
-def move(folder, to):
+def move_folder(folder: str, target: str) -> None:
+    """Moves a folder to another place, if it exists, and replaces what is there."""
     if os.path.isdir(folder):
-        shutil.rmtree(to, ignore_errors=True)
-        os.rename(folder, to)
+        shutil.rmtree(target, ignore_errors=True)
+        os.rename(folder, target)
 
 
-def stop(process):
+def stop_process(process: subprocess.Popen) -> None:
     """Ends a process that was started here, and all that it has started."""
     for sent in (signal.SIGTERM, signal.SIGKILL):
         with contextlib.suppress(ProcessLookupError):
@@ -257,140 +271,156 @@ def stop(process):
 class FirstAnswer:
     """The answer of a program before it is proved, to the arguments and to standard input."""
 
-    def __init__(self, program, words, room):
+    def __init__(self, program: Program, words: list[str], folder: str) -> None:
+        """Starts to read standard input. The files of the answer are in the folder `folder`."""
         self.program = program
-        self.words, self.process, self.status, self.is_read = words, None, None, False
-        self.input, self.output, self.errors = (f"{room}/{it}" for it in ("input", "output", "errors"))
-        self.reader = threading.Thread(target=self.read, daemon=True)
+        self.words, self.is_read = words, False
+        self.process: subprocess.Popen | None = None
+        self.status: int | None = None
+        self.input, self.output, self.errors = (f"{folder}/{it}" for it in ("input", "output", "errors"))
+        self.reader = threading.Thread(target=self.read_input, daemon=True)
         self.reader.start()
 
-    def read(self):
+    def read_input(self) -> None:
         """Stores what the program reads: all of standard input, but no more than it takes. If it cannot be read, there is no first answer,
         and the proved program reports that.
         """
-        given, more = b"", b" "
+        data, more = b"", b" "
         with contextlib.suppress(OSError):
-            while more and len(given) < MOST_INPUT:
-                more = os.read(0, MOST_INPUT - len(given))
-                given += more
-            with open(self.input, "wb") as it:
-                it.write(given)
+            while more and len(data) < MAX_INPUT_BYTES:
+                more = os.read(0, MAX_INPUT_BYTES - len(data))
+                data += more
+            with open(self.input, "wb") as file:
+                file.write(data)
             self.is_read = True
 
-    def look(self):
+    def show_when_ready(self) -> None:
         """Starts the unproved program when its input is complete, and shows its answer."""
         if self.process is None and self.is_read:
             with open(self.input, "rb") as given, open(self.output, "wb") as output, open(self.errors, "wb") as errors:
-                how = {"stdin": given, "stdout": output, "stderr": errors, "start_new_session": True}
+                how: dict[str, Any] = {"stdin": given, "stdout": output, "stderr": errors, "start_new_session": True}
                 self.process = subprocess.Popen(["rt", "try", "--", *self.words], cwd=self.program.crate, **how)
         if self.process and self.status is None and self.process.poll() is not None:
             self.status = self.process.returncode
-            self.show()
+            self.show_answer()
 
-    def show(self):
-        said = read_bytes(self.errors)
-        if not re.search(rb"^run=ended .*proved=no$", said, re.M):
-            return self.program.tell("no answer before the proof: the program could not be run unproved")
-        self.program.tell("unproved, so only a first look (the proved answer follows):")
-        said = b"".join(it for it in said.splitlines(True) if not re.match(rb"(checked|run|call|calls)[:=]", it))
-        sys.stderr.buffer.write(read_bytes(self.output) + said)
+    def show_answer(self) -> None:
+        """Shows the answer, or that the program could not be run unproved."""
+        errors = read_bytes(self.errors)
+        if not re.search(rb"^run=ended .*proved=no$", errors, re.M):
+            return self.program.report("no answer before the proof: the program could not be run unproved")
+        self.program.report("unproved, so only a first look (the proved answer follows):")
+        errors = b"".join(it for it in errors.splitlines(True) if not re.match(rb"(checked|run|call|calls)[:=]", it))
+        sys.stderr.buffer.write(read_bytes(self.output) + errors)
         sys.stderr.flush()
 
-    def is_other(self, words):
+    def differs(self, arguments: list[str]) -> bool:
         """Returns whether the proved program answers otherwise."""
         with open(self.input, "rb") as given:
-            ran = subprocess.run([self.program.path, *words], stdin=given, stdout=subprocess.PIPE, stderr=subprocess.DEVNULL, check=False)
+            ran = subprocess.run([self.program.path, *arguments], stdin=given, stdout=subprocess.PIPE, stderr=subprocess.DEVNULL, check=False)
         return (read_bytes(self.output), self.status) != (ran.stdout, ran.returncode)
 
-    def end(self):
+    def end_process(self) -> None:
+        """Ends the unproved program if it still runs."""
         if self.process and self.status is None:
-            stop(self.process)
+            stop_process(self.process)
 
 
-def read_bytes(file):
-    with open(file, "rb") as it:
-        return it.read()
+def read_bytes(file: str) -> bytes:
+    """Returns the bytes of a file."""
+    with open(file, "rb") as stream:
+        return stream.read()
 
 
-def build(program, at_each_turn=lambda: None):
+def build_program(program: Program, at_each_turn: Callable[[], None] = lambda: None) -> None:
     """Builds the program of the present sources. A change during the build starts it again."""
-    for it in (LOCK, program.path):
-        os.makedirs(os.path.dirname(it), exist_ok=True)
+    for path in (LOCK, program.path):
+        os.makedirs(os.path.dirname(path), exist_ok=True)
     with open(LOCK, "w", encoding="utf-8") as lock:
         try:
             fcntl.flock(lock, fcntl.LOCK_EX | fcntl.LOCK_NB)
         except BlockingIOError:
-            program.tell("another build is going on, which this one waits for")
+            program.report("another build is going on, which this one waits for")
             fcntl.flock(lock, fcntl.LOCK_EX)
         while ask_program_sh("is_current", program) is None:
             build_once(program, at_each_turn)
 
 
-def build_once(program, at_each_turn):
-    for it in (program.path, program.made_of):
+def build_once(program: Program, at_each_turn: Callable[[], None]) -> None:
+    """Builds the program of the present sources once, unless they change meanwhile. Raises Failed if a crate is not proved, or the sources can't be
+    listed.
+    """
+    for path in (program.path, program.made_of):
         with contextlib.suppress(FileNotFoundError):
-            os.remove(it)
+            os.remove(path)
     sources = ask_program_sh("look_at_sources && list_sources", program)
     if sources is None:
         raise Failed("the build failed: the sources can't be listed")
-    crates = crates_of_program(program)
-    for it in crates:
-        end(it)
+    crates = list_crates(program)
+    for crate in crates:
+        finish_crate(crate)
     work = Build(program, crates)
     number = len([it for it in crates if not it.seems_built()])
-    program.tell(f"crates to prove: {number}; on {work.processors} processors that takes {work.to_go()}, by docs/TIMES.md")
-    work.run(at_each_turn)
+    program.report(f"crates to prove: {number}; on {work.processors} processors that takes {work.estimate_minutes()}, by docs/TIMES.md")
+    work.build_all(at_each_turn)
     if ask_program_sh("look_at_sources && list_sources", program) != sources:
-        program.tell("the sources have changed meanwhile")
+        program.report("the sources have changed meanwhile")
     else:
-        with open(f"{program.made_of}.new", "wb") as it:
-            it.write(sources)
+        with open(f"{program.made_of}.new", "wb") as file:
+            file.write(sources)
         os.rename(f"{program.made_of}.new", program.made_of)
-        program.tell("built")
+        program.report("built")
 
 
-def build_and_answer(program, words):
+def build_and_answer(program: Program, arguments: list[str]) -> int:
     """Builds the program with a first answer meanwhile, and then prints the proved one. Returns its status."""
-    with tempfile.TemporaryDirectory(prefix="lw-") as room:
-        first = FirstAnswer(program, words, room)
+    with tempfile.TemporaryDirectory(prefix="lw-") as folder:
+        first = FirstAnswer(program, arguments, folder)
         try:
-            build(program, first.look)
+            build_program(program, first.show_when_ready)
         finally:
-            first.end()
+            first.end_process()
         first.reader.join()
         if not first.is_read:
-            return subprocess.run([program.path, *words], check=False).returncode
-        if first.status is not None and first.is_other(words):
-            program.tell("the first answer was another; that program was not proved, and this one is:")
+            return subprocess.run([program.path, *arguments], check=False).returncode
+        if first.status is not None and first.differs(arguments):
+            program.report("the first answer was another; that program was not proved, and this one is:")
         with open(first.input, "rb") as given:
-            return subprocess.run([program.path, *words], stdin=given, check=False).returncode
+            return subprocess.run([program.path, *arguments], stdin=given, check=False).returncode
 
 
-def interrupted(*_):
-    for it in SIGNALS:
-        signal.signal(it, signal.SIG_IGN)
+def end_build(*_signal: Any) -> NoReturn:
+    """Ends the build on a signal; further signals are ignored. Raises Failed."""
+    for signal_number in SIGNALS:
+        signal.signal(signal_number, signal.SIG_IGN)
     raise Failed("the build was ended; what is proved stays proved")
 
 
-def main(*words):
-    """Builds the program that the command line names. Returns the exit status."""
-    program = LW
-    if words[:1] == ("--program",):
-        program, words = Program(words[1]), words[2:]
-    for it in SIGNALS:
-        signal.signal(it, interrupted)
+def build_and_report(program: Program, arguments: list[str] | None = None) -> int:
+    """Builds a program, and answers words by it if there are any. Returns the exit status."""
+    for signal_number in SIGNALS:
+        signal.signal(signal_number, end_build)
     try:
-        if words[:1] == ("--first-answer",):
-            return build_and_answer(program, words[1:])
-        build(program)
+        if arguments is not None:
+            return build_and_answer(program, arguments)
+        build_program(program)
     except Failed as why:
-        program.tell(why)
+        program.report(str(why))
         return FAILED
     except OSError as error:
-        program.tell(f"the build failed: {error.filename or 'a file'}: {error.strerror}")
+        program.report(f"the build failed: {error.filename or 'a file'}: {error.strerror}")
         return FAILED
     return 0
 
 
+def main() -> int:
+    """Runs the command that the arguments describe. Returns the exit status."""
+    reader = command.Reader(__doc__)
+    reader.add_argument("--program", choices=("lw", "beyond"), default="lw", metavar="NAME")
+    reader.add_argument("--first-answer", nargs=argparse.REMAINDER, metavar="WORD")
+    arguments = reader.parse_args()
+    return build_and_report(Program(arguments.program), arguments.first_answer)
+
+
 if __name__ == "__main__":
-    sys.exit(main(*sys.argv[1:]))
+    sys.exit(start.run(main))

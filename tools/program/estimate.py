@@ -4,12 +4,15 @@ The plan is the build itself, played through: which crates run side by side, eac
 machine, or on this one in another hour, so nobody knows at first how much longer this build takes than planned. What is proved shows
 it, and the bounds become narrower.
 """
-from typing import Dict, Hashable, List, NamedTuple, Sequence
+from __future__ import annotations
 
-Crate = Hashable
+from collections.abc import Sequence
+from typing import Any, NamedTuple
+
+Crate = Any  # hashable: a crate, or its name
 # What a check gains by each further job: less than it does on a crate by itself, since a build has several in parallel.
 GAIN = 0.1
-MOST_JOBS = 4
+MAX_JOBS = 4
 # How many times the planned minutes a build takes, before anything is proved; and how many planned minutes count as much as that guess.
 USUAL_PACE = 1.1
 GUESSED_MINUTES = 4.0
@@ -23,62 +26,62 @@ LAST_WIDTH = 1.35
 class Bounds(NamedTuple):
     """The least and the most minutes that are expected."""
 
-    least: float
-    most: float
+    minimum: float
+    maximum: float
 
     def __str__(self) -> str:
-        least, most = max(1, round(self.least)), max(1, round(self.most))
-        return f"about {most} minute{'s' * (most > 1)}" if least == most else f"{least} to {most} minutes"
+        minimum, maximum = max(1, round(self.minimum)), max(1, round(self.maximum))
+        return f"about {maximum} minute{'s' * (maximum > 1)}" if minimum == maximum else f"{minimum} to {maximum} minutes"
 
 
 class Running(NamedTuple):
     """A crate that is being proved: the share of it that is left, and its jobs."""
 
-    left: float
+    minutes_left: float
     jobs: int
 
 
-def speed(jobs: int) -> float:
+def find_speed(jobs: int) -> float:
     """Returns how many times as fast as one job this number of jobs is."""
-    return 1 + GAIN * (min(jobs, MOST_JOBS) - 1)
+    return 1 + GAIN * (min(jobs, MAX_JOBS) - 1)
 
 
 class Plan:
     """The order in which crates are proved, each after those below it, on this number of processors; `minutes` has those of each crate."""
 
-    def __init__(self, below: Dict[Crate, Sequence[Crate]], minutes: Dict[Crate, float], processors: int):
+    def __init__(self, below: dict[Crate, Sequence[Crate]], minutes: dict[Crate, float], processors: int) -> None:
         self.below, self.minutes, self.processors = below, minutes, processors
-        self.chains: Dict[Crate, float] = {}
+        self.chains: dict[Crate, float] = {}
 
-    def chain(self, crate: Crate) -> float:
+    def find_chain_minutes(self, crate: Crate) -> float:
         """Returns the minutes of the longest chain of crates that starts with this one."""
         if crate not in self.chains:
-            above = [self.chain(it) for it, below in self.below.items() if crate in below]
+            above = [self.find_chain_minutes(it) for it, below in self.below.items() if crate in below]
             self.chains[crate] = self.minutes[crate] + max(above, default=0)
         return self.chains[crate]
 
-    def next_jobs(self, left: Sequence[Crate], running: Sequence[Crate]) -> Dict[Crate, int]:
+    def choose_next_jobs(self, waiting_crates: Sequence[Crate], running: Sequence[Crate]) -> dict[Crate, int]:
         """Returns the crates that can start now, and the jobs of each. The one with the longest chain gets the processors that are left."""
-        waiting = {*left, *running}
-        ready = [it for it in left if not waiting & {*self.below[it]}]
-        ready.sort(key=self.chain, reverse=True)
+        waiting = {*waiting_crates, *running}
+        ready = [it for it in waiting_crates if not waiting & {*self.below[it]}]
+        ready.sort(key=self.find_chain_minutes, reverse=True)
         others = len(ready) - 1 + len(running)
-        most = min(MOST_JOBS, self.processors)
-        return {it: 1 if at else min(most, max(self.processors - others, 2)) for at, it in enumerate(ready)}
+        max_jobs = min(MAX_JOBS, self.processors)
+        return {it: 1 if index else min(max_jobs, max(self.processors - others, 2)) for index, it in enumerate(ready)}
 
-    def minutes_to_go(self, left: Sequence[Crate], running: Dict[Crate, Running]) -> float:
+    def estimate_minutes(self, waiting_crates: Sequence[Crate], running: dict[Crate, Running]) -> float:
         """Returns the minutes by the clock until all are proved: those that are left, and those that run."""
-        left, running, passed = list(left), dict(running), 0.0
-        while left or running:
-            for crate, jobs in self.next_jobs(left, list(running)).items():
-                left.remove(crate)
+        waiting_crates, running, passed = list(waiting_crates), dict(running), 0.0
+        while waiting_crates or running:
+            for crate, jobs in self.choose_next_jobs(waiting_crates, list(running)).items():
+                waiting_crates.remove(crate)
                 running[crate] = Running(1.0, jobs)
-            share = min(1.0, self.processors / sum(speed(it.jobs) for it in running.values()))
-            ends = {it: self.minutes[it] * running[it].left / speed(running[it].jobs) / share for it in running}
+            share = min(1.0, self.processors / sum(find_speed(it.jobs) for it in running.values()))
+            ends = {it: self.minutes[it] * running[it].minutes_left / find_speed(running[it].jobs) / share for it in running}
             step = min(ends.values())
             passed += step
             running = {
-                it: Running(was.left * (1 - step / ends[it]), was.jobs) for it, was in running.items() if ends[it] > step
+                it: Running(was.minutes_left * (1 - step / ends[it]), was.jobs) for it, was in running.items() if ends[it] > step
             }
         return passed
 
@@ -86,14 +89,15 @@ class Plan:
 class Estimate:
     """The bounds of a build: by its plan, and by what the build has taken so far."""
 
-    def __init__(self, plan: Plan, crates: List[Crate]):
+    def __init__(self, plan: Plan, crates: list[Crate]) -> None:
+        """Starts an estimate at the start of a build."""
         self.plan = plan
-        self.whole = plan.minutes_to_go(crates, {})
+        self.whole = plan.estimate_minutes(crates, {})
         self.passed = [(0.0, 0.0)]  # the planned minutes that were done, and the minutes by the clock
 
-    def bounds(self, left: Sequence[Crate], running: Dict[Crate, Running], spent: float) -> Bounds:
+    def find_bounds(self, waiting_crates: Sequence[Crate], running: dict[Crate, Running], spent: float) -> Bounds:
         """Returns the bounds of the minutes to go after this number of minutes by the clock."""
-        to_go = self.plan.minutes_to_go(left, running)
+        to_go = self.plan.estimate_minutes(waiting_crates, running)
         done = self.whole - to_go
         if done > self.passed[-1][0] + 0.1:
             self.passed.append((done, spent))

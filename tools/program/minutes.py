@@ -1,4 +1,6 @@
 """What the gate took, crate by crate, as minutes.txt records it."""
+from __future__ import annotations
+
 import os
 
 FILE = os.path.join(os.path.dirname(os.path.abspath(__file__)), "minutes.txt")
@@ -6,12 +8,12 @@ FILE = os.path.join(os.path.dirname(os.path.abspath(__file__)), "minutes.txt")
 OTHERS = {"other": "other processes of rt ci", "library": "the library's builds", "documents": "the documents"}
 
 
-def lines():
+def read_lines() -> list[list[str]]:
     """Returns the lines of the file, split into words."""
-    with open(FILE, encoding="utf-8") as it:
-        return [line.split() for line in it if not line.startswith("#")]
+    with open(FILE, encoding="utf-8") as file:
+        return [line.split() for line in file if not line.startswith("#")]
 
 
-def proof_minutes():
+def read_proof_minutes() -> dict[str, float]:
     """Returns the minutes of the proof of each crate that has any."""
-    return {name: float(cells[0]) for name, *cells in lines() if name not in OTHERS and cells[0] != "-"}
+    return {name: float(cells[0]) for name, *cells in read_lines() if name not in OTHERS and cells[0] != "-"}

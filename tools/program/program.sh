@@ -120,10 +120,10 @@ run_program() {
     if ! is_current; then
         case $command in
             states | schedules | compile | replay)
-                ! is_watched || exec python3 "$home/tools/program/build.py" --program "$program_name" --first-answer "$@"
+                ! is_watched || exec python3 -B "$home/tools" program.build --program "$program_name" --first-answer "$@"
                 ;;
         esac
-        python3 "$home/tools/program/build.py" --program "$program_name" || exit 5
+        python3 -B "$home/tools" program.build --program "$program_name" || exit 5
     fi
     exec "$program" "$@"
 }

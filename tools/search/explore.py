@@ -4,13 +4,18 @@ A thread whose next event no other thread can notice or disturb any more execute
 step or a drain of a location that no other thread may still read or write, or a load of one that no other may still write. Every final
 state is still reached, since the events of the others may follow it.
 """
-from typing import Callable, Dict, Iterator, List, NamedTuple, Optional, Tuple
+from __future__ import annotations
+
+from collections.abc import Callable, Iterator
+from typing import NamedTuple, Tuple
 
 import plain
 from plain import Test
 from search.threads import EXCHANGE, FORWARD, LOAD, NONE, STORE, Place, Thread
 
 STEP, DRAIN = 0, 1
+# A state of the search: the index of the memory, and of each thread the index of its place.
+State = Tuple[int, ...]
 # A move: its kind, the location that is written or -1, the word, the place after it, and the number of statements executed.
 Move = Tuple[int, int, int, int, int]
 
@@ -18,111 +23,122 @@ Move = Tuple[int, int, int, int, int]
 class Found(NamedTuple):
     """The result of a search: for each final state the observed words, and a schedule; whether it is complete; the number of states."""
 
-    schedules: Dict[Tuple[int, ...], str]
+    schedules: dict[tuple[int, ...], str]
     is_whole: bool
     seen: int
+
+
+def make_drain(place: Place) -> Move:
+    """Returns the drain of a place's oldest entry, which it has."""
+    location, word, end, count = place.drain
+    return DRAIN, location, word, end, count
 
 
 class Search:
     """A search for the final states of a test."""
 
-    def __init__(self, test: Test):
+    def __init__(self, test: Test) -> None:
+        """Starts a search with the start of a test as its only state."""
         self.test = test
         self.threads = [Thread(test, number) for number in range(len(test.threads))]
-        self.memories: Dict[Tuple[int, ...], int] = {test.words: 0}
-        self.words: List[Tuple[int, ...]] = [test.words]
-        self.stored: Dict[Tuple[int, int, int], int] = {}
-        start = (0, *(it.start for it in self.threads))
-        self.numbers: Dict[tuple, int] = {start: 0}
-        self.states: List[tuple] = [start]
-        self.origins: List[tuple] = [()]  # of each state the number of the one before, a thread, a kind of move, statements
+        self.memories: dict[tuple[int, ...], int] = {test.words: 0}
+        self.words: list[tuple[int, ...]] = [test.words]
+        self.stored: dict[tuple[int, int, int], int] = {}
+        start = (0, *(thread.start for thread in self.threads))
+        self.numbers: dict[State, int] = {start: 0}
+        self.states: list[State] = [start]
+        # Of each state, except the start, the number of the one before, a thread, a kind of move, and the number of statements.
+        self.origins: list[tuple[int, int, int, int]] = [(0, 0, STEP, 0)]
 
-    def with_word(self, memory: int, location: int, word: int) -> int:
-        """Returns the index of a memory with another word."""
+    def replace_word(self, memory: int, location: int, word: int) -> int:
+        """Returns the index of the memory that differs from another by the word of a location."""
         key = (memory, location, word)
-        found = self.stored.get(key)
-        if found is None:
+        after = self.stored.get(key)
+        if after is None:
             words = self.words[memory]
             words = words[:location] + (word,) + words[location + 1 :]
-            found = self.memories.setdefault(words, len(self.words))
-            if found == len(self.words):
+            after = self.memories.setdefault(words, len(self.words))
+            if after == len(self.words):
                 self.words.append(words)
-            self.stored[key] = found
-        return found
+            self.stored[key] = after
+        return after
 
-    def step_of(self, thread: Thread, place: Place, words: Tuple[int, ...]) -> Move:
+    def make_step(self, thread: Thread, place: Place, words: tuple[int, ...]) -> Move:
         """Returns the step of a thread."""
         kind, location = place.kind, place.location
         if kind == FORWARD:
-            return STEP, -1, 0, *place.end
+            return (STEP, -1, 0) + place.end
         if kind == STORE:
-            return STEP, location, place.word, *place.end
+            return (STEP, location, place.word) + place.end
         word = words[location]
-        new, *end = place.ends.get(word) or thread.end_by(place, word)
-        return STEP, location if kind == EXCHANGE else -1, new, *end
+        new, place_after, steps = place.ends.get(word) or thread.finish_read(place, word)
+        return STEP, location if kind == EXCHANGE else -1, new, place_after, steps
 
-    def moves(self, state: tuple) -> Iterator[Tuple[int, Move]]:
+    def list_moves(self, state: State) -> Iterator[tuple[int, Move]]:
         """Yields the moves from a state, each with its thread; only one if it is sufficient to explore that."""
         words = self.words[state[0]]
         places = [thread.places[number] for thread, number in zip(self.threads, state[1:])]
-        for at, place in enumerate(places):
+        for index, place in enumerate(places):
             reads = writes = 0
             for number, other in enumerate(places):
-                if number != at:
+                if number != index:
                     reads |= other.reads
                     writes |= other.writes
-            move = self.move_alone(at, place, words, reads, writes)
+            move = self.find_independent_move(index, place, words, reads, writes)
             if move:
-                yield at, move
+                yield index, move
                 return
-        for at, place in enumerate(places):
+        for index, place in enumerate(places):
             if place.drain:
-                yield at, (DRAIN, *place.drain)
+                yield index, make_drain(place)
             if place.kind != NONE:
-                yield at, self.step_of(self.threads[at], place, words)
+                yield index, self.make_step(self.threads[index], place, words)
 
-    def move_alone(self, at: int, place: Place, words: Tuple[int, ...], reads: int, writes: int) -> Optional[Move]:
-        """Returns a move of a thread that no other can notice or disturb, if it has one: the others may still read and write these."""
+    def find_independent_move(self, index: int, place: Place, words: tuple[int, ...], reads: int, writes: int) -> Move | None:
+        """Returns a move of a thread that no other can notice or disturb, if it has one. `reads` and `writes` are the locations that the others may
+        still access, a bit each. `None` if it has none.
+        """
         if place.drain and not (reads | writes) >> place.drain[0] & 1:
-            return (DRAIN, *place.drain)
+            return make_drain(place)
         if place.kind == NONE:
             return None
         watched = writes if place.kind in (FORWARD, LOAD) else reads | writes
-        return None if watched >> place.location & 1 else self.step_of(self.threads[at], place, words)
+        return None if watched >> place.location & 1 else self.make_step(self.threads[index], place, words)
 
-    def run(self, most: int, tell: Callable[[int, int], None]) -> Found:
-        """Explores at most `most` states."""
-        at, finals = 0, {}
-        observed = plain.observed(self.test)
-        while at < len(self.states) and at < most:
-            state, is_end = self.states[at], True
-            for thread, (kind, location, word, place, steps) in self.moves(state):
+    def explore(self, max_states: int, report: Callable[[int, int], None]) -> Found:
+        """Explores at most `max_states` states. Calls `report` from time to time with the numbers of the explored and of the known states."""
+        explored = 0
+        finals: dict[tuple[int, ...], int] = {}
+        observed = plain.list_observed_sites(self.test)
+        while explored < len(self.states) and explored < max_states:
+            state, is_end = self.states[explored], True
+            for thread, (kind, location, word, place, steps) in self.list_moves(state):
                 is_end = False
-                memory = state[0] if location < 0 else self.with_word(state[0], location, word)
+                memory = state[0] if location < 0 else self.replace_word(state[0], location, word)
                 after = (memory, *state[1 : thread + 1], place, *state[thread + 2 :])
                 if after not in self.numbers:
                     self.numbers[after] = len(self.states)
                     self.states.append(after)
-                    self.origins.append((at, thread, kind, steps))
+                    self.origins.append((explored, thread, kind, steps))
             if is_end:
-                finals.setdefault(tuple(self.word_at(state, site) for site in observed), at)
-            at += 1
-            if not at & 0x3FFF:
-                tell(at, len(self.states))
-        is_whole = at == len(self.states)
-        return Found({words: self.schedule_to(number) for words, number in finals.items()}, is_whole, len(self.states))
+                finals.setdefault(tuple(self.read_word(state, site) for site in observed), explored)
+            explored += 1
+            if not explored & 0x3FFF:
+                report(explored, len(self.states))
+        is_whole = explored == len(self.states)
+        return Found({words: self.make_schedule(number) for words, number in finals.items()}, is_whole, len(self.states))
 
-    def word_at(self, state: tuple, site: tuple) -> int:
+    def read_word(self, state: State, site: plain.Site) -> int:
         """Returns the word of a site in a final state."""
-        if site[0] == "location":
-            return self.words[state[0]][site[1]]
-        return self.threads[site[1]].places[state[1 + site[1]]].here.registers[site[2]]
+        if isinstance(site, plain.LocationSite):
+            return self.words[state[0]][site.location]
+        return self.threads[site.thread].places[state[1 + site.thread]].here.registers[site.register]
 
-    def schedule_to(self, number: int) -> str:
-        """Returns the events that reach a state."""
-        parts: List[str] = []
+    def make_schedule(self, number: int) -> str:
+        """Returns the schedule that reaches a state, which has a number."""
+        parts: list[str] = []
         while number:
             number, thread, kind, steps = self.origins[number]
             parts.append(f"D{thread} " * (kind == DRAIN) + f"P{thread} " * steps)
-        parts += [f"P{at} " * it.first_steps for at, it in reversed(list(enumerate(self.threads)))]
+        parts += [f"P{index} " * code.first_steps for index, code in reversed(list(enumerate(self.threads)))]
         return "".join(reversed(parts)).strip()

@@ -1,8 +1,10 @@
 """The places of a thread, each with an index and with its moves: the search uses only the indices."""
-from typing import Dict, List, Optional, Tuple
+from __future__ import annotations
 
-from plain import WORD, Test, word_of
-from search.code import Code, Here
+from typing import Any, Tuple
+
+from plain import WORD, Test, read_value
+from search.code import Code, ThreadState
 
 # Kinds of steps: none, a load that is forwarded from the own newest store, a load, a store to memory, and an exchange.
 NONE, FORWARD, LOAD, STORE, EXCHANGE = range(5)
@@ -15,72 +17,78 @@ class Place:
 
     __slots__ = ("here", "kind", "location", "word", "end", "ends", "drain", "reads", "writes")
 
-    def __init__(self, here: Here, code: Code):
-        self.here = here
+    def __init__(self, state: ThreadState, code: Code) -> None:
+        """Makes a place whose moves are not known yet: Thread.fill computes them."""
+        self.here = state
         self.kind = NONE
         self.location = 0
         self.word = 0
-        self.end: Optional[End] = None  # of a step that no word decides
-        self.ends: Dict[int, Tuple[int, int, int]] = {}  # of each word that is found: the word behind, and the end
-        self.drain: Optional[Tuple[int, int, int, int]] = None  # location, word, and the end
-        self.reads = code.reads[here.at]
-        self.writes = code.writes[here.at]
-        for location, _ in here.buffer:
+        self.end: Any = None  # an End, of a step that no word decides
+        self.ends: dict[int, tuple[int, int, int]] = {}  # of each word that is found: the word behind, and the end
+        self.drain: Any = None  # location, word, and the end, if an entry can drain
+        self.reads = code.reads[state.position]
+        self.writes = code.writes[state.position]
+        for location, _ in state.buffer:
             self.writes |= 1 << location
 
 
 class Thread:
     """All places of a thread that the search reaches."""
 
-    def __init__(self, test: Test, number: int):
+    def __init__(self, test: Test, number: int) -> None:
+        """Finds all places that a thread reaches from its start."""
         self.code = Code(test, number)
-        self.numbers: Dict[Here, int] = {}
-        self.places: List[Place] = []
-        self.start, self.first_steps = self.number_of(Here(0, test.registers[number], False, ()))
+        self.numbers: dict[ThreadState, int] = {}
+        self.places: list[Place] = []
+        self.start, self.first_steps = self.find_end(ThreadState(0, test.registers[number], False, ()))
 
-    def number_of(self, here: Here, steps: int = 0) -> End:
-        """Returns the index of the place at which a thread stops after running from here."""
-        here, more = self.code.run(here)
-        if here not in self.numbers:
-            self.numbers[here] = len(self.places)
-            self.places.append(Place(here, self.code))
-            self.fill(self.places[-1])
-        return self.numbers[here], steps + more
+    def find_end(self, state: ThreadState, steps: int = 0) -> End:
+        """Returns the index of the place at which a thread stops after running from a state, and the number of statements executed, added
+        to `steps`.
+        """
+        state, more = self.code.run_locally(state)
+        if state not in self.numbers:
+            self.numbers[state] = len(self.places)
+            self.places.append(Place(state, self.code))
+            self.compute_moves(self.places[-1])
+        return self.numbers[state], steps + more
 
-    def fill(self, place: Place) -> None:
+    def compute_moves(self, place: Place) -> None:
         """Computes the moves of a place."""
-        here = place.here
-        if here.buffer:
-            location, word = here.buffer[0]
-            place.drain = (location, word, *self.number_of(here._replace(buffer=here.buffer[1:])))
-        if here.at == self.code.end or self.code.waiting(here):
+        state = place.here
+        if state.buffer:
+            location, word = state.buffer[0]
+            place.drain = (location, word, *self.find_end(state._replace(buffer=state.buffer[1:])))
+        if state.position == self.code.end or self.code.waits(state):
             return
-        it = self.code.statements[here.at]
-        place.location = it.location
-        if it.kind == "load":
-            own = [word for location, word in here.buffer if location == it.location]
+        statement = self.code.statements[state.position]
+        place.location = statement.location
+        if statement.kind == "load":
+            own = [word for location, word in state.buffer if location == statement.location]
             place.kind = FORWARD if own else LOAD
             if own:
-                place.end = self.number_of(self.with_word(here, it.register, own[-1]), 1)
-        elif it.kind == "store":
-            place.kind, place.word = STORE, word_of(it.value, here.registers)
-            place.end = self.number_of(here._replace(at=here.at + 1), 1)
+                place.end = self.find_end(self.make_end(state, statement.register, own[-1]), 1)
+        elif statement.kind == "store":
+            place.kind, place.word = STORE, read_value(statement.value, state.registers)
+            place.end = self.find_end(state._replace(position=state.position + 1), 1)
         else:
             place.kind = EXCHANGE
 
-    def with_word(self, here: Here, register: int, word: int, zero: Optional[bool] = None) -> Here:
-        """Returns the place after a statement that gives a word to a register."""
-        registers = here.registers[:register] + (word,) + here.registers[register + 1 :]
-        return Here(here.at + 1, registers, here.zero if zero is None else zero, here.buffer)
+    def make_end(self, state: ThreadState, register: int, word: int, zero: bool | None = None) -> ThreadState:
+        """Returns the state after a statement that gives a word to a register, and sets the zero flag if it is passed."""
+        registers = state.registers[:register] + (word,) + state.registers[register + 1 :]
+        return ThreadState(state.position + 1, registers, state.zero if zero is None else zero, state.buffer)
 
-    def end_by(self, place: Place, word: int) -> Tuple[int, int, int]:
-        """Returns the word after a load or an exchange that finds a word, the place, and the number of statements."""
-        it, here, new = self.code.statements[place.here.at], place.here, word
+    def finish_read(self, place: Place, word: int) -> tuple[int, int, int]:
+        """Returns what a load or an exchange does that finds a word: the word after it in memory, the index of the place after it, and the
+        number of statements.
+        """
+        statement, state, new = self.code.statements[place.here.position], place.here, word
         zero = None
         if place.kind == EXCHANGE:
-            operand = word_of(it.value, here.registers) if it.value else here.registers[it.register]
-            new = operand if it.kind in ("xchg", "swap") else (word + operand) % WORD
-            zero = new == 0 if it.kind == "xadd" else None
-        end = (new, *self.number_of(self.with_word(here, it.register, word, zero), 1))
+            operand = read_value(statement.value, state.registers) if statement.value else state.registers[statement.register]
+            new = operand if statement.kind in ("xchg", "swap") else (word + operand) % WORD
+            zero = new == 0 if statement.kind == "xadd" else None
+        end = (new, *self.find_end(self.make_end(state, statement.register, word, zero), 1))
         place.ends[word] = end
         return end

@@ -1,10 +1,11 @@
 """The names of shapes: the families of docs/FAMILIES.md, with a suffix for what is between accesses."""
+from __future__ import annotations
+
 import re
-from typing import Dict, List, Optional, Tuple
 
-from shapes.edges import Edge, standard, turned
+from shapes.edges import Edge, choose_rotation, list_rotations
 
-FAMILIES: Dict[str, str] = {
+FAMILIES: dict[str, str] = {
     "SB": "PodWR Fre PodWR Fre",
     "3.SB": "PodWR Fre PodWR Fre PodWR Fre",
     "4.SB": "PodWR Fre PodWR Fre PodWR Fre PodWR Fre",
@@ -37,32 +38,32 @@ FAMILIES: Dict[str, str] = {
     "IRRWIW": "Rfe PodRR Fre Rfe PodRW Coe",
     "IRWIW": "Rfe PodRW Coe Rfe PodRW Coe",
 }
-BY_CYCLE = {standard(tuple(cycle.split())): name for name, cycle in FAMILIES.items()}
+BY_CYCLE = {choose_rotation(tuple(cycle.split())): name for name, cycle in FAMILIES.items()}
 BETWEEN = {"MFence": "mfence", "LockXchg": "xchg", "LockXadd": "xadd", "Po": "po"}
 
 
-def plain_name(name: str) -> str:
+def strip_middle(name: str) -> str:
     """Returns an edge without what is between its accesses."""
     return re.sub(r"^(MFence|LockXchg|LockXadd)", "Po", name)
 
 
-def family_of(names: Tuple[str, ...]) -> Optional[str]:
-    """Returns the family of a cycle, whatever is between its accesses."""
-    return BY_CYCLE.get(standard(tuple(plain_name(name) for name in names)))
+def find_family(names: tuple[str, ...]) -> str | None:
+    """Returns the family of a cycle, whatever is between its accesses. `None` if it has none."""
+    return BY_CYCLE.get(choose_rotation(tuple(strip_middle(name) for name in names)))
 
 
-def name_of(edges: List[Edge]) -> str:
+def make_name(edges: list[Edge]) -> str:
     """Returns the name of a cycle: its family's, with a suffix for what is between accesses, or its edges."""
     names = tuple(edge.name for edge in edges)
-    family = family_of(names)
+    family = find_family(names)
     if not family:
-        return "-".join(standard(names))
+        return "-".join(choose_rotation(names))
     wanted = tuple(FAMILIES[family].split())
-    ways = [way for way in turned(names) if tuple(plain_name(name) for name in way) == wanted]
-    return family + suffix(min(ways))
+    ways = [way for way in list_rotations(names) if tuple(strip_middle(name) for name in way) == wanted]
+    return family + make_suffix(min(ways))
 
 
-def suffix(names: Tuple[str, ...]) -> str:
+def make_suffix(names: tuple[str, ...]) -> str:
     """Returns the suffix of a family's name."""
     between = [BETWEEN[kind] for name in names for kind in BETWEEN if name.startswith(kind)]
     if not any(it != "po" for it in between):

@@ -6,22 +6,24 @@ made by tools/plain.py. The two programs are proved if they are those of the sou
 not. So each answer carries its maker, and whoever prints it says which answers are not proved. A further maker is added to `Maker` and to
 `answer`.
 """
+from __future__ import annotations
+
 import functools
 import os
 import subprocess
-import sys
+from collections.abc import Iterable
 from enum import Enum
-from typing import Iterable, List, NamedTuple, Optional
+from typing import Any, NamedTuple
 
 import given
 import plain
 from search.explore import Search
-from search.reports import report_of
-from shared import spawn
+from search.reports import make_report
+from shared import python_lw, spawn
 from shared.home import BEYOND, HOME, PROGRAM
 
 # The states of the machine at which a search for a list ends.
-MOST_STATES = 2_000_000
+MAX_STATES = 2_000_000
 # The status of a tool that has no verdict.
 NO_VERDICT = 6
 
@@ -38,7 +40,7 @@ class Maker(Enum):
 
     @property
     def is_proved(self) -> bool:
-        """Whether what it makes is proved to be the answer."""
+        """Returns whether what it makes is proved to be the answer."""
         return self in (Maker.PROGRAM, Maker.BEYOND)
 
 
@@ -47,7 +49,7 @@ PROGRAMS = {"lw": (Maker.PROGRAM, Maker.STALE_PROGRAM), "beyond": (Maker.BEYOND,
 
 
 class NoList(given.Fault):
-    """Nobody here makes a list of the states of a test: the cause, and a place in its text."""
+    """Nobody here makes a list of the states of a test: the cause, and an offset in its text."""
 
 
 class Answer(NamedTuple):
@@ -58,60 +60,57 @@ class Answer(NamedTuple):
 
 
 def has_sources() -> bool:
-    """Whether the sources of the programs are here. A pack has none: its programs and its library are what was handed on."""
+    """Returns whether the sources of the programs are here. A pack has none: its programs and its library are what was handed on."""
     return os.path.exists(os.path.join(HOME, "crates.txt"))
 
 
 @functools.lru_cache(maxsize=None)
 def is_current(program: str) -> bool:
-    """Whether a program is that of the sources as they are. It is asked once."""
+    """Returns whether a program is that of the sources as they are. It is asked once."""
     return spawn.is_current(program)
 
 
-def maker_of(program: str) -> Maker:
-    """The maker of what the program of this name answers, or the library in its place."""
+def find_maker(program: str) -> Maker:
+    """Returns the maker of what the program of this name answers, or the library in its place."""
     current, stale = PROGRAMS[program]
     return current if not has_sources() or is_current(program) else stale
 
 
 @functools.lru_cache(maxsize=None)
-def library():
-    """The proved library, if it is a shared object beside python/lw.py, as in a pack. Beside sources nothing says of which it is made, so it is
-    not asked."""
-    folder = os.path.join(HOME, "python")
-    if has_sources() or not os.path.exists(os.path.join(folder, "liblw.so")):
+def load_library() -> Any:
+    """Returns the proved library if it is a shared object beside python/lw.py, as in a pack. Beside sources nothing says of which it is made, so it
+    is not asked.
+    """
+    shared_object = os.path.join(python_lw.FOLDER, "liblw.so")
+    if has_sources() or not os.path.exists(shared_object):
         return None
-    sys.path.append(folder)
-    import lw
-
     try:
-        return lw.Workbench(os.path.join(folder, "liblw.so"))
+        return python_lw.load_lw().Workbench(shared_object)
     except OSError:
         return None
 
 
-def made_by_library(bench, words: List[str], text: str) -> Optional[str]:
-    """The library's answer, or None if it refuses the test."""
-    import lw
-
+def ask_library(bench: Any, words: list[str], text: str) -> str | None:
+    """Returns the library's answer, or None if it refuses the test. `bench` is a workbench of python/lw.py."""
     command, *more = words
     try:
         return bench.run(command, text.encode(), *more[:1], *more[2:])[1].decode()
-    except lw.Fault:
+    except python_lw.load_lw().Fault:
         return None
 
 
-def made_by_program(words: List[str], text: str) -> Optional[str]:
-    """What the program prints, or None if it is not built, does not start on this system, or refuses the test. The library is asked in its
-    place, in this process, if it is present."""
-    bench = library()
+def ask_program(arguments: list[str], text: str) -> str | None:
+    """Returns what the program prints, or None if it is not built, does not start on this system, or refuses the test. If the library is present it
+    is asked instead, in this process.
+    """
+    bench = load_library()
     if bench:
-        return made_by_library(bench, words, text)
-    return printed_by([PROGRAM, *words], text, words[0] == "replay")
+        return ask_library(bench, arguments, text)
+    return run_command([PROGRAM, *arguments], text, arguments[0] == "replay")
 
 
-def printed_by(command: List[str], text: str, may_stop: bool = False) -> Optional[str]:
-    """What a command prints, or None if it does not start, or ends with another status than 0, unless it may stop before its end."""
+def run_command(command: list[str], text: str, may_stop: bool = False) -> str | None:
+    """Returns what a command prints, or None if it does not start, or ends with another status than 0, unless it may stop before its end."""
     try:
         ran = subprocess.run(command, input=text.encode(), stdout=subprocess.PIPE, stderr=subprocess.DEVNULL, check=False)
     except OSError:
@@ -119,59 +118,59 @@ def printed_by(command: List[str], text: str, may_stop: bool = False) -> Optiona
     return ran.stdout.decode() if ran.stdout and (ran.returncode == 0 or may_stop) else None
 
 
-def made_by_beyond(text: str) -> Optional[str]:
-    """The report of a test of any size by the library, if it is present and its memory is enough, and otherwise by the program beyond. None if
-    neither makes it."""
-    bench = library()
+def ask_beyond(text: str) -> str | None:
+    """Returns the report of a test of any size by the library, if it is present and its memory is enough, and otherwise by the program beyond. None
+    if neither makes it.
+    """
+    bench = load_library()
     if bench:
-        import lw
-
         try:
             return bench.reach("states", text.encode()).decode()
-        except lw.Fault:
+        except python_lw.load_lw().Fault:
             pass
-    return printed_by([BEYOND, "states"], text)
+    return run_command([BEYOND, "states"], text)
 
 
-def made_by_search(test: plain.Test) -> str:
-    """The report of a test by the search of tools/beyond.py."""
-    found = Search(test).run(MOST_STATES, lambda *_: None)
-    if not found.is_whole:
-        why = f"a search for the states of {test.name} ends at {MOST_STATES} states of the machine"
+def search_states(test: plain.Test) -> str:
+    """Returns the report of a test by the search of tools/beyond.py. Raises NoList if there are too many states."""
+    result = Search(test).explore(MAX_STATES, lambda *_: None)
+    if not result.is_whole:
+        why = f"a search for the states of {test.name} ends at {MAX_STATES} states of the machine"
         raise NoList(f"there is no whole list: lw makes none here, and {why}", 0)
-    return report_of(test, found)
+    return make_report(test, result)
 
 
-def answer(words: List[str], test: plain.Test, text: Optional[str] = None) -> Answer:
-    """The answer to a command of `lw`. The text is the canonical one of an x86 test if none is passed."""
-    text = plain.canonical_text(test) if text is None else text
-    made = made_by_program(words, text)
-    if made is not None:
-        return Answer(made, maker_of("lw"))
-    if words == ["states"]:
-        made = made_by_beyond(text)
-        return Answer(made_by_search(test), Maker.SEARCH) if made is None else Answer(made, maker_of("beyond"))
-    return Answer(plain.answer(words, text)[0], Maker.PLAIN)
+def make_answer(arguments: list[str], test: plain.Test, text: str | None = None) -> Answer:
+    """Returns the answer to a command of `lw`. The text is the canonical one of an x86 test if none is passed."""
+    text = plain.format_canonical_text(test) if text is None else text
+    printed = ask_program(arguments, text)
+    if printed is not None:
+        return Answer(printed, find_maker("lw"))
+    if arguments == ["states"]:
+        printed = ask_beyond(text)
+        return Answer(search_states(test), Maker.SEARCH) if printed is None else Answer(printed, find_maker("beyond"))
+    return Answer(plain.answer_command(arguments, text)[0], Maker.PLAIN)
 
 
-def without_verdict(test: plain.Test, why: str) -> str:
-    """What is printed in place of a report if no state was found, and that says nothing of the question: a report would say Ok or No."""
-    heading = plain.report(test, set()).splitlines()[0]
-    return plain.text_of([heading, "States 0", f"None: {why}, so nothing is said of the condition", f"Condition {plain.condition_text(test)}"])
+def format_no_verdict(test: plain.Test, why: str) -> str:
+    """Returns what is printed in place of a report if no state was found, which says nothing of the question. A report would say Ok or No.
+    """
+    heading = plain.make_report(test, set()).splitlines()[0]
+    return plain.join_lines([heading, "States 0", f"None: {why}, so nothing is said of the condition", f"Condition {plain.format_condition(test)}"])
 
 
-def names_of(makers: Iterable[Maker]) -> str:
-    """The names of makers, in words."""
-    named = {*makers}
-    return " and ".join(it.value for it in Maker if it in named)
+def format_makers(makers: Iterable[Maker]) -> str:
+    """Returns the names of makers, in words."""
+    chosen = {*makers}
+    return " and ".join(it.value for it in Maker if it in chosen)
 
 
 def are_proved(makers: Iterable[Maker]) -> bool:
-    """Whether all of them are proved."""
+    """Returns whether all of them are proved."""
     return all(it.is_proved for it in makers)
 
 
-def states_in(report: str) -> List[str]:
-    """The lines of the states of a report."""
+def filter_state_lines(report: str) -> list[str]:
+    """Returns the lines of the states of a report."""
     lines = report.splitlines()
     return lines[2 : 2 + int(lines[1].split()[1])]

@@ -3,10 +3,13 @@
 What a lemma binds (parameters, `λ`, `let`, patterns, fields) is gathered over the lemma and what stands under it, so that a name that is
 bound in one place counts as bound in all of them. A name that is said to be free is not bound anywhere in its lemma.
 """
+from __future__ import annotations
+
 import re
+from collections.abc import Container
 
 from shared import antt
-from shared.antt_names import words_of
+from shared.antt_names import File, read_words
 
 # The language's own words and signs.
 BUILT_IN = set(
@@ -21,18 +24,18 @@ OPENED = re.compile(r"\s*open .* use \{([^}]*)\}")
 NUMERAL_OR_TEXT = re.compile(r'[\d"]')
 
 
-def until(tokens, at, ends):
-    """Returns the tokens from an index on, up to the first of these."""
-    found = []
-    while at < len(tokens) and tokens[at] not in ends:
-        found.append(tokens[at])
-        at += 1
-    return found, tokens[at] if at < len(tokens) else ""
+def take_until(tokens: list[str], index: int, ends: Container[str]) -> tuple[list[str], str]:
+    """Returns the tokens from an index on up to the first of `ends`, and that one; it is empty if there is none."""
+    before = []
+    while index < len(tokens) and tokens[index] not in ends:
+        before.append(tokens[index])
+        index += 1
+    return before, tokens[index] if index < len(tokens) else ""
 
 
-def without_types(tokens):
+def remove_types(tokens: list[str]) -> list[str]:
     """Returns some tokens, without what follows colons in their brackets."""
-    found, depth, depth_of_type = [], 0, None
+    kept, depth, depth_of_type = [], 0, None
     for token in tokens:
         depth += (token in antt.OPENING) - (token in antt.CLOSING)
         if depth_of_type is not None and depth < depth_of_type:
@@ -40,107 +43,107 @@ def without_types(tokens):
         if depth_of_type is None and token == ":":
             depth_of_type = depth
         if depth_of_type is None:
-            found.append(token)
-    return found
+            kept.append(token)
+    return kept
 
 
-def pattern_before(tokens, at):
+def find_pattern(tokens: list[str], end: int) -> list[str]:
     """Returns the tokens of the pattern that ends before an index: from the bar or the bracket before it."""
-    depth, begin = 0, at
+    depth, begin = 0, end
     while begin and (depth or tokens[begin - 1] not in ("|", *antt.OPENING)):
         begin -= 1
         depth += (tokens[begin] in antt.CLOSING) - (tokens[begin] in antt.OPENING)
-    return tokens[begin:at]
+    return tokens[begin:end]
 
 
-def variables_of(pattern):
+def list_variables(pattern: list[str]) -> set[str]:
     """Returns what patterns bind: their words, except constructors, which have arguments, or are capitalized with more than two letters."""
-    found = set()
-    for before, word, behind in zip(["", *pattern], pattern, [*pattern[1:], ""]):
-        has_arguments = before == "(" and (behind[:1].isalpha() or behind in ("(", "{", "_"))
+    variables = set()
+    for before, word, after in zip(["", *pattern], pattern, [*pattern[1:], ""]):
+        has_arguments = before == "(" and (after[:1].isalpha() or after in ("(", "{", "_"))
         is_constructor = has_arguments or word in CONSTRUCTORS or word[0].isupper() and len(word) > 2
         if word[0].isalpha() and not is_constructor:
-            found.add(word)
-    return found
+            variables.add(word)
+    return variables
 
 
-def bound_by_words(tokens):
+def list_bound_by_words(tokens: list[str]) -> set[str]:
     """Returns what `λ`, `let`, the cases of `elim`, parameters and fields bind."""
-    found = set()
-    for at, token in enumerate(tokens):
+    bound = set()
+    for index, token in enumerate(tokens):
         if token == "λ":
-            found.update(without_types(until(tokens, at + 1, (".",))[0]))
+            bound.update(remove_types(take_until(tokens, index + 1, (".",))[0]))
         elif token == "let":
-            found.update(until(tokens, at + 1, (":", "="))[0])
+            bound.update(take_until(tokens, index + 1, (":", "="))[0])
         elif token in ("(", "{"):
-            names, end = until(tokens, at + 1, (":", "=", ",", ";", "→", *BRACKETS))
+            names, end = take_until(tokens, index + 1, (":", "=", ",", ";", "→", *BRACKETS))
             if end == ":" or token == "{" and end in ("}", "="):
-                found.update(names)
-        elif token == ";" and tokens[at + 2 : at + 3] in (["="], [":"]):
-            found.add(tokens[at + 1])
+                bound.update(names)
+        elif token == ";" and tokens[index + 2 : index + 3] in (["="], [":"]):
+            bound.add(tokens[index + 1])
         elif token == "↦":
-            found |= variables_of(["(", *pattern_before(tokens, at), ")"])
-    return found
+            bound |= list_variables(["(", *find_pattern(tokens, index), ")"])
+    return bound
 
 
-def head_of(tokens):
+def split_head(tokens: list[str]) -> tuple[list[str], str]:
     """Returns what precedes the sign of an equation or a signature, and that sign."""
     depth = 0
-    for at, token in enumerate(tokens):
+    for index, token in enumerate(tokens):
         depth += (token in antt.OPENING) - (token in antt.CLOSING)
         if not depth and token in ("=", ":"):
-            return tokens[:at], token
+            return tokens[:index], token
     return tokens, ""
 
 
-def bound_in(sentence):
+def list_bound(sentence: antt.Sentence) -> set[str]:
     """Returns what a sentence binds."""
     opened = OPENED.match(sentence.text)
     if opened:
         return {it.strip() for it in opened[1].split(",")}
-    tokens = words_of(sentence)
-    head, sign = head_of(tokens)
-    found = bound_by_words(tokens)
+    tokens = read_words(sentence)
+    head, sign = split_head(tokens)
+    bound = list_bound_by_words(tokens)
     if sign == "=":
-        found |= variables_of(head[1:])
+        bound |= list_variables(head[1:])
     if sign == ":":
-        found.update(without_types(head))
-    return found
+        bound.update(remove_types(head))
+    return bound
 
 
-def lemmas_of(sentences):
+def group_lemmas(sentences: list[antt.Sentence]) -> list[list[antt.Sentence]]:
     """Returns the sentences in groups: a signature or a block's head at the margin, its clauses, and what is indented below it."""
-    groups = []
-    for it in sentences:
-        tokens = words_of(it)
-        if not groups or it.indent == 0 and (head_of(tokens)[1] == ":" or {"module", "record", "data"} & set(tokens[:3])):
+    groups: list[list[antt.Sentence]] = []
+    for sentence in sentences:
+        tokens = read_words(sentence)
+        if not groups or sentence.indent == 0 and (split_head(tokens)[1] == ":" or {"module", "record", "data"} & set(tokens[:3])):
             groups.append([])
-        groups[-1].append(it)
+        groups[-1].append(sentence)
     return groups
 
 
-def in_scope_everywhere(file):
+def list_file_names(file: File) -> set[str]:
     """Returns the names that a whole file has: what it imports and declares, the parts of its operators, and what its heads and records
     bind.
     """
-    known = {*BUILT_IN, *BRACKETS, *file.brings, *file.modules, *(it.name for it in file.declarations)}
-    for it in file.declarations:
-        for part in it.parts:
-            head, sign = head_of(words_of(part))
+    known = {*BUILT_IN, *BRACKETS, *file.brings, *file.modules, *(declaration.name for declaration in file.declarations)}
+    for declaration in file.declarations:
+        for part in declaration.parts:
+            head, sign = split_head(read_words(part))
             known |= set(head) if sign == ":" else set()
-    for it in file.sentences:
-        if {"module", "record", "data"} & set(words_of(it)[:3]) or OPENED.match(it.text):
-            known |= bound_in(it) | set(words_of(it)[:3])
+    for sentence in file.sentences:
+        if {"module", "record", "data"} & set(read_words(sentence)[:3]) or OPENED.match(sentence.text):
+            known |= list_bound(sentence) | set(read_words(sentence)[:3])
     return known | {part for name in known for part in name.split("◌") if part}
 
 
-def free_in(file):
+def list_free_names(file: File) -> list[str]:
     """Returns the free names of a file, in their order."""
-    known, found = in_scope_everywhere(file), []
-    for lemma in lemmas_of(file.sentences):
-        bound = set().union(*map(bound_in, lemma))
-        for word in (it for sentence in lemma if not SKIPPED.match(sentence.text) for it in words_of(sentence)):
+    known, free = list_file_names(file), []
+    for lemma in group_lemmas(file.sentences):
+        bound = set().union(*map(list_bound, lemma))
+        for word in (it for sentence in lemma if not SKIPPED.match(sentence.text) for it in read_words(sentence)):
             name = word.partition(".")[0]
             if not (name in known or name in bound or word in BUILT_IN or word[0] in ".,;" or NUMERAL_OR_TEXT.match(word)):
-                found.append(name)
-    return list(dict.fromkeys(found))
+                free.append(name)
+    return list(dict.fromkeys(free))

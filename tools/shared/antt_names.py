@@ -1,14 +1,25 @@
 """Which names .antt files declare and import, and what a name in a file means."""
+from __future__ import annotations
+
 import os
 import re
+from typing import NamedTuple
 
 from shared import antt
-from shared.antt_terms import Group, Unread, grouped, index_of
-from shared.home import HOME, crates
+from shared.antt_terms import Group, find_index, group_tokens
+from shared.home import HOME, read_crates
 
 MARKS = {"pattern", "unfoldable", "abbrev", "pub", "axiom"}
 KEPT = {"use", "mod", "open", "infix", "infixl", "infixr", "unfolding", "ruleset", "mutual", "deriving", "where"}
 IMPORT = re.compile(r"^\s*(?:unfoldable )?(pub )?use ([^\s{]+?)(?:\.\{([^}]*)\}| as (\S+))?\s*$", re.M)
+
+
+class Block(NamedTuple):
+    """A block around a sentence: its indent, its head, and its kind, a word such as `module`, `record` or `where`."""
+
+    indent: int
+    head: antt.Sentence
+    kind: str
 
 
 class Declaration:
@@ -17,40 +28,47 @@ class Declaration:
     `scope` are the heads of the modules around it; `owner` is the sentence whose `where` it is in, if any.
     """
 
-    def __init__(self, file, name, sentence, scope, owner):
+    def __init__(self, file: File, name: str, sentence: antt.Sentence, scope: list[antt.Sentence], owner: antt.Sentence | None) -> None:
+        """Makes a declaration of a name, whose signature or head is a sentence."""
         self.file, self.name, self.scope, self.owner = file, name, scope, owner
-        self.number, self.head, self.parts = sentence.number, sentence, []
-        marks = set(words_of(sentence)[:3]) & MARKS
+        self.number, self.head = sentence.number, sentence
+        self.parts: list[antt.Sentence] = []
+        marks = set(read_words(sentence)[:3]) & MARKS
         self.is_public, self.is_definition = "pub" in marks, bool(marks & {"abbrev", "unfoldable", "pattern"})
 
     @property
-    def place(self):
+    def place(self) -> str:
+        """Where the declaration is, as FILE:LINE."""
         return f"{os.path.relpath(self.file.path, HOME)}:{self.number}"
 
 
-def words_of(sentence):
-    return antt.tokens_of(sentence.text)
+def read_words(sentence: antt.Sentence) -> list[str]:
+    """Returns the tokens of a sentence, without comments."""
+    return antt.read_tokens(sentence.text)
 
 
 class File:
     """A file: its module, its declarations, and its imports."""
 
-    def __init__(self, path):
+    def __init__(self, path: str) -> None:
+        """Reads a file."""
         self.path = path
-        with open(path, encoding="utf-8") as it:
-            self.text = it.read()
+        with open(path, encoding="utf-8") as file:
+            self.text = file.read()
         inner = os.path.relpath(path, f"{HOME}/crates")[: -len(".antt")]
         self.crate = inner.split("/")[0]
         self.module = "Rattle." + re.sub(r"/Lib$", "", inner).replace("/", ".")
-        self.everything = antt.sentences_of(self.text)
+        self.everything = antt.read_sentences(self.text)
         self.sentences = [it for it in self.everything if not it.is_between]
-        self.brings, self.modules, self.passes = {}, {}, set()
+        self.brings: dict[str, tuple[str, str]] = {}  # of each name that is imported, its module and its name there
+        self.modules: dict[str, str] = {}  # of each name of a module that is imported, the whole name
+        self.passes: set[str] = set()  # the names that are exported again
         self.read_imports()
-        self.declarations = []
+        self.declarations: list[Declaration] = []
         self.read_declarations()
         self.own = {it.name for it in self.declarations if it.owner is None}
 
-    def read_imports(self):
+    def read_imports(self) -> None:
         """Reads the `use` lines: names with the module and the name that each has there, and modules; and which names are exported again.
         """
         for public, module, group, short in IMPORT.findall(self.text):
@@ -64,27 +82,29 @@ class File:
                 if public:
                     self.passes.add(renamed or last)
 
-    def read_declarations(self):
+    def read_declarations(self) -> None:
         """Reads the sentences, with the blocks that contain each: their indents, heads and kinds."""
-        blocks, before = [], None
+        blocks: list[Block] = []
+        before: antt.Sentence | None = None
         for sentence in self.sentences:
-            while blocks and blocks[-1][0] >= sentence.indent:
+            while blocks and blocks[-1].indent >= sentence.indent:
                 blocks.pop()
-            words = words_of(sentence)
+            words = read_words(sentence)
             self.read_sentence(sentence, words, blocks)
-            if words == ["where"]:
-                blocks.append((sentence.indent, before, "module" if words_of(before)[0] == "module" else "where"))
+            if words == ["where"] and before:
+                blocks.append(Block(sentence.indent, before, "module" if read_words(before)[0] == "module" else "where"))
             elif words[-1] == "where":
                 kind = next(it for it in words if it not in MARKS)
-                blocks.append((sentence.indent, sentence, kind))
+                blocks.append(Block(sentence.indent, sentence, kind))
             before = sentence
 
-    def read_sentence(self, sentence, words, blocks):
+    def read_sentence(self, sentence: antt.Sentence, words: list[str], blocks: list[Block]) -> None:
+        """Reads a sentence inside these blocks: it declares something, or is a part of the last declaration."""
         rest = [it for it in words[:3] if it not in MARKS]
         is_block = rest[0] in ("record", "data") and words[-1] == "where"
-        if is_block or blocks and blocks[-1][2] in ("record", "data"):
+        if is_block or blocks and blocks[-1].kind in ("record", "data"):
             if is_block:
-                self.declare(rest[1], sentence, blocks)
+                self.add_declaration(rest[1], sentence, blocks)
             elif self.declarations:
                 self.declarations[-1].parts.append(sentence)
             return
@@ -92,38 +112,40 @@ class File:
             if words[0] == "unfolding" and self.declarations:
                 self.declarations[-1].parts.append(sentence)
             return
-        nodes = grouped(words)
-        at = index_of(nodes, ":", "=")
-        if at is not None and nodes[at] == ":":
-            for name in nodes[:at]:
+        nodes = group_tokens(words)
+        index = find_index(nodes, ":", "=")
+        if index is not None and nodes[index] == ":":
+            for name in nodes[:index]:
                 if not isinstance(name, Group) and name not in MARKS:
-                    self.declare(name, sentence, blocks)
+                    self.add_declaration(name, sentence, blocks)
         else:
             self.add_clause(words, sentence)
 
-    def declare(self, name, sentence, blocks):
-        owners = [head for _, head, kind in blocks if kind == "where"]
-        scope = [head for _, head, kind in blocks if kind == "module"]
+    def add_declaration(self, name: str, sentence: antt.Sentence, blocks: list[Block]) -> None:
+        """Adds a declaration of a name inside these blocks."""
+        owners = [block.head for block in blocks if block.kind == "where"]
+        scope = [block.head for block in blocks if block.kind == "module"]
         self.declarations.append(Declaration(self, name, sentence, scope, owners[-1] if owners else None))
 
-    def add_clause(self, words, sentence):
+    def add_clause(self, words: list[str], sentence: antt.Sentence) -> None:
         """Adds a clause to its declaration: the last one of that name, or (for an operator) the last."""
-        named = [it for it in self.declarations if it.name in words[:1]] or self.declarations[-1:]
-        for it in named[-1:]:
-            it.parts.append(sentence)
+        candidates = [declaration for declaration in self.declarations if declaration.name in words[:1]] or self.declarations[-1:]
+        for declaration in candidates[-1:]:
+            declaration.parts.append(sentence)
 
 
 class Files:
     """All .antt files, by module, those of lower crates first."""
 
-    def __init__(self):
-        order = list(crates())
-        self.all = [File(it) for it in antt.files("proofs/**/*.antt", "specs/**/*.antt")]
+    def __init__(self) -> None:
+        """Reads all files of proofs and specs."""
+        order = list(read_crates())
+        self.all = [File(it) for it in antt.list_files("proofs/**/*.antt", "specs/**/*.antt")]
         self.all.sort(key=lambda it: (order.index(it.crate), it.path))
         self.by_module = {it.module: it for it in self.all}
 
-    def origin(self, module, name):
-        """Returns the module that declares a name, whatever exports it again."""
+    def find_origin(self, module: str, name: str) -> tuple[str, str]:
+        """Returns the module that declares a name, whatever exports it again, and the name there."""
         seen = set()
         while module in self.by_module and (module, name) not in seen:
             seen.add((module, name))
@@ -133,13 +155,13 @@ class Files:
             module, name = file.brings[name]
         return module, name
 
-    def meaning(self, file, word):
-        """Returns what a word means in a file."""
+    def find_meaning(self, file: File, word: str) -> str:
+        """Returns what a word means in a file: a whole name, or the word itself if the file does not import it."""
         first, dot, rest = word.partition(".")
         if first in file.own:
             return f"{file.module}.{word}"
         if first in file.brings:
-            return ".".join(self.origin(*file.brings[first])) + dot + rest
+            return ".".join(self.find_origin(*file.brings[first])) + dot + rest
         if first in file.modules:
-            return ".".join(self.origin(file.modules[first], rest))
+            return ".".join(self.find_origin(file.modules[first], rest))
         return word

@@ -3,6 +3,11 @@
 Each term has a `flat` text, which is the term on one line. What is not read here (`do`, `unfold`, operators that OPERATORS has not)
 raises Unread.
 """
+from __future__ import annotations
+
+from collections.abc import Callable, Sequence
+from typing import Any, Tuple, Union
+
 from shared.antt import CLOSING, OPENING
 
 # Operators, by increasing precedence. Those of a row have the same.
@@ -15,6 +20,8 @@ LEVELS = {operator: level for level, row in enumerate(OPERATORS) for operator in
 ATOMS = {"?", "[]", "⊥", "¬", "←"}
 UNREAD = {"do", "unfold", "where", "mutual"}
 CLOSED_BY = dict(zip(OPENING, CLOSING))
+# What the tokens of a term are grouped into: words, and groups in brackets.
+Node = Union[str, "Group"]
 
 
 class Unread(Exception):
@@ -24,13 +31,14 @@ class Unread(Exception):
 class Group:
     """The content of a pair of brackets, and a field's name after them."""
 
-    def __init__(self, opening, inner):
+    def __init__(self, opening: str, inner: list[Node]) -> None:
+        """Makes the group of an opening bracket and its content."""
         self.opening, self.inner, self.suffix = opening, inner, ""
 
 
-def grouped(tokens):
-    """Returns words and groups for the tokens of a term."""
-    stack = [("", [])]
+def group_tokens(tokens: list[str]) -> list[Node]:
+    """Returns words and groups for the tokens of a term. Raises Unread if brackets do not match."""
+    stack: list[tuple[str, list[Node]]] = [("", [])]
     for token in tokens:
         if token in OPENING:
             stack.append((token, []))
@@ -40,9 +48,10 @@ def grouped(tokens):
                 raise Unread(token)
             stack[-1][1].append(Group(opening, inner))
         elif token.startswith(".") and len(token) > 1:
-            if not stack[-1][1] or not isinstance(stack[-1][1][-1], Group):
+            last = stack[-1][1][-1] if stack[-1][1] else None
+            if not isinstance(last, Group):
                 raise Unread(token)
-            stack[-1][1][-1].suffix += token
+            last.suffix += token
         else:
             stack[-1][1].append(token)
     if len(stack) != 1:
@@ -50,68 +59,88 @@ def grouped(tokens):
     return stack[0][1]
 
 
-# Terms. `chained` says whether two lets follow one another in a term: such terms are never on one line.
+# Terms.
 
 
-class Word:
+class Term:
+    """A term, with its text on one line, and whether two lets follow one another in it: such terms are never on one line."""
+
+    flat: str
+    chained: bool
+
+
+# What precedes a term in a list of items, and the term.
+Item = Tuple[str, Term]
+
+
+class Word(Term):
     """A word, which is never broken."""
 
     chained = False
 
-    def __init__(self, flat):
+    def __init__(self, flat: str) -> None:
         self.flat = flat
 
 
-class Bracket:
+class Bracket(Term):
     """A term in brackets, with what precedes it in them (`x : `, `x = `)."""
 
-    def __init__(self, opening, before, inner, suffix):
+    def __init__(self, opening: str, before: str, inner: Term, suffix: str) -> None:
+        """Makes a bracket. `suffix` is a field's name after the closing bracket."""
         self.opening, self.before, self.inner, self.closing = opening, before, inner, CLOSED_BY[opening] + suffix
         self.flat = f"{opening}{before}{inner.flat}{self.closing}"
         self.chained = inner.chained
 
 
-class Rows:
+class Rows(Term):
     """Items of which each has its own line if they do not fit on one: of a tuple, of a record, or the cases of an `elim`.
 
     An item is a prefix and a term; `lead` is written before each item if they are on separate lines, and `end` after it.
     """
 
-    def __init__(self, head, opening, items, closing):
+    def __init__(self, head: Term | None, opening: str, items: list[Item], closing: str) -> None:
+        """Makes rows after a head, if they have one. The text of the closing bracket may have a field's name."""
         self.head, self.opening, self.items, self.closing = head, opening, items, closing
         self.lead, self.end, between, inside = {"(": ("", ",", ", ", ""), "{": ("", ";", "; ", " "), "[": ("| ", "", " | ", " ")}[opening]
         inner = between.join(f"{before} {it.flat}".strip() for before, it in items)
         before = head.flat + " " if head else ""
         self.flat = f"{before}{opening}{inside}{inner}{inside if inner else ''}{closing}"
-        self.chained = any(it.chained for _, it in items) or bool(head) and head.chained
+        self.chained = any(it.chained for _, it in items) or head is not None and head.chained
 
 
-class Application:
+class Application(Term):
     """A function and its arguments, or binders in sequence."""
 
-    def __init__(self, parts):
+    def __init__(self, parts: Sequence[Term]) -> None:
+        """Makes a term of a function and its arguments."""
         self.parts = parts
         self.flat = " ".join(it.flat for it in parts)
         self.chained = any(it.chained for it in parts)
 
 
-class Chain:
+class Chain(Term):
     """Terms with operators of one precedence between them, or with words (`then`, `else`). An operator precedes its second term."""
 
-    def __init__(self, first, others):
+    def __init__(self, first: Term, others: list[Item]) -> None:
+        """Makes a chain of a first term, and of others with their operators."""
         self.first, self.others = first, others
         self.flat = " ".join([first.flat, *(f"{operator} {it.flat}" for operator, it in others)])
         self.chained = first.chained or any(it.chained for _, it in others)
 
 
-class Lambda:
-    def __init__(self, head, body):
+class Lambda(Term):
+    """A function: its `λ` with what it binds, and its body."""
+
+    def __init__(self, head: str, body: Term) -> None:
         self.head, self.body = head, body
         self.flat, self.chained = f"{head} {body.flat}", body.chained
 
 
-class Let:
-    def __init__(self, name, kind, value, body):
+class Let(Term):
+    """A `let`: the name or pattern, its type if it is written, the value, and the body."""
+
+    def __init__(self, name: str, kind: Term | None, value: Term, body: Term) -> None:
+        """Makes a `let`; `kind` is the type."""
         self.name, self.kind, self.value, self.body = name, kind, value, body
         typed = f" : {kind.flat}" if kind else ""
         self.flat = f"let {name}{typed} = {value.flat} in {body.flat}"
@@ -121,123 +150,138 @@ class Let:
 # Reading.
 
 
-def raise_if(holds, why):
+def raise_if(holds: bool, why: str) -> None:
+    """Raises Unread for a cause if a condition holds."""
     if holds:
         raise Unread(why)
 
 
-def split(nodes, mark):
+def split_nodes(nodes: Sequence[Node], mark: str) -> list[list[Node]]:
     """Returns the parts of a list of nodes between the marks, without empty ones at its ends."""
-    parts = [[]]
+    parts: list[list[Node]] = [[]]
     for node in nodes:
         if node == mark:
             parts.append([])
         else:
             parts[-1].append(node)
-    return [it for at, it in enumerate(parts) if it or 0 < at < len(parts) - 1]
+    return [it for index, it in enumerate(parts) if it or 0 < index < len(parts) - 1]
 
 
-def index_of(nodes, *marks):
-    """Returns the index of the first of some words, or `None`."""
-    return next((at for at, it in enumerate(nodes) if it in marks), None)
+def find_index(nodes: Sequence[Node], *marks: str) -> int | None:
+    """Returns the index of the first of these words among some nodes, or `None`."""
+    return next((index for index, it in enumerate(nodes) if it in marks), None)
 
 
-def is_sign(word):
+def require_index(nodes: Sequence[Node], unread: str, *marks: str) -> int:
+    """Returns the index of the first of these words. Raises Unread for a cause if there is none."""
+    index = find_index(nodes, *marks)
+    if index is None:
+        raise Unread(unread)
+    return index
+
+
+def is_sign(word: str) -> bool:
     """Returns whether a word consists of signs only, and so may be an infix operator."""
     return not any(it.isalnum() or it in "◌\"'_" for it in word) and word not in ATOMS
 
 
-def read_let(nodes):
-    equals = index_of(nodes, "=")
-    raise_if(equals is None, "a let")
-    colon = index_of(nodes[:equals], ":")
+def read_let(nodes: Sequence[Node]) -> Let:
+    """Reads a `let`, which ends at its own `in`, after those of the lets inside its value."""
+    equals = require_index(nodes, "a let", "=")
+    colon = find_index(nodes[:equals], ":")
     kind = None if colon is None else read_term(nodes[colon + 1 : equals])
-    open_lets, at = 1, equals
+    open_lets, index = 1, equals
     while open_lets:
-        at += 1
-        raise_if(at == len(nodes), "a let with no in")
-        open_lets += {"let": 1, "in": -1}.get(nodes[at], 0) if isinstance(nodes[at], str) else 0
-    name = flat_pattern(nodes[1 : equals if colon is None else colon])
-    return Let(name, kind, read_term(nodes[equals + 1 : at]), read_term(nodes[at + 1 :]))
+        index += 1
+        raise_if(index == len(nodes), "a let with no in")
+        open_lets += (nodes[index] == "let") - (nodes[index] == "in")
+    name = format_pattern(nodes[1 : equals if colon is None else colon])
+    return Let(name, kind, read_term(nodes[equals + 1 : index]), read_term(nodes[index + 1 :]))
 
 
-def flat_pattern(nodes):
+def format_pattern(nodes: Sequence[Node]) -> str:
     """Returns a pattern or binders on one line."""
-    return " ".join(it.flat for it in joined(nodes, read_word))
+    return " ".join(it.flat for it in join_terms(nodes, read_word))
 
 
-def read_lambda(nodes):
-    dot = index_of(nodes, ".")
-    raise_if(dot is None, "a λ")
-    return Lambda(f"λ {flat_pattern(nodes[1:dot])}.", read_term(nodes[dot + 1 :]))
+def read_lambda(nodes: Sequence[Node]) -> Lambda:
+    """Reads a `λ` with what it binds, a dot and a body."""
+    dot = require_index(nodes, "a λ", ".")
+    return Lambda(f"λ {format_pattern(nodes[1:dot])}.", read_term(nodes[dot + 1 :]))
 
 
-def read_items(group, *marks):
+def read_items(group: Group, *marks: str) -> list[Item]:
     """Reads the items of a record or of cases: what precedes the mark, and the term after it."""
-    found = []
-    for part in split(group.inner, "|" if group.opening == "[" else ";"):
-        at = index_of(part, *marks)
-        raise_if(at is None, "an item")
-        found.append((f"{flat_pattern(part[:at])} {part[at]}", read_term(part[at + 1 :])))
-    return found
+    items = []
+    for part in split_nodes(group.inner, "|" if group.opening == "[" else ";"):
+        index = require_index(part, "an item", *marks)
+        items.append((f"{format_pattern(part[:index])} {part[index]}", read_term(part[index + 1 :])))
+    return items
 
 
-def read_group(group):
+def read_group(group: Group) -> Term:
     """Reads a group that is used as a word: a tuple, a bracketed term, a binder, an implicit argument."""
     nodes = group.inner
     raise_if(group.opening == "[" or not nodes or ";" in nodes, "a group")
     if "," in nodes:
         raise_if(group.opening == "{" and any(not isinstance(it, str) for it in nodes), "levels")
         if group.opening == "{":
-            return Word("{" + ", ".join(" ".join(it) for it in split(nodes, ",")) + "}" + group.suffix)
-        return Rows(None, "(", [("", read_term(it)) for it in split(nodes, ",")], ")" + group.suffix)
-    before = []
-    mark = index_of(nodes, ":", "=")
+            return Word("{" + ", ".join(" ".join(map(str, it)) for it in split_nodes(nodes, ",")) + "}" + group.suffix)
+        return Rows(None, "(", [("", read_term(it)) for it in split_nodes(nodes, ",")], ")" + group.suffix)
+    before: list[Node] = []
+    mark = find_index(nodes, ":", "=")
     if nodes[0] not in ("let", "λ") and mark is not None:
         before, nodes = nodes[: mark + 1], nodes[mark + 1 :]
         raise_if(any(not isinstance(it, str) for it in before), "a binder")
-    return Bracket(group.opening, "".join(it + " " for it in before), read_term(nodes), group.suffix)
+    return Bracket(group.opening, "".join(f"{it} " for it in before), read_term(nodes), group.suffix)
 
 
-def read_word(node):
+def read_word(node: Node) -> Term:
+    """Reads a word or a group."""
     if isinstance(node, Group):
         return read_group(node)
     raise_if(node in UNREAD or node in CLOSED_BY or node in ".,;@" or is_sign(node), node)
     return Word(node)
 
 
-def read_elim(nodes, at):
-    """Reads an `elim`. Returns it and the index after it."""
-    end = next((it for it in range(at, len(nodes)) if isinstance(nodes[it], Group) and nodes[it].opening == "["), None)
-    raise_if(end is None, "an elim")
-    head = applied([Word("elim"), *joined(nodes[at + 1 : end], read_word)])
-    return Rows(head, "[", read_items(nodes[end], "↦"), "]" + nodes[end].suffix), end + 1
+def find_group(nodes: Sequence[Node], begin: int, end: int, opening: str) -> tuple[int, Group]:
+    """Returns the first group with an opening bracket from one index to another, and its own index. Raises Unread if there is none."""
+    for index, node in enumerate(nodes[begin:end], begin):
+        if isinstance(node, Group) and node.opening == opening:
+            return index, node
+    raise Unread("an elim" if opening == "[" else "a record")
 
 
-def read_record(nodes, at):
-    """Reads a record, or a record with other fields. Returns it and the index after it."""
-    end = next((it for it in (at + 1, at + 2) if it < len(nodes) and isinstance(nodes[it], Group) and nodes[it].opening == "{"), None)
-    raise_if(end is None, "a record")
-    head = applied([Word("record"), *joined(nodes[at + 1 : end], read_word)])
-    if not nodes[end].inner:
-        return Word(f"{head.flat} {{}}{nodes[end].suffix}"), end + 1
-    return Rows(head, "{", read_items(nodes[end], "=", ":"), "}" + nodes[end].suffix), end + 1
+def read_elim(nodes: Sequence[Node], index: int) -> tuple[Term, int]:
+    """Reads the `elim` at an index. Returns it and the index after it."""
+    end, group = find_group(nodes, index, len(nodes), "[")
+    head = apply_terms([Word("elim"), *join_terms(nodes[index + 1 : end], read_word)])
+    return Rows(head, "[", read_items(group, "↦"), "]" + group.suffix), end + 1
 
 
-def joined(nodes, read):
-    """Returns terms for words and groups, where an `elim` or a `record` is one term with its bracket. Operators are unchanged."""
-    found, at = [], 0
-    while at < len(nodes):
-        if nodes[at] in ("elim", "record"):
-            term, at = (read_elim if nodes[at] == "elim" else read_record)(nodes, at)
-            found.append(term)
+def read_record(nodes: Sequence[Node], index: int) -> tuple[Term, int]:
+    """Reads the record at an index, or a record with other fields. Returns it and the index after it."""
+    end, group = find_group(nodes, index + 1, index + 3, "{")
+    head = apply_terms([Word("record"), *join_terms(nodes[index + 1 : end], read_word)])
+    if not group.inner:
+        return Word(f"{head.flat} {{}}{group.suffix}"), end + 1
+    return Rows(head, "{", read_items(group, "=", ":"), "}" + group.suffix), end + 1
+
+
+def join_terms(nodes: Sequence[Node], read: Callable[[Node], Any]) -> list[Any]:
+    """Returns what `read` makes of each word and group, but one term for each `elim` or `record` with its bracket."""
+    terms, index = [], 0
+    while index < len(nodes):
+        if nodes[index] in ("elim", "record"):
+            term, index = (read_elim if nodes[index] == "elim" else read_record)(nodes, index)
+            terms.append(term)
         else:
-            found.append(read(nodes[at]))
-            at += 1
-    return found
+            terms.append(read(nodes[index]))
+            index += 1
+    return terms
 
 
-def read_term(nodes):
+def read_term(nodes: Sequence[Node]) -> Term:
     """Returns the term of a list of words and groups."""
     raise_if(not nodes, "nothing")
     if nodes[0] == "let":
@@ -246,36 +290,38 @@ def read_term(nodes):
         return read_lambda(nodes)
     if nodes[0] == "if":
         return read_if(nodes)
-    tail = index_of(nodes, "let", "λ", "if")
+    tail = find_index(nodes, "let", "λ", "if")
     last = [] if tail is None else [read_term(nodes[tail:])]
-    return read_operators(joined(nodes[:tail], lambda it: it if it in LEVELS else read_word(it)) + last)
+    return read_operators(join_terms(nodes[:tail], lambda it: it if it in LEVELS else read_word(it)) + last)
 
 
-def read_if(nodes):
-    then, other = index_of(nodes, "then"), index_of(nodes, "else")
-    raise_if(then is None or other is None or "if" in nodes[1:other], "an if")
+def read_if(nodes: Sequence[Node]) -> Chain:
+    """Reads an `if` with a `then` and an `else`."""
+    then, other = require_index(nodes, "an if", "then"), require_index(nodes, "an if", "else")
+    raise_if("if" in nodes[1:other], "an if")
     first = Application([Word("if"), read_term(nodes[1:then])])
     return Chain(first, [("then", read_term(nodes[then + 1 : other])), ("else", read_term(nodes[other + 1 :]))])
 
 
-def applied(terms):
+def apply_terms(terms: Sequence[Term]) -> Term:
     """Returns the first of some terms applied to the others."""
     raise_if(not terms, "nothing")
     return terms[0] if len(terms) == 1 else Application(terms)
 
 
-def read_operators(terms):
-    """Returns the term of a list of terms with operators between them."""
-    operators = [it for it in terms if isinstance(it, str)]
+def read_operators(terms: Sequence[Any]) -> Term:
+    """Returns the term of a list of terms with operators, which are texts, between them."""
+    operators = [part for part in terms if isinstance(part, str)]
     if not operators:
-        return applied(terms)
-    least = min(LEVELS[it] for it in operators)
-    parts, marks = [[]], []
-    for it in terms:
-        if isinstance(it, str) and LEVELS[it] == least:
-            marks.append(it)
+        return apply_terms(terms)
+    least = min(LEVELS[part] for part in operators)
+    parts: list[list] = [[]]
+    marks = []
+    for part in terms:
+        if isinstance(part, str) and LEVELS[part] == least:
+            marks.append(part)
             parts.append([])
         else:
-            parts[-1].append(it)
+            parts[-1].append(part)
     first, *others = map(read_operators, parts)
     return Chain(first, list(zip(marks, others)))

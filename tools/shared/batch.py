@@ -1,61 +1,65 @@
 """Runs many tests by tools/plain.py or by the search of tools/beyond.py in parallel, says why a file has no report, and replays one test
 many times.
 """
+from __future__ import annotations
+
 import functools
 import os
 import tempfile
 import time
+from collections.abc import Callable, Sequence
 from concurrent.futures import ProcessPoolExecutor
-from typing import Callable, List, Optional, Sequence
 
 import given
 import plain
 from shared import answers, spawn
 
 
-def run_by(report_of: Callable[[plain.Test], str], file: str) -> spawn.Run:
+def run_function(report_of: Callable[[plain.Test], str], file: str) -> spawn.Run:
     """Returns the run of a file whose report a function computes."""
     begin = time.process_time()
-    told, status = "", 1
+    printed, status = "", 1
     try:
-        with open(file, "rb") as it:
-            read = it.read()
-        told, status = report_of(plain.read_test(given.decoded(read))), 0
+        with open(file, "rb") as stream:
+            read = stream.read()
+        printed, status = report_of(plain.read_test(given.decode(read))), 0
     except answers.NoList as why:
-        told = why.args[0]
+        printed = why.args[0]
     except (given.Fault, RecursionError, OSError):
-        pass  # `fault_of` says why.
-    return spawn.Run(file, told, status, time.process_time() - begin)
+        pass  # `format_fault` says why.
+    return spawn.Run(file, printed, status, time.process_time() - begin)
 
 
-def runs_by(report_of: Callable[[plain.Test], str], files: Sequence[str], tell: Callable[[str], None]) -> List[spawn.Run]:
-    """Returns the reports of all files by a function, such as `plain.report` or `answers.made_by_search`."""
+def run_function_on_all(report_of: Callable[[plain.Test], str], files: Sequence[str], report: Callable[[str], None]) -> list[spawn.Run]:
+    """Returns the runs of all files by a function, such as `plain.report` or `answers.made_by_search`. Calls `report` with each file that
+    is done.
+    """
     done = []
     with ProcessPoolExecutor(os.cpu_count() or 1) as pool:
-        for run in pool.map(functools.partial(run_by, report_of), files):
-            tell(run.file)
+        for run in pool.map(functools.partial(run_function, report_of), files):
+            report(run.file)
             done.append(run)
     return done
 
 
-def fault_of(run: spawn.Run) -> str:
+def format_fault(run: spawn.Run) -> str:
     """Returns why a file has no report: `FILE:LINE:COLUMN: cause` for a text that is no test, otherwise what the program says."""
     try:
-        with open(run.file, "rb") as it:
-            read = it.read()
+        with open(run.file, "rb") as file:
+            read = file.read()
     except OSError as why:
         return f"{run.file}: {why.strerror}"
     try:
-        plain.read_test(given.decoded(read))
+        plain.read_test(given.decode(read))
     except given.Fault as fault:
-        return given.line_of(run.file, read, fault)
+        return given.format_fault(run.file, read, fault)
     except RecursionError:
         return f"{run.file}: the condition is nested too deeply for this tool"
     return f"{run.file}: {run.out.strip() or f'no report, status {run.status}'}"
 
 
-def place_of_fault(text: str) -> Optional[int]:
-    """Returns where a text is faulty as a test of lw, or `None` if tools/plain.py finds no fault."""
+def find_fault(text: str) -> int | None:
+    """Returns the offset at which a text is faulty as a test of lw, or `None` if tools/plain.py finds no fault."""
     try:
         plain.read_test(text)
     except given.Fault as fault:
@@ -65,13 +69,13 @@ def place_of_fault(text: str) -> Optional[int]:
     return None
 
 
-def replays(text: str, schedules: Sequence[str]) -> Optional[List[str]]:
+def replay_all(text: str, schedules: Sequence[str]) -> list[str] | None:
     """Returns the pages of many replays of one test by the program, or `None` if it is missing, or does not start on this system."""
     if not spawn.can_spawn():
         return None
-    with tempfile.TemporaryDirectory(prefix="lw-") as room:
-        file = os.path.join(room, "test.litmus")
-        with open(file, "wb") as it:
-            it.write(text.encode())
-        told = spawn.runs([(file, ("replay", schedule)) for schedule in schedules])
-    return [run.out for run in told] if all(run.status in (0, 1) for run in told) else None
+    with tempfile.TemporaryDirectory(prefix="lw-") as folder:
+        file = os.path.join(folder, "test.litmus")
+        with open(file, "wb") as stream:
+            stream.write(text.encode())
+        runs = spawn.run_all([(file, ("replay", schedule)) for schedule in schedules])
+    return [run.out for run in runs] if all(run.status in (0, 1) for run in runs) else None

@@ -1,6 +1,12 @@
-"""What the tools share: the paths of the repository and its programs, the contents of crates.txt, and how a check ends."""
+"""What the tools share: the paths of the repository and its programs, the contents of crates.txt and of other files, and how a check ends."""
+from __future__ import annotations
+
 import os
 import re
+
+TYPE_CHECKING = False
+if TYPE_CHECKING:
+    from collections.abc import Callable, Iterable
 
 HOME = os.path.dirname(os.path.dirname(os.path.dirname(os.path.abspath(__file__))))
 PROGRAM = os.path.join(HOME, "crates", "lw", "out", "lw")
@@ -8,26 +14,42 @@ PROGRAM = os.path.join(HOME, "crates", "lw", "out", "lw")
 BEYOND = os.path.join(HOME, "crates", "beyond", "out", "beyond")
 
 
-def crates():
-    """Returns the lines of crates.txt, in their order: what each says of a crate before the colon, and on what the crate depends."""
-    with open(os.path.join(HOME, "crates.txt"), encoding="utf-8") as it:
-        found = re.findall(r"^(\w+)([^:#\n]*):(.*)$", it.read(), re.M)
-    return {name: (options.strip(), below.split()) for name, options, below in found}
+def read_crates() -> dict[str, tuple[str, list[str]]]:
+    """Returns the lines of crates.txt, in their order: for each crate its options, which precede the colon, and the crates that it uses."""
+    with open(os.path.join(HOME, "crates.txt"), encoding="utf-8") as file:
+        lines = re.findall(r"^(\w+)([^:#\n]*):(.*)$", file.read(), re.M)
+    return {name: (options.strip(), used.split()) for name, options, used in lines}
 
 
-def difference(comparison):
+def read_lines(path: str) -> list[str]:
+    """Returns the lines of a file; none if it is missing."""
+    try:
+        with open(path, encoding="utf-8") as file:
+            return file.read().splitlines()
+    except OSError:
+        return []
+
+
+def format_difference(comparison: tuple[str, object, object]) -> str | None:
     """Returns what differs in a comparison: what is compared, what is expected, and what was found. `None` if nothing does."""
-    what, wanted, told = comparison
-    return None if wanted == told else f"{what}\n  wanted: {wanted!r}\n  told:   {told!r}"[:2000]
+    subject, expected, found = comparison
+    return None if expected == found else f"{subject}\n  wanted: {expected!r}\n  told:   {found!r}"[:2000]
 
 
-def close(comparisons, told_of=difference, skipped=lambda: None):
-    """Ends a check: prints what differs, what was left out, and the numbers. Returns the exit status."""
+def close_check(
+    comparisons: Iterable[tuple[str, object, object]], fault_of: Callable[
+        [tuple[str, object, object]], str | None
+    ] = format_difference, skipped: Callable[[], str | None] = lambda: None
+) -> int:
+    """Ends a check: prints what differs, what was left out, and the numbers of comparisons. Returns the exit status.
+
+    A comparison is what is compared, what is expected, and what was found. `fault_of` returns a text if they differ, and otherwise `None`.
+    """
     passed = failed = 0
-    for told in map(told_of, comparisons):
-        passed, failed = passed + (told is None), failed + (told is not None)
-        if told:
-            print(told, flush=True)
+    for fault in map(fault_of, comparisons):
+        passed, failed = passed + (fault is None), failed + (fault is not None)
+        if fault:
+            print(fault, flush=True)
     if line := skipped():
         print(line)
     print(f"{passed} passed, {failed} failed")

@@ -1,10 +1,13 @@
 """Logs of reports, of lw and of herd's tools: the final states of each test, and what differs between two of them."""
+from __future__ import annotations
+
 import re
-from typing import Dict, FrozenSet, Iterable, Iterator, List, NamedTuple, Set, Tuple
+from collections.abc import Iterable, Iterator
+from typing import FrozenSet, NamedTuple
 
 import given
-from herd.origin import Translated, add_states, origin_of
-from herd.registers import register_of
+from herd.origin import Translated, add_states, read_origin
+from herd.registers import parse_register
 from shared import answers
 
 HEADING = re.compile(r"Test (\S+)(?: (\S+))?")
@@ -19,15 +22,15 @@ class Difference(NamedTuple):
     """A test whose states are not those of the log: what is missing here, and what is too much; or why they are not compared."""
 
     name: str
-    missing: List[str]
-    too_much: List[str]
+    missing: list[str]
+    too_much: list[str]
     why: str = ""
 
 
-def atom_of(found) -> str:
-    """Returns a name and its word, in one spelling for all tools."""
-    thread, name, word = found
-    register = register_of(name) if thread else None
+def format_atom(match: tuple[str, str, str]) -> str:
+    """Returns a name and its word, in one spelling for all tools, of the groups of a match of ATOM."""
+    thread, name, word = match
+    register = parse_register(name) if thread else None
     site = f"{thread.lstrip('P') + ':' if thread else ''}{register[0] if register else name}"
     if word[0] == "&":
         return f"{site}={word}"
@@ -36,37 +39,37 @@ def atom_of(found) -> str:
     return f"{site}={number}"
 
 
-def state_of(line: str) -> State:
+def parse_state(line: str) -> State:
     """Returns the state that a line says, with or without the number of times that it was seen."""
-    return frozenset(atom_of(found) for found in ATOM.findall(line.rpartition(">")[2]))
+    return frozenset(format_atom(found) for found in ATOM.findall(line.rpartition(">")[2]))
 
 
-def spelled(state: State) -> str:
+def format_state(state: State) -> str:
     """Returns a state as a line."""
     return " ".join(f"{atom};" for atom in sorted(state))
 
 
-def states_in(lines: Iterable[str]) -> Dict[str, Set[State]]:
+def read_states(lines: Iterable[str]) -> dict[str, set[State]]:
     """Returns the states of each test in a log. A test that appears twice has the states of both. A list that is cut off has those before
     the cut.
     """
-    logs: Dict[str, Set[State]] = {}
-    name, total, left = "", 0, 0
+    logs: dict[str, set[State]] = {}
+    name, total, remaining_states = "", 0, 0
     for line in lines:
         heading, count = HEADING.match(line), COUNT.match(line)
         if heading:
-            name, left = heading[1], 0
+            name, remaining_states = heading[1], 0
             logs.setdefault(name, set())
         elif count and name:
-            total = left = int(count[1])
-        elif left:
-            state = state_of(line)
-            left = left - 1 if state or total == 1 else 0
+            total = remaining_states = int(count[1])
+        elif remaining_states:
+            state = parse_state(line)
+            remaining_states = remaining_states - 1 if state or total == 1 else 0
             logs[name] |= {state} if state or total == 1 else set()
     return logs
 
 
-def names_of(states: Iterable[State]) -> Set[str]:
+def list_names(states: Iterable[State]) -> set[str]:
     """Returns the names that states mention."""
     return {atom.rpartition("=")[0] for state in states for atom in state}
 
@@ -76,8 +79,8 @@ class Listed(NamedTuple):
     often a run passes each loop at most, or 0 if that has no limit.
     """
 
-    states: Set[State]
-    extra: Set[str] = set()
+    states: set[State]
+    extra: set[str] = set()
     why: str = ""
     tries: int = 0
 
@@ -85,117 +88,118 @@ class Listed(NamedTuple):
 TWO_FILES = "two files have a test of this name, with different states, and it is not compared"
 
 
-class Here(NamedTuple):
+class ListedTests(NamedTuple):
     """The tests that are listed here: by their own names, those that were converted also by the names of their originals, and the original
     of each of these.
     """
 
-    own: Dict[str, Listed]
-    originals: Dict[str, Listed]
-    original_of: Dict[str, str]
+    own: dict[str, Listed]
+    originals: dict[str, Listed]
+    original_of: dict[str, str]
 
-    def beside(self, there: Dict[str, Set[State]]) -> Dict[str, Listed]:
-        """Returns the tests by the names of a log: that of an earlier run has a converted test by its own name, others have its original.
-        """
+    def match_log_names(self, log: dict[str, set[State]]) -> dict[str, Listed]:
+        """Returns the tests by the names that a log has for them: an earlier run's log names converted tests, other logs their originals."""
         chosen = {}
         for name, listed in self.own.items():
-            original, seen = self.original_of.get(name), there.get(name)
-            if original is None or seen is not None and is_own(listed, self.originals[original], seen):
+            original, seen = self.original_of.get(name), log.get(name)
+            if original is None or seen is not None and is_log_of_converted(listed, self.originals[original], seen):
                 chosen[name] = listed
             else:
                 chosen[original] = self.originals[original]
         return chosen
 
 
-def is_own(own: Listed, original: Listed, seen: Set[State]) -> bool:
+def is_log_of_converted(own: Listed, original: Listed, seen: set[State]) -> bool:
     """Returns whether the states of a log are those of a converted test by its own names, and not those of its original."""
-    names = names_of(seen)
-    return seen == own.states or names == names_of(own.states) and names != names_of(original.states)
+    names = list_names(seen)
+    return seen == own.states or names == list_names(own.states) and names != list_names(original.states)
 
 
-def listed_by(reports: Iterable[Tuple[str, str]]) -> Here:
+def collect_lists(reports: Iterable[tuple[str, str]]) -> ListedTests:
     """Returns the states of reports of lw, each with the text of its test."""
-    here = Here({}, {}, {})
-    translated: Dict[str, Translated] = {}
+    tests = ListedTests({}, {}, {})
+    translations: dict[str, Translated] = {}
     for text, report in reports:
-        for name, states in states_in(report.splitlines()).items():
-            is_other = name in here.own and here.own[name].states != states
-            here.own[name] = Listed(states, why=TWO_FILES if is_other else "")
-        origin = origin_of(text)
+        for name, states in read_states(report.splitlines()).items():
+            is_other = name in tests.own and tests.own[name].states != states
+            tests.own[name] = Listed(states, why=TWO_FILES if is_other else "")
+        origin = read_origin(text)
         if origin:
             try:
-                add_states(translated, origin, text, answers.states_in(report))
+                add_states(translations, origin, text, answers.filter_state_lines(report))
             except given.Fault:
                 continue  # Somebody has changed the comment, so the test is compared as it is.
-            here.original_of[name] = origin.name
-    for name, it in translated.items():
-        missing = it.missing_guesses()
+            tests.original_of[name] = origin.name
+    for name, translation in translations.items():
+        missing = translation.count_missing_guesses()
         why = f"{missing} of the tests that stand for guesses of its LOCK CMPXCHG are missing, and it is not compared" if missing else ""
-        extra = {atom_of((*named(site), "0"))[:-2] for site in it.extra}
-        here.originals[name] = Listed({state_of(line) for line in it.lines}, extra, TWO_FILES if it.is_twice else why, it.tries)
-    return here
+        extra = {format_atom((*split_site(site), "0"))[:-2] for site in translation.extra}
+        tests.originals[name] = Listed(
+            {parse_state(line) for line in translation.lines}, extra, TWO_FILES if translation.is_twice else why, translation.tries
+        )
+    return tests
 
 
-def add_converted(here: Here, report: str, tests: Iterable[Tuple[str, str]], tries: int) -> None:
+def add_converted(tests: ListedTests, report: str, converted: Iterable[tuple[str, str]], tries: int) -> None:
     """Adds the report of a file that was converted for this run: by its own report, and by its tests of lw with theirs, if it has any. A
     limit of tries is 0 if there is none.
     """
-    for name, states in states_in(report.splitlines()).items():
-        is_other = name in here.own and here.own[name].states != states
-        here.own[name] = Listed(states, why=TWO_FILES if is_other else "", tries=tries)
-        originals = listed_by(tests).originals
+    for name, states in read_states(report.splitlines()).items():
+        is_other = name in tests.own and tests.own[name].states != states
+        tests.own[name] = Listed(states, why=TWO_FILES if is_other else "", tries=tries)
+        originals = collect_lists(converted).originals
         if name in originals:
-            here.original_of[name] = name
-            here.originals[name] = originals[name]
+            tests.original_of[name] = name
+            tests.originals[name] = originals[name]
 
 
-def named(site: str) -> Tuple[str, str]:
+def split_site(site: str) -> tuple[str, str]:
     """Returns the thread and the name of a site; the thread is empty if it is a location."""
     thread, _, name = site.rpartition(":")
     return thread, name
 
 
-def on_names(states: Iterable[State], names: Set[str]) -> Set[State]:
+def restrict_states(states: Iterable[State], names: set[str]) -> set[State]:
     """Returns what states say of some names."""
     return {frozenset(atom for atom in state if atom.rpartition("=")[0] in names) for state in states}
 
 
-def differences(listed: Here, there: Dict[str, Set[State]]) -> Iterator[Difference]:
-    """Yields the tests that both have and whose states differ, and those that only one has."""
-    here = listed.beside(there)
-    for name in sorted({*here, *there}):
-        if name not in there:
+def find_differences(listed: ListedTests, log: dict[str, set[State]]) -> Iterator[Difference]:
+    """Yields the tests that both have and whose states differ, and those that only one has. `log` has the states of each test in a log."""
+    tests = listed.match_log_names(log)
+    for name in sorted({*tests, *log}):
+        if name not in log:
             yield Difference(name, [], [], NOT_IN_LOG)
-        elif name not in here:
+        elif name not in tests:
             yield Difference(name, [], [], IN_LOG_ONLY)
-        elif here[name].why:
-            yield Difference(name, [], [], here[name].why)
+        elif tests[name].why:
+            yield Difference(name, [], [], tests[name].why)
         else:
-            yield from difference(name, here[name], there[name])
+            yield from compare_states(name, tests[name], log[name])
 
 
-def difference(name: str, listed: Listed, seen: Set[State]) -> Iterator[Difference]:
+def compare_states(name: str, listed: Listed, seen: set[State]) -> Iterator[Difference]:
     """Yields how the states of a test that both have differ, if they do."""
-    names = names_of(seen)
-    states = on_names(listed.states, names) if seen else listed.states
-    if seen and listed.states and (names - names_of(listed.states) or names_of(listed.states) - names - listed.extra):
+    names = list_names(seen)
+    states = restrict_states(listed.states, names) if seen else listed.states
+    if seen and listed.states and (names - list_names(listed.states) or list_names(listed.states) - names - listed.extra):
         yield Difference(name, [], [], "the states speak of other names, and are not compared")
     elif listed.tries and seen - states:
         why = f"only runs that go through each loop at most {listed.tries} times are listed"
         yield Difference(name, [], [], f"{why}, and {len(seen - states)} states of the log are not: it is not compared")
     elif states != seen:
-        yield Difference(name, sorted(map(spelled, seen - states)), sorted(map(spelled, states - seen)))
+        yield Difference(name, sorted(map(format_state, seen - states)), sorted(map(format_state, states - seen)))
 
 
-def told(it: Difference) -> str:
+def format_difference(difference: Difference) -> str:
     """Returns the lines that report a difference."""
-    lines = [f"{it.name}: {it.why or f'missing {len(it.missing)}, too much {len(it.too_much)}'}"]
-    lines += [f"  missing: {line}" for line in it.missing] + [f"  too much: {line}" for line in it.too_much]
+    lines = [f"{difference.name}: {difference.why or f'missing {len(difference.missing)}, too much {len(difference.too_much)}'}"]
+    lines += [f"  missing: {line}" for line in difference.missing] + [f"  too much: {line}" for line in difference.too_much]
     return "".join(f"{line}\n" for line in lines)
 
 
-def told_of_machine(it: Difference) -> str:
+def format_machine_difference(difference: Difference) -> str:
     """Returns the lines that report a test that a machine ran."""
-    counts = f"{len(it.missing)} states were seen that are not listed, {len(it.too_much)} are listed and were not seen"
-    lines = [f"{it.name}: {it.why or counts}"] + [f"  seen and not listed: {line}" for line in it.missing]
+    counts = f"{len(difference.missing)} states were seen that are not listed, {len(difference.too_much)} are listed and were not seen"
+    lines = [f"{difference.name}: {difference.why or counts}"] + [f"  seen and not listed: {line}" for line in difference.missing]
     return "".join(f"{line}\n" for line in lines)

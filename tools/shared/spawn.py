@@ -8,6 +8,10 @@ from collections import namedtuple
 
 from shared.home import HOME, PROGRAM
 
+TYPE_CHECKING = False
+if TYPE_CHECKING:
+    from collections.abc import Callable, Sequence
+
 IS_CURRENT = 'home=$1; . "$home/tools/program/program.sh"; use_program "$2"; is_current 2>/dev/null'
 # A file's run: what is printed, on either stream, the exit status, and the seconds of processor time.
 Run = namedtuple("Run", "file out status seconds")
@@ -18,52 +22,58 @@ def can_spawn() -> bool:
     return hasattr(os, "posix_spawn")
 
 
-def spawned(file: str, words: list) -> tuple:
-    """Starts a command on a file. Returns the process, and the end of the pipe to which both its streams go."""
-    end, other_end = os.pipe()
-    streams = [(os.POSIX_SPAWN_OPEN, 0, file, os.O_RDONLY, 0), (os.POSIX_SPAWN_DUP2, other_end, 1), (os.POSIX_SPAWN_DUP2, other_end, 2)]
+def spawn_command(file: str, arguments: list[str]) -> tuple[int, int]:
+    """Starts a command on a file. Returns the process, and the end from which the pipe is read that both its streams are written to."""
+    read_end, write_end = os.pipe()
+    nothing: dict[str, str] = {}
+    streams = [(os.POSIX_SPAWN_OPEN, 0, file, os.O_RDONLY, 0), (os.POSIX_SPAWN_DUP2, write_end, 1), (os.POSIX_SPAWN_DUP2, write_end, 2)]
     try:
-        return os.posix_spawn(words[0], words, {}, file_actions=streams), end
+        return os.posix_spawn(arguments[0], arguments, nothing, file_actions=streams), read_end
     except OSError:
-        os.close(end)
+        os.close(read_end)
         raise
     finally:
-        os.close(other_end)
+        os.close(write_end)
 
 
-def collected(file: str, process: int, printed: list) -> Run:
+def collect_run(file: str, process: int, printed: list[bytes]) -> Run:
     """Returns the run of a process that has printed everything."""
-    _, status, used = os.wait4(process, 0)
-    code = os.WEXITSTATUS(status) if os.WIFEXITED(status) else 4
+    _, wait_status, used = os.wait4(process, 0)
+    code = os.WEXITSTATUS(wait_status) if os.WIFEXITED(wait_status) else 4
     return Run(file, b"".join(printed).decode(), code, used.ru_utime + used.ru_stime)
 
 
-def runs(jobs: list, tell=lambda _file: None, program: str = PROGRAM) -> list:
+def run_all(
+    jobs: Sequence[tuple[str, Sequence[str]]], report: Callable[[str], None] = lambda _file: None, program: str = PROGRAM
+) -> list[Run]:
     """Returns the runs of all jobs, in their order: a job is a file, and the arguments of a command of the program. A run that does not
-    start has no status.
+    start has no status. Calls `report` with each file whose run has ended.
     """
     import select
 
-    waiting, done = iter(range(len(jobs))), [None] * len(jobs)
-    poll, running = select.poll(), {}
+    waiting = iter(range(len(jobs)))
+    done = [Run(file, "", None, 0.0) for file, _ in jobs]
+    poll = select.poll()
+    running: dict[int, tuple[int, int, list[bytes]]] = {}
 
-    def start() -> None:
-        for at in waiting:
-            file, words = jobs[at]
+    def start_next() -> None:
+        """Starts the next job that starts."""
+        for index in waiting:
+            file, words = jobs[index]
             try:
-                process, end = spawned(file, [program, *words])
+                process, end = spawn_command(file, [program, *words])
             except OSError as why:
-                done[at] = Run(file, why.strerror or str(why), None, 0.0)
+                done[index] = Run(file, why.strerror or str(why), None, 0.0)
                 continue
-            running[end] = (at, process, [])
+            running[end] = (index, process, [])
             poll.register(end, select.POLLIN)
             return
 
     for _ in range(os.cpu_count() or 1):
-        start()
+        start_next()
     while running:
         for end, _ in poll.poll():
-            at, process, printed = running[end]
+            index, process, printed = running[end]
             part = os.read(end, 65536)
             if part:
                 printed.append(part)
@@ -71,9 +81,9 @@ def runs(jobs: list, tell=lambda _file: None, program: str = PROGRAM) -> list:
             poll.unregister(end)
             os.close(end)
             del running[end]
-            start()
-            done[at] = collected(jobs[at][0], process, printed)
-            tell(jobs[at][0])
+            start_next()
+            done[index] = collect_run(jobs[index][0], process, printed)
+            report(jobs[index][0])
     return done
 
 

@@ -1,14 +1,20 @@
-"""How a command of tools/ starts and ends: each calls `run`.
+"""How a command of tools/ starts and ends: each calls `run`, or that of tools/shared/command.py, which reads a command's words.
 
-`--help` prints the command's head comment on standard output, with status 0. If nobody reads the output any more, as in
-`COMMAND | head -1`, the command ends with a status of its own and prints nothing about that. If the output can't be written, as on a full
-disk, a line on standard error says so, and the status is 1. Little is imported here, so that commands start quickly.
+If nobody reads the output any more, as in `COMMAND | head -1`, the command ends with a status of its own and prints nothing about that. If
+the output can't be written, as on a full disk, a line on standard error says so, and the status is 1. Little is imported here, so that
+commands start quickly.
 """
+from __future__ import annotations
+
 import io
 import os
 import sys
 
-HELP = ("--help", "-h")
+TYPE_CHECKING = False
+if TYPE_CHECKING:
+    from collections.abc import Callable
+    from typing import Any
+
 # What a shell reports of a process that wrote into a closed pipe.
 CLOSED = 141
 
@@ -24,26 +30,26 @@ class Unwritten(BaseException):
 class Output(io.TextIOWrapper):
     """A stream of output whose faults are `Unread` and `Unwritten`."""
 
-    def write(self, text):
+    def write(self, text: str) -> int:
         """Writes a text."""
-        return self.guarded(super().write, text)
+        return self.call_guarded(super().write, text)
 
-    def flush(self):
+    def flush(self) -> None:
         """Writes what is buffered."""
-        return self.guarded(super().flush)
+        return self.call_guarded(super().flush)
 
     @staticmethod
-    def guarded(call, *words):
-        """Calls a function that writes."""
+    def call_guarded(call: Callable, *arguments: str) -> Any:
+        """Calls a function that writes. Raises Unread if nobody reads the output, and Unwritten if it cannot be written."""
         try:
-            return call(*words)
+            return call(*arguments)
         except BrokenPipeError:
             raise Unread from None
         except OSError as why:
             raise Unwritten(why.strerror or str(why)) from None
 
 
-def guarded_output(stream, mode):
+def guard_output(stream: Any, mode: int) -> Output:
     """Returns a stream of output as an `Output`. If it was closed when the command started, it is one of the null device, opened in a mode:
     for reading, so that each write fails, or for writing.
     """
@@ -53,7 +59,7 @@ def guarded_output(stream, mode):
     return Output(stream.detach(), **how)
 
 
-def drop_output():
+def drop_output() -> None:
     """Discards all further output, also what the interpreter writes at its end."""
     nowhere = os.open(os.devnull, os.O_WRONLY)
     for stream in (sys.stdout, sys.stderr):
@@ -61,16 +67,19 @@ def drop_output():
     os.close(nowhere)
 
 
-def run(main, usage=None):
-    """Runs the `main` of a command. `usage` is the module docstring, of a command that leaves `--help` to this. Returns the exit status."""
-    sys.stdout = guarded_output(sys.stdout, os.O_RDONLY)
-    sys.stderr = guarded_output(sys.stderr, os.O_WRONLY)
+def command_name() -> str:
+    """Returns the name of the command that runs, for its messages: that of its file, or of its package."""
+    folder, file = os.path.split(sys.argv[0])
+    return os.path.basename(folder) if file == "__main__.py" else os.path.splitext(file)[0]
+
+
+def run(main: Callable[[], int | None]) -> int:
+    """Runs the `main` of a command. Returns the exit status."""
+    sys.stdout = guard_output(sys.stdout, os.O_RDONLY)
+    sys.stderr = guard_output(sys.stderr, os.O_WRONLY)
     try:
         try:
-            if usage is not None and set(sys.argv[1:]) & set(HELP):
-                print(usage.strip())
-                return 0
-            return main()
+            return main() or 0
         finally:
             sys.stdout.flush()
             sys.stderr.flush()
@@ -78,9 +87,8 @@ def run(main, usage=None):
         drop_output()
         return CLOSED
     except Unwritten as why:
-        tool = os.path.splitext(os.path.basename(sys.argv[0]))[0]
         try:
-            print(f"{tool}: standard output: {why}", file=sys.stderr, flush=True)
+            print(f"{command_name()}: standard output: {why}", file=sys.stderr, flush=True)
         except (Unread, Unwritten):
             pass
         drop_output()

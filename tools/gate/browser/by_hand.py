@@ -1,10 +1,13 @@
 """Runs by hand: what is clicked happens, and nothing else."""
+from __future__ import annotations
+
 import json
 import statistics
 import sys
+from collections.abc import Iterator
 
 from gate.browser.page_case import PageCase
-from gate.browser.user import read, run
+from gate.browser.user import User, read, run
 from shared.home import HOME
 
 MISSED = "0:EAX=0; 1:EAX=0;"
@@ -33,19 +36,19 @@ TRIES = 5
 MOST_MILLISECONDS = 50
 
 
-def begin(user, link):
+def begin(user: User, link: str) -> None:
     """Opens a run by hand."""
     user.open(link)
     user.find("#watching .machine")
 
 
-def open_menu(user):
+def open_menu(user: User) -> None:
     """Opens the menu of the run."""
     if not user.run("return document.querySelector('#watching .menu').open"):
         user.click("#watching .menu summary")
 
 
-def follow(user, schedule):
+def follow(user: User, schedule: str) -> None:
     """Follows a schedule that is written."""
     open_menu(user)
     field = user.find("#written")
@@ -57,7 +60,7 @@ def follow(user, schedule):
 class Clicks(PageCase):
     """What a click does."""
 
-    def test_to_the_end(self):
+    def test_to_the_end(self) -> None:
         """By hand to the state that interleaving lacks, which is found."""
         user = self.user
         begin(user, "#example=SB-x86&view=hand")
@@ -65,16 +68,22 @@ class Clicks(PageCase):
         user.carry_out("P0", "P0", "P1", "P1", "D0", "D1")
         self.assertStep("The run has ended. The condition holds.")
         self.assertFalse("not proved" in user.step())
-        self.assertSays("Found 1 of 4 states.", "#outcome .found")
+        self.assertSays("Found 1 of 4 states. This run decides the question.", "#outcome .found")
+        self.assertSays("Allowed.", "#outcome .verdict")
         self.assertEqual(["EAX 0", "EAX 0"], [it.replace(" put", "") for it in user.texts("#watching .register")])
         self.assertEqual(["0 · · ·", "0 · · ·"], [it.split(" ", 1)[1] for it in user.texts("table.strip tbody tr")[:2]])
 
-    def test_nothing_is_given_away(self):
-        """Who looks for the states sees the question, and neither the verdict nor the comment; a button shows the answer, and so does the list."""
+    def test_nothing_is_given_away(self) -> None:
+        """Who looks for the states sees the question, and neither the verdict nor the comment, also after a run that decides nothing; a button
+        shows the answer, and so does the list.
+        """
         user = self.user
         begin(user, "#example=SB-x86&view=hand")
         self.assertSays("Can a run on x86-TSO end this way? P0 reads y=0 and P1 reads x=0.", "#outcome .verdict")
         self.assertEqual(([], []), (user.all("#about p"), user.all(".number-of-step")))
+        user.carry_out("P0", "P0", "D0", "P1", "P1", "D1")
+        self.assertSays("Found 1 of 4 states. Start again", "#outcome .found")
+        self.assertSays("Can a run on x86-TSO end this way?", "#outcome .verdict")
         user.click(".unveil")
         self.assertSays("Allowed.", "#outcome .verdict")
         user.open_listed("#example=CoRR-x86&view=hand")
@@ -84,7 +93,26 @@ class Clicks(PageCase):
         self.assertSays("These are all: no run ends otherwise.", "#outcome .found")
         self.assertSays("Forbidden.", "#outcome .verdict")
 
-    def test_refused(self):
+    def test_other_tabs(self) -> None:
+        """The verdict is not kept back from who opens a tab that shows the answer, nor from who was shown it before; an edit keeps it back anew."""
+        user = self.user
+        for view in ("why", "compile", "fences"):
+            begin(user, "#example=SB-x86&view=hand")
+            user.click(f"#tab-{view}")
+            self.assertSays("Allowed.", "#outcome .verdict")
+            self.assertEqual([], user.all("#outcome .found"))
+            self.assertEqual("0:EAX 0 0 1 1", user.texts("table.strip tbody tr")[0])
+            user.click("#tab-hand")
+            self.assertSays("Found 0 of 4 states.", "#outcome .found")
+            self.assertSays("Allowed.", "#outcome .verdict")
+        user.open_listed("#example=SB-x86")
+        user.click("#tab-hand")
+        self.assertSays("Found 0 of 4 states.", "#outcome .found")
+        self.assertSays("Allowed.", "#outcome .verdict")
+        user.run_text(user.value().replace("EAX=0)", "EAX=1)"))
+        self.assertSays("Can a run on x86-TSO end this way?", "#outcome .verdict")
+
+    def test_refused(self) -> None:
         """An event that is refused does nothing, and says why in a sentence: by a click and by a key."""
         user = self.user
         begin(user, "#example=SB%2Bmfences-x86&view=hand")
@@ -99,7 +127,7 @@ class Clicks(PageCase):
         user.run("document.body.dispatchEvent(new KeyboardEvent('keydown', { code: 'Digit0', bubbles: true }))")
         self.assertStep(why)
 
-    def test_keys(self):
+    def test_keys(self) -> None:
         """Digits carry out the next instruction of a thread, and with Shift its oldest entry drains."""
         user = self.user
         begin(user, "#example=SB-x86&view=hand")
@@ -107,8 +135,17 @@ class Clicks(PageCase):
         for code, shift, done in (("Digit1", False, "P1"), ("Digit0", False, "P1 P0"), ("Digit1", True, "P1 P0 D1")):
             user.run(press, code, shift)
             self.assertSoon(done, user.done)
+        user.run(press.replace("document.body", "document.getElementById('tab-hand')"), "Digit0", True)
+        self.assertSoon("P1 P0 D1 D0", user.done)
 
-    def test_another_way(self):
+    def test_hints(self) -> None:
+        """The sentence on the start says what to click, and the hint below the machine which keys do the same."""
+        user = self.user
+        begin(user, "#example=SB-x86&view=hand")
+        self.assertStep("Click an instruction to carry it out")
+        self.assertTrue(user.text("#watching .hint").startswith("By keys: 0 to 3 carry out the next instruction"))
+
+    def test_another_way(self) -> None:
         """Who carries out another event than the next of a listed run goes another way from there."""
         user = self.user
         user.open_listed("#example=SB-x86&view=states&state=0%3AEAX%3D0%3B+1%3AEAX%3D0%3B&step=1")
@@ -116,7 +153,7 @@ class Clicks(PageCase):
         self.assertSoon("P0 D0", user.schedule)
         self.assertIn("view=hand", user.link())
 
-    def test_back(self):
+    def test_back(self) -> None:
         """A step back, and a link to where the run is."""
         user = self.user
         begin(user, "#example=SB-x86&view=hand&schedule=P0+P0+P1+P1+D0+D1")
@@ -125,7 +162,7 @@ class Clicks(PageCase):
         user.open_listed(user.link())
         self.assertSoon("P0 P0 P1 P1 D0", user.done)
 
-    def test_quick_clicks(self):
+    def test_quick_clicks(self) -> None:
         """Clicks that come faster than their answers are carried out in sequence; one that can't be carried out then does nothing."""
         user = self.user
         begin(user, "#example=SB-x86&view=hand")
@@ -143,21 +180,21 @@ class Speed(PageCase):
 
     EVENTS = "P0 P0 P0 P1 D1 P2 P2 D0".split()
 
-    def took(self):
-        """How many milliseconds each click takes in a run from the start."""
+    def took(self) -> Iterator[float]:
+        """Returns how many milliseconds each click takes in a run from the start."""
         user = self.user
         begin(user, "#example=n7-x86&view=hand")
         user.wait(lambda: user.run("return document.querySelector('#watching [data-event=P0]').hasAttribute('aria-disabled')"))
         user.run(CLICKS, self.EVENTS)
         return user.wait(lambda: json.loads(user.run("return document.body.dataset.took") or "null"), "clicks by hand")
 
-    def test_clicks(self):
+    def test_clicks(self) -> None:
         """A click is answered in under 50 ms: each by the least of several tries, so that other work on the machine does not matter."""
         least = [min(each) for each in zip(*(self.took() for _ in range(TRIES)))]
         self.assertTrue(statistics.median(least) < MOST_MILLISECONDS, least)
         self.assertEqual(" ".join(self.EVENTS), self.user.schedule())
 
-    def test_known(self):
+    def test_known(self) -> None:
         """A step back asks for nothing."""
         user = self.user
         begin(user, "#example=n7-x86&view=hand")
@@ -170,7 +207,7 @@ class Speed(PageCase):
 class Schedules(PageCase):
     """A schedule that is written."""
 
-    def test_followed(self):
+    def test_followed(self) -> None:
         """It is followed, or what is wrong with it is said, and the run stays where it is."""
         user = self.user
         begin(user, "#example=SB-x86&view=hand")
@@ -187,26 +224,26 @@ class Schedules(PageCase):
         self.assertSoon("P0 P1", user.schedule)
         self.assertEqual([], user.texts(".menu .notice"))
 
-    def test_picture(self):
+    def test_picture(self) -> None:
         """A picture of a run by hand is saved as tools/picture.py draws it."""
         user = self.user
         begin(user, "#example=SB-x86&view=hand&schedule=P0+P1")
         open_menu(user)
         user.click("#save-picture")
-        drawn = run(sys.executable, f"{HOME}/tools/picture.py", "P0 P1", given=read("examples/SB-x86.litmus"))
+        drawn = run(sys.executable, f"{HOME}/tools/picture.py", "P0 P1", text=read("examples/SB-x86.litmus"))
         self.assertEqual(drawn, user.saved("machine.svg"))
 
 
 class Sources(PageCase):
     """A source test by hand."""
 
-    def test_by_turns(self):
+    def test_by_turns(self) -> None:
         """Its statements can be carried out, and there is nothing to drain."""
         user = self.user
         begin(user, "#example=SB&view=hand")
         self.assertEqual(["P0", "P1"], user.run("return [...document.querySelectorAll('#watching [data-event]')].map((it) => it.dataset.event)"))
 
-    def test_programs(self):
+    def test_programs(self) -> None:
         """What it is compiled to, with its fences and without."""
         user = self.user
         begin(user, "#example=SB&view=hand")

@@ -1,4 +1,6 @@
 """Links and the address: what is shown, and what hostile links do."""
+from __future__ import annotations
+
 import time
 
 from gate.browser.page_case import PageCase
@@ -33,7 +35,7 @@ document.head.append(it);
 class Links(PageCase):
     """A link has all that is shown."""
 
-    def test_state_and_step(self):
+    def test_state_and_step(self) -> None:
         """A link restores its state and step."""
         user = self.user
         user.open_listed(f"#example=SB-x86&view=states&{STATE}&step=3")
@@ -44,7 +46,7 @@ class Links(PageCase):
         user.open_listed(user.link())
         self.assertStep("Step 6 of 6:")
 
-    def test_names(self):
+    def test_names(self) -> None:
         """A bare plus in the name of an example is a plus; of an example that does not exist it is said, and it shows the first test."""
         user = self.user
         user.open_listed("#example=SB+mfences-x86")
@@ -58,7 +60,7 @@ class Links(PageCase):
         user.open_listed("#example=MP-x86")
         self.assertEqual([], user.all("#unknown p"))
 
-    def test_pasted(self):
+    def test_pasted(self) -> None:
         """A link that is pasted is followed, also right after a change."""
         user = self.user
         user.open_listed("#example=SB")
@@ -70,7 +72,7 @@ class Links(PageCase):
         self.assertSoon("SRC MP", lambda: user.value()[:6])
         self.assertIn("example=MP", user.link())
 
-    def test_by_hand(self):
+    def test_by_hand(self) -> None:
         """A link to a run of the compiled program over MOESI says so again."""
         user = self.user
         user.open_listed("#example=SB&view=hand&schedule=P0&run=compiled&protocol=moesi")
@@ -79,7 +81,7 @@ class Links(PageCase):
         user.carry_out("P1")
         self.assertEqual("#example=SB&view=hand&schedule=P0+P1&run=compiled&protocol=moesi", user.link())
 
-    def test_protocol(self):
+    def test_protocol(self) -> None:
         """A link that names no protocol, after one that does; and a step that is no whole number."""
         user = self.user
         user.open_listed(f"#example=SB-x86&view=states&{STATE}&step=1.5&protocol=moesi")
@@ -89,7 +91,7 @@ class Links(PageCase):
         self.assertStep("Step 2 of 6:")
         self.assertFalse("protocol" in user.link())
 
-    def test_hidden_run(self):
+    def test_hidden_run(self) -> None:
         """A run that is hidden changes no address."""
         user = self.user
         user.open_listed(f"#example=SB-x86&view=states&{STATE}")
@@ -98,7 +100,7 @@ class Links(PageCase):
         time.sleep(1.5)
         self.assertIn("view=fences", user.link())
 
-    def test_by_itself(self):
+    def test_by_itself(self) -> None:
         """What a link runs by itself is ended after a while, and says so; what the reader runs is not."""
         user = self.user
         user.open_listed("#example=SB-x86")
@@ -109,7 +111,7 @@ class Links(PageCase):
         user.click("#outcome .asking .cancel")
         self.assertSays("Cancelled.", "#outcome .notice")
 
-    def test_copied(self):
+    def test_copied(self) -> None:
         """A link is copied, or shown to be copied where no way to copy is open."""
         user = self.user
         user.open_listed("#example=SB-x86")
@@ -127,7 +129,7 @@ class Links(PageCase):
 class Hostile(PageCase):
     """Links that somebody else made up."""
 
-    def test_nothing_breaks(self):
+    def test_nothing_breaks(self) -> None:
         """The page opens, shows a test, makes no element of what a link says, and complains of nothing."""
         user = self.user
         for link in HOSTILE:
@@ -137,7 +139,7 @@ class Hostile(PageCase):
             self.assertTrue(user.all("#outcome .verdict, .notice, #outcome .small, .side"), link)
             self.assertEqual([], user.complaints(), link)
 
-    def test_policy(self):
+    def test_policy(self) -> None:
         """The page's policy is in force: a script in place, one of elsewhere, and a request to elsewhere are refused."""
         user = self.user
         user.open_listed()

@@ -1,8 +1,10 @@
 """The first view, the verdict and the list of a test's states."""
+from __future__ import annotations
+
 from urllib.parse import quote
 
 from gate.browser.page_case import PageCase
-from gate.browser.user import lw, read, schedule_to
+from gate.browser.user import User, lw, read, schedule_to
 from gate.examples import examples
 
 # Whether all elements of a selector are in sight.
@@ -18,20 +20,20 @@ WORDS = "".join(f" /\\ ({thread}:r{at}=0 \\/ {thread}:r{at}=1)" for thread in (1
 MANY = f"SRC Many\n{{}}\n P0 | P1 | P2 ;\n{ROWS}exists (1:r0=1 /\\ 1:r1=1{WORDS})\n"
 
 
-def columns(user):
-    """The list as columns: of each row its name and its words."""
+def columns(user: User) -> list[str]:
+    """Returns the list as columns: of each row its name and its words."""
     return user.texts("#outcome table.strip tbody tr")
 
 
-def verdict(user):
-    """The verdict: a word and a sentence."""
+def verdict(user: User) -> str:
+    """Returns the verdict: a word and a sentence."""
     return user.text("#outcome .verdict > span:last-child")
 
 
 class FirstView(PageCase):
     """The page as it opens."""
 
-    def test_opens_answered(self):
+    def test_opens_answered(self) -> None:
         """It opens on SB-x86, listed, at the step at which both stores wait."""
         user = self.user
         user.open_listed()
@@ -41,18 +43,19 @@ class FirstView(PageCase):
         self.assertSays("The condition holds in 1 of 4 final states.", "#outcome .asked")
         self.assertEqual(["x 1 ↓", "y 1 ↓"], user.texts("#watching .entry"))
 
-    def test_in_sight_together(self):
+    def test_in_sight_together(self) -> None:
         """Code, buffers, memory, verdict and list are in sight together at 1280 by 720."""
         self.user.resize(1280, 720)
         self.user.open_listed()
         for css in ("#text", "#outcome .verdict", "table.strip", "#watching .code li", "#watching .buffer", "#watching .memory"):
             self.assertTrue(self.user.run(IN_SIGHT, css), css)
 
-    def test_says_what_it_is(self):
+    def test_says_what_it_is(self) -> None:
         """A line says what the page is and for whom, and another what to look at next, which is opened or set beside."""
         user = self.user
         user.open_listed()
-        self.assertIn("All ways a small parallel program can end on an x86 processor: proved, for students and programmers.", user.text("#what"))
+        self.assertIn("All states in which a small parallel program can end on x86", user.text("#what"))
+        self.assertIn(": proved complete. For students and programmers.", user.text("#what"))
         self.assertSays("Next: the same test with fences: SB+mfences-x86, or compare both.", "#next")
         user.click("#next-test")
         self.assertSays("Forbidden.", "#outcome .verdict")
@@ -60,13 +63,15 @@ class FirstView(PageCase):
         user.click("#next-compare")
         self.assertSoon(["SB+mfences-x86", "SB-x86"], lambda: user.texts(".side h2"))
 
-    def test_says_where_it_runs(self):
+    def test_says_where_it_runs(self) -> None:
         """What the page is, its words and its keys are a click away."""
         user = self.user
         user.open_listed()
         user.click("#open-about")
         self.assertIn("a program that is proved correct, ", user.text("#about-dialog"))
-        self.assertTrue("store buffer" in user.texts("#about-dialog dt"))
+        self.assertIn("The program, its sources and its proof are in the repository that ", user.text("#about-dialog .origin"))
+        terms = user.texts("#about-dialog dt")
+        self.assertTrue("store buffer" in terms and "global happens-before" in terms)
         user.press(user.keys.ESCAPE)
         self.assertSoon([], lambda: user.all("#about-dialog"))
 
@@ -74,7 +79,7 @@ class FirstView(PageCase):
 class AllExamples(PageCase):
     """The examples, one after another."""
 
-    def test_in_sight(self):
+    def test_in_sight(self) -> None:
         """Of nearly all examples text, verdict, list, code, buffers and memory are in sight together at 1280 by 720."""
         user = self.user
         user.resize(1280, 720)
@@ -95,7 +100,7 @@ class AllExamples(PageCase):
 class Verdicts(PageCase):
     """The verdict, and the list beside it."""
 
-    def test_source(self):
+    def test_source(self) -> None:
         """The states of a source test, and the words of its verdict."""
         user = self.user
         user.open_listed("#example=SB")
@@ -104,7 +109,7 @@ class Verdicts(PageCase):
         self.assertEqual("Forbidden. There is no run by interleaving in which P0 reads y=0 and P1 reads x=0.", verdict(user))
         self.assertEqual(["0:r0 0 1 1 0", "1:r0 1 0 1 0"], columns(user))
 
-    def test_x86(self):
+    def test_x86(self) -> None:
         """The state that interleaving lacks is marked."""
         user = self.user
         user.open_listed("#example=SB-x86")
@@ -113,25 +118,25 @@ class Verdicts(PageCase):
         self.assertEqual(["0:EAX 0 0 1 1", "1:EAX 0 1 0 1", "condition holds ✓ false false false"], columns(user))
         self.assertEqual(3, len(user.all("table.strip td.holds")))
 
-    def test_as_printed(self):
+    def test_as_printed(self) -> None:
         """The list as lw prints it is unfolded, and saved as a file."""
         user = self.user
         user.open_listed("#example=SB-x86")
-        printed = lw("states", given=read("examples/SB-x86.litmus"))
+        printed = lw("states", text=read("examples/SB-x86.litmus"))
         user.click("#printed-place summary")
         user.find("#printed pre")
         self.assertEqual(printed, user.run("return document.querySelector('#printed pre').textContent") + "\n")
         user.click("#printed button")
         self.assertEqual(printed, user.saved("SB-x86.states.txt"))
 
-    def test_missing(self):
+    def test_missing(self) -> None:
         """A state that is missing is a column of its own, which leads to why."""
         user = self.user
         user.open_listed("#example=MP-x86")
         user.click("table.strip .never .watch")
         self.assertSays("x86-TSO forbids 1:EAX=1; 1:EBX=0;", "#why .why-head")
 
-    def test_missing_is_asked_about(self):
+    def test_missing_is_asked_about(self) -> None:
         """A state that is missing is shown only if the condition asks about it."""
         user = self.user
         user.open_listed("#example=ChaseLev-x86")
@@ -140,12 +145,12 @@ class Verdicts(PageCase):
         words = [it.split()[-1] for it in user.texts("table.strip tbody tr:not(.marks-row)")]
         self.assertEqual(["1", "0", "1", "0"], words)
 
-    def test_sentences(self):
+    def test_sentences(self) -> None:
         """The verdict is a sentence: what threads read, what they end with, and what memory has; of what is no conjunction, the condition."""
         user = self.user
         for name, said in (
             ("MP-x86", "Forbidden. There is no run in which P1 reads y=1, then x=0."),
-            ("ChaseLev-x86", "Allowed, against the test. There is a run in which P0 ends with ECX=1 and P1 ends with ECX=1."),
+            ("ChaseLev-x86", "Allowed. There is a run in which P0 ends with ECX=1 and P1 ends with ECX=1; the test forbids that."),
             ("2%2B2W-x86", "Forbidden. There is no run in which memory ends with x=1 and y=1."),
         ):
             user.open_listed(f"#example={name}")
@@ -153,7 +158,7 @@ class Verdicts(PageCase):
         user.run_text("SRC Or\n{}\n P0 | P1 ;\n x := 1 | r0 := x ;\nforall (1:r0=0 \\/ 1:r0=1)\n")
         self.assertSoon("Always. In every run by interleaving the condition holds.", lambda: verdict(user))
 
-    def test_choice_is_watched(self):
+    def test_choice_is_watched(self) -> None:
         """A column is chosen by a click anywhere in it, and its run is watched."""
         user = self.user
         user.open_listed("#example=SB-x86")
@@ -168,7 +173,7 @@ class Verdicts(PageCase):
 class LongLists(PageCase):
     """Lists of many states."""
 
-    def test_rows(self):
+    def test_rows(self) -> None:
         """Of 4,096 states only the rows in sight are made; keys go through the list, and Enter watches a run."""
         user = self.user
         user.open_listed()
@@ -181,14 +186,14 @@ class LongLists(PageCase):
         rows.send_keys(user.keys.ENTER)
         self.assertSoon(1, lambda: len(user.all("#outcome .row-line.chosen")))
         user.click("#outcome .save-list")
-        self.assertEqual(lw("states", given=MANY), user.saved("Many.states.txt"))
+        self.assertEqual(lw("states", text=MANY), user.saved("Many.states.txt"))
 
-    def test_only_true(self):
+    def test_only_true(self) -> None:
         """The rows in which the condition holds are shown alone."""
         user = self.user
         user.open_listed()
         user.run_text(MANY)
-        user.soon("#outcome .asked", "4,096")
+        user.text_with("#outcome .asked", "4,096")
         user.click("#outcome .rows-tools input")
         rows = lambda kind: len(user.all(f"#outcome .row-line{kind}"))
         self.assertSoon(True, lambda: 0 < rows("") == rows(".holds"))

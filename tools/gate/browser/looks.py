@@ -1,8 +1,13 @@
 """How the page looks: narrow windows, large type, contrast, names, headings, keys, paper and the projector."""
+from __future__ import annotations
+
+import base64
+import re
 from urllib.parse import quote
 
 from gate.browser.lists import IN_SIGHT, MANY
 from gate.browser.page_case import PageCase
+from gate.browser.user import User
 
 # The threads whose code, registers or entries stand out of their boxes.
 OVERLAPPING = """
@@ -82,6 +87,16 @@ while (texts.nextNode()) {
 }
 return Math.min(...sizes);
 """
+# The sizes of the type of the verdict's word and sentence, of the instructions, and of the list.
+TYPE = """
+return ["#outcome .verdict strong", "#outcome .in-words", "#watching .code .line", "#outcome table.strip td"]
+  .map((css) => document.querySelector(css)).filter(Boolean).map((it) => parseFloat(getComputedStyle(it).fontSize));
+"""
+# Of how many lines the verdict is, counted by the lines of its smaller letters.
+VERDICT_LINES = """
+const it = document.querySelector("#outcome .verdict");
+return it.offsetHeight / parseFloat(getComputedStyle(it).lineHeight);
+"""
 OVERFLOW = "return document.documentElement.scrollWidth - document.documentElement.clientWidth"
 LEAST_CONTRAST = 4.5
 # Views on which contrast is measured, each by its link.
@@ -95,7 +110,7 @@ VIEWS = (
 class Windows(PageCase):
     """Windows of all sizes."""
 
-    def test_narrow(self):
+    def test_narrow(self) -> None:
         """Nothing is cut off in a narrow window, or with type of twice the size."""
         user = self.user
         for width, size in ((360, 100), (1400, 200)):
@@ -108,7 +123,7 @@ class Windows(PageCase):
                 self.assertEqual(0, user.run(OVERFLOW), (width, size, link))
             user.stage(f"looks-{width}-{size}")
 
-    def test_question(self):
+    def test_question(self) -> None:
         """A question of four registers is seen whole at 1280 by 900."""
         user = self.user
         user.resize(1280, 900)
@@ -118,7 +133,7 @@ class Windows(PageCase):
         cut = "const it = document.getElementById('text'); return [it.value.split('\\n').at(-2), it.scrollWidth <= it.clientWidth]"
         self.assertEqual([question, True], user.run(cut))
 
-    def test_long_names(self):
+    def test_long_names(self) -> None:
         """Long names do not run into the next thread."""
         user = self.user
         name = "abcdefghijkl"
@@ -128,7 +143,7 @@ class Windows(PageCase):
         user.find("#watching .entry")
         self.assertEqual([], user.run(OVERLAPPING))
 
-    def test_paper(self):
+    def test_paper(self) -> None:
         """On paper the test is whole, and there is nothing to click."""
         user = self.user
         user.open_listed("#example=Peterson")
@@ -151,10 +166,22 @@ class Windows(PageCase):
             user.driver.execute_cdp_cmd("Emulation.setEmulatedMedia", {"media": ""})
 
 
+    def test_pages(self) -> None:
+        """IRIW and Peterson, each with its run and its graph, are one page on paper."""
+        user = self.user
+        user.resize(1280, 720)
+        for name in ("IRIW-x86", "Peterson-x86"):
+            user.open_listed(f"#example={name}")
+            self.assertTrue(bool(user.find("#graph-place svg.graph")))
+            if self.has_devtools():
+                printed = user.driver.execute_cdp_cmd("Page.printToPDF", {"paperWidth": 8.27, "paperHeight": 11.69, "printBackground": True})
+                self.assertEqual(1, len(re.findall(rb"/Type\s*/Page\b", base64.b64decode(printed["data"]))), name)
+
+
 class Reading(PageCase):
     """For all readers: contrast, names, headings and keys."""
 
-    def test_contrast(self):
+    def test_contrast(self) -> None:
         """All texts of all views have a contrast of at least 4.5, by light and by dark."""
         user = self.user
         schemes = ("light", "dark") if self.has_devtools() else ("light",)
@@ -170,7 +197,7 @@ class Reading(PageCase):
         if self.has_devtools():
             user.driver.execute_cdp_cmd("Emulation.setEmulatedMedia", {"features": []})
 
-    def test_names(self):
+    def test_names(self) -> None:
         """All that can be used has a name, no two elements have one id, and no reference is dead; headings go down by one level each."""
         user = self.user
         for view in VIEWS:
@@ -182,22 +209,22 @@ class Reading(PageCase):
             self.assertEqual(1, levels[0], view)
             self.assertTrue(all(after <= before + 1 for before, after in zip(levels, levels[1:])), (view, levels))
 
-    def test_keys(self):
+    def test_keys(self) -> None:
         """Keys come to all that can be used, in the order of the page; the first leads past the front."""
         user = self.user
         user.open_listed("#example=SB-x86")
         user.run("document.body.focus()")
-        seen = []
+        seen: list[str] = []
         while len(seen) < 60 and len(seen) == len(set(seen)):
             user.press(user.keys.TAB)
             seen.append(user.focused().get_attribute("id") or f"without an id, {len(seen)}")
         front = ["skip", "open-gallery", "open-about", "predict", "caches", "large", "theme", "set-beside", "present"]
         wanted = [*front, "text", "run-it", "file", "save", "link"]
         self.assertEqual(wanted, [it for it in seen if it in wanted][: len(wanted)])
-        for it in ("tab-states", "back", "forward", "play", "graph-switch"):
-            self.assertIn(it, seen)
+        for key in ("tab-states", "back", "forward", "play", "graph-switch"):
+            self.assertIn(key, seen)
 
-    def test_skip_link(self):
+    def test_skip_link(self) -> None:
         """The skip link leads to the answers."""
         user = self.user
         user.open_listed("#example=SB-x86")
@@ -206,7 +233,7 @@ class Reading(PageCase):
         self.assertSoon("answers", lambda: user.focused().get_attribute("id"))
         self.assertIn("example=SB-x86", user.link())
 
-    def test_tabs(self):
+    def test_tabs(self) -> None:
         """Arrows change the panel, and the focus is seen."""
         user = self.user
         user.open_listed("#example=SB-x86")
@@ -214,7 +241,7 @@ class Reading(PageCase):
         self.assertEqual("true", user.find("#tab-hand").get_attribute("aria-selected"))
         self.assertTrue(user.run("return parseFloat(getComputedStyle(document.activeElement).outlineWidth)") >= 2)
 
-    def test_lighting(self):
+    def test_lighting(self) -> None:
         """A name under the pointer is lit wherever it appears."""
         user = self.user
         user.open_listed("#example=SB-x86")
@@ -228,7 +255,7 @@ class Theme(PageCase):
 
     GROUND = "return getComputedStyle(document.body).backgroundColor"
 
-    def test_chosen(self):
+    def test_chosen(self) -> None:
         """Dark is chosen on the page, whatever the system asks, and is kept; then the system is asked again."""
         user = self.user
         user.open_listed()
@@ -242,18 +269,64 @@ class Theme(PageCase):
         self.assertEqual(by_system, user.run(self.GROUND))
 
 
+def present(user: User) -> None:
+    """Opens the view for a projector, which fills the window."""
+    user.run("HTMLElement.prototype.requestFullscreen = null")
+    user.click("#present")
+    user.wait(lambda: user.run("return document.documentElement.className").find("present") >= 0, "the view is there")
+
+
+class Type(PageCase):
+    """The size of the type: no choice makes smaller what is read first."""
+
+    SIZES = ((1920, 1080), (1366, 768), (1280, 720))
+    NAMES = ("SB-x86", "IRIW-x86", "MP-x86", "Peterson-x86", "SB", "n7-x86")
+
+    def usual(self, name: str, width: int, height: int) -> list[float]:
+        """Opens an example in the usual type. Returns the sizes of the type."""
+        user = self.user
+        user.resize(width, height)
+        user.open_listed(f"#example={name}")
+        return user.run(TYPE)
+
+    def assertNoSmaller(self, usual: list[float], where: object) -> None:
+        """Checks that no size is smaller than usually."""
+        found = self.user.run(TYPE)
+        self.assertEqual([], [(wanted, actual) for wanted, actual in zip(usual, found) if actual < wanted - 0.1], where)
+
+    def test_projector(self) -> None:
+        """On a projector neither the verdict nor the instructions nor the list are smaller than on the page, and the verdict has two lines at most."""
+        user = self.user
+        for size in self.SIZES:
+            for name in self.NAMES:
+                usual = self.usual(name, *size)
+                present(user)
+                self.assertNoSmaller(usual, (size, name))
+                self.assertTrue(user.run(VERDICT_LINES) < 2.7, (size, name))
+
+    def test_large(self) -> None:
+        """Large type makes none of them smaller."""
+        user = self.user
+        for size in self.SIZES:
+            for name in self.NAMES:
+                usual = self.usual(name, *size)
+                user.click("#large")
+                try:
+                    self.assertNoSmaller(usual, (size, name))
+                finally:
+                    user.click("#large")
+
+
 class Projector(PageCase):
     """The view for a projector."""
 
-    def present(self, link, width, height):
-        user = self.user
-        user.resize(width, height)
-        user.open_listed(link)
-        user.run("HTMLElement.prototype.requestFullscreen = null")
-        user.click("#present")
-        user.wait(lambda: user.run("return document.documentElement.className").find("present") >= 0, "the view is there")
+    def present(self, link: str, width: int, height: int) -> None:
+        """Opens the view for a projector in a window of a size."""
+        self.user.resize(width, height)
+        self.user.open_listed(link)
+        present(self.user)
 
-    def test_fits(self):
+    def test_fits(self) -> None:
         """The question, the verdict, the list and the machine are in sight, in type of at least 18 pixels; of long code a part is."""
         user = self.user
         sizes = ("SB-x86", 1280, 720), ("n7-x86", 1280, 720), ("SB-x86", 1024, 768), ("IRIW-x86", 1920, 1080)
@@ -268,7 +341,7 @@ class Projector(PageCase):
             user.press(user.keys.ESCAPE)
             self.assertSoon(False, lambda: "present" in user.run("return document.documentElement.className"))
 
-    def test_graph(self):
+    def test_graph(self) -> None:
         """The condition with its quantifier is shown, and the graph if it has room; it goes back to its place then."""
         user = self.user
         self.present("#example=SB-x86", 1280, 720)
@@ -279,7 +352,19 @@ class Projector(PageCase):
         user.press(user.keys.ESCAPE)
         user.find("#test > #graph-place svg.graph")
 
-    def test_closed(self):
+    def test_no_graph(self) -> None:
+        """With a source run no graph is shown, since the sentence on whose it is has no room; with the compiled run its graph is."""
+        user = self.user
+        for width, height in ((1024, 768), (1280, 720)):
+            self.present("#example=SB", width, height)
+            self.assertEqual([], user.all("#graph-place"))
+            wide = "return document.querySelector('#watching').clientWidth / document.querySelector('#answers').clientWidth"
+            self.assertTrue(user.run(wide) > 0.98, width)
+            user.click("#run-x86")
+            user.find("#graph-place svg.graph")
+            user.press(user.keys.ESCAPE)
+
+    def test_closed(self) -> None:
         """A button closes it, and the focus goes back."""
         user = self.user
         self.present("#example=SB-x86", 1280, 720)
@@ -287,4 +372,4 @@ class Projector(PageCase):
         self.assertSoon("present", lambda: user.focused().get_attribute("id"))
 
 
-SUBJECTS = (Windows, Reading, Theme, Projector)
+SUBJECTS = (Windows, Reading, Theme, Type, Projector)

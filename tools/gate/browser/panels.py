@@ -1,15 +1,19 @@
 """The panels Why not?, Compile and Fences."""
+from __future__ import annotations
+
 from urllib.parse import quote
 
+from gate.browser.lists import IN_SIGHT
 from gate.browser.page_case import PageCase
+from gate.browser.predicting import open_anew
 from gate.browser.texts import FIVE
-from gate.browser.user import lw, read
+from gate.browser.user import User, read
 
 MISSED = "0:EAX=0; 1:EAX=0;"
 
 
-def threads_of_run(user, panel):
-    """How many threads a run shows, and which of them have a fence."""
+def threads_of_run(user: User, panel: str) -> tuple[int, list[str]]:
+    """Returns how many threads a run shows, and which of them have a fence."""
     codes = user.texts(f"{panel} .run .code")
     return len(codes), [f"P{thread}" for thread, it in enumerate(codes) if "MFENCE" in it]
 
@@ -17,7 +21,7 @@ def threads_of_run(user, panel):
 class WhyNot(PageCase):
     """Why a test does not end in a state."""
 
-    def test_drawn(self):
+    def test_drawn(self) -> None:
         """The state that the condition asks about is answered at once: the cycle that forbids it is told and drawn; no other graph is in sight."""
         user = self.user
         user.open_listed("#example=MP-x86")
@@ -27,9 +31,10 @@ class WhyNot(PageCase):
         self.assertEqual([], user.all("#graph-place"))
         self.assertSays("x86-TSO forbids 1:EAX=1; 1:EBX=0;", "#why .why-head")
         self.assertEqual("global happens-before: a -po-> b -rf-> c -po-> d -fr-> a", user.text("#why figcaption"))
+        self.assertIn("Program order counts here, but not from a store to a later load", user.text("#why .rule"))
         self.assertEqual(4, user.run("return document.querySelectorAll('#why figure path.marked').length"))
 
-    def test_source(self):
+    def test_source(self) -> None:
         """A source test is asked about in its own names: what is proposed is answered."""
         user = self.user
         for name in ("SB", "MP", "LB", "IRIW", "Peterson"):
@@ -39,13 +44,14 @@ class WhyNot(PageCase):
             self.assertIn("Of the compiled program, with the source's names: ", user.text("#why .why-head"))
             self.assertEqual([], user.all("#why .notice"))
 
-    def test_none_missing(self):
+    def test_none_missing(self) -> None:
         """A state that a run ends in is said to be one, with that run drawn, which is watched; of a list that lacks none it is the chosen one."""
         user = self.user
         user.open_listed("#example=SB-x86")
         user.click("#tab-why")
         self.assertSays(f"A run ends in this state: {MISSED}", "#why .why-head")
         self.assertEqual(4, len(user.wait(lambda: user.all("#why svg path.marked"))))
+        self.assertSays("It counts again if an MFENCE or a locked instruction is between them.", "#why .rule")
         user.click("#tab-states")
         user.click("table.strip tbody tr:first-child td[data-column='2']")
         user.click("#tab-why")
@@ -55,14 +61,46 @@ class WhyNot(PageCase):
         self.assertSoon("true", lambda: user.find("#tab-states").get_attribute("aria-selected"))
         user.find("#watching .machine")
 
-    def test_other_words(self):
+    def test_in_sight(self) -> None:
+        """At 1280 by 720 the cycle is in sight as a whole, with its legend and the rule: of two threads and of four."""
+        user = self.user
+        user.resize(1280, 720)
+        for name in ("IRIW-x86", "SB", "MP-x86"):
+            user.open_listed(f"#example={name}&view=why")
+            user.find("#why figure svg.graph")
+            self.assertSoon(True, lambda: user.run(IN_SIGHT, "#why figure, #why .legend, #why .rule"))
+            user.click("#tab-states")
+            self.assertSoon(True, lambda: user.run(IN_SIGHT, "#outcome .verdict, #watching .memory"))
+        user.open_listed("#example=SB-x86&view=why")
+        user.find("#why .why-run svg.graph")
+        self.assertSoon(True, lambda: user.run(IN_SIGHT, "#why .why-run, #why .legend"))
+
+    def test_chosen(self) -> None:
+        """The state that the answer is on is the chosen one of the list, and the column is not scrolled; Watch chooses that of its run again."""
+        user = self.user
+        user.resize(1280, 720)
+        chosen = lambda: user.texts("#outcome table.strip th.chosen")
+        for name in ("IRIW-x86", "SB%2Bmfences-x86"):
+            user.open_listed(f"#example={name}&view=why")
+            user.find("#why figure svg.graph")
+            self.assertSoon(["never"], chosen)
+            self.assertEqual(0, user.run("return document.getElementById('answers').scrollTop"), name)
+            user.click("#tab-states")
+            self.assertSoon(True, lambda: chosen() not in ([], ["never"]))
+        user.click("#outcome .never .watch")
+        self.assertSoon(["never"], chosen)
+        user.find("#why input").clear()
+        user.find("#why input").send_keys("1", user.keys.ENTER)
+        self.assertSoon(True, lambda: chosen() not in ([], ["never"]))
+
+    def test_other_words(self) -> None:
         """A state of words that no thread has is answered in one sentence, and what was answered before is gone."""
         user = self.user
         user.open_listed("#example=MP-x86&view=why")
         user.find("#why figure")
-        for it in user.all("#why input"):
-            it.clear()
-            it.send_keys("7")
+        for field in user.all("#why input"):
+            field.clear()
+            field.send_keys("7")
         user.click(".why-not")
         self.assertSays("No thread reads or writes such values: no candidate execution ends in 1:EAX=7; 1:EBX=7;", "#why .why-head")
         self.assertEqual([], user.all("#why figure"))
@@ -71,7 +109,7 @@ class WhyNot(PageCase):
 class Compiling(PageCase):
     """A test beside what it is compiled to."""
 
-    def test_fences(self):
+    def test_fences(self) -> None:
         """Fences are marked, and so is what the list without them has more; a state of it is watched."""
         user = self.user
         user.open_listed("#example=SB&view=compile")
@@ -83,7 +121,15 @@ class Compiling(PageCase):
         user.press(user.keys.END)
         self.assertSoon(["EAX 0", "EAX 0"], lambda: [it.replace(" put", "") for it in user.texts("#compile .register")])
 
-    def test_source_run(self):
+    def test_no_fence(self) -> None:
+        """Of a program that needs no fence nothing is said to be with fences."""
+        user = self.user
+        user.open_listed("#example=TestThenSet&view=compile")
+        self.assertSays("The source test, and what it is compiled to. No fence is needed.", "#compile p")
+        self.assertEqual(["Source", "x86, no fence needed"], user.texts("#compile caption"))
+        self.assertSoon(["By interleaving: 3 states", "Compiled: 3 states"], lambda: user.texts("#compile h3"))
+
+    def test_source_run(self) -> None:
         """A state of the source is watched as a source run."""
         user = self.user
         user.open_listed("#example=SB&view=compile")
@@ -91,7 +137,7 @@ class Compiling(PageCase):
         step = "return document.querySelector('#compile .step')?.textContent ?? ''"
         self.assertSoon(True, lambda: " of 4: " in user.run(step))
 
-    def test_cancel(self):
+    def test_cancel(self) -> None:
         """A compiled text is there before its lists; each list is cancelled and refused by itself."""
         user = self.user
         user.open_listed("#example=SB")
@@ -107,7 +153,7 @@ class Compiling(PageCase):
         self.assertSays("lw: limit 2 TooManyOrders", "#compile .notice")
         self.assertEqual(2, len(user.all("#compile table.code")))
 
-    def test_by_hand(self):
+    def test_by_hand(self) -> None:
         """A run of another text goes on by hand over that text, also over caches of another protocol."""
         user = self.user
         user.open_listed("#example=SB&view=compile")
@@ -124,7 +170,7 @@ class Compiling(PageCase):
         self.assertSoon("P1", lambda: user.text("#compile .events"))
         user.click("#caches")
 
-    def test_address(self):
+    def test_address(self) -> None:
         """A run of another text changes no address."""
         user = self.user
         user.open_listed("#example=SB&view=compile")
@@ -137,7 +183,7 @@ class Compiling(PageCase):
 class Fences(PageCase):
     """Which fences matter."""
 
-    def test_table(self):
+    def test_table(self) -> None:
         """Each fence with what it takes away, which is watched."""
         user = self.user
         user.open_listed("#example=SB&view=fences")
@@ -150,7 +196,7 @@ class Fences(PageCase):
         self.assertEqual((2, ["P1"]), threads_of_run(user, "#fences"))
         self.assertEqual("#example=SB&view=fences", user.link())
 
-    def test_verdicts(self):
+    def test_verdicts(self) -> None:
         """What is said of fences that are needed, that are not, and that do not make a test right."""
         user = self.user
         for example, verdict in (
@@ -166,22 +212,23 @@ class Fences(PageCase):
         names = user.texts("#fences tbody th")
         self.assertEqual(len(names), len(set(names)))
 
-    def test_more(self):
+    def test_more(self) -> None:
         """Of a test whose question is answered otherwise, the fewest fences that would change that are offered, and tried."""
         user = self.user
         user.open_listed("#example=SB-x86&view=fences")
+        before = user.value()
         user.click(".find-fences")
         self.assertSays("The fewest fences that forbid it:", "#fences .next-step")
         said = "An MFENCE in P0 before MOV EAX,[y] and in P1 before MOV EAX,[x]: it holds in none of 3 states. Try it"
         self.assertEqual([said], user.texts("#fences .fence-sets li"))
         user.click("#fences .take")
         self.assertSays("Forbidden.", "#outcome .verdict")
-        self.assertEqual(2, user.value().count("MFENCE"))
+        self.assertEqual(before.replace(" MOV EAX", " MFENCE      | MFENCE      ;\n MOV EAX", 1), user.value())
         user.open_listed("#example=MP-x86&view=fences")
         self.assertSays("The program has no MFENCE", "#fences .verdict")
         self.assertEqual([], user.all("#fences .find-fences"))
 
-    def test_search(self):
+    def test_search(self) -> None:
         """Where lw refuses a list, a search is offered, and then all lists come from lw."""
         user = self.user
         user.open_listed()
@@ -191,7 +238,7 @@ class Fences(PageCase):
         self.assertSays("All lists come from lw, by a search.", "#fences .small")
         self.assertEqual([], user.all("#search-fences"))
 
-    def test_names(self):
+    def test_names(self) -> None:
         """Which register of the source each one is that the compiled program names is said."""
         user = self.user
         user.open_listed("#example=SB&view=fences")
@@ -199,24 +246,92 @@ class Fences(PageCase):
         user.click("#tab-compile")
         self.assertSays("In the compiled program EAX is r0 of the source.", "#compile p")
         user.click("#tab-states")
-        user.choose("#film-run", "x86")
+        user.click("#run-x86")
         self.assertSoon(["EAX r0 0"], lambda: sorted({" ".join(it.split()[:3]) for it in user.texts("#watching .register")}))
 
-    def test_several_in_a_thread(self):
+    def test_several_in_a_thread(self) -> None:
         """Two fences of one thread."""
         user = self.user
         user.open_listed()
         text = read("examples/SB-x86.litmus").splitlines()
-        at = next(at for at, it in enumerate(text) if it.startswith(" MOV EAX"))
-        user.paste("\n".join([*text[:at], " MFENCE | ;", " MFENCE | ;", *text[at:]]) + "\n")
+        index = next(index for index, it in enumerate(text) if it.startswith(" MOV EAX"))
+        user.paste("\n".join([*text[:index], " MFENCE | ;", " MFENCE | ;", *text[index:]]) + "\n")
         user.click("#tab-fences")
         self.assertSays("The fences change nothing: with all of them and with none", "#fences .verdict")
         user.open_listed("#example=SB-x86")
-        user.paste("\n".join([*text[:at], " MFENCE | MFENCE ;", " MFENCE | ;", *text[at:]]) + "\n")
+        user.paste("\n".join([*text[:index], " MFENCE | MFENCE ;", " MFENCE | ;", *text[index:]]) + "\n")
         user.click("#tab-fences")
         names = ["P0, before MFENCE changes nothing", "P0, before MOV EAX,[y] changes nothing",
                  f"P1, before MOV EAX,[x] adds 1 state {MISSED} Watch"]
         self.assertSoon(names, lambda: user.texts("#fences tbody tr"))
 
 
-SUBJECTS = (WhyNot, Compiling, Fences)
+class FenceEdits(PageCase):
+    """Fences that are put into the text between two instructions of the machine, and taken out again."""
+
+    def test_by_click(self) -> None:
+        """A fence in each thread forbids what SB asks about; nothing else of the text changes, and it is the example again without them."""
+        user = self.user
+        user.open_listed("#example=SB-x86")
+        before = user.value()
+        rows = "\n".join(before.splitlines()[:4])
+        self.assertEqual(2, user.run("return document.querySelectorAll('.fence-edit').length"))
+        self.put("0:1")
+        self.assertSoon(f"{rows}\n MFENCE      |             ;", lambda: "\n".join(user.value().splitlines()[:5]))
+        self.assertSays("my own", "#example-shows")
+        self.put("1:1")
+        self.assertSays("Forbidden.", "#outcome .verdict")
+        self.assertEqual(f"{rows}\n MFENCE      | MFENCE      ;", "\n".join(user.value().splitlines()[:5]))
+        self.assertSoon("1:1", lambda: user.focused().get_attribute("data-fence"))
+        user.driver.back()
+        self.assertSays("Allowed.", "#outcome .verdict")
+        user.driver.forward()
+        self.assertSays("Forbidden.", "#outcome .verdict")
+        self.put("1:1", "take-out")
+        self.assertSays("Allowed.", "#outcome .verdict")
+        self.put("0:1", "take-out")
+        self.assertSoon(before, user.value)
+        self.assertSoon("", lambda: user.run("return document.getElementById('example-shows').textContent"))
+        self.assertIn("example=SB-x86", user.link())
+
+    def test_by_keys(self) -> None:
+        """A button has the focus and is seen then; arrows go to the next one of the thread, and Enter puts the fence."""
+        user = self.user
+        user.open_listed("#example=Peterson-x86&view=hand")
+        user.run("document.querySelector('.thread [data-fence]').focus()")
+        user.press(user.keys.ARROW_DOWN)
+        self.assertEqual("0:2", user.focused().get_attribute("data-fence"))
+        self.assertEqual("1", user.run("return getComputedStyle(document.activeElement).opacity"))
+        self.assertEqual("P0: put an MFENCE before MOV EAX,[b]", user.focused().get_attribute("aria-label"))
+        user.press(user.keys.ENTER)
+        self.assertSoon("P0: take this MFENCE out", lambda: user.focused().get_attribute("aria-label"))
+        self.assertEqual("true", user.find("#tab-hand").get_attribute("aria-selected"))
+
+    def test_found(self) -> None:
+        """What was found by hand before a fence is put is not found of the test with it."""
+        user = self.user
+        user.open_listed("#example=SB-x86&view=hand")
+        user.carry_out("P0", "P0", "D0", "P1", "P1", "D1")
+        self.assertSays("Found 1 of 4 states.", "#outcome .found")
+        self.put("0:1")
+        self.assertSays("Found 0 of 4 states.", "#outcome .found")
+
+    def test_where(self) -> None:
+        """None is offered in a source test, in another program than that in the editor, and before the guess."""
+        user = self.user
+        for link in ("example=SB", "example=SB-x86&beside=MP-x86", "example=SB-x86&predict=1"):
+            open_anew(user, f"#{link}")
+            user.find(".machine")
+            self.assertEqual([], user.run("return [...document.querySelectorAll('.fence-edit')]"), link)
+
+    def put(self, place: str, kind: str = "fence-edit") -> None:
+        """Puts a fence, or takes one out."""
+        user = self.user
+        css = f"#watching .{kind}[data-fence='{place}']"
+        user.wait(lambda: user.run("return document.querySelector(arguments[0])", css), css)
+        user.run("document.querySelector(arguments[0]).click()", css)
+        other = "take-out" if kind == "fence-edit" else "fence-edit:not(.take-out)"
+        user.wait(lambda: user.run("return document.querySelector(arguments[0])", f"#watching .{other}[data-fence='{place}']"), place)
+
+
+SUBJECTS = (WhyNot, Compiling, Fences, FenceEdits)

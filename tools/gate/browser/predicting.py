@@ -1,26 +1,28 @@
 """Predict first: nothing answers before the guess, and no question is asked twice over."""
+from __future__ import annotations
+
 from gate.browser.page_case import PageCase
-from gate.browser.user import read
+from gate.browser.user import User, read
 
 QUESTION = "Can a run on x86-TSO end this way? P0 reads y=0 and P1 reads x=0. (0:EAX=0 /\\ 1:EAX=0)"
 
 
-def open_anew(user, link):
+def open_anew(user: User, link: str) -> None:
     """Opens a link in a tab in which nothing was predicted yet."""
     user.open()
     user.run("sessionStorage.clear()")
     user.open(link)
 
 
-def asked(user, place):
-    """The question that is asked in a place."""
+def asked(user: User, place: str) -> str:
+    """Returns the question that is asked in a place."""
     return f"{user.text(f'{place} .predict strong')} {user.text(f'{place} .predict .asked')}"
 
 
 class Guess(PageCase):
     """The guess on a test."""
 
-    def test_nothing_is_told(self):
+    def test_nothing_is_told(self) -> None:
         """What is known is folded, titles are names, and no state is shown; the machine is shown before its run."""
         user = self.user
         open_anew(user, "#example=SB-x86&predict=1")
@@ -34,7 +36,7 @@ class Guess(PageCase):
         user.click("#open-gallery")
         self.assertEqual({""}, {it.text for it in user.driver.find_elements("css selector", "#gallery .example span")})
 
-    def test_revealed(self):
+    def test_revealed(self) -> None:
         """The guess is asked for by keys, and then the list is revealed."""
         user = self.user
         open_anew(user, "#example=SB-x86&predict=1")
@@ -47,21 +49,42 @@ class Guess(PageCase):
         self.assertSays("✗ Not as you said.", "#outcome .said")
         self.assertSoon("status", lambda: user.focused().get_attribute("role"))
 
-    def test_panels(self):
-        """Each panel asks, and shows nothing; what was asked for comes with the guess, in all panels."""
+    def test_panels(self) -> None:
+        """No panel asks once more, or shows anything; what was asked for comes with the guess, in all panels."""
         user = self.user
         open_anew(user, "#example=SB-x86&predict=1")
-        for view in ("compile", "fences"):
+        user.find("#yes")
+        for view in ("why", "compile", "fences"):
             user.click(f"#tab-{view}")
-            self.assertEqual(QUESTION, asked(user, f"#{view}"))
-            self.assertEqual([], user.all(f"#{view} table, #{view} .machine"))
+            self.assertSays("First say above what you expect.", f"#{view} p")
+            self.assertEqual((1, []), (len(user.all(".predict")), user.all(f"#{view} table, #{view} .machine, #{view} svg")))
         user.click("#tab-compile")
-        user.click("#compile-no")
+        user.click("#no")
         self.assertTrue(bool(user.find("#compile table")))
         user.click("#tab-fences")
         self.assertSays("The program has no MFENCE", "#fences .verdict")
 
-    def test_no_more(self):
+    def test_reason(self) -> None:
+        """Of a wrong guess it is said which state shows that, with a link to its run, or to why no run ends in it; of a right one nothing."""
+        user = self.user
+        open_anew(user, "#example=SB-x86&predict=1")
+        user.click("#no")
+        self.assertSays("✗ Not as you said. A run ends in 0:EAX=0; 1:EAX=0 (watch it).", "#outcome .said")
+        self.assertEqual("none", user.run("return getComputedStyle(document.querySelector('#outcome .verdicts')).outlineStyle"))
+        user.click("#tab-fences")
+        user.click("#outcome .reason .link")
+        self.assertSoon("true", lambda: user.find("#tab-states").get_attribute("aria-selected"))
+        open_anew(user, "#example=MP-x86&predict=1")
+        user.click("#yes")
+        self.assertSays("✗ Not as you said. No run ends in 1:EAX=1; 1:EBX=0 (why not).", "#outcome .said")
+        user.click("#outcome .reason .link")
+        self.assertSays("x86-TSO forbids 1:EAX=1; 1:EBX=0;", "#why .why-head")
+        open_anew(user, "#example=MP-x86&predict=1")
+        user.click("#no")
+        self.assertSays("✓ As you said.", "#outcome .said")
+        self.assertEqual([], user.all("#outcome .reason"))
+
+    def test_no_more(self) -> None:
         """Who does not want to predict any more is shown what was asked for."""
         user = self.user
         open_anew(user, "#example=SB-x86&predict=1")
@@ -70,7 +93,7 @@ class Guess(PageCase):
         self.assertSays("The condition holds in 1 of 4 final states.", "#outcome .asked")
         self.assertEqual([], user.all("#yes"))
 
-    def test_questions(self):
+    def test_questions(self) -> None:
         """What must not be is asked about without a no; and the guess on what is, though it must not be."""
         user = self.user
         open_anew(user, "#example=MP-x86&predict=1&state=0%3AEAX%3D0%3B")
@@ -86,7 +109,7 @@ class Guess(PageCase):
 class Kept(PageCase):
     """A prediction is kept in the tab."""
 
-    def test_not_asked_again(self):
+    def test_not_asked_again(self) -> None:
         """A test that was predicted is not asked about again, neither by another link to it nor after a reload."""
         user = self.user
         open_anew(user, "#example=SB-x86&predict=1")
@@ -98,7 +121,23 @@ class Kept(PageCase):
         self.assertSays("✓ As you said.", "#outcome .said")
         self.assertEqual([], user.all("#yes"))
 
-    def test_by_hand(self):
+    def test_again(self) -> None:
+        """A button asks again, and so does the choice to predict when it is made anew."""
+        user = self.user
+        open_anew(user, "#example=SB-x86&predict=1")
+        user.click("#just-show")
+        user.click(".again")
+        self.assertEqual(QUESTION, asked(user, "#outcome"))
+        user.click("#no")
+        self.assertSays("✗ Not as you said.", "#outcome .said")
+        user.click(".again")
+        user.click("#yes")
+        self.assertSays("✓ As you said.", "#outcome .said")
+        user.click("#predict")
+        user.click("#predict")
+        self.assertEqual(QUESTION, asked(user, "#outcome"))
+
+    def test_by_hand(self) -> None:
         """Who looks for the states by hand is not shown the verdict with the guess; Watch shows it."""
         user = self.user
         open_anew(user, "#example=SB-x86&predict=1&view=hand")
@@ -110,7 +149,24 @@ class Kept(PageCase):
         user.click("#tab-states")
         self.assertSays("The condition holds in 1 of 4 final states.", "#outcome .asked")
 
-    def test_told_by_hand(self):
+    def test_open(self) -> None:
+        """While the prediction is open, no other tab tells the answer; the button that shows it shows them, too."""
+        user = self.user
+        open_anew(user, "#example=SB-x86&predict=1&view=hand")
+        user.click("#yes")
+        self.assertSays("Found 0 of 4 states.", "#outcome .found")
+        self.assertEqual([], user.all("#printed-place"))
+        for view in ("why", "compile", "fences"):
+            user.click(f"#tab-{view}")
+            self.assertSays("Your prediction is still open: find the states by hand, or show the answer above.", f"#{view} p")
+            self.assertEqual([], user.all(f"#{view} table, #{view} .verdict, #{view} input[type=text]"))
+        user.click(".unveil")
+        self.assertSays("✓ As you said.", "#outcome .said")
+        self.assertSays("The program has no MFENCE", "#fences .verdict")
+        user.click("#tab-why")
+        self.assertSays("A run ends in this state", "#why .why-head")
+
+    def test_told_by_hand(self) -> None:
         """Who was told the answer to a guess sees it by hand, too, and after a reload."""
         user = self.user
         open_anew(user, "#example=SB-x86&predict=1")
@@ -125,14 +181,63 @@ class Kept(PageCase):
         self.assertEqual([], user.all(".unveil"))
 
 
+class Score(PageCase):
+    """Tests at random, and how many predictions were right."""
+
+    def test_surprise(self) -> None:
+        """A short test is asked about that was not predicted before, and so on; the score counts the first prediction on each."""
+        user = self.user
+        open_anew(user, "#example=SB-x86")
+        self.assertEqual("", user.run("return document.querySelector('#score').textContent"))
+        user.click("#surprise")
+        predicted, right = [], 0
+        for number in range(1, 4):
+            user.find("#yes")
+            predicted.append(user.text("#example-name"))
+            self.assertTrue(len(user.value().strip().splitlines()) <= 9)
+            user.click("#yes")
+            user.find("#outcome .said")
+            right += "As you said" in user.text("#outcome .said") and "Not as" not in user.text("#outcome .said")
+            self.assertSoon(f"{right} of {number} right", lambda: user.text("#score"))
+            user.click("#outcome .surprise")
+        self.assertEqual(3, len({*predicted, "SB-x86"} - {"SB-x86"}))
+        self.assertIn("predict=1", user.link())
+        user.driver.refresh()
+        self.assertSoon(f"{right} of 3 right", lambda: user.text("#score"))
+
+    def test_first_counts(self) -> None:
+        """A second prediction on a test does not count, and neither does the answer without one."""
+        user = self.user
+        open_anew(user, "#example=SB-x86&predict=1")
+        user.click("#yes")
+        self.assertSoon("1 of 1 right", lambda: user.text("#score"))
+        user.click(".again")
+        user.click("#no")
+        self.assertSays("✗ Not as you said.", "#outcome .said")
+        self.assertEqual("1 of 1 right", user.text("#score"))
+        user.open("#example=MP-x86&predict=1")
+        user.click("#just-show")
+        self.assertSays("Forbidden.", "#outcome .verdict")
+        self.assertEqual("1 of 1 right", user.text("#score"))
+
+    def test_gallery(self) -> None:
+        """The list of examples has the button, too."""
+        user = self.user
+        open_anew(user, "#example=SB-x86")
+        user.click("#open-gallery")
+        user.click("#gallery .surprise")
+        user.find("#yes")
+        self.assertTrue(user.text("#example-name") != "SB-x86")
+
+
 class Edits(PageCase):
     """A test that the reader has edited is asked about once."""
 
-    def test_edits(self):
+    def test_edits(self) -> None:
         """A fault is not asked about, an edit before the guess is, one after it is not, and another example is."""
         user = self.user
         text = read("examples/SB-x86.litmus").splitlines()
-        rows = [at for at, it in enumerate(text) if it.startswith(" MOV")]
+        rows = [index for index, it in enumerate(text) if it.startswith(" MOV")]
         with_row = lambda row: "\n".join([*text[: rows[1]], row, *text[rows[1] :]]) + "\n"
         open_anew(user, "#example=SB-x86&predict=1")
         user.find("#yes")
@@ -149,4 +254,4 @@ class Edits(PageCase):
         self.assertTrue(bool(user.find("#yes")))
 
 
-SUBJECTS = (Guess, Kept, Edits)
+SUBJECTS = (Guess, Kept, Score, Edits)

@@ -1,8 +1,10 @@
 """Runs that are watched: those that lw lists, step by step."""
+from __future__ import annotations
+
 import sys
 
 from gate.browser.page_case import PageCase
-from gate.browser.user import read, run, schedule_to
+from gate.browser.user import User, read, run, schedule_to
 from shared.home import HOME
 
 LISTED = "#example=SB-x86&view=states&state=0%3AEAX%3D0%3B+1%3AEAX%3D0%3B"
@@ -28,15 +30,15 @@ MOST_MILLISECONDS = 50
 class Steps(PageCase):
     """The steps of a run."""
 
-    def test_schedule(self):
-        """The schedule is that which lw lists, and the run begins at its start."""
+    def test_schedule(self) -> None:
+        """The schedule to a state is that which lw lists, and the run begins at its start."""
         user = self.user
-        user.open_listed("#example=SB-x86")
+        user.open_listed(LISTED)
         self.assertEqual(schedule_to("SB-x86"), user.schedule())
         user.press(user.keys.HOME)
         self.assertStep("Step 0 of 6: Nothing has happened yet.")
 
-    def test_forward(self):
+    def test_forward(self) -> None:
         """A step says what it does, and lights what is new and what is read."""
         user = self.user
         user.open_listed(f"{LISTED}&step=0")
@@ -48,7 +50,7 @@ class Steps(PageCase):
         self.assertStep("Step 2 of 6: P0 reads y=0 from memory into EAX.")
         self.assertEqual((["EAX 0 put"], ["y 0 read"]), (lit(user, ".register.changed"), lit(user, ".memory .word.read")))
 
-    def test_keys(self):
+    def test_keys(self) -> None:
         """Arrows step, and what presenters send; also after a click on a checkbox."""
         user, keys = self.user, self.user.keys
         user.open_listed(f"{LISTED}&step=2")
@@ -60,7 +62,7 @@ class Steps(PageCase):
         self.assertStep("Step 1 of 6:")
         user.click("#caches")
 
-    def test_end(self):
+    def test_end(self) -> None:
         """The last step is the end of the run, in its state."""
         user = self.user
         user.open_listed(LISTED)
@@ -69,7 +71,7 @@ class Steps(PageCase):
         self.assertFalse("not proved" in user.step())
         self.assertEqual(["EAX 0", "EAX 0"], [it.replace(" put", "") for it in user.texts("#watching .register")])
 
-    def test_buttons(self):
+    def test_buttons(self) -> None:
         """The buttons step, and the events of the schedule lead to their steps."""
         user = self.user
         user.open_listed(f"{LISTED}&step=0")
@@ -81,18 +83,19 @@ class Steps(PageCase):
         self.assertStep("Step 3 of 6:")
         user.click(".transport [aria-label='To the end']")
         self.assertStep("Step 6 of 6:")
+        user.record_steps()
         user.click("#play")
-        self.assertStep("Step 2 of 6:")
+        self.assertSoon([6, 0, 1, 2], lambda: user.recorded_steps()[:4])
         user.click("#play")
 
-    def test_quick(self):
+    def test_quick(self) -> None:
         """A step takes the page under 50 ms: of several tries the least, so that other work on the machine does not matter."""
         self.user.open_listed(LISTED)
         rounds = [self.user.run(STEPS) for _ in range(TRIES)]
         least = [min(each) for each in zip(*rounds)]
         self.assertTrue(max(least) < MOST_MILLISECONDS, least)
 
-    def test_motion(self):
+    def test_motion(self) -> None:
         """A step moves a word; where the system asks for less motion nothing moves, and a run that is chosen does not play."""
         user = self.user
         user.open_listed(f"{LISTED}&step=0")
@@ -112,20 +115,63 @@ class Steps(PageCase):
 class Starts(PageCase):
     """What a run begins with."""
 
-    def test_play(self):
+    def test_own(self) -> None:
+        """The run that the comment of an example describes is shown first; a link keeps it, and the run that lw lists is in the menu."""
+        user = self.user
+        own = "P0 P0 P1 P1 D0 D1"
+        user.open_listed("#example=SB-x86")
+        self.assertSoon(own, user.schedule)
+        self.assertStep("Step 3 of 6: P1 puts y=1 into its store buffer. This step is shown first: 2 stores wait.")
+        user.press(user.keys.ARROW_RIGHT)
+        self.assertStep("Step 4 of 6:")
+        self.assertFalse("shown first" in user.step())
+        user.open_listed(user.link())
+        self.assertEqual(own, user.schedule())
+        self.assertStep("Step 4 of 6:")
+        user.click("#watching .menu summary")
+        user.click(".listed-run")
+        self.assertSoon(schedule_to("SB-x86"), user.schedule)
+        self.assertFalse("own=1" in user.link())
+        user.click("table.strip td[data-column='0']")
+        self.assertSoon(own, user.schedule)
+
+    def test_own_of_others(self) -> None:
+        """Of a source test the source run is its own, and the compiled program follows it; a run that is no run to the end is brought there."""
+        user = self.user
+        user.open_listed("#example=Counter")
+        self.assertSoon("P1 P0", user.schedule)
+        user.click("#run-x86")
+        self.assertSoon("P1 P1 P0 P0", user.schedule)
+        user.open_listed("#example=Cache-x86")
+        self.assertSoon("P1 P0 D0 P1 E0:y", user.schedule)
+        user.open_listed("#example=Forwarding-x86")
+        self.assertSoon("P0 P0 P0 D0 D0", user.schedule)
+
+    def test_own_of_own(self) -> None:
+        """A comment in the reader's own test gives its run, too; one that is no schedule of the test is passed over."""
+        user = self.user
+        user.open_listed()
+        text = user.value().replace("SB-x86", "Mine (* A run: %s. *)", 1)
+        user.run_text(text % "P1 P1 P0 P0 D1 D0")
+        self.assertSoon("P1 P1 P0 P0 D1 D0", user.schedule)
+        for words in ("all is well", "P0 D0 D0", "P7"):
+            user.run_text(text % words)
+            self.assertSoon(schedule_to("SB-x86"), user.schedule)
+
+    def test_play(self) -> None:
         """Play begins at the start the first time, and later where the reader is."""
         user = self.user
         user.open_listed("#example=SB-x86")
         self.assertStep("Step 3 of 6:")
+        user.record_steps()
         user.click("#play")
-        self.assertStep("Step 0 of 6:")
-        self.assertStep("Step 2 of 6:")
-        user.click("#play")
+        self.assertSoon([3, *range(7)], user.recorded_steps)
         user.click("#schedule [data-step='4']")
+        self.assertStep("Step 4 of 6:")
         user.click("#play")
-        self.assertStep("Step 5 of 6:")
+        self.assertSoon([3, *range(7), 4, 5, 6], user.recorded_steps)
 
-    def test_initial(self):
+    def test_initial(self) -> None:
         """A register that no instruction has written yet looks otherwise than one that has read the same word."""
         user = self.user
         user.open_listed(f"{LISTED}&step=0")
@@ -141,17 +187,43 @@ class Starts(PageCase):
 class Sources(PageCase):
     """Runs of source tests."""
 
-    def test_source_run(self):
-        """A source run has one step for each statement, says what they do, and has no store buffers."""
+    def test_source_run(self) -> None:
+        """The source's own run opens: it has one step for each statement, says what they do, and has no store buffers."""
         user = self.user
         user.open_listed("#example=SB")
-        user.choose("#film-run", "source")
         self.assertStep("Step 0 of 4")
+        self.assertEqual(("true", "false"), tuple(user.find(f"#run-{it}").get_attribute("aria-pressed") for it in ("source", "x86")))
         user.click("#forward")
         self.assertStep("P0 writes x=1 to memory.")
         self.assertEqual([], user.all("#watching .buffer"))
 
-    def test_labels(self):
+    def test_compiled_run(self) -> None:
+        """One click away is the run of the compiled program with its fences, which a link keeps; the button keeps the focus."""
+        user = self.user
+        user.open_listed("#example=SB")
+        user.click("#run-x86")
+        self.assertSoon(True, lambda: any("MFENCE" in it for it in user.texts("#watching .code li")))
+        self.assertEqual("run-x86", user.focused().get_attribute("id"))
+        self.assertEqual(2, len(user.all("#watching .buffer")))
+        self.assertIn("run=x86", user.link())
+        user.open_listed(user.link())
+        self.assertSoon(True, lambda: any("MFENCE" in it for it in user.texts("#watching .code li")))
+        user.click("#run-source")
+        self.assertStep("Step 0 of 4")
+        self.assertFalse("run=" in user.link())
+
+    def test_source_words(self) -> None:
+        """Beside the comment of a source test it is said that fences forbid its outcome on x86, and which test is without them."""
+        user = self.user
+        user.open_listed("#example=SB")
+        self.assertTrue(user.text("#about").endswith("On x86 the compiler's fences forbid this outcome; without them it is allowed: SB-x86."))
+        self.assertSays("Next: the same test on x86, without the compiler's fences: SB-x86", "#next")
+        user.click("#about .link")
+        self.assertSoon("SB-x86", lambda: user.text("#example-name"))
+        user.open_listed("#example=LB")
+        self.assertFalse("fences" in user.text("#about"))
+
+    def test_labels(self) -> None:
         """Code has the labels that the reader has written."""
         user = self.user
         user.open_listed()
@@ -164,20 +236,21 @@ class Caches(PageCase):
 
     LINK = "#example=Cache-x86&view=hand&schedule=P1+P0+D0+P1&protocol=moesi"
 
-    def setUp(self):
+    def setUp(self) -> None:
+        """Opens an example, and shows cache lines."""
         super().setUp()
         self.user.open_listed()
         self.show(True)
 
-    def tearDown(self):
+    def tearDown(self) -> None:
         super().tearDown()
         self.show(False)
 
-    def show(self, is_shown):
+    def show(self, is_shown: bool) -> None:
         if self.user.run("return document.getElementById('caches').checked") != is_shown:
             self.user.click("#caches")
 
-    def test_words(self):
+    def test_words(self) -> None:
         """Words name memory, and the cache that has the word if caches are looked at."""
         user = self.user
         user.open_listed(self.LINK)
@@ -186,11 +259,12 @@ class Caches(PageCase):
         self.assertStep("P1 reads y=1 from memory into EBX.")
         self.assertEqual([], user.all("#watching .cacheline"))
 
-    def test_lines(self):
+    def test_lines(self) -> None:
         """Each line has its letter, memory its own words, and the protocol is chosen."""
         user = self.user
         user.open_listed(self.LINK)
         self.assertSoon(["y O", "y S"], lambda: lit(user, ".cacheline"))
+        self.assertIn("M modified, O owned", user.text("#watching .hint"))
         self.assertEqual(["own 0"], user.texts("#watching .own"))
         user.click("#back")
         self.assertStep("P0's y=1 leaves its store buffer for its own cache.")
@@ -198,7 +272,7 @@ class Caches(PageCase):
         user.choose("#protocol", "mesi")
         self.assertSoon("P1 P0 D0", user.done)
 
-    def test_eviction(self):
+    def test_eviction(self) -> None:
         """A line is given up by a click, if the cache holds it."""
         user = self.user
         user.open_listed(self.LINK)
@@ -211,7 +285,7 @@ class Caches(PageCase):
 class Pictures(PageCase):
     """Pictures of runs, and their graphs."""
 
-    def test_saved(self):
+    def test_saved(self) -> None:
         """A picture is saved as tools/picture.py draws it."""
         user = self.user
         user.open_listed(LISTED)
@@ -220,9 +294,9 @@ class Pictures(PageCase):
         user.click(".menu summary")
         user.click("#save-picture")
         words = [sys.executable, f"{HOME}/tools/picture.py", schedule_to("SB-x86")]
-        self.assertEqual(run(*words, given=read("examples/SB-x86.litmus")), user.saved("machine.svg"))
+        self.assertEqual(run(*words, text=read("examples/SB-x86.litmus")), user.saved("machine.svg"))
 
-    def test_graph(self):
+    def test_graph(self) -> None:
         """The graph of a run has its events and marks its cycle."""
         user = self.user
         user.open_listed("#example=SB-x86")
@@ -236,13 +310,13 @@ class Pictures(PageCase):
         self.assertEqual([], user.all("#graph-place svg"))
 
 
-def lit(user, css):
-    """The texts of what is lit, with what is said to those who do not see colours."""
+def lit(user: User, css: str) -> list[str]:
+    """Returns the texts of what is lit, with what is said to those who do not see colours."""
     return [" ".join(it.split()) for it in cells(user, css)]
 
 
-def cells(user, css):
-    """The texts of elements of the machine, what is hidden included, with a blank between a name and its word."""
+def cells(user: User, css: str) -> list[str]:
+    """Returns the texts of elements of the machine, what is hidden included, with a blank between a name and its word."""
     return user.run(CELLS, css)
 
 

@@ -1,4 +1,6 @@
 """Lists of any size: a list that is refused by count is made by a search."""
+from __future__ import annotations
+
 from gate.browser.page_case import PageCase
 from gate.browser.texts import FIVE
 from gate.browser.user import read
@@ -6,18 +8,18 @@ from gate.browser.user import read
 TRY_LOCK = "bench/beyond/TryLock3-x86.litmus"
 
 
-def report_of(name):
-    """The report of a test past the limits of lists, as its page has it."""
+def report_of(name: str) -> str:
+    """Returns the report of a test past the limits of lists, as its page has it."""
     lines = read(f"examples/beyond/{name}.page").splitlines()
-    first = next(at for at, it in enumerate(lines) if it.startswith("Test "))
-    last = next(at for at, it in enumerate(lines) if it.startswith("Observation "))
+    first = next(index for index, it in enumerate(lines) if it.startswith("Test "))
+    last = next(index for index, it in enumerate(lines) if it.startswith("Observation "))
     return "\n".join(lines[first : last + 1]) + "\n"
 
 
 class Search(PageCase):
     """A search in place of orders."""
 
-    def test_offered(self):
+    def test_offered(self) -> None:
         """A list that is refused by count can be searched, and the verdict says by what it was listed."""
         user = self.user
         user.open_listed()
@@ -28,17 +30,18 @@ class Search(PageCase):
         self.assertSays("The list is complete (proved), by a search.", "#outcome .asked")
         self.assertEqual([], user.all("#search-instead"))
 
-    def test_same_panels(self):
+    def test_same_panels(self) -> None:
         """Its runs are watched, its graph is drawn, and its list is saved, as the page of the example has it."""
         user = self.user
         name = "3.TryLock"
         user.open_listed()
         user.run_text(read(f"examples/beyond/{name}.litmus"))
         user.click("#search-instead")
-        user.soon("#outcome .asked", "final states")
+        user.text_with("#outcome .asked", "final states")
         user.find("#watching .machine")
         user.press(user.keys.END)
         self.assertStep("The run has ended")
+        user.click("#run-x86")
         user.find("#graph-place svg.graph")
         user.click("#printed-place summary")
         user.find("#printed pre")
@@ -46,7 +49,7 @@ class Search(PageCase):
         user.click("#tab-hand")
         self.assertSays("Found 0 of 7 states.", "#outcome .found")
 
-    def test_cancelled(self):
+    def test_cancelled(self) -> None:
         """A search says how long it takes, and is cancelled."""
         user = self.user
         user.open_listed()
@@ -63,7 +66,7 @@ class Search(PageCase):
         user.run_text(read("examples/SB-x86.litmus"))
         self.assertSays("The condition holds in 1 of 4 final states.", "#outcome .asked")
 
-    def test_beside_and_compiled(self):
+    def test_beside_and_compiled(self) -> None:
         """It is offered for a test beside another, and for what a test is compiled to."""
         user = self.user
         user.open_listed()

@@ -1,11 +1,13 @@
 """What this machine shows of a test, if a server stands behind the page."""
+from __future__ import annotations
+
 from gate.browser.page_case import PageCase
 
 
 class SeenHere(PageCase):
     """The column of what was seen on this machine."""
 
-    def test_column(self):
+    def test_column(self) -> None:
         """A run says of each listed state how often it was seen; another test's list offers a run of its own."""
         user = self.user
         user.open_listed("#example=SB-x86")

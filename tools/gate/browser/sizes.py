@@ -1,4 +1,6 @@
 """What is in sight, in windows of all sizes: the verdict, the step, the next instruction and memory; and no scroll bar inside another."""
+from __future__ import annotations
+
 from gate.browser.lists import IN_SIGHT
 from gate.browser.page_case import PageCase
 
@@ -42,18 +44,29 @@ const wanted = document.querySelectorAll("#watching .memory .word, #watching .co
 return [...wanted].filter((it) => !isSeen(it)).map((it) => it.className + " " + it.textContent);
 """
 
+# The registers, entries, slots, words and next instructions of machines that are out of sight or covered.
+UNSEEN = """
+const isSeen = (it) => {
+  const { left, right, bottom } = it.getBoundingClientRect();
+  const seen = document.elementFromPoint((left + right) / 2, bottom - 2);
+  return bottom <= innerHeight && (it.contains(seen) || Boolean(seen?.contains(it)));
+};
+return [...document.querySelectorAll(".machine :is(.register, .entry, .slot, .word, .next)")]
+  .filter((it) => it.checkVisibility() && !isSeen(it)).map((it) => `${it.className} ${it.textContent}`);
+"""
+
 
 class InSight(PageCase):
     """What is in sight together."""
 
-    def open_at(self, name, width, height):
+    def open_at(self, name: str, width: int, height: int) -> None:
         """Opens an example in a window of a size, in the middle of its run."""
         user = self.user
         user.resize(width, height)
         user.open_listed(f"#example={name}")
         user.wait(lambda: not user.all(".asking"), "the answers")
 
-    def test_machine(self):
+    def test_machine(self) -> None:
         """The sentence on the step, the next instructions and memory are in sight, whatever the size of the window."""
         for width, height in SIZES:
             for name in NAMES:
@@ -63,35 +76,83 @@ class InSight(PageCase):
                     self.user.click("#forward")
                 self.assertEqual([], self.user.run(COVERED), (name, width))
 
-    def test_large(self):
-        """With large type nothing of the machine of SB is covered, and of Seqlock nothing with usual type, at 1280 by 720."""
+    def test_large(self) -> None:
+        """With large type nothing of a machine is covered, and of Seqlock and ProducerQueue nothing with usual type, at 1280 by 720."""
         user = self.user
-        covered = """
-        const isSeen = (it) => {
-          const { left, right, bottom } = it.getBoundingClientRect();
-          const seen = document.elementFromPoint((left + right) / 2, bottom - 2);
-          return it.contains(seen) || seen?.contains(it);
-        };
-        return [...document.querySelectorAll("#watching :is(.register, .entry, .word)")].filter((it) => !isSeen(it)).map((it) => it.textContent);
-        """
-        self.open_at("Seqlock-x86", 1280, 720)
-        self.assertEqual([], user.run(covered))
-        self.open_at("SB-x86", 1280, 720)
+        for name in ("Seqlock-x86", "ProducerQueue", "ProducerQueue-x86"):
+            self.open_at(name, 1280, 720)
+            self.assertEqual([], user.run(UNSEEN), name)
         user.click("#large")
         try:
-            self.open_at("SB-x86", 1280, 720)
-            self.assertEqual([], user.run(covered))
+            for name in ("SB-x86", "Peterson-x86", "4.SB-x86", "Peterson", "4.SB", "RingBuffer-x86", "FastLock-x86", "SenseBarrier", "Seqlock-x86",
+                         "MCS-x86", "Dekker+turn-x86", "ProducerQueue"):
+                self.open_at(name, 1280, 720)
+                self.assertEqual([], user.run(UNSEEN), name)
         finally:
             user.click("#large")
 
-    def test_no_bars_inside(self):
+    def test_claim(self) -> None:
+        """With large type it is still said that the list is complete, and the state that no run ends in is in sight, at 1280 by 720."""
+        user = self.user
+        inside = """
+        const [claim, box] = ["#outcome .asked .by", "#outcome .asked"].map((css) => document.querySelector(css).getBoundingClientRect());
+        return claim.right <= box.right + 1 && claim.bottom <= box.bottom + 1;
+        """
+        self.open_at("IRIW-x86", 1280, 720)
+        user.click("#large")
+        try:
+            for name in ("IRIW-x86", "Peterson-x86", "SB-x86"):
+                self.open_at(name, 1280, 720)
+                self.assertTrue(user.run(inside), name)
+            self.open_at("IRIW-x86", 1280, 720)
+            self.assertEqual(["never 1 0 1 0"], user.texts("#outcome .never"))
+            self.assertTrue(user.run(IN_SIGHT, "#outcome .never"))
+            user.click("#outcome .never")
+            self.assertSays("x86-TSO forbids 2:EAX=1; 2:EBX=0; 3:EAX=1; 3:EBX=0;", "#why .why-head")
+        finally:
+            user.click("#large")
+
+    def test_compared(self) -> None:
+        """Of two tests side by side nothing of the machines is covered, also with large type, at 1280 by 720."""
+        user = self.user
+        user.resize(1280, 720)
+        for _ in range(2):
+            for link in ("Peterson-x86&beside=Peterson%2Bmfences-x86", "4.SB-x86&beside=4.SB", "SB-x86&beside=SB%2Bmfences-x86"):
+                user.open(f"#example={link}")
+                user.wait(lambda: len(user.all(".side .machine")) == 2, link)
+                self.assertSoon([], lambda: user.run(UNSEEN))
+            user.click("#large")
+
+    def test_caches(self) -> None:
+        """With cache lines all code of SB is in sight, and what their letters mean, at 1280 by 720."""
+        user = self.user
+        self.open_at("SB-x86", 1280, 720)
+        user.click("#caches")
+        try:
+            self.assertSoon([], lambda: user.run(UNSEEN))
+            self.assertEqual(2, len(user.all("#watching .code.whole")))
+            self.assertIn("S shared", user.text("#watching .hint"))
+            self.assertTrue(user.run(IN_SIGHT, "#watching .hint"))
+            self.assertFalse(user.run("const it = document.querySelector('#watching .hint'); return it.scrollHeight > it.clientHeight + 2"))
+        finally:
+            user.click("#caches")
+
+    def test_filled(self) -> None:
+        """In a large window the machine of a small test takes the room that there is."""
+        user = self.user
+        for name, part in (("SB-x86", 0.78), ("IRIW-x86", 0.7)):
+            self.open_at(name, 1920, 1080)
+            bottom = user.run("return document.querySelector('#watching .memory').getBoundingClientRect().bottom / innerHeight")
+            self.assertTrue(part < bottom < 1, (name, bottom))
+
+    def test_no_bars_inside(self) -> None:
         """Nothing has a scroll bar inside another one."""
         for width, height in SIZES:
             for name in NAMES:
                 self.open_at(name, width, height)
                 self.assertEqual([], self.user.run(NESTED), (name, width))
 
-    def test_compile(self):
+    def test_compile(self) -> None:
         """What tests are compiled to has one scroll bar at most, at 1280 by 720; of two threads all three codes are beside each other."""
         user = self.user
         user.resize(1280, 720)
@@ -104,13 +165,13 @@ class InSight(PageCase):
                 tops = "return [...document.querySelectorAll('#compile .columns > div')].map((it) => it.offsetTop)"
                 self.assertEqual(1, len(set(user.run(tops))))
 
-    def test_list(self):
+    def test_list(self) -> None:
         """A list of 15 states is in sight as a whole at 1280 by 720."""
         self.open_at("IRIW-x86", 1280, 720)
         self.assertEqual(15, len(self.user.all("#outcome table.strip thead .watch:not(.never .watch)")))
         self.assertTrue(self.user.run(IN_SIGHT, "#outcome table.strip td, #watching .memory"))
 
-    def test_code_begins_whole(self):
+    def test_code_begins_whole(self) -> None:
         """The first line of a code in sight is whole, and all lines are shown if they have room."""
         user = self.user
         cut = """
@@ -127,7 +188,7 @@ class InSight(PageCase):
                 user.click("#forward")
         self.assertEqual([], [it for it in user.texts("#watching .lines-in-sight") if it])
 
-    def test_long_code(self):
+    def test_long_code(self) -> None:
         """Of long code it is said which lines are shown, and the next one is among them at each step."""
         user = self.user
         self.open_at("ChaseLev-x86", 1280, 720)
@@ -143,25 +204,26 @@ class InSight(PageCase):
             user.click("#forward")
             self.assertTrue(user.run(seen), user.step())
 
-    def test_step_is_announced(self):
+    def test_step_is_announced(self) -> None:
         """What has happened in a step is said in a live sentence above the machine, with the number of the step."""
         user = self.user
         user.resize(390, 844)
         user.open_listed("#example=SB-x86")
         self.assertEqual("status", user.find("#watching .step").get_attribute("role"))
         user.click("#forward")
-        self.assertStep("Step 4 of 6: P1's y=1 leaves its store buffer for memory.")
+        self.assertStep("Step 4 of 6: P1 reads x=0 from memory into EAX")
 
 
 class Phone(PageCase):
     """A window as narrow as a phone."""
 
-    def setUp(self):
+    def setUp(self) -> None:
+        """Opens an example in a window as narrow as a phone."""
         super().setUp()
         self.user.resize(390, 844)
         self.user.open_listed("#example=SB-x86")
 
-    def test_order(self):
+    def test_order(self) -> None:
         """Verdict, list and machine come before the text, which is folded, and they fit the first screen."""
         user = self.user
         bottom = "return document.querySelector(arguments[0]).getBoundingClientRect().bottom"
@@ -170,17 +232,78 @@ class Phone(PageCase):
         self.assertTrue(user.run(bottom, "#watching") < user.run(bottom, "#unfold"))
         self.assertEqual([], user.all("#text"))
 
-    def test_unfolded(self):
+    def test_buffers(self) -> None:
+        """The store buffers are in sight on the first screen, also of a test with long code, of which a part is shown."""
+        user = self.user
+        self.assertEqual([], user.run(UNSEEN))
+        user.open_listed("#example=Peterson-x86")
+        self.assertSoon([], lambda: user.run(UNSEEN))
+        self.assertSoon(True, lambda: all(it.startswith("lines ") for it in user.texts("#watching .lines-in-sight")))
+
+    def test_list(self) -> None:
+        """Of a list of 15 states most are in sight, and so is the chosen one; it is scrolled sideways, below the titles of its rows."""
+        user = self.user
+        user.open_listed("#example=IRIW-x86")
+        seen = """
+        const box = document.querySelector("#outcome .states-place .wide").getBoundingClientRect();
+        const titles = document.querySelector("#outcome th").getBoundingClientRect().right;
+        const isIn = (it) => it.left >= titles - 1 && it.right <= box.right + 1;
+        return [...document.querySelectorAll(`#outcome thead .watch${arguments[0]}`)].filter((it) => isIn(it.getBoundingClientRect())).length;
+        """
+        self.assertTrue(user.run(seen, "") >= 10, user.run(seen, ""))
+        self.assertEqual(1, user.run(seen, "[aria-pressed=true]"))
+        self.assertTrue(bool(user.all("#outcome .wide.more-right")))
+        user.run("document.querySelectorAll('#outcome thead .watch')[14].click()")
+        self.assertSoon(1, lambda: user.run(seen, "[aria-pressed=true]"))
+        user.run("document.querySelectorAll('#outcome thead .watch')[0].click()")
+        self.assertSoon(1, lambda: user.run(seen, "[aria-pressed=true]"))
+
+    def test_sideways(self) -> None:
+        """On a phone that is held sideways memory covers nothing of the machine."""
+        user = self.user
+        user.resize(844, 390)
+        user.open_listed("#example=SB-x86")
+        self.assertEqual(["static"] * 2, user.run("return ['.memory', '.run-head'].map((css) => getComputedStyle(document.querySelector(`#watching ${css}`)).position)"))
+
+    def test_memory_covers_nothing(self) -> None:
+        """Memory lies over no entry, slot or instruction, wherever the page is scrolled."""
+        user = self.user
+        over = """
+        const memory = document.querySelector("#watching .memory").getBoundingClientRect();
+        const overlaps = ({ top, bottom }) => bottom > memory.top + 2 && top < memory.bottom - 2;
+        return [...document.querySelectorAll("#watching :is(.code, .entry, .slot, .register)")]
+          .filter((it) => overlaps(it.getBoundingClientRect())).map((it) => it.className);
+        """
+        for name in ("Peterson-x86", "ChaseLev-x86", "SB-x86", "IRIW-x86"):
+            user.open_listed(f"#example={name}")
+            for part in (0, 0.3, 0.6, 1):
+                user.run("scrollTo(0, arguments[0] * (document.documentElement.scrollHeight - innerHeight))", part)
+                self.assertEqual([], user.run(over), (name, part))
+
+    def test_unfolded(self) -> None:
         """A button unfolds the text, which is edited and run; a fault is seen also if it is folded."""
         user = self.user
         self.assertEqual("false", user.find("#unfold").get_attribute("aria-expanded"))
         user.click("#unfold")
         self.assertEqual("true", user.find("#unfold").get_attribute("aria-expanded"))
+        self.assertSoon(True, lambda: user.run(IN_SIGHT, "#editor"))
         user.run_text("SRC A\n{}\n P0 ;\n x = 1 ;\nexists (x=1)\n")
         user.click("#unfold")
         self.assertSays("Line 4, column 4: = does not fit here.", "#fault")
 
-    def test_wide_again(self):
+    def test_narrowed(self) -> None:
+        """If a wide window or a rotated phone becomes narrow, the list goes below the verdict, and nothing of the verdict is covered or cut."""
+        user = self.user
+        for width, height in ((844, 390), (1280, 720)):
+            user.resize(width, height)
+            user.open_listed("#example=SB-x86")
+            self.assertTrue(bool(user.find("#outcome .states-place.aside")))
+            user.resize(390, 844)
+            self.assertSoon([], lambda: user.all("#outcome .states-place.aside"))
+            uncut = "const it = document.querySelector('#outcome .verdict'); return it.scrollWidth <= it.clientWidth && it.clientWidth > 300"
+            self.assertTrue(user.run(uncut), width)
+
+    def test_wide_again(self) -> None:
         """In a wide window the text is beside the machine again."""
         user = self.user
         user.resize(1280, 720)

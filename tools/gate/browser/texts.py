@@ -1,4 +1,6 @@
 """The text of a test: faults, limits, files, and the reader's own test."""
+from __future__ import annotations
+
 from gate.browser.page_case import PageCase
 from gate.browser.user import read
 from shared.home import HOME
@@ -13,7 +15,7 @@ class Faults(PageCase):
 
     TEXT = "SRC Mine (* é *)\n{}\n P0 ;\n (* é *) x = 1 ;\nexists (x=1)\n"
 
-    def test_place(self):
+    def test_place(self) -> None:
         """A fault is said in a sentence with its place and lw's own line, and marked on its line and at its token; the old verdict goes."""
         user = self.user
         user.open_listed()
@@ -25,10 +27,10 @@ class Faults(PageCase):
         self.assertFalse("has no ;" in user.text("#fault"))
         self.assertEqual(1, len(user.all(".notice")))
         self.assertEqual(["No answer: line 4 of the text has a fault."], user.texts("#outcome .list-place"))
-        user.click("#fault button")
+        user.click("#fault .go-to")
         self.assertEqual("text", user.focused().get_attribute("id"))
 
-    def test_token(self):
+    def test_token(self) -> None:
         """The whole token of a fault is marked, and what is expected there is said."""
         user = self.user
         user.open_listed()
@@ -37,16 +39,62 @@ class Faults(PageCase):
             (rows("INC EAX"), "INC", "lw has no instruction of this name."),
             (rows("MOV [x],[y]"), "[", "An instruction has one location at most: load it into a register first."),
             (rows("MOV EAX,flag"), "flag", "flag is no register, and one is needed here: EAX, EBX, ECX, EDX, ESI or EDI."),
-            (rows("MOV [x],$1").replace("exists (0:EAX=1)", "exists (x==1)"), "=", "does not fit into the question."),
+            (rows("MOV [x],$1").replace("exists (0:EAX=1)", "exists (x=1 x)"), "x", "does not fit into the question."),
             (rows("MOV [x],$1 | MFENCE"), ";", "This row has too few or too many cells"),
-            (rows("MOV [x],$1").replace("exists", "exist"), "", "The text ends too early."),
+            (rows("MOV [x],$1").replace("exists", "exist"), "", "lw has no question of the name exist. Did you mean exists?"),
         ):
             user.run_text(text)
             self.assertSays(said, "#fault")
             self.assertEqual(token, user.run("return document.querySelector('.marks mark').textContent").strip())
-            self.assertIn("lw: ", user.text("#fault .told"))
+            self.assertIn("lw: ", user.text("#fault .fault-line"))
 
-    def test_question(self):
+    def test_meant(self) -> None:
+        """A word that is nearly one that lw has is named."""
+        user = self.user
+        user.open_listed()
+        rows = lambda row: f"X86 A\n{{}}\n P0 ;\n {row} ;\n LATER: MOV EAX,$1 ;\nexists (0:EAX=1)\n"
+        for text, said in (
+            (rows("MFENC"), "lw has no instruction of this name. Did you mean MFENCE?"),
+            (rows("FIRST: MVO EAX,$1"), "Did you mean MOV?"),
+            (rows("LOCK XDD [x],EAX"), "LOCK comes before XADD or XCHG. Did you mean XADD?"),
+            (rows("MOV EXA,$1"), "Did you mean EAX?"),
+            (rows("JMP LATR"), "The thread has no label LATR to jump to. Did you mean LATER?"),
+            (rows("MFENCE").replace("exists", "exist"), "lw has no question of the name exist. Did you mean exists?"),
+        ):
+            user.run_text(text)
+            self.assertSays(said, "#fault")
+        user.run_text(rows("INC EAX"))
+        self.assertSays("lw has no instruction of this name. An instruction is", "#fault")
+
+    def test_other_notations(self) -> None:
+        """What is written as in other notations or in the other language is named, and a button puts what is meant into the text."""
+        user = self.user
+        user.open_listed()
+        text = "X86 A\n{}\n P0 | P1 ;\n MOV [x],$1 | MOV EAX,[x] ;\nexists (x=1 /\\ 1:EAX=0)\n"
+        source = "SRC A\n{}\n P0 | P1 ;\n x := 1 | r0 := x ;\nexists (x=1 /\\ 1:r0=0)\n"
+        for right, part, wrong, said in (
+            (text, "/\\", "&&", "Did you mean /\\?"),
+            (text, "/\\", "and", "Did you mean /\\?"),
+            (text, "/\\", "&", "Did you mean /\\?"),
+            (text, "x=1", "x==1", "A question compares with one =. Did you mean =?"),
+            (text, "1:EAX", "P1:EAX", "The thread of a register is a number, without P. Did you mean 1:EAX?"),
+            (text, "1:EAX", "1:r0", "Did you mean EAX?"),
+            (text, "MOV EAX,[x]", "r0 := x", "This is a statement of a source test, and the text begins with X86. Did you mean MOV EAX,[x]?"),
+            (text, "X86", "X86_64", "A test begins with SRC or X86. Did you mean X86?"),
+            (source, "SRC", "X86", "All code is that of a source test, and the text begins with X86. Did you mean SRC?"),
+            (text, "X86", "SRC", "All code is x86 code, and the text begins with SRC. Did you mean X86?"),
+            (source, "r0 := x", "MOV EAX,[x]", "This is an x86 instruction, and the text begins with SRC. Did you mean r0 := x?"),
+            (source, "1:r0", "1:EAX", "Did you mean r0?"),
+            (source, "x := 1", "x = 1", "Write := in place of it."),
+        ):
+            user.run_text(right.replace(part, wrong, 1))
+            self.assertSays(said, "#fault")
+            user.click("#fault .apply")
+            self.assertSoon(right, user.value)
+            self.assertSays("The condition holds in", "#outcome .asked")
+            self.assertSoon([], lambda: user.texts("#fault p"))
+
+    def test_question(self) -> None:
         """What a question lacks is said, and a thread that the test does not have; no line of the question is called a row."""
         user = self.user
         user.open_listed()
@@ -60,14 +108,27 @@ class Faults(PageCase):
             self.assertSays(said, "#fault")
             self.assertFalse("perhaps" in user.text("#fault"))
 
-    def test_end_of_row(self):
+    def test_end_of_row(self) -> None:
         """A row that lacks its end is named."""
         user = self.user
         user.open_listed()
         user.run_text("X86 Open\n{}\n P0 | P1 ;\n | MFENCE\n MOV [x],$1 | MOV EAX,[x] ;\nexists (x=1)\n")
         self.assertSays("Line 4 has no ; at its end: perhaps that is the fault.", "#fault")
 
-    def test_edit_is_answered(self):
+    def test_no_test(self) -> None:
+        """An empty text has a button that puts a small test into it; a test in C is named; and a changed text says which keys list its states."""
+        user = self.user
+        user.open_listed("#example=SB-x86")
+        user.run_text("")
+        self.assertSays("There is no text.", "#fault")
+        user.click("#fault .apply")
+        self.assertSays("There is a run in which P1 reads x=0.", "#outcome .verdict")
+        user.paste("C SB\n{}\n")
+        self.assertEqual("Changed: Ctrl+Enter lists its states.", user.run("return document.getElementById('said').textContent"))
+        self.assertSays("lw reads tests that begin with SRC or X86. This one begins as a test in C does.", "#fault")
+        self.assertSoon("", lambda: user.run("return document.getElementById('said').textContent"))
+
+    def test_edit_is_answered(self) -> None:
         """An edit pales what was answered, and is answered by itself."""
         user = self.user
         user.open_listed()
@@ -77,7 +138,7 @@ class Faults(PageCase):
         self.assertSoon(False, lambda: "stale" in user.run("return document.getElementById('answers').className"))
         self.assertSays("The condition holds in 1 of 4 final states.", "#outcome .asked")
 
-    def test_reload(self):
+    def test_reload(self) -> None:
         """A reload loses nothing, also at once after a letter."""
         user = self.user
         user.open_listed()
@@ -91,7 +152,7 @@ class Faults(PageCase):
         user.find("body[data-ready]")
         self.assertEqual(f"{text}(* typed *)", user.value())
 
-    def test_limit(self):
+    def test_limit(self) -> None:
         """A limit is told, and the machine can be run by hand."""
         user = self.user
         user.open_listed()
@@ -101,7 +162,7 @@ class Faults(PageCase):
         user.carry_out("P0", "P1")
         self.assertEqual("P0 P1", user.schedule())
 
-    def test_hostile_name(self):
+    def test_hostile_name(self) -> None:
         """A test's name makes no elements."""
         user = self.user
         user.open_listed()
@@ -112,10 +173,41 @@ class Faults(PageCase):
         self.assertEqual("<script>alert(1)</script><b>", user.text("#example-name"))
 
 
+class Slips(PageCase):
+    """Slips in a test that lw takes."""
+
+    def test_hints(self) -> None:
+        """Hints of the page say what nothing writes, beside the answer; there are none on an example, and none if it is mended."""
+        user = self.user
+        user.open_listed("#example=SB+unwritten-x86")
+        self.assertEqual([], user.all("#slips p"))
+        text = "X86 A\n{}\n P0 | P1 ;\n MOV [flag],$1 | MOV EAX,[flga] ;\nexists (1:EBX=1 /\\ z=0)\n"
+        user.run_text(text)
+        self.assertSays("Forbidden.", "#outcome .verdict")
+        begin, end = "A hint of the page: ", " not proved"
+        self.assertSoon(sorted([
+            f"{begin}The question names 1:EBX, but nothing in P1 writes EBX: it is 0 in every run. Did you mean 1:EAX?{end} Change it to 1:EAX",
+            f"{begin}The question names z, but no thread writes z: it is 0 in every run.{end}",
+            f"{begin}A thread loads flga, but no thread writes flga: it is 0 in every run. Did you mean flag?{end} Change it to flag",
+        ]), lambda: sorted(user.texts("#slips p")))
+        self.mend("1:EAX", text.replace("EBX", "EAX"))
+        self.mend("flag", text.replace("EBX", "EAX").replace("flga", "flag"))
+        user.run_text(text.replace("flga", "flag").replace("1:EBX=1 /\\ z=0", "1:EAX=1"))
+        self.assertSays("Allowed.", "#outcome .verdict")
+        self.assertSoon([], lambda: user.texts("#slips p"))
+
+    def mend(self, name: str, wanted: str) -> None:
+        """Has a hint put a name into the text, and waits for the text and its answer."""
+        button = self.user.wait(lambda: next((it for it in self.user.all("#slips .apply") if it.text == f"Change it to {name}"), None))
+        button.click()
+        self.assertSoon(wanted, self.user.value)
+        self.assertSoon(False, lambda: "stale" in self.user.run("return document.getElementById('answers').className"))
+
+
 class Files(PageCase):
     """Files are opened and saved."""
 
-    def test_open_and_save(self):
+    def test_open_and_save(self) -> None:
         """A file is opened, and its text is saved."""
         user = self.user
         user.open_listed()
@@ -125,33 +217,34 @@ class Files(PageCase):
         user.click("#save")
         self.assertEqual(text, user.saved("MP-x86.litmus"))
 
-    def test_encodings(self):
+    def test_encodings(self) -> None:
         """A file in another encoding is read, and the page says that lw refuses it."""
         user = self.user
         noted = "SRC A (* \u00e9 *)\n{}\n P0 ;\n x := 1 ;\nexists (x=1)\n"
         user.open_listed()
-        for name, encoding, told in (
+        for name, encoding, message in (
             ("marked", "utf-8-sig", "The file begins with a byte order mark, which lw refuses. It is left out here."),
             ("latin", "latin-1", "The file is not in UTF-8, and lw refuses it. It is read as Latin-1 here; save it anew for lw."),
             ("wide", "utf-16", "The file is in UTF-16, which lw refuses. It is read as that here; save it anew for lw."),
             ("plain", "utf-8", ""),
         ):
-            with open(f"{user.room}/{name}.litmus", "w", encoding=encoding, newline="") as it:
-                it.write(noted)
+            with open(f"{user.room}/{name}.litmus", "w", encoding=encoding, newline="") as file:
+                file.write(noted)
             user.type("")
             user.driver.find_element("id", "file").send_keys(f"{user.room}/{name}.litmus")
-            self.assertSoon((noted, told), lambda: (user.value(), user.run("return document.getElementById('said').textContent")))
+            self.assertSoon((noted, message), lambda: (user.value(), user.run("return document.getElementById('said').textContent")))
 
 
 class OwnTest(PageCase):
     """The reader's own test is kept when another takes its place, and comes back."""
 
-    def setUp(self):
+    def setUp(self) -> None:
+        """Opens the page with nothing stored."""
         super().setUp()
         self.user.open()
         self.user.run("sessionStorage.clear()")
 
-    def take(self, name):
+    def take(self, name: str) -> None:
         """Takes an example from the gallery."""
         user = self.user
         user.click("#open-gallery")
@@ -159,13 +252,13 @@ class OwnTest(PageCase):
         user.click("#gallery .example b")
         user.wait(lambda: user.text("#example-name") == name, name)
 
-    def test_title(self):
+    def test_title(self) -> None:
         """A tab has the test's name."""
         self.user.open_listed()
         self.user.type(OWN)
         self.assertEqual("Own - lw", self.user.driver.title)
 
-    def test_brought_back(self):
+    def test_brought_back(self) -> None:
         """It is brought back by a button, by the browser's Back, and after a reload."""
         user = self.user
         user.open_listed()
@@ -185,7 +278,7 @@ class OwnTest(PageCase):
         user.click("#own-test")
         self.assertSoon(OWN, user.value)
 
-    def test_begun(self):
+    def test_begun(self) -> None:
         """Who has written no test yet begins with a small one, in the editor."""
         user = self.user
         user.open_listed("#example=CoRR-x86")
@@ -195,7 +288,7 @@ class OwnTest(PageCase):
         self.assertSays("Allowed.", "#outcome .verdict")
         self.assertSoon("text", lambda: user.focused().get_attribute("id"))
 
-    def test_program_and_file(self):
+    def test_program_and_file(self) -> None:
         """It comes back from behind a program that is taken, and from behind a file; and the file from behind it."""
         user = self.user
         user.open_listed()
@@ -216,7 +309,7 @@ class OwnTest(PageCase):
 class Gallery(PageCase):
     """The examples."""
 
-    def test_all_there(self):
+    def test_all_there(self) -> None:
         """All examples are in it, by family and by a search."""
         user = self.user
         user.open_listed()
@@ -230,7 +323,7 @@ class Gallery(PageCase):
         user.click("#gallery .close")
         self.assertSoon([], lambda: user.all("#gallery"))
 
-    def test_enter(self):
+    def test_enter(self) -> None:
         """Enter opens the example whose name is written, or the only one that is found; the dialog keeps its size while one searches."""
         user = self.user
         for written, name in (("sb-x86", "SB-x86"), ("publication early x86", "Publication+early-x86")):
@@ -244,7 +337,66 @@ class Gallery(PageCase):
             self.assertSoon(name, lambda: user.text("#example-name"))
             self.assertEqual([], user.all("#gallery"))
 
-    def test_taken(self):
+    def test_arrows(self) -> None:
+        """Arrows go from the field through what is found, and back."""
+        user = self.user
+        user.open_listed("#example=SB-x86")
+        user.click("#open-gallery")
+        user.find("#search").send_keys("load buffering")
+        self.assertSoon("LB-x86", lambda: (user.texts("#gallery .example b") or [""])[0])
+        user.press(user.keys.ARROW_DOWN, user.keys.ARROW_DOWN)
+        self.assertEqual("LB", user.focused().get_attribute("data-name"))
+        user.press(user.keys.ARROW_UP, user.keys.ARROW_UP)
+        self.assertEqual("search", user.focused().get_attribute("id"))
+        user.press(user.keys.ARROW_DOWN, user.keys.ENTER)
+        self.assertSoon("LB-x86", lambda: user.text("#example-name"))
+
+    def test_language(self) -> None:
+        """Enter opens the x86 test of a name if an x86 test is shown, and the source test if a source test is."""
+        user = self.user
+        for shown, name in (("SB-x86", "MP-x86"), ("SB", "MP")):
+            user.open_listed(f"#example={shown}")
+            user.click("#open-gallery")
+            user.find("#search").send_keys("mp")
+            self.assertSoon(name, lambda: (user.texts("#gallery .example b") or [""])[0])
+            user.press(user.keys.ENTER)
+            self.assertSoon(name, lambda: user.text("#example-name"))
+
+    def test_notes(self) -> None:
+        """What the format has not is said, and what it has instead."""
+        user = self.user
+        user.open_listed()
+        user.click("#open-gallery")
+        for word, said in (
+            ("CAS", "lw reads no compare-and-swap. TryLock and Consensus have a swap in its place."),
+            ("deadlock", "No run waits for ever: jumps go forward only."),
+            ("volatile", "The format has no volatile: each load and store is carried out once, as it is written."),
+        ):
+            field = user.find("#search")
+            field.clear()
+            field.send_keys(word)
+            self.assertSays(said, "#gallery .search-note")
+            self.assertTrue(bool(user.all("#gallery .example")))
+
+    def test_words(self) -> None:
+        """Words find how words begin: names first, and what is known by other words; what is said of a test can be read."""
+        user = self.user
+        user.open_listed()
+        user.click("#open-gallery")
+        names = lambda: user.texts("#gallery .example b")
+        for word, first in (("MP", ["MP-x86", "MP"]), ("mutex", ["SpinLock-x86", "SpinLock"]), ("spin", ["SpinLock", "SpinLock-x86"]),
+                            ("queue", ["QueueLock", "ProducerQueue"]), ("CAS", ["TryLock", "Consensus"])):
+            field = user.find("#search")
+            field.clear()
+            field.send_keys(word)
+            self.assertSoon(first, lambda: names()[:2])
+        user.find("#search").clear()
+        user.find("#search").send_keys("MP")
+        self.assertSoon([], lambda: [it for it in names() if not it.startswith("MP")])
+        cut = "return [...document.querySelectorAll('#gallery .example span')].filter((it) => it.scrollWidth > it.clientWidth + 1).length"
+        self.assertEqual(0, user.run(cut))
+
+    def test_taken(self) -> None:
         """An example that is clicked is shown and listed."""
         user = self.user
         user.open_listed()
@@ -254,4 +406,4 @@ class Gallery(PageCase):
         self.assertEqual("#example=MP-x86", user.link().split("&")[0])
 
 
-SUBJECTS = (Faults, Files, OwnTest, Gallery)
+SUBJECTS = (Faults, Slips, Files, OwnTest, Gallery)

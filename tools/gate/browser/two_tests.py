@@ -1,4 +1,6 @@
 """Two tests side by side."""
+from __future__ import annotations
+
 from urllib.parse import quote
 
 from gate.browser.lists import IN_SIGHT
@@ -22,10 +24,18 @@ return pairs.flatMap(([upper, lower]) => [...document.querySelectorAll(upper)].f
 """
 
 
+# Of both sides what is cut off: texts, code, sentences and lists that are broader than their places.
+CUT_OFF = """
+const isCut = (it) => it.scrollWidth > it.clientWidth + 1 || it.getBoundingClientRect().right > innerWidth + 1;
+return [...document.querySelectorAll(".side :is(.program, .code, .code .line, .states-place > *)")]
+  .filter((it) => it.checkVisibility() && isCut(it)).map((it) => it.className + " " + it.textContent);
+"""
+
+
 class Compared(PageCase):
     """What both have, and each alone."""
 
-    def test_partner(self):
+    def test_partner(self) -> None:
         """The same test with fences is set beside a test, or the nearest by its name; its choice has the focus, and both runs are at the start."""
         user = self.user
         for name, other in (("MP-x86", "MP+xchg-x86"), ("SB+own+mfences-x86", "SB+own-x86"), ("SB", "SB-x86"), ("CoRR-x86", "CoRR")):
@@ -40,7 +50,7 @@ class Compared(PageCase):
         self.assertIn("&beside=SB%2Bmfences-x86", user.link())
         self.assertEqual("SB-x86 beside SB+mfences-x86 - lw", user.driver.title)
 
-    def test_difference(self):
+    def test_difference(self) -> None:
         """Each has its verdict, and a state of one alone is marked; all is in sight at 1280 by 720."""
         user = self.user
         user.resize(1280, 720)
@@ -52,11 +62,36 @@ class Compared(PageCase):
         text = user.run("return document.querySelector('.program').textContent").splitlines()
         self.assertEqual([" P0          | P1          ;", " MOV [x],$1  | MOV [y],$1  ;"], text[2:4])
 
-    def test_other_names(self):
+    def test_four_threads(self) -> None:
+        """Of two tests with four threads nothing is cut off, and all of both machines is in sight, at 1280 by 720 and at 1920 by 1080."""
+        user = self.user
+        for width, height in ((1280, 720), (1920, 1080)):
+            user.resize(width, height)
+            for link in ("IRIW-x86&beside=IRIW%2Bxchgs-x86", "4.SB-x86&beside=4.SB"):
+                user.open(f"#example={link}")
+                user.wait(lambda: len(user.all(".side .machine")) == 2, link)
+                self.assertSoon([], lambda: user.run(CUT_OFF))
+                self.assertSoon(True, lambda: user.run(IN_SIGHT, ".side .verdict, .side .program, .side .thread, .side .memory"))
+
+    def test_large_type(self) -> None:
+        """With large type a short list still has columns beside the text, and nothing of it is cut off, at 1280 by 720."""
+        user = self.user
+        user.resize(1280, 720)
+        user.open(BOTH)
+        user.click("#large")
+        try:
+            user.wait(lambda: len(user.all(".side .machine")) == 2, "both runs")
+            self.assertSoon(2, lambda: len(user.all(".side table.strip")))
+            self.assertSoon([], lambda: user.run(CUT_OFF))
+            self.assertTrue(user.run(IN_SIGHT, ".side .program, .side table.strip, .side .memory"))
+        finally:
+            user.click("#large")
+
+    def test_other_names(self) -> None:
         """Tests that show other names are not compared; registers are compared by their numbers."""
         user = self.user
         user.open("#example=SB&beside=MP")
-        self.assertSays("The states are not compared, since the tests show different registers and locations.", ".compared")
+        self.assertSays("Not compared: the tests show different registers and locations.", ".compared")
         user.choose("#second-example", "=bare")
         self.assertSoon(["SB", "SB"], lambda: user.texts(".side h2"))
         self.assertEqual("=bare", user.value("#second-example"))
@@ -68,7 +103,7 @@ class Compared(PageCase):
 class Films(PageCase):
     """Each of two tests has its run."""
 
-    def test_keys(self):
+    def test_keys(self) -> None:
         """Keys are for the side that was used last; a run changes no address."""
         user = self.user
         user.open(BOTH)
@@ -89,7 +124,7 @@ class Films(PageCase):
         self.assertEqual(BOTH, user.link())
         self.assertEqual(([], [[], []]), (user.run(UNNAMED), user.run(IDS)))
 
-    def test_projector(self):
+    def test_projector(self) -> None:
         """On a projector all of both is in sight, also of four threads."""
         user = self.user
         four = "#example=IRIW-x86&beside=IRIW"
@@ -101,7 +136,7 @@ class Films(PageCase):
             user.click("#present")
             user.wait(lambda: "present" in user.run("return document.documentElement.className"), "the view is there")
             user.press(user.keys.END)
-            self.assertTrue(user.run(IN_SIGHT, ".side, .side .verdict, .side .states-place, .side .machine"), link)
+            self.assertTrue(user.run(IN_SIGHT, ".side, .side .verdict, .side .states-place, .side .machine, .side .event"), link)
             self.assertEqual([], user.run(LIES_OVER), link)
             user.press(user.keys.ESCAPE)
             self.assertSoon(False, lambda: "present" in user.run("return document.documentElement.className"))
@@ -110,7 +145,7 @@ class Films(PageCase):
 class Together(PageCase):
     """Both runs step together."""
 
-    def test_steps(self):
+    def test_steps(self) -> None:
         """What both schedules have is carried out in both, and what one has alone in that one, to both ends; keys do so too."""
         user = self.user
         user.open(BOTH)
@@ -131,7 +166,7 @@ class Together(PageCase):
         self.assertTrue(all(0 <= second[at] - first[at] <= 1 for first, second in zip(seen, seen[1:]) for at in (0, 1)))
         self.assertTrue(any(first[0] < second[0] and first[1] < second[1] for first, second in zip(seen, seen[1:])))
 
-    def test_one_alone(self):
+    def test_one_alone(self) -> None:
         """One side can still be stepped alone; the count of both follows."""
         user = self.user
         user.open(BOTH)
@@ -145,7 +180,7 @@ class Together(PageCase):
 class OneAgain(PageCase):
     """Nothing of the one test is lost."""
 
-    def test_back(self):
+    def test_back(self) -> None:
         """The browser's Back and a button undo it."""
         user = self.user
         user.open_listed("#example=SB-x86")
@@ -160,15 +195,15 @@ class OneAgain(PageCase):
         self.assertEqual("set-beside", user.focused().get_attribute("id"))
         self.assertEqual("#example=SB-x86", user.link().split("&")[0])
 
-    def test_own(self):
+    def test_own(self) -> None:
         """The reader's own test beside an example, with its fault; it comes back."""
         user = self.user
         user.open("#example=SB")
         user.run("sessionStorage.clear()")
         user.open("#example=SB&beside=MP")
         user.choose("#second-example", "")
-        told = "You have not written a test yet. Go back to one test, and write it in the editor."
-        self.assertSoon([told], lambda: user.texts("#beside .notice"))
+        message = "You have not written a test yet. Go back to one test, and write it in the editor."
+        self.assertSoon([message], lambda: user.texts("#beside .notice"))
         user.click("#close-beside")
         user.type(OWN)
         user.click("#set-beside")
@@ -181,7 +216,7 @@ class OneAgain(PageCase):
         user.click("#bring-back")
         self.assertSoon(OWN, user.value)
 
-    def test_narrow(self):
+    def test_narrow(self) -> None:
         """In a narrow window they are below each other, and nothing is cut off."""
         user = self.user
         user.resize(360, 740)
@@ -195,7 +230,7 @@ class OneAgain(PageCase):
 class Predicted(PageCase):
     """Who predicts is told nothing of either test before the guess on it."""
 
-    def test_guesses(self):
+    def test_guesses(self) -> None:
         """The guess on one shows that one, and the guess on the other the other."""
         user = self.user
         open_anew(user, "#example=SB-x86&predict=1&beside=MP-x86")
@@ -208,10 +243,10 @@ class Predicted(PageCase):
         user.choose("#second-example", "=compiled")
         self.assertSoon(["First say what you expect of the first test."], lambda: user.texts("#beside .notice"))
         user.click("#first-yes")
-        self.assertSoon(["✓ As you said."], lambda: user.texts(".side .said"))
+        self.assertSoon(["✓ As you said. Predict again Surprise me"], lambda: user.texts(".side .said"))
         self.assertEqual(([], [""]), (user.all(".side:last-child table"), user.texts(".compared") or [""]))
         user.click("#second-yes")
-        self.assertSoon(["✓ As you said.", "✗ Not as you said."], lambda: user.texts(".side .said"))
+        self.assertSoon(["✓ As you said. Predict again Surprise me", "✗ Not as you said. Predict again Surprise me"], lambda: user.texts(".side .said"))
 
 
 SUBJECTS = (Compared, Films, Together, OneAgain, Predicted)

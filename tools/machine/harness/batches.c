@@ -21,21 +21,21 @@ struct run {
     struct line here, sense; /* of the barrier */
     struct line *flags;      /* of each instance: it may begin */
     struct line *turns;      /* of each instance that a schedule leads: the piece that is due */
-    char *cells[MOST_LOCATIONS];
-    uint32_t *registers[MOST_THREADS];
-    struct table tables[MOST_THREADS];
+    char *cells[MAX_LOCATIONS];
+    uint32_t *registers[MAX_THREADS];
+    struct table tables[MAX_THREADS];
     struct listing listing;
     struct {
         double worth;
         uint64_t late;
         char pad[LINE - 2 * 8];
-    } batch[MOST_THREADS];
+    } batch[MAX_THREADS];
     struct cookbook book;
     double started, period, period_with_traps;
     volatile int stops, placement;
     /* of the batch that is run */
     struct recipe recipe;
-    uint32_t offsets[MOST_LOCATIONS], step;
+    uint32_t offsets[MAX_LOCATIONS], step;
     volatile uint64_t begin;
     volatile uint64_t clock;
 };
@@ -216,7 +216,7 @@ static inline void wait_until(uint64_t when, int yields)
 static inline void wait_for_flag(const volatile int *flag, int yields)
 {
     uint64_t begin = cycles_now();
-    for (int spins = 0; !*flag && cycles_now() - begin < MOST_WAIT; spins++)
+    for (int spins = 0; !*flag && cycles_now() - begin < MAX_WAIT; spins++)
         if (yields || spins > SPINS)
             sched_yield();
 }
@@ -265,10 +265,10 @@ static void run_instances(struct worker *self)
     const int t = self->thread, locations = run->plan->locations;
     const uint64_t begin = run->begin, period = (uint64_t)(recipe.kind == RACE ? run->period : run->period_with_traps);
     uint64_t late = 0;
-    char *at[MOST_LOCATIONS];
+    char *at[MAX_LOCATIONS];
     for (uint32_t i = 0; i < count; i++) {
         uint64_t dice = next_random(&self->random), wait = recipe.delay[t] + (next_random(&self->random) >> 40 & recipe.jitter);
-        char *own = self->ballast + (i & 7) * MOST_BALLAST * LINE;
+        char *own = self->ballast + (i & 7) * MAX_BALLAST * LINE;
         for (int k = 0; k < locations; k++)
             at[k] = cell_of(run, k, i);
         prepare_lines(self, &recipe, at, own, dice);
@@ -288,7 +288,7 @@ static void count_instances(const struct worker *self)
     struct run *run = self->run;
     const struct plan *plan = run->plan;
     double worth = 0, now = seconds_now() - run->started;
-    uint32_t words[MOST_SITES];
+    uint32_t words[MAX_SITES];
     for (uint32_t i = (uint32_t)self->thread; i < instances_of(run); i += (uint32_t)plan->threads) {
         for (int k = 0; k < plan->sites; k++) {
             const struct site *site = &plan->site[k];
@@ -356,13 +356,13 @@ static struct run *make_run(const struct plan *plan, struct summary *summary)
 void run_batches(const struct plan *plan, struct summary *summary)
 {
     struct run *run = make_run(plan, summary);
-    struct worker workers[MOST_THREADS];
-    pthread_t ids[MOST_THREADS];
+    struct worker workers[MAX_THREADS];
+    pthread_t ids[MAX_THREADS];
     summary->is_pinned = plan->knobs.pin && !plan->is_scarce;
     run->started = seconds_now();
     for (int t = 0; t < plan->threads; t++) {
         uint64_t random = 0x9E3779B97F4A7C15ull * (uint64_t)(t + 1) ^ cycles_now();
-        workers[t] = (struct worker){run, t, 0, -1, random | 1, room(8 * MOST_BALLAST * LINE, 1)};
+        workers[t] = (struct worker){run, t, 0, -1, random | 1, room(8 * MAX_BALLAST * LINE, 1)};
         if (pthread_create(&ids[t], NULL, work, &workers[t])) {
             fprintf(stderr, "harness: a thread does not start\n");
             exit(4);

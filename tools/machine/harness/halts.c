@@ -43,7 +43,7 @@ static void wait_cycles(uint64_t cycles)
 static int wait_for_piece(int from)
 {
     const struct script *script = self.script;
-    uint64_t begin = cycles_now(), most = self.yields ? 4 * MOST_WAIT : MOST_WAIT;
+    uint64_t begin = cycles_now(), most = self.yields ? 4 * MAX_WAIT : MAX_WAIT;
     while (from < script->count && script->pieces[from].thread != self.thread)
         from++;
     self.piece = from;
@@ -154,10 +154,10 @@ static int is_traced(void)
 /* In a process of its own: runs the first thread under the trap flag, which some sandboxes take for an error. */
 static void try_in_child(const struct plan *plan)
 {
-    char *at[MOST_LOCATIONS];
+    char *at[MAX_LOCATIONS];
     uint32_t registers[REGISTERS] = {0};
     struct halt halt = {plan->lengths[0], 0, 1, 1};
-    for (int k = 0; k < MOST_LOCATIONS; k++)
+    for (int k = 0; k < MAX_LOCATIONS; k++)
         at[k] = room(LINE, 0);
     run_with_halts(0, plan, at, registers, &halt);
     _exit(self.traps > 0 ? 0 : 1);

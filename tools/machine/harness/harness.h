@@ -10,14 +10,14 @@
 
 #define LINE 64
 #define REGISTERS 6
-#define MOST_THREADS 4
-#define MOST_LOCATIONS 8
-#define MOST_SITES (MOST_THREADS * REGISTERS + MOST_LOCATIONS)
-#define MOST_BALLAST 8
+#define MAX_THREADS 4
+#define MAX_LOCATIONS 8
+#define MAX_SITES (MAX_THREADS * REGISTERS + MAX_LOCATIONS)
+#define MAX_BALLAST 8
 #define LED_PART 16 /* A batch under the trap flag has this part of the instances of others. */
 /* The cycles that a thread waits for another within a batch: on a busy machine the other may have no processor, or it has jumped over what is
    waited for. */
-#define MOST_WAIT 200000
+#define MAX_WAIT 200000
 #define SPINS 20000 /* before a thread that waits gives its processor away */
 
 /* The code of a thread, as assembly.py writes it: plainly, and with the trap flag set before the test's first instruction. `begin` and `end`
@@ -53,12 +53,12 @@ struct site {
 };
 struct plan {
     int threads, locations, sites, listed, scripts, placements;
-    uint32_t first_words[MOST_LOCATIONS], first_registers[MOST_THREADS][REGISTERS];
-    int lengths[MOST_THREADS];
-    struct site site[MOST_SITES];
+    uint32_t first_words[MAX_LOCATIONS], first_registers[MAX_THREADS][REGISTERS];
+    int lengths[MAX_THREADS];
+    struct site site[MAX_SITES];
     uint32_t *states;                /* the listed states, one after another */
     struct script *script;
-    int (*placement)[MOST_THREADS]; /* processors for all threads */
+    int (*placement)[MAX_THREADS]; /* processors for all threads */
     struct knobs knobs;
     int has_clock, is_scarce, until_complete;
     uint32_t instances; /* of a batch, a power of 2 */
@@ -69,13 +69,13 @@ void read_plan(struct plan *plan);
 
 struct recipe {
     uint8_t kind, sync;
-    uint8_t owner[MOST_LOCATIONS]; /* which thread writes the first words */
-    uint8_t prepare[MOST_THREADS][MOST_LOCATIONS];
-    uint8_t ballast[MOST_THREADS]; /* stores to flushed lines before the test's: it waits behind them in the store buffer */
-    uint8_t halts[MOST_THREADS];
-    int16_t halt_at[MOST_THREADS]; /* the instruction before which a thread halts first, or -1 for any */
+    uint8_t owner[MAX_LOCATIONS]; /* which thread writes the first words */
+    uint8_t prepare[MAX_THREADS][MAX_LOCATIONS];
+    uint8_t ballast[MAX_THREADS]; /* stores to flushed lines before the test's: it waits behind them in the store buffer */
+    uint8_t halts[MAX_THREADS];
+    int16_t halt_at[MAX_THREADS]; /* the instruction before which a thread halts first, or -1 for any */
     uint32_t halt_for;             /* cycles at most */
-    uint32_t delay[MOST_THREADS], jitter;
+    uint32_t delay[MAX_THREADS], jitter;
     int script;
 };
 #define POOL 64
@@ -95,7 +95,7 @@ struct entry {
     uint64_t count;
     double first;
     int kind;
-    uint32_t words[MOST_SITES];
+    uint32_t words[MAX_SITES];
 };
 struct table {
     struct entry *entries;

@@ -53,8 +53,8 @@ static void *array(int items, size_t size)
 
 static void read_test(struct plan *plan)
 {
-    plan->threads = count("threads", MOST_THREADS);
-    plan->locations = count("locations", MOST_LOCATIONS);
+    plan->threads = count("threads", MAX_THREADS);
+    plan->locations = count("locations", MAX_LOCATIONS);
     name("words");
     for (int k = 0; k < plan->locations; k++)
         plan->first_words[k] = (uint32_t)number("words");
@@ -65,7 +65,7 @@ static void read_test(struct plan *plan)
     name("lengths");
     for (int t = 0; t < plan->threads; t++)
         plan->lengths[t] = (int)number("lengths");
-    plan->sites = count("sites", MOST_SITES);
+    plan->sites = count("sites", MAX_SITES);
     for (int k = 0; k < plan->sites; k++) {
         plan->site[k].thread = (int)number("sites");
         plan->site[k].index = (int)number("sites");

@@ -88,7 +88,7 @@ static void draw_race(struct cookbook *book, struct recipe *recipe)
         for (int k = 0; prepares && k < plan->locations; k++)
             recipe->prepare[t][k] = (uint8_t)(at_random ? PREPARATIONS : below(book, PREPARATIONS));
         if (ballasts && one_in(book, 2))
-            recipe->ballast[t] = (uint8_t)below(book, MOST_BALLAST + 1);
+            recipe->ballast[t] = (uint8_t)below(book, MAX_BALLAST + 1);
         if (waits)
             recipe->delay[t] = (uint32_t)below(book, far + 1);
     }
@@ -121,7 +121,7 @@ static void change_race(struct cookbook *book, struct recipe *recipe)
     else if (what == 1 && knobs->prepare)
         recipe->prepare[t][k] = (uint8_t)below(book, PREPARATIONS + 1);
     else if (what == 2 && knobs->ballast)
-        recipe->ballast[t] = (uint8_t)below(book, MOST_BALLAST + 1);
+        recipe->ballast[t] = (uint8_t)below(book, MAX_BALLAST + 1);
     else if (what == 3 && knobs->delay)
         recipe->delay[t] = (uint32_t)below(book, 1 + delays[below(book, 8)]);
     else if (what == 4 && knobs->delay)

@@ -1,0 +1,112 @@
+"""The documents that a made site carries beside the page."""
+from __future__ import annotations
+
+import base64
+import re
+
+from gate.browser.looks import CONTRAST, HEADINGS, LEAST_CONTRAST, OVERFLOW
+from gate.browser.page_case import PageCase
+from page.documents import CARDS, DOCUMENTS, SHEET
+
+GROUND = "return getComputedStyle(document.body).backgroundColor"
+DARK = "rgb(15, 18, 23)"
+
+
+class Reading(PageCase):
+    """A document, as a reader sees it who comes from the page or by a link."""
+
+    def read(self, file: str) -> None:
+        """Opens a document of the site."""
+        self.user.driver.get(self.user.address.rpartition("/")[0] + f"/{file}")
+        self.user.find("main h1")
+
+    def follow(self, css: str) -> None:
+        """Opens the page at a link of the document."""
+        link = self.user.find(css).get_attribute("href")
+        self.user.driver.get("about:blank")
+        self.user.driver.get(link)
+        self.user.find("body[data-ready]")
+
+    def test_way_there_and_back(self) -> None:
+        """The page leads to the tutorial, and a link of the tutorial opens its test on the page."""
+        user = self.user
+        user.open_listed()
+        self.assertTrue(user.find("#next a").get_attribute("href").endswith("/tutorial.html"))
+        self.read("tutorial.html")
+        self.follow(".open a[href*='example=SB-x86']")
+        self.assertSays("SB-x86", "#example-name")
+        self.assertSays("Allowed", "#outcome .verdict")
+
+    def test_test_of_a_document(self) -> None:
+        """A test that a document shows opens as a text of the reader's own, asks for a prediction, and is answered."""
+        user = self.user
+        self.read("tutorial.html")
+        self.follow(".open a[href*='text=']")
+        self.assertSoon(True, lambda: "SRC SB" in user.value("#text"))
+        user.click("#just-show")
+        self.assertSays("Forbidden", "#outcome .verdict")
+
+    def test_run_of_a_document(self) -> None:
+        """A replay of a document opens as a run, with the same last step."""
+        self.read("tutorial.html")
+        self.follow(".open a[href*='schedule=P0+P0+P1+P1+D0+D1'][href*='SB-x86']")
+        self.assertStep("Step 6")
+
+    def test_paper(self) -> None:
+        """Each document that is for one sheet of paper is printed on one."""
+        if not self.has_devtools():
+            return
+        for file in CARDS:
+            self.read(file)
+            paper = {"paperWidth": 8.27, "paperHeight": 11.69, "preferCSSPageSize": True}
+            printed = base64.b64decode(self.user.driver.execute_cdp_cmd("Page.printToPDF", paper)["data"])
+            self.assertEqual(1, len(re.findall(rb"/Type\s*/Page\b", printed)), file)
+
+    def test_sheet(self) -> None:
+        """The lab's sheet leads back to the page, is dark if the system is, and names no files; the page lists it."""
+        user = self.user
+        schemes = {"light": "rgb(255, 255, 255)", "dark": "rgb(24, 28, 35)"} if self.has_devtools() else {}
+        for scheme, ground in schemes.items():
+            user.driver.execute_cdp_cmd("Emulation.setEmulatedMedia", {"features": [{"name": "prefers-color-scheme", "value": scheme}]})
+            user.driver.get(user.address.rpartition("/")[0] + f"/{SHEET}")
+            self.assertEqual(ground, user.run(GROUND))
+            self.assertEqual([], user.run(CONTRAST, LEAST_CONTRAST)[1], scheme)
+            user.driver.execute_cdp_cmd("Emulation.setEmulatedMedia", {"features": []})
+        user.driver.get(user.address.rpartition("/")[0] + f"/{SHEET}")
+        self.assertFalse("files in tests" in user.text("body"))
+        self.assertEqual(["lw", "Tutorial", "Syntax"], user.texts("p.screen a"))
+        user.open_listed()
+        user.click("#open-about")
+        self.assertIn("Sheet for students: the lab's items, to print", user.texts("#about-dialog .reading li"))
+
+    def test_dark(self) -> None:
+        """A document is dark if the page is, and the page if the document is."""
+        user = self.user
+        self.read("terms.html")
+        user.choose("#theme", "dark")
+        self.assertEqual(DARK, user.run(GROUND))
+        user.open_listed()
+        self.assertEqual(("dark", DARK), (user.value("#theme"), user.run(GROUND)))
+        self.read("fences.html")
+        self.assertEqual(("dark", DARK), (user.value("#theme"), user.run(GROUND)))
+        user.choose("#theme", "system")
+
+    def test_looks(self) -> None:
+        """Each document has enough contrast by light and by dark, headings in order, and fits a phone."""
+        user = self.user
+        for file in DOCUMENTS:
+            self.read(file)
+            for theme in ("light", "dark"):
+                user.choose("#theme", theme)
+                number, pale = user.run(CONTRAST, LEAST_CONTRAST)
+                self.assertTrue(number > 20, file)
+                self.assertEqual([], pale, (file, theme))
+            levels = user.run(HEADINGS)
+            self.assertEqual((1, True), (levels[0], all(after - it <= 1 for it, after in zip(levels, levels[1:]))), file)
+            user.driver.set_window_size(390, 844)
+            self.assertEqual(0, user.run(OVERFLOW), file)
+            user.driver.set_window_size(1280, 800)
+        user.choose("#theme", "system")
+
+
+SUBJECTS = (Reading,)
