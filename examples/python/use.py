@@ -1,13 +1,12 @@
 #!/usr/bin/env python3
-"""What the module of python/ answers of a test: its states, each with a schedule of its program, and the fault of a text that is
-none.
+"""Prints what python/lw.py answers of a test: its states, each with a schedule of its program, and the fault of a text that is none.
 
-    python3 examples/python/use.py LIBRARY FILE
+    PYTHONPATH=python python3 examples/python/use.py LIBRARY FILE
+
+Where the wheel or the package for Debian is installed, PYTHONPATH is not needed.
 """
-import os
 import sys
 
-sys.path.insert(0, os.path.join(os.path.dirname(os.path.abspath(__file__)), "..", "..", "python"))
 import lw
 
 
