@@ -172,7 +172,7 @@ def check_documents() -> Iterator[Comparison]:
         words = re.sub(r"<pre.*?</pre>|<code>.*?</code>|<svg.*?</svg>", "", texts[file], flags=re.S)
         yield f"{file} has no marks of Markdown", [], re.findall(r".*(?:\*\*|`|\]\().*", words)
     tutorial = texts["tutorial.html"]
-    commands = re.findall(r"^(?:<pre[^>]*>)?\$ \./lw (?:states|replay|compile)\b[^|\n]*&lt; examples/", tutorial, re.M)
+    commands = re.findall(r'^(?:<pre[^>]*>)?<span class="command">\$ \./lw (?:states|replay|compile)\b[^|\n]*&lt; examples/', tutorial, re.M)
     yield "each command of the tutorial has a link", True, 40 < len(commands) <= tutorial.count('">▸ ')
 
 

@@ -212,6 +212,10 @@ class Firefox:
         with open(path, "wb") as file:
             file.write(base64.b64decode(self.ask("WebDriver:TakeScreenshot", full=False)))
 
+    def print_page(self) -> str:
+        """Returns the page as it is printed on paper of size A4: a PDF in base64."""
+        return self.ask("WebDriver:Print", page={"width": 21.0, "height": 29.7}, background=False)
+
     def get_log(self, _kind: str) -> list[dict[str, str]]:
         """Returns nothing: Firefox does not report its complaints."""
         return []

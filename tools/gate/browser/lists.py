@@ -179,7 +179,7 @@ class LongLists(PageCase):
         user.open_listed()
         user.run_text(MANY)
         self.assertSays("The condition holds in 1,024 of 4,096 final states.", "#outcome .asked")
-        self.assertTrue(3 <= len(user.all("#outcome .row-line")) < 20)
+        self.assertSoon(True, lambda: 3 <= len(user.all("#outcome .row-line")) < 20)
         rows = user.find("#outcome .rows")
         rows.send_keys(user.keys.END)
         self.assertSoon("4096", lambda: (user.texts("#outcome .row-line.at .index") or [""])[0])

@@ -21,6 +21,8 @@ PACKAGES = "/usr/lib/python3/dist-packages"
 DRIVER = os.environ.get("CHROMEDRIVER") or shutil.which("chromedriver")
 SECONDS = 60
 WINDOW = (1400, 1300)
+# Paper of size A4, in inches.
+PAPER = {"paperWidth": 8.27, "paperHeight": 11.69, "preferCSSPageSize": True}
 
 # Records the number of each step that a run shows from now on, the one that it shows now first.
 RECORD_STEPS = """
@@ -95,6 +97,7 @@ def start_chromium(room: str, *switches: str) -> Driver:
     driver = selenium.webdriver.Chrome(service=service_of(DRIVER), options=options)
     driver.execute_cdp_cmd("Browser.setDownloadBehavior", {"behavior": "allow", "downloadPath": room})
     driver.press = lambda key: selenium.webdriver.ActionChains(driver).send_keys(key).perform()
+    driver.print_page = lambda: driver.execute_cdp_cmd("Page.printToPDF", PAPER)["data"]
     return driver
 
 
