@@ -6,7 +6,7 @@ const SPARE = 0.35;
 // In a narrow window the threads are in so many columns. Codes that are fitted have so many lines at least.
 const PHONE = "(max-width: 40rem)";
 const COLUMNS = 2;
-const LEAST_LINES = 3;
+const MIN_LINES = 3;
 // What is left empty below a machine, in pixels.
 const MARGIN = 14;
 
@@ -48,7 +48,7 @@ export function fitCodes(place) {
   if (!rooms.length) return;
   const rows = matchMedia(PHONE).matches ? Math.ceil(codes.length / COLUMNS) : 1;
   const most = Math.max(...codes.map((it) => it.clientHeight));
-  const least = Math.min(most, LEAST_LINES * codes[0].firstElementChild.offsetHeight);
+  const least = Math.min(most, MIN_LINES * codes[0].firstElementChild.offsetHeight);
   const fitting = rooms.map((room) => most - Math.ceil((place.offsetHeight - room) / rows));
   const fit = fitting.find((it) => it >= least) ?? least;
   // Memory lies over nothing: if the machine is not in sight as a whole at first, memory is scrolled with it.
@@ -74,7 +74,7 @@ export function spareHeight(place) {
   if (!hidden) return 0;
   const spares = [...place.querySelectorAll(".thread")].map((thread) => {
     const [code, waits, below] = [".code", ".waits", ".below"].map((css) => thread.querySelector(css));
-    const least = Math.min(code.children.length, LEAST_LINES) * code.firstElementChild.offsetHeight;
+    const least = Math.min(code.children.length, MIN_LINES) * code.firstElementChild.offsetHeight;
     return below.getBoundingClientRect().top - code.getBoundingClientRect().top - waits.offsetHeight - least;
   });
   return Math.max(0, Math.min(hidden + 1, ...spares));

@@ -12,7 +12,7 @@ import { codeNodes, tintsOf } from "./tint.js";
 import { showError, clearFault } from "./errors.js";
 
 // Of how many rows and threads at most a code is shown large.
-const [MOST_ROWS, MOST_THREADS] = [6, 2];
+const [MAX_ROWS, MAX_THREADS] = [6, 2];
 
 export class Compile {
   constructor(panel, editor, take) {
@@ -84,7 +84,7 @@ export class Compile {
     const height = Math.max(...cells.map((it) => it.length), 0);
     const rows = Array.from({ length: height }, (_, at) => el("tr", {}, cells.map((column, thread) => cellOf(column[at], this.tints, thread))));
     const head = el("tr", {}, cells.map((_, thread) => el("th", { scope: "col" }, el("span", { class: `thr thr-${thread}` }, `P${thread}`))));
-    const isTight = height > MOST_ROWS || cells.length > MOST_THREADS;
+    const isTight = height > MAX_ROWS || cells.length > MAX_THREADS;
     const code = el("table", { class: isTight ? "code tight" : "code" }, el("caption", {}, title), el("thead", {}, head), el("tbody", {}, rows));
     const take = text && button("Take into the editor", () => this.take(text), { class: "take" });
     return el("div", {}, el("div", { class: "wide" }, code), take);

@@ -5,7 +5,7 @@ import { holds, siteKey, siteName } from "./propositions.js";
 import { wordsOf } from "./replays.js";
 import { readTest } from "./tests.js";
 
-const MOST_ATOMS = 6;
+const MAX_ATOMS = 6;
 // What reads a word from memory into its register, and what puts another word into one.
 const READS = ["load", "xchg", "xadd", "swap", "fetchadd"];
 const SETS = ["set", "add", "sum"];
@@ -73,7 +73,7 @@ function wordsOfThread(test, thread, atoms) {
 export function conditionWords(text) {
   const test = testOf(text);
   const atoms = test && atomsOf(test.proposition);
-  if (!atoms || atoms.length > MOST_ATOMS) return null;
+  if (!atoms || atoms.length > MAX_ATOMS) return null;
   const threads = test.threads.map((_, thread) => atoms.filter(({ site }) => site.thread === thread));
   const phrases = threads.flatMap((atomsOfThread, thread) => (atomsOfThread.length ? [wordsOfThread(test, thread, atomsOfThread)] : []));
   const words = atoms.filter(({ site }) => site.location !== undefined).map(({ site, word }) => `\`${siteName(test, site)}=${word}\``);

@@ -6,7 +6,7 @@ import { tokenAt } from "./faults.js";
 import { textNodes, tintsOf } from "./tint.js";
 
 // How many lines are in sight at least, and at most.
-const [LEAST_LINES, MOST_LINES] = [6, 40];
+const [MIN_LINES, MAX_LINES] = [6, 40];
 // The lines that are to be seen whole, if that can be: rows of several threads, and the question.
 const WIDE = /^ .*\||^\s*(?:~?\s*exists|forall)\b/;
 
@@ -94,7 +94,7 @@ export class Editor {
     const letters = Math.max(1, ...lines.filter((it) => WIDE.test(it)).map((it) => it.length));
     const { style } = this.place.parentElement;
     style.setProperty("--letters", String(letters));
-    style.setProperty("--lines", String(Math.min(Math.max(lines.length, LEAST_LINES), MOST_LINES)));
+    style.setProperty("--lines", String(Math.min(Math.max(lines.length, MIN_LINES), MAX_LINES)));
   }
 
   /** Scrolls what lies below the field with it. */

@@ -10,7 +10,7 @@ import { mappedNames } from "./register_names.js";
 import { isTooLong, searchOffer } from "./search.js";
 import { showError, clearFault } from "./errors.js";
 
-const MOST_SHOWN = 4;
+const MAX_SHOWN = 4;
 const BY_CLICK = "In Watch and By hand “+ fence” puts a fence between two instructions, where the pointer is, and “✕ fence” takes it out.";
 
 export class Fences {
@@ -174,6 +174,6 @@ function verdictOf({ table, language }, names) {
 }
 
 function shownOf(lines, watch) {
-  const shown = lines.slice(0, MOST_SHOWN).map((it) => el("div", {}, el("code", {}, it), " ", watch(it)));
-  return lines.length > MOST_SHOWN ? [...shown, `and ${lines.length - MOST_SHOWN} others`] : shown;
+  const shown = lines.slice(0, MAX_SHOWN).map((it) => el("div", {}, el("code", {}, it), " ", watch(it)));
+  return lines.length > MAX_SHOWN ? [...shown, `and ${lines.length - MAX_SHOWN} others`] : shown;
 }

@@ -8,8 +8,8 @@ import { NoAnswer } from "./program.js";
 
 const WAITS = ["mfence", "xchg", "xadd"];
 // How many lists are made at most, and how many sets are shown.
-const MOST_LISTS = 200;
-const MOST_SETS = 6;
+const MAX_LISTS = 200;
+const MAX_SETS = 6;
 
 /**
  * Returns the positions that may follow an instruction.
@@ -145,7 +145,7 @@ export function setsOfFences(test, listOf) {
   const listed = (places) => {
     const text = canonicalText(withFences(test, places));
     if (!known.has(text)) {
-      if (known.size >= MOST_LISTS) throw new NoAnswer("There are too many places for fences to try them all here: `tools/fences.py` tries more.");
+      if (known.size >= MAX_LISTS) throw new NoAnswer("There are too many places for fences to try them all here: `tools/fences.py` tries more.");
       known.set(text, listOf(text));
     }
     const list = known.get(text);
@@ -156,6 +156,6 @@ export function setsOfFences(test, listOf) {
   const named = ([thread, position]) => `P${thread} at ${position}, before ${instructionText(test, test.threads[thread][position])}`;
   const all = placesOf(test);
   const sets = isAnswered(listed([])) ? [] : smallestSets(all, (places) => isAnswered(listed(places)));
-  const shown = sets.slice(0, MOST_SETS).map((places) => ({ places: places.map(named), text: listed(places).text, states: listed(places).states }));
+  const shown = sets.slice(0, MAX_SETS).map((places) => ({ places: places.map(named), text: listed(places).text, states: listed(places).states }));
   return { number: all.length, isAnswered: isAnswered(listed([])), sets: shown, more: sets.length - shown.length };
 }

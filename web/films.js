@@ -14,9 +14,9 @@ import { endsIn, eventsIn } from "./replays.js";
 import { readTest } from "./tests.js";
 import { NoTest } from "./tokens.js";
 
-const MOST_STEPS = 1000;
+const MAX_STEPS = 1000;
 // Of how many events at most a run is that is brought to its end.
-const MOST_ADDED = 200;
+const MAX_ADDED = 200;
 
 /**
  * Returns of each thread the code that the page shows: of an x86 test that of its canonical text.
@@ -38,8 +38,8 @@ export function cellsOf(program, text) {
  */
 export function filmOf(program, text, schedule, protocol) {
   const given = eventsIn(schedule);
-  if (given.length > MOST_STEPS) {
-    throw new NoAnswer(`The schedule has ${given.length} events; a film has at most ${MOST_STEPS}.`);
+  if (given.length > MAX_STEPS) {
+    throw new NoAnswer(`The schedule has ${given.length} events; a film has at most ${MAX_STEPS}.`);
   }
   const { end } = program.replayed(text, given.join(" "), protocol);
   const refused = end.kind === "Stopped" ? { event: given[end.at], at: end.at, number: end.number, cause: end.cause } : null;
@@ -60,7 +60,7 @@ export function filmOf(program, text, schedule, protocol) {
 export function toTheEnd(program, text, schedule) {
   const events = eventsIn(schedule);
   let { end, threads } = program.replayed(text, schedule, "mesi");
-  while (end.kind === "NotFinal" && events.length < MOST_ADDED) {
+  while (end.kind === "NotFinal" && events.length < MAX_ADDED) {
     const options = threads.flatMap(({ buffer }, thread) => [`P${thread}`, ...(buffer.length ? [`D${thread}`] : [])]);
     const next = options.find((it) => program.replayed(text, [...events, it].join(" "), "mesi").end.kind !== "Stopped");
     if (next === undefined) break;

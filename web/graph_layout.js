@@ -16,7 +16,7 @@ const [OUTER, MORE] = [16, 12]; // at the edge, and for each end more
 const UPRIGHT = { side: 48, gutter: 84, gap: 28, end: 14 }; // at a side with ends, between threads, between events, and after the last
 const TURNED = { side: 32, gutter: 34, gap: 42, end: 26 };
 const FREE_ENDS = 4; // so many ends find room in a gutter
-const MOST_ENDS = 8;
+const MAX_ENDS = 8;
 const LABEL = 16; // the height of a label
 const APART = 8; // from one label to the next beside it
 const HEAD = 5; // how far the head of an arrow reaches from its end
@@ -134,7 +134,7 @@ export class GraphLayout {
       this.lefts.push(across);
       const number = counts[thread + 1];
       const isLast = thread === this.threads.length - 1;
-      const gutter = this.room.gutter + MORE * Math.max(0, Math.min(number, MOST_ENDS) - FREE_ENDS);
+      const gutter = this.room.gutter + MORE * Math.max(0, Math.min(number, MAX_ENDS) - FREE_ENDS);
       across += wide + (isLast ? (number ? this.room.side : OUTER) : gutter);
     }
     const behind = (this.lanes.get(this.most)?.length ?? 0) * LANE;

@@ -4,7 +4,7 @@ import { positionOf, threadOf } from "./executions.js";
 import { BASE, GraphLayout } from "./graph_layout.js";
 import { Drawing, EDGE, LETTER, LINE, digits } from "./pictures.js";
 
-const MOST_NAMED = 4; // so many reads of the initial word have a name at their arrow
+const MAX_NAMED = 4; // so many reads of the initial word have a name at their arrow
 const LETTERS = "abcdefghijklmnopqrstuvwxyz";
 const NAMES = { po: "program order", rf: "reads-from", co: "coherence order", fr: "from-reads" };
 // Relations differ by their names and by how their lines are broken: colours are those of threads and locations.
@@ -223,7 +223,7 @@ export function graphOf(execution, title, broken = null) {
   const isMarked = ({ edge }) => cycle.some(isSameEdge(edge));
   for (const it of [...layout.routes, ...layout.starts]) drawEdge(drawing, layout, it, it.way !== "start" && isMarked(it));
   drawEvents(drawing, layout, execution, texts, new Set(broken ? cycle.map((it) => it.source) : []));
-  if (initial.length <= MOST_NAMED) for (const it of layout.starts) drawLabel(drawing, layout, it, "init");
+  if (initial.length <= MAX_NAMED) for (const it of layout.starts) drawLabel(drawing, layout, it, "init");
   const named = layout.routes.filter((it) => it.edge.kind !== "po" || isMarked(it));
   for (const it of named) drawLabel(drawing, layout, it, isInternal(it.edge) ? "rfi" : it.edge.kind);
   const lines = linesBelow(names, cycle, broken, missing);

@@ -11,9 +11,9 @@ import { conditionText, holds, observed, siteName, wordAt } from "./propositions
 import { wordsOf } from "./replays.js";
 import { readTest } from "./tests.js";
 
-const MOST_STATES = 200000;
+const MAX_STATES = 200000;
 // The most states that the module is asked to mark.
-const MOST_MARKED = 4096;
+const MAX_MARKED = 4096;
 
 /**
  * Returns whether an error says that a test is nested too deeply for this browser's stack.
@@ -39,7 +39,7 @@ function testOf(text) {
  */
 function marksOf(program, text, how, { number, positive }) {
   if (positive === 0 || positive === number) return { isProved: true, holds: () => positive > 0 };
-  const marked = number <= MOST_MARKED ? program.marked(text, how) : null;
+  const marked = number <= MAX_MARKED ? program.marked(text, how) : null;
   if (marked === null) return { isProved: false, holds: foundHere(text) };
   return { isProved: true, holds: (line, index) => holdsBy(marked[index], line) };
 }
@@ -98,7 +98,7 @@ export function reportOf(program, text, how) {
     const line = lines[index + 2];
     const isTrue = isHolding(line, index);
     if (isTrue) holding += 1;
-    if (index < MOST_STATES || (isTrue && holding <= MOST_STATES)) states.push({ index, line, holds: isTrue });
+    if (index < MAX_STATES || (isTrue && holding <= MAX_STATES)) states.push({ index, line, holds: isTrue });
   }
   return { ...partsOf(head, number, states, tail, positive === holding), positive, is_proved: isProved };
 }
@@ -113,7 +113,7 @@ function partsOf(head, number, states, tail, isWhole) {
     tail,
     is_marked: isMarked,
     left_out: number - states.length,
-    most: MOST_STATES,
+    most: MAX_STATES,
     asked: head[0].slice(head[0].lastIndexOf(" ") + 1),
     verdict: tail[0],
     condition: tail[2].slice(tail[2].indexOf(" ") + 1),

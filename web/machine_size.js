@@ -3,7 +3,7 @@
 import { caches, largeType } from "./preferences.js";
 
 // How many slots of a store buffer are shown at most as long as they are empty.
-export const MOST_SLOTS = 4;
+export const MAX_SLOTS = 4;
 // A store whose text has more letters needs the width of its box for its entry.
 const LONG_STORE = 18;
 // Of how many threads, slots and lines at most the machine is shown large.
@@ -63,7 +63,7 @@ export function isDense(shown) {
 
 /** Returns whether a store buffer has so many slots that its entries are low. */
 export function isTall({ slots }) {
-  return slots.some((it) => it >= MOST_SLOTS);
+  return slots.some((it) => it >= MAX_SLOTS);
 }
 
 /** Returns whether the list of states is above the machine, not beside the verdict. */
@@ -96,7 +96,7 @@ export function leastHeight(shown) {
     const inRow = stacked ? 3 : threads > 3 && !dense ? 1 : threads > 2 || inSource ? 2 : 4;
     const rows = Math.ceil(registers / inRow) * (dense ? 1.4 : threads > 2 ? 1.9 : 2.2);
     const entry = dense ? 1.75 : isTall(shown) ? 1.7 : threads > 2 || slots[thread] > ROOMY.slots ? 2.05 : 2.4;
-    const buffer = 1.4 + Math.max(1, Math.min(slots[thread], MOST_SLOTS)) * entry;
+    const buffer = 1.4 + Math.max(1, Math.min(slots[thread], MAX_SLOTS)) * entry;
     const cache = hasCaches(shown) ? CACHE : 0;
     return 2.8 + Math.min(lines.length + 1, 3) * (dense ? 1.4 : 1.6) + (stacked ? rows + buffer : Math.max(rows, buffer)) + cache;
   });

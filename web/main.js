@@ -36,7 +36,7 @@ import { Why } from "./why.js";
 const FIRST = "SB-x86";
 // After how many milliseconds without a letter what is written is run, and how long what runs by itself may take.
 const TYPING = 600;
-const MOST_BY_ITSELF = 10000;
+const MAX_MILLISECONDS = 10000;
 const CHANGED = "Changed: Ctrl+Enter lists its states.";
 // What the address says of a test, and of where in it the reader is.
 const NOWHERE = { text: null, example: null, state: null, own: null, step: null, run: null, protocol: null, schedule: null, view: null };
@@ -115,7 +115,7 @@ function changed(before) {
   show("", true);
   pale(true);
   byId("said").textContent = CHANGED;
-  typing = setTimeout(() => list({ isKept: true, most: MOST_BY_ITSELF }), TYPING);
+  typing = setTimeout(() => list({ isKept: true, most: MAX_MILLISECONDS }), TYPING);
 }
 
 /** Ends all questions, and clears what is said of the text in the editor. */
@@ -253,8 +253,8 @@ function follow() {
   show(example || (isOwn ? "" : FIRST), isOwn);
   states.isByHand = link.view === "hand";
   tabs.show(VIEWS.includes(link.view) ? link.view : VIEWS[0]);
-  if (!beside.isOpen) panels[tabs.view]?.askOnce(MOST_BY_ITSELF);
-  list({ link: link.state || link.view === "hand" ? link : null, most: MOST_BY_ITSELF });
+  if (!beside.isOpen) panels[tabs.view]?.askOnce(MAX_MILLISECONDS);
+  list({ link: link.state || link.view === "hand" ? link : null, most: MAX_MILLISECONDS });
 }
 
 /** Says that a link names examples that do not exist. */

@@ -3,8 +3,8 @@
 import { wordsOf } from "./replays.js";
 
 // Of how many states at most one that is missing is looked for, and how many combinations of words are tried.
-const MOST_LOOKED_AT = 2000;
-const MOST_TRIED = 20000;
+const MAX_LOOKED_AT = 2000;
+const MAX_TRIED = 20000;
 
 /** Returns the words of each site: first those that the question names, then those that it has in the states of a report. */
 function columnsOf({ states }, named) {
@@ -24,7 +24,7 @@ function columnsOf({ states }, named) {
  * @returns {string | null}
  */
 export function missingState(report, { isAsked, words } = { isAsked: () => true, words: new Map() }) {
-  if (report.left_out || !report.states.length || report.states.length > MOST_LOOKED_AT) return null;
+  if (report.left_out || !report.states.length || report.states.length > MAX_LOOKED_AT) return null;
   const known = new Set(report.states.map(({ line }) => line));
   let tried = 0;
   const find = (begin, [column, ...others]) => {
@@ -34,7 +34,7 @@ export function missingState(report, { isAsked, words } = { isAsked: () => true,
       return known.has(line) || !isAsked(line) ? null : line;
     }
     for (const word of column.words) {
-      const found = tried < MOST_TRIED ? find([...begin, `${column.name}=${word};`], others) : null;
+      const found = tried < MAX_TRIED ? find([...begin, `${column.name}=${word};`], others) : null;
       if (found !== null) return found;
     }
     return null;

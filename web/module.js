@@ -17,7 +17,7 @@ const MUCH = [1024, 512, 256, 128];
 const SHORT_OF_MEMORY = "lw: memory";
 // The word of `beyond` before the most states that a search may find.
 const BUDGET = "--budget";
-const MOST_BUDGET = 2n ** 64n - 1n;
+const MAX_BUDGET = 2n ** 64n - 1n;
 const LISTS = ["states", "schedules", "marks"];
 // The calls that take a schedule.
 const REPLAYS = ["replay", "film"];
@@ -85,7 +85,7 @@ function isCommand([task, ...more]) {
 }
 
 function isBudget(word) {
-  return typeof word === "string" && /^[0-9]{1,20}$/.test(word) && BigInt(word) <= MOST_BUDGET;
+  return typeof word === "string" && /^[0-9]{1,20}$/.test(word) && BigInt(word) <= MAX_BUDGET;
 }
 
 function instanceOf(module) {

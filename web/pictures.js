@@ -11,7 +11,7 @@ export const LINE = 19; // the height of a line
 export const EDGE = 10;
 export const GAP = 14;
 const PANELS = 3; // in a row of a strip
-const MOST_PANELS = 100;
+const MAX_PANELS = 100;
 const STYLE = `
 text { font: 13px ui-monospace, Menlo, Consolas, "DejaVu Sans Mono", monospace; fill: #1b1b1b; white-space: pre }
 .title { font-weight: bold } .faint { fill: #5c5c5c } .changed { font-weight: bold; text-decoration: underline; fill: #8a2c00 }
@@ -217,7 +217,7 @@ function drawRefusal(drawing, refusal, y) {
 export function stripOf(film) {
   const drawing = new Drawing();
   const room = new Measures(film);
-  const number = Math.min(film.states.length, MOST_PANELS);
+  const number = Math.min(film.states.length, MAX_PANELS);
   const titles = Array.from({ length: number }, (_, step) => titleOf(film, step));
   const width = Math.max(room.wholeWidth, ...titles.map((it) => it.length * LETTER));
   const captions = titles.map((title, step) => [title, ...effectLines(film, step, Math.floor(width / LETTER))]);

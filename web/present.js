@@ -5,13 +5,13 @@
 import { showNext } from "./code_window.js";
 import { byId } from "./dom.js";
 
-// The least size of type in pixels, of one test and of two, the least of one test as a part of the height of the window, and the most.
-const LEAST = 18;
-const LEAST_OF_TWO = 13;
-const LEAST_OF_HEIGHT = 0.024;
-const MOST = 44;
+// The least size of type in pixels, of one test and of two, the least of one test as a part of the height of the window, and the largest.
+const MIN_TYPE = 18;
+const MIN_TYPE_OF_TWO = 13;
+const MIN_PART_OF_HEIGHT = 0.024;
+const MAX_TYPE = 44;
 // How much larger the machine may be than the rest, where that leaves room: of at most two threads, and of more.
-const [MOST_OF_MACHINE, MOST_OF_TIGHT_MACHINE] = [1.5, 1.2];
+const [MAX_SCALE, MAX_TIGHT_SCALE] = [1.5, 1.2];
 // Where the graph may be, the best first: beside the machine, beside all, or nowhere.
 const GRAPH_PLACES = ["machine", "all", "none"];
 // What is no smaller than on the page itself, by the property of the style sheet that has its size there.
@@ -25,8 +25,8 @@ const USUAL = {
 // Of how many lines the verdict is at most if it can be, with a part of a line to spare, since its first word is larger.
 const LINES_OF_VERDICT = 2.7;
 // The least number of lines of code that are shown, and how often their room is made smaller at most.
-const LEAST_LINES = 3;
-const MOST_TRIES = 4;
+const MIN_LINES = 3;
+const MAX_TRIES = 4;
 
 export class Present {
   constructor() {
@@ -75,8 +75,8 @@ export class Present {
   fit() {
     if (!this.isOpen) return;
     const isOne = !document.body.classList.contains("two");
-    const least = isOne ? Math.max(LEAST, LEAST_OF_HEIGHT * innerHeight) : LEAST_OF_TWO;
-    const most = Math.max(MOST, least * 2);
+    const least = isOne ? Math.max(MIN_TYPE, MIN_PART_OF_HEIGHT * innerHeight) : MIN_TYPE_OF_TWO;
+    const most = Math.max(MAX_TYPE, least * 2);
     const { dataset, style } = document.documentElement;
     style.removeProperty("--code-room");
     this.keepUsual();
@@ -87,7 +87,7 @@ export class Present {
     if (!this.fits(least)) return this.foldCode();
     const isShort = hasShortVerdict();
     const size = largest([least, most, 0.5], (it) => this.fits(it) && (!isShort || hasShortVerdict()));
-    const ofMachine = document.querySelector("#watching .machine.tight") ? MOST_OF_TIGHT_MACHINE : MOST_OF_MACHINE;
+    const ofMachine = document.querySelector("#watching .machine.tight") ? MAX_TIGHT_SCALE : MAX_SCALE;
     this.fits(size, isOne ? largest([1, ofMachine, 0.05], (it) => this.fits(size, it)) : 1);
   }
 
@@ -107,8 +107,8 @@ export class Present {
     const root = document.documentElement;
     const codes = [...document.querySelectorAll(".code")].filter((it) => it.offsetParent !== null);
     const most = () => Math.max(...codes.map((it) => it.clientHeight));
-    for (let tries = 0; codes.length && tries < MOST_TRIES && root.scrollHeight > innerHeight; tries += 1) {
-      const least = LEAST_LINES * codes[0].firstElementChild.offsetHeight;
+    for (let tries = 0; codes.length && tries < MAX_TRIES && root.scrollHeight > innerHeight; tries += 1) {
+      const least = MIN_LINES * codes[0].firstElementChild.offsetHeight;
       root.style.setProperty("--code-room", `${Math.max(least, most() - (root.scrollHeight - innerHeight))}px`);
     }
     for (const it of document.querySelectorAll(".machine")) showNext(it);

@@ -14,8 +14,8 @@ const BUDGET = /^beyond: budget (\d+)$/;
 const BUDGETS = [100000, 1000000, 10000000];
 const SHORT_OF_MEMORY = "lw: memory";
 // How much is kept of what is printed: so many answers of one text, each of so many characters at most.
-const MOST_KEPT = 4096;
-const MOST_CHARACTERS = 16384;
+const MAX_KEPT = 4096;
+const MAX_CHARACTERS = 16384;
 
 /** The workbench refuses what it was given: `fault` says so. */
 export class Fault extends Error {
@@ -122,13 +122,13 @@ export class Program {
     const kept = this.keptOf(text);
     const key = words.join(" ");
     const printed = kept.get(key) ?? this.askAnew(words, text);
-    if (printed.length <= MOST_CHARACTERS) kept.set(key, printed);
+    if (printed.length <= MAX_CHARACTERS) kept.set(key, printed);
     return printed;
   }
 
   keptOf(text) {
     const asked = textOf(text);
-    if (asked !== this.textOfKept || this.kept.size >= MOST_KEPT) this.kept = new Map();
+    if (asked !== this.textOfKept || this.kept.size >= MAX_KEPT) this.kept = new Map();
     if (asked !== this.textOfKept) this.searched = new Map();
     this.textOfKept = asked;
     return this.kept;

@@ -24,9 +24,9 @@ import { verdictOf } from "./verdicts.js";
 import { whyNot } from "./why_not.js";
 
 // One byte more than a text may have.
-const MOST_TEXT = 65537;
+const MAX_TEXT = 65537;
 // Of how many events at most it is found which registers they have put words into.
-const MOST_LOOKED_AT = 100;
+const MAX_LOOKED_AT = 100;
 
 /** Returns the report, with `search` by a search; `passed` is called with words on how far that is. */
 function answerStates(program, text, { search = false }, passed) {
@@ -115,7 +115,7 @@ function answerMoves(program, text, { schedule, protocol, whole = false }) {
  */
 function registersPut(program, text, { schedule, protocol }, cells) {
   const events = eventsIn(schedule);
-  if (events.length > MOST_LOOKED_AT) return null;
+  if (events.length > MAX_LOOKED_AT) return null;
   const states = program.statesAlong(text, events, protocol);
   const put = cells.map(() => []);
   for (const [at, event] of events.entries()) {
@@ -261,7 +261,7 @@ const QUESTIONS = {
  */
 export function answerTo(program, question, { text, ...more }, passed = () => null) {
   try {
-    return QUESTIONS[question](program, bytesOf(text).subarray(0, MOST_TEXT), more, passed);
+    return QUESTIONS[question](program, bytesOf(text).subarray(0, MAX_TEXT), more, passed);
   } catch (error) {
     if (error instanceof Fault) return { fault: error.fault };
     if (error instanceof NoAnswer) return { error: error.message, ...error.more };

@@ -10,7 +10,7 @@
 
 const REGISTERS = ["EAX", "EBX", "ECX", "EDX", "ESI", "EDI"];
 const SOURCE = ["r0", "r1", "r2", "r3", "r4", "r5"];
-const MOST_THREADS = 4;
+const MAX_THREADS = 4;
 const NUMBER = "(0|[1-9][0-9]{0,14})";
 const NAME = "[A-Za-z_][A-Za-z0-9_]*";
 const WORDS = `((?: ${NAME}=(?:0|[1-9][0-9]{0,9}))*)`;
@@ -98,7 +98,7 @@ function readThread(page, number, languages) {
 function readThreads(page) {
   const threads = [readThread(page, 0, [REGISTERS, SOURCE])];
   const language = threads[0].registers.map(([name]) => name);
-  while (threads.length < MOST_THREADS && page.lines[0]?.startsWith("P")) threads.push(readThread(page, threads.length, [language]));
+  while (threads.length < MAX_THREADS && page.lines[0]?.startsWith("P")) threads.push(readThread(page, threads.length, [language]));
   return threads;
 }
 

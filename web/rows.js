@@ -10,7 +10,7 @@ import { siteNode } from "./tint.js";
 // The height of a row in letters of the page's size, how many rows are in sight, how many if the window is low or narrow, and how many if two tests
 // are beside each other in it, or if the type is large.
 const HEIGHT = 1.6;
-const [ROWS_IN_SIGHT, FEW_ROWS, LEAST_ROWS, LOW, NARROW] = [6, 3, 2, 800, 700];
+const [ROWS_IN_SIGHT, FEW_ROWS, MIN_ROWS, LOW, NARROW] = [6, 3, 2, 800, 700];
 // How many rows are made above those in sight, and below.
 const [ABOVE, BELOW] = [2, 6];
 // By how many states the widths of the columns are found.
@@ -77,7 +77,7 @@ export class Rows {
     this.height = Math.round(HEIGHT * parseFloat(getComputedStyle(document.documentElement).fontSize));
     const isSmall = innerHeight < LOW || innerWidth < NARROW;
     const isCrowded = innerHeight < LOW && (!this.strip.editor.isAlone || largeType.isOn);
-    const number = Math.min(isCrowded ? LEAST_ROWS : isSmall ? FEW_ROWS : ROWS_IN_SIGHT, this.shown.length);
+    const number = Math.min(isCrowded ? MIN_ROWS : isSmall ? FEW_ROWS : ROWS_IN_SIGHT, this.shown.length);
     this.body.style.height = `${this.height * number + 2}px`;
     this.follow();
   }

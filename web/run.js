@@ -15,7 +15,7 @@ import { showError } from "./errors.js";
 const PROGRAMS = ["test", "compiled", "bare"];
 // How long a step is shown before it is asked what can be done there, and how many answers are kept.
 const LEARN = 150;
-const MOST_KEPT = 1000;
+const MAX_KEPT = 1000;
 // Where keys mean something else, and where arrows do.
 const WRITTEN_IN = "textarea, select, input:not([type=checkbox], [type=range]), dialog";
 const HAS_ARROWS = "[role=tab], [role=listbox]";
@@ -245,7 +245,7 @@ export class Run {
   }
 
   keep(schedule, answer) {
-    if (this.kept.size > MOST_KEPT) this.kept.clear();
+    if (this.kept.size > MAX_KEPT) this.kept.clear();
     this.kept.set(this.keyOf(schedule), answer);
   }
 

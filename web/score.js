@@ -4,7 +4,7 @@ import { byId } from "./dom.js";
 
 const KEY = "score";
 // How many lines a test has at most that is short enough to be predicted.
-const MOST_LINES = 9;
+const MAX_LINES = 9;
 
 // Of each text whether the first prediction on it was right.
 const results = new Map(stored());
@@ -50,7 +50,7 @@ export function showScore() {
  * @returns {string}
  */
 export function randomTest(tests, name) {
-  const short = tests.filter((it) => it.name !== name && it.text.trim().split("\n").length <= MOST_LINES);
+  const short = tests.filter((it) => it.name !== name && it.text.trim().split("\n").length <= MAX_LINES);
   const others = short.filter(({ text }) => !results.has(text));
   const from = others.length ? others : short;
   return from[Math.floor(Math.random() * from.length)].name;

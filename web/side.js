@@ -11,7 +11,7 @@ import { nameOf } from "./tokens.js";
 // A text is broad if one of its lines has more letters; of how many letters it has no room beside what is said of the test, in a window of less
 // than a width, and in a wider one.
 const BROAD = 36;
-const MOST_BESIDE = 50;
+const MAX_LETTERS = 50;
 const WIDE = matchMedia("(min-width: 100rem)");
 
 /** Holds the text of a test in place of the editor: it is shown, and neither changed nor marked. */
@@ -43,7 +43,7 @@ class Sheet {
   fit() {
     const letters = Math.max(...this.place.textContent.split("\n").map((it) => it.length));
     this.place.classList.toggle("broad", letters > BROAD);
-    this.place.classList.toggle("stacked", letters > (WIDE.matches ? BROAD : MOST_BESIDE) && !largeType.isOn);
+    this.place.classList.toggle("stacked", letters > (WIDE.matches ? BROAD : MAX_LETTERS) && !largeType.isOn);
   }
 }
 

@@ -11,7 +11,7 @@ const STORES = ["store", "xchg", "xadd", "swap", "fetchadd"];
 const LOADS = ["load", "xchg", "xadd", "swap", "fetchadd"];
 // What puts a word into its register.
 const SETS = [...LOADS, "set", "add", "sum"];
-const MOST_SHOWN = 3;
+const MAX_SHOWN = 3;
 
 // Where the question of a text begins.
 const QUESTION = /~?\s*\b(?:exists|forall)\b[^;]*$/;
@@ -92,7 +92,7 @@ export function slipsIn(text) {
  * @returns {Element[]}
  */
 export function slipNotes(text, mend) {
-  const slips = slipsIn(text).slice(0, MOST_SHOWN);
+  const slips = slipsIn(text).slice(0, MAX_SHOWN);
   return slips.map(({ words, change }) => {
     const apply = change && button(`Change it to ${change.name}`, () => mend(mended(text, change)), { class: "apply" });
     return el("p", { class: "slip" }, el("b", {}, "A hint of the page: "), sentence(words), " ", plainMark(), " ", apply);

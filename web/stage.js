@@ -6,7 +6,7 @@ import { fitCodes, showNext, watchCodes } from "./code_window.js";
 import { el } from "./dom.js";
 import { fenceButton, goToFence } from "./fence_buttons.js";
 import { flightsOf } from "./flights.js";
-import { MOST_SLOTS, hasLongStores, isDense, isFew, isRoomy, isStacked, isTall, isTight } from "./machine_size.js";
+import { MAX_SLOTS, hasLongStores, isDense, isFew, isRoomy, isStacked, isTall, isTight } from "./machine_size.js";
 import { fly, glow, isStill, placesIn, settle } from "./motion.js";
 import { caches } from "./preferences.js";
 import { codeNodes, threadClass } from "./tint.js";
@@ -166,7 +166,7 @@ export class Stage {
 
   /** Returns the queue: the newest entry on top, the oldest below, next to memory. */
   buffer(entries, thread) {
-    const room = Math.max(Math.min(this.shown.slots[thread], MOST_SLOTS), entries.length, 1);
+    const room = Math.max(Math.min(this.shown.slots[thread], MAX_SLOTS), entries.length, 1);
     const empty = Array.from({ length: room - entries.length }, () => el("li", { class: "slot", "aria-hidden": "true" }));
     const full = entries.map((_, index) => el("li", {}, this.entryOf(entries, index, thread))).reverse();
     const label = entries.length ? "store buffer, the oldest entry last" : "store buffer: empty";

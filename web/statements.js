@@ -6,7 +6,7 @@
 import { TokenReader, isReserved } from "./token_reader.js";
 import { NoTest } from "./tokens.js";
 
-const MOST_STATEMENTS = { SRC: 16, X86: 32 };
+const MAX_STATEMENTS = { SRC: 16, X86: 32 };
 
 /**
  * Reads a number, in an x86 test with a `$` before it or without, or a register.
@@ -150,7 +150,7 @@ export function threadOf(test, cells) {
     if (reader.next !== null) statements.push(test.language === "SRC" ? sourceStatement(reader) : instruction(reader));
     if (reader.next !== null) throw new NoTest(`${reader.next} comes after a statement`);
   }
-  if (statements.length > MOST_STATEMENTS[test.language]) throw new NoTest("a thread has too many statements");
+  if (statements.length > MAX_STATEMENTS[test.language]) throw new NoTest("a thread has too many statements");
   return statements.map((it, position) => resolved(it, position, labels));
 }
 

@@ -19,7 +19,7 @@ import { showError, clearFault } from "./errors.js";
 import { countWords, headlineOf } from "./verdicts.js";
 
 // Of how many states at most the list is shown as lw prints it.
-const MOST_PRINTED = 500;
+const MAX_PRINTED = 500;
 // The two ways in which a list is made, in words.
 const BY = {
   enumerated: ["complete (proved)", "lw went through all orders of accesses that conflict. That lists all final states and no others, which is proved."],
@@ -266,7 +266,7 @@ export class States {
   printed() {
     const { report, words } = this;
     if (!report) return [];
-    const shown = report.states.length > MOST_PRINTED ? [] : [el("pre", {}, asPrinted(report))];
+    const shown = report.states.length > MAX_PRINTED ? [] : [el("pre", {}, asPrinted(report))];
     const asked = "The first line says what the test asks (`Allowed` for `exists`, `Forbidden` for `~exists`, `Required` for `forall`), and the last line the answer.";
     return [el("p", { class: "small" }, sentence(asked)), el("p", { class: "small" }, sentence(words.bounds)), ...shown, button("Save the list as a file", () => saveReport(report))];
   }

@@ -10,8 +10,8 @@ import { Rows } from "./rows.js";
 import { siteNode } from "./tint.js";
 
 // Of how many states and names at most the list has columns; of how many states these are wide.
-const MOST_COLUMNS = 20;
-const MOST_NAMES = 5;
+const MAX_COLUMNS = 20;
+const MAX_NAMES = 5;
 // Of how many names at most columns are no higher than rows.
 const FEW_NAMES = 2;
 const FEW_COLUMNS = 6;
@@ -138,7 +138,7 @@ export class Strip {
     const isHigher = this.editor.isAlone || this.names.length > FEW_NAMES;
     const isLow = largeType.isOn && innerHeight < HIGH && this.name === "row" && columns >= beside && isHigher;
     const isWide = columns > room && !(matchMedia(PHONE).matches && columns * PART_IN_SIGHT < room);
-    const isLong = states.length > MOST_COLUMNS || this.names.length > MOST_NAMES || isWide || isLow;
+    const isLong = states.length > MAX_COLUMNS || this.names.length > MAX_NAMES || isWide || isLow;
     this.place.classList.toggle("aside", (isLong ? rows : columns) < beside);
     if (isLong) this.drawRows();
     else this.drawColumns();

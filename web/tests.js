@@ -9,10 +9,10 @@ import { threadOf } from "./statements.js";
 import { TokenReader } from "./token_reader.js";
 import { NoTest, headingOf, skipNotes, tokensOf } from "./tokens.js";
 
-const MOST_BYTES = 65536;
-const MOST_THREADS = 4;
-const MOST_ROWS = 64;
-const MOST_NODES = 256;
+const MAX_BYTES = 65536;
+const MAX_THREADS = 4;
+const MAX_ROWS = 64;
+const MAX_NODES = 256;
 const NUMBER_OF_REGISTERS = 6;
 const ENDS_OF_ROWS = ["locations", "exists", "forall", "filter", "~"];
 
@@ -22,7 +22,7 @@ const ENDS_OF_ROWS = ["locations", "exists", "forall", "filter", "~"];
  * @returns {Test}
  */
 export function readTest(text) {
-  if (new TextEncoder().encode(text).length > MOST_BYTES) throw new NoTest("the text is too long");
+  if (new TextEncoder().encode(text).length > MAX_BYTES) throw new NoTest("the text is too long");
   const { language, name, end } = headingOf(text);
   const test = { language, name, locations: [], listed: [] };
   const reader = new TokenReader(test, tokensOf(text, skipNotes(text, end)));
@@ -49,7 +49,7 @@ export function readTest(text) {
 function header(reader) {
   for (let threads = 1; ; threads += 1) {
     reader.take(`P${threads - 1}`);
-    if (threads > MOST_THREADS) throw new NoTest(`there are more than ${MOST_THREADS} threads`);
+    if (threads > MAX_THREADS) throw new NoTest(`there are more than ${MAX_THREADS} threads`);
     if (reader.next !== "|") {
       reader.take(";");
       return threads;
@@ -74,7 +74,7 @@ function rows(reader, threads) {
       reader.take(thread < threads - 1 ? "|" : ";");
     }
   }
-  if (columns[0].length > MOST_ROWS) throw new NoTest(`there are more than ${MOST_ROWS} rows`);
+  if (columns[0].length > MAX_ROWS) throw new NoTest(`there are more than ${MAX_ROWS} rows`);
   return columns;
 }
 
@@ -97,7 +97,7 @@ function readCondition(reader) {
   const { test } = reader;
   test.quantifier = quantifier(reader);
   test.proposition = either(reader);
-  if (nodesIn(test.proposition) > MOST_NODES) throw new NoTest(`the condition has more than ${MOST_NODES} nodes`);
+  if (nodesIn(test.proposition) > MAX_NODES) throw new NoTest(`the condition has more than ${MAX_NODES} nodes`);
   if (reader.next !== null) throw new NoTest(`${reader.next} comes after the condition`);
 }
 

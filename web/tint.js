@@ -9,7 +9,7 @@ import { FENCES, KEYWORDS, REGISTER } from "./words.js";
 // How many colours there are, and which locations have the same in every test.
 const COLOURS = 8;
 const FIXED = ["x", "y", "z", "w"];
-const MOST_COLOURED = 20000;
+const MAX_COLOURED = 20000;
 const TOKEN = /\(\*|\*\)|\d+:[A-Za-z]\w*|0x[\da-fA-F]+|\$?\d+|[A-Za-z_]\w*|\s+|:=|[^\sA-Za-z_0-9]/g;
 
 /** Chooses the colours of the locations of a test: those of the four usual names are the same in all tests. */
@@ -108,7 +108,7 @@ function nodeOf(token, tints, thread) {
  * @returns {(Node | string)[]}
  */
 export function textNodes(text, tints) {
-  if (text.length > MOST_COLOURED) return [text];
+  if (text.length > MAX_COLOURED) return [text];
   const nodes = [];
   let [depth, thread, isHead] = [0, null, false];
   for (const [it] of text.matchAll(TOKEN)) {

@@ -9,8 +9,8 @@ export const REGISTERS = {
 };
 const RESERVED = /^(?:r\d+|if|goto|swap|fetchadd|exists|forall|locations|filter|true|false|not)$/;
 const X86_RESERVED = /^(?:EAX|EBX|ECX|EDX|ESI|EDI|EBP|ESP)$/i;
-const MOST_LOCATIONS = 8;
-const MOST_LETTERS = 32;
+const MAX_LOCATIONS = 8;
+const MAX_LETTERS = 32;
 
 /**
  * Returns whether a name is reserved, and so is no location and no label.
@@ -80,7 +80,7 @@ export class TokenReader {
    * @returns {string}
    */
   name() {
-    if (this.kind !== "name" || this.next.length > MOST_LETTERS) throw new NoTest(`${this.next} is no name`);
+    if (this.kind !== "name" || this.next.length > MAX_LETTERS) throw new NoTest(`${this.next} is no name`);
     return this.take();
   }
 
@@ -114,7 +114,7 @@ export class TokenReader {
     if (isReserved(name)) throw new NoTest(`${name} is reserved`);
     const { locations } = this.test;
     if (!locations.includes(name)) locations.push(name);
-    if (locations.length > MOST_LOCATIONS) throw new NoTest(`there are more than ${MOST_LOCATIONS} locations`);
+    if (locations.length > MAX_LOCATIONS) throw new NoTest(`there are more than ${MAX_LOCATIONS} locations`);
     return locations.indexOf(name);
   }
 

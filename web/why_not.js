@@ -6,9 +6,9 @@ import { Names, graphOf, shown } from "./graphs.js";
 import { NoAnswer } from "./program.js";
 import { observed, siteKey, siteName, wordAt } from "./propositions.js";
 
-const MOST = 400000;
-const MOST_CYCLES = 6;
-const MOST_DRAWN = 3;
+const MAX_EXECUTIONS = 400000;
+const MAX_CYCLES = 6;
+const MAX_DRAWN = 3;
 const NONE_FORBIDDEN = "x86-TSO allows every state that some candidate execution has.";
 
 /**
@@ -38,7 +38,7 @@ function stateOf(test, line) {
  */
 function forbiddenStates(test, wanted) {
   const [allowed, forbidden, sites] = [new Set(), new Map(), observed(test)];
-  for (const it of candidates(test, MOST)) {
+  for (const it of candidates(test, MAX_EXECUTIONS)) {
     const outcome = it.outcome();
     const words = sites.map((site) => wordAt(site, outcome) ?? null);
     const isOther = (word, at) => word !== null && word !== wanted.get(siteKey(sites[at]));
@@ -69,11 +69,11 @@ function forbiddenStates(test, wanted) {
 function sayWhy(test, { words, ways }) {
   const line = observed(test).map((site, index) => `${siteName(test, site)}=${shown(words[index])};`).join(" ");
   const lines = [`x86-TSO forbids ${line}`];
-  for (const { axiom, cycle, events, times } of ways.slice(0, MOST_CYCLES)) {
+  for (const { axiom, cycle, events, times } of ways.slice(0, MAX_CYCLES)) {
     const breaking = times === 1 ? "1 candidate execution breaks" : `${times} candidate executions break`;
     lines.push(`  ${breaking} ${axiom}: ${cycle}`, ...events.map((it) => `    ${it}`));
   }
-  return ways.length > MOST_CYCLES ? [...lines, `  and ${ways.length - MOST_CYCLES} other cycles`] : lines;
+  return ways.length > MAX_CYCLES ? [...lines, `  and ${ways.length - MAX_CYCLES} other cycles`] : lines;
 }
 
 /**
@@ -105,7 +105,7 @@ export function whyNot(test, state) {
     found = forbiddenStates(test, wanted);
   } catch (error) {
     if (!(error instanceof TooMany)) throw error;
-    return { lines: [`More than ${MOST} candidate executions: that is too many for this tool.`], cycles: [] };
+    return { lines: [`More than ${MAX_EXECUTIONS} candidate executions: that is too many for this tool.`], cycles: [] };
   }
   if (wanted && found.allowed.has(String([...wanted.values()]))) {
     return { lines: ["x86-TSO allows this state: `lw schedules` lists it with a schedule."], cycles: [] };
@@ -114,7 +114,7 @@ export function whyNot(test, state) {
     return { lines: [wanted ? `No thread reads or writes such values: no candidate execution ends in ${state}` : NONE_FORBIDDEN], cycles: [] };
   }
   const states = inOrder(found.forbidden);
-  const drawn = states.flatMap(({ ways }) => ways.slice(0, MOST_DRAWN)).slice(0, MOST_DRAWN);
+  const drawn = states.flatMap(({ ways }) => ways.slice(0, MAX_DRAWN)).slice(0, MAX_DRAWN);
   const cycles = drawn.map(({ execution, violation, cycle, axiom }) => {
     return { graph: graphOf(execution, `${test.name}: ${cycle}`, violation), words: `${axiom}: ${cycle}` };
   });

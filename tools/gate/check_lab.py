@@ -54,7 +54,7 @@ TIME = re.compile(r"^\| (\d+) to (\d+) \| (.*?) \| (\d*) ?\|$", re.M)
 # A page of a printed document; and what leaves of the sheet the first task alone.
 PAGE = re.compile(rb"/Type\s*/Page\b")
 FIRST_TASK = "for (let it = document.querySelector('h3.new-page'); it;) { const next = it.nextElementSibling; it.remove(); it = next; }"
-LEAST_TESTS, LEAST_ITEMS, LEAST_PLAYED = 16, 18, 70
+MIN_TESTS, MIN_ITEMS, MIN_PLAYED = 16, 18, 70
 
 
 # What the sheet has to say once, so that its words and those of the page are one: when a run ends, what slips are there, and the rest.
@@ -100,7 +100,7 @@ def extract_visible_text(page: str) -> str:
 
 def check_tests(lab: str, tests: dict[str, str]) -> Iterator[Comparison]:
     """Compares the tests with their examples."""
-    yield "how many tests the lab has", True, len(tests) >= LEAST_TESTS
+    yield "how many tests the lab has", True, len(tests) >= MIN_TESTS
     rows = re.findall(r"^\| ([A-Z]\d) \| \S+ \| ([\d, ]+) \|$", find_section(lab, "For the teacher"), re.M)
     used = {name: [int(number) for number, *_, text in read_tasks(find_section(lab, "The sheet")) if name in find_tests(text)] for name in tests}
     yield "tasks name the tests that the table says", used, {name: [int(it) for it in numbers.split(", ")] for name, numbers in rows}
@@ -174,7 +174,7 @@ def check_points(lab: str) -> Iterator[Comparison]:
     solved = read_tasks(find_section(read_file("docs/SOLUTIONS.md"), "The lab"))
     yield "docs/SOLUTIONS.md has the tasks", [it[:4] for it in tasks], [it[:4] for it in solved]
     items = {number: ITEM.findall(text) for number, _, _, _, text in tasks}
-    yield "how many items there are", True, sum(map(len, items.values())) >= LEAST_ITEMS
+    yield "how many items there are", True, sum(map(len, items.values())) >= MIN_ITEMS
     for (number, _, _, points, text), (*_, answers) in zip(tasks, solved):
         numbered = re.findall(r"^(\d)\. ", text, re.M)
         yield f"each item of task {number} has points", numbered, [it for it, _, _ in items[number]]
@@ -289,7 +289,7 @@ def check_played(folder: str) -> Iterator[Comparison]:
     ran = subprocess.run(words, capture_output=True, text=True, timeout=900, check=False)
     yield from ((f"the lab, {what}", wanted, found) for what, wanted, found in map(json.loads, ran.stdout.splitlines()))
     yield "the lab is played to its end", (0, ""), (ran.returncode, ran.stderr[-2000:])
-    yield "how much of the lab is played", True, len(ran.stdout.splitlines()) >= LEAST_PLAYED
+    yield "how much of the lab is played", True, len(ran.stdout.splitlines()) >= MIN_PLAYED
 
 
 def skipped() -> str | None:

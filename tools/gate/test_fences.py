@@ -44,7 +44,7 @@ lw = python_lw.load_lw()
 RANDOM_TESTS = 150
 # Tests with fences at random places, and how many of their spare fences at least have a store before them and a load behind.
 FENCED_TESTS = 300
-LEAST_SPARE = 30
+MIN_SPARE = 30
 MAX_PLACES = 2
 # Four threads, each of which takes a ticket, and adds to `n` if it is served first; the next one is served then.
 TICKETS = """X86 Tickets
@@ -261,7 +261,7 @@ class Spare(BySearch):
                 met += position in find_positions_after_stores(code) and bool(find_loads_after(code, position))
                 with self.subTest(name, fence=(thread, position)):
                     self.assertEqual(fences.list_states(test), fences.list_states(fences.remove_fences(test, [(thread, position)])))
-        self.assertTrue(met >= LEAST_SPARE, met)
+        self.assertTrue(met >= MIN_SPARE, met)
 
     def test_by_hand(self) -> None:
         """Each part of the law decides a fence: what is spare, and what is not for want of one thing."""

@@ -9,7 +9,7 @@ from gate.browser.predicting import open_anew
 from gate.examples import examples
 
 # The least size in pixels of the letters of the graphs that are shown.
-LEAST_LETTERS = """
+MIN_LETTERS = """
 const sizeOf = (svg) => 13 * svg.getBoundingClientRect().width / svg.viewBox.baseVal.width;
 return Math.min(...[...document.querySelectorAll("svg.graph")].filter((it) => it.getClientRects().length).map(sizeOf));
 """
@@ -70,7 +70,7 @@ class Readable(PageCase):
                 user.resize(width, height)
                 user.open_listed(f"#example={name}")
                 user.find("svg.graph")
-                self.assertTrue(user.run(LEAST_LETTERS) >= 12, (name, width))
+                self.assertTrue(user.run(MIN_LETTERS) >= 12, (name, width))
 
     def test_in_sight(self) -> None:
         """At 1280 by 720 a graph is in sight together with its sentence and its legend; one below the machine is brought there by its button."""

@@ -12,7 +12,7 @@ IN_SIGHT = """
 const isIn = ({ top, left, bottom, right }) => top >= 0 && left >= 0 && bottom <= innerHeight + 1 && right <= innerWidth + 1;
 return [...document.querySelectorAll(arguments[0])].every((it) => isIn(it.getBoundingClientRect()));
 """
-LEAST_EXAMPLES = 166
+MIN_EXAMPLES = 166
 # 64 times 64 states: each of two threads sees each of six stores, or does not. The question names all registers, and asks about two.
 NAMES = "abcdef"
 ROWS = "".join(f" {name} := 1 | r{at} := {name} | r{at} := {name} ;\n" for at, name in enumerate(NAMES))
@@ -93,7 +93,7 @@ class AllExamples(PageCase):
             user.wait(lambda: not user.run("return document.querySelector('.asking')"), name)
             if user.run(IN_SIGHT, "#text, #outcome .verdict, #outcome .states-place, #watching .thread, #watching .memory"):
                 seen.append(name)
-        self.assertTrue(len(names) >= LEAST_EXAMPLES, len(names))
+        self.assertTrue(len(names) >= MIN_EXAMPLES, len(names))
         self.assertTrue(len(seen) >= 0.9 * len(names), sorted(set(names) - set(seen)))
 
 

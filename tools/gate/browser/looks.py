@@ -77,7 +77,7 @@ const told = (it) => `${contrastOf(it).toFixed(2)} ${it.tagName}.${it.getAttribu
 return [shown.length, shown.filter((it) => contrastOf(it) < least).map(told)];
 """
 # The least size of the type of what is shown.
-LEAST_TYPE = """
+MIN_TYPE = """
 const texts = document.createTreeWalker(document.body, NodeFilter.SHOW_TEXT);
 const sizes = [];
 while (texts.nextNode()) {
@@ -98,7 +98,7 @@ const it = document.querySelector("#outcome .verdict");
 return it.offsetHeight / parseFloat(getComputedStyle(it).lineHeight);
 """
 OVERFLOW = "return document.documentElement.scrollWidth - document.documentElement.clientWidth"
-LEAST_CONTRAST = 4.5
+MIN_CONTRAST = 4.5
 # Views on which contrast is measured, each by its link.
 VIEWS = (
     "example=SB-x86", "example=SB", "example=MP-x86&view=why", "example=SB&view=compile", "example=SB&view=fences",
@@ -191,7 +191,7 @@ class Reading(PageCase):
             for view in VIEWS:
                 user.open(f"#{view}")
                 user.wait(lambda: not user.all(".asking"), view)
-                number, low = user.run(CONTRAST, LEAST_CONTRAST)
+                number, low = user.run(CONTRAST, MIN_CONTRAST)
                 self.assertTrue(number > 20, view)
                 self.assertEqual([], low, (scheme, view))
         if self.has_devtools():
@@ -337,7 +337,7 @@ class Projector(PageCase):
             self.assertStep("The run has ended")
             self.assertTrue(user.run(IN_SIGHT, "#outcome .verdict, #outcome .asked, #watching .thread, #watching .memory"), (link, width))
             self.assertTrue(user.run("return parseFloat(document.documentElement.style.fontSize)") >= 18, (link, width))
-            self.assertTrue(user.run(LEAST_TYPE) >= 12, (link, width))
+            self.assertTrue(user.run(MIN_TYPE) >= 12, (link, width))
             user.press(user.keys.ESCAPE)
             self.assertSoon(False, lambda: "present" in user.run("return document.documentElement.className"))
 

@@ -5,7 +5,7 @@ import base64
 import re
 import zlib
 
-from gate.browser.looks import CONTRAST, HEADINGS, LEAST_CONTRAST, OVERFLOW
+from gate.browser.looks import CONTRAST, HEADINGS, MIN_CONTRAST, OVERFLOW
 from gate.browser.page_case import PageCase
 from page.documents import CARDS, DOCUMENTS, SHEET
 
@@ -81,7 +81,7 @@ class Reading(PageCase):
             user.driver.execute_cdp_cmd("Emulation.setEmulatedMedia", {"features": [{"name": "prefers-color-scheme", "value": scheme}]})
             user.driver.get(user.address.rpartition("/")[0] + f"/{SHEET}")
             self.assertEqual(ground, user.run(GROUND))
-            self.assertEqual([], user.run(CONTRAST, LEAST_CONTRAST)[1], scheme)
+            self.assertEqual([], user.run(CONTRAST, MIN_CONTRAST)[1], scheme)
             user.driver.execute_cdp_cmd("Emulation.setEmulatedMedia", {"features": []})
         user.driver.get(user.address.rpartition("/")[0] + f"/{SHEET}")
         self.assertFalse("files in tests" in user.text("body"))
@@ -109,7 +109,7 @@ class Reading(PageCase):
             self.read(file)
             for theme in ("light", "dark"):
                 user.choose("#theme", theme)
-                number, pale = user.run(CONTRAST, LEAST_CONTRAST)
+                number, pale = user.run(CONTRAST, MIN_CONTRAST)
                 self.assertTrue(number > 20, file)
                 self.assertEqual([], pale, (file, theme))
             levels = user.run(HEADINGS)

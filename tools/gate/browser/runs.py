@@ -24,7 +24,7 @@ const textOf = (it) => [...it.childNodes].map((one) => one.textContent).join(" "
 return [...document.querySelectorAll(`#watching ${arguments[0]}`)].map(textOf);
 """
 TRIES = 8
-MOST_MILLISECONDS = 50
+MAX_MILLISECONDS = 50
 
 
 class Steps(PageCase):
@@ -93,7 +93,7 @@ class Steps(PageCase):
         self.user.open_listed(LISTED)
         rounds = [self.user.run(STEPS) for _ in range(TRIES)]
         least = [min(each) for each in zip(*rounds)]
-        self.assertTrue(max(least) < MOST_MILLISECONDS, least)
+        self.assertTrue(max(least) < MAX_MILLISECONDS, least)
 
     def test_motion(self) -> None:
         """A step moves a word; where the system asks for less motion nothing moves, and a run that is chosen does not play."""
