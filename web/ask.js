@@ -14,7 +14,7 @@ const asked = new WeakMap();
 /** A question that is asked. */
 class Asked {
   constructor(question, fields) {
-    Object.assign(this, { question, fields, control: null, begun: performance.now(), passed: "" });
+    Object.assign(this, { question, fields, control: null, begun: performance.now(), progress: "" });
     this.answer = new Promise((resolve) => (this.resolve = resolve));
     this.ask(byBest);
   }
@@ -25,7 +25,7 @@ class Asked {
     this.control = new AbortController();
     const { signal } = this.control;
     const failed = (error) => ({ error: `The page failed: ${error}.` });
-    const answer = await way(this.question, this.fields, signal, (passed) => (this.passed = passed)).catch(failed);
+    const answer = await way(this.question, this.fields, signal, (progress) => (this.progress = progress)).catch(failed);
     if (!signal.aborted) this.end(answer);
   }
 
@@ -39,12 +39,12 @@ class Asked {
   }
 
   /**
-   * Ends what runs by itself when it has taken so many milliseconds.
-   * @param {number} most
+   * Ends what runs by itself after so many milliseconds.
+   * @param {number} timeout
    */
-  endAfter(most) {
-    const words = `This ran by itself, and was ended after ${most / SECOND} seconds. Run it to let it take longer.`;
-    this.limit = setTimeout(() => this.end({ error: words }), most);
+  endAfter(timeout) {
+    const words = `This ran by itself, and was ended after ${timeout / SECOND} seconds. Run it to let it take longer.`;
+    this.limit = setTimeout(() => this.end({ error: words }), timeout);
   }
 
   /**
@@ -64,14 +64,14 @@ class Asked {
       if (!hasServer || !(await hasModule())) return;
       line.append(button("Ask the program on this machine instead", instead, { class: "instead" }));
     }, PAUSE);
-    this.clock = setInterval(() => (said.textContent = this.progress()), SECOND);
+    this.clock = setInterval(() => (said.textContent = this.waitingWords()), SECOND);
     this.shown = line;
     return line;
   }
 
-  progress() {
+  waitingWords() {
     const seconds = Math.floor((performance.now() - this.begun) / SECOND);
-    return `… ${this.passed ? `${this.passed}, ` : ""}${seconds} s`;
+    return `… ${this.progress ? `${this.progress}, ` : ""}${seconds} s`;
   }
 }
 
@@ -82,19 +82,19 @@ function askedOn(editor) {
 
 /**
  * Returns the answer: an object that has `fault` or `error` if there is no other; null if the same was asked again meanwhile. Until then a
- * `place` shows that it is waited for. What is asked for at several places has a `name` for each. `most` is the most milliseconds that it
- * may take, if the reader has not asked for it.
+ * `place` shows that it is waited for. What is asked for at several places has a `name` for each. The answer may take `timeout` milliseconds,
+ * or any time if that is null, since the reader has asked for it.
  * @param {Editor} editor
  * @param {string} question
  * @param {object} fields
- * @param {{place?: Element, name?: string, most?: number}} [options]
+ * @param {{place?: Element, name?: string, timeout?: number}} [options]
  * @returns {Promise<object | null>}
  */
-export async function ask(editor, question, fields, { place = null, name = question, most = null } = {}) {
+export async function ask(editor, question, fields, { place = null, name = question, timeout = null } = {}) {
   askedOn(editor).get(name)?.end(null);
   const asking = new Asked(question, fields);
   askedOn(editor).set(name, asking);
-  if (most !== null) asking.endAfter(most);
+  if (timeout !== null) asking.endAfter(timeout);
   place?.replaceChildren(asking.line());
   return asking.answer;
 }

@@ -31,22 +31,22 @@ export class Compile {
   }
 
   /** Asks, unless what is shown is of the same text. What runs by itself takes at most so many milliseconds. */
-  askOnce(most = null) {
-    return this.askedOf === this.editor.text ? null : this.ask(most);
+  askOnce(timeout = null) {
+    return this.askedOf === this.editor.text ? null : this.ask(timeout);
   }
 
-  /** Asks what the test is compiled to, once the guess is made. The answer takes `most` milliseconds at most, or any time if that is null. */
-  ask(most = null) {
+  /** Asks what the test is compiled to, once the guess is made. The answer takes `timeout` milliseconds at most, or any time if that is null. */
+  ask(timeout = null) {
     this.clear();
     this.askedOf = this.editor.text;
     clearFault(this.editor);
-    return guess.unlock(this.editor, this.place, () => this.show(most));
+    return guess.unlock(this.editor, this.place, () => this.show(timeout));
   }
 
   /** Shows what the test is compiled to. */
-  async show(most) {
+  async show(timeout) {
     const { text } = this.editor;
-    const answer = await ask(this.editor, "compile", { text }, { place: this.place, most });
+    const answer = await ask(this.editor, "compile", { text }, { place: this.place, timeout });
     if (!answer) return;
     this.place.replaceChildren();
     if (!answer.compiled) return showError(answer, this.place, this.editor);
@@ -56,7 +56,7 @@ export class Compile {
     const columns = lists.map((it, index) => el("div", {}, codes[index], it.place));
     this.place.append(this.wordsOn(answer), el("div", { class: "columns" }, columns));
     const [bare, compiled] = ["bare", "compiled"].map((name) => lists.find((it) => it.name === name));
-    await Promise.all(lists.map((it) => it.ask({ most, listed: () => bare?.markWhatIsNewTo(compiled) })));
+    await Promise.all(lists.map((it) => it.ask({ timeout, listed: () => bare?.markWhatIsNewTo(compiled) })));
   }
 
   /** Returns what is said of the texts that are shown. */
@@ -117,10 +117,10 @@ class List {
   }
 
   /** Asks for the list, by a search if `search` is set; `listed` is called when it is there. */
-  async ask({ most = null, listed, search = false }) {
+  async ask({ timeout = null, listed, search = false }) {
     const waiting = el("div", {});
     this.place.replaceChildren(el("h3", {}, this.title), waiting);
-    const how = { place: waiting, most, name: `the list of what is ${this.name}` };
+    const how = { place: waiting, timeout, name: `the list of what is ${this.name}` };
     const answer = await ask(this.editor, "states", { text: this.text, search }, how);
     if (!answer) return;
     waiting.replaceChildren();

@@ -33,23 +33,23 @@ export class Fences {
     this.film.clear();
   }
 
-  /** Asks, unless what is shown is of the same text. What runs by itself may take at most `most` milliseconds. */
-  askOnce(most = null) {
-    return this.askedOf === this.editor.text ? null : this.ask(most);
+  /** Asks, unless what is shown is of the same text. What runs by itself may take at most `timeout` milliseconds. */
+  askOnce(timeout = null) {
+    return this.askedOf === this.editor.text ? null : this.ask(timeout);
   }
 
-  /** Asks which fences matter, once the guess is made. The answer takes `most` milliseconds at most, or any time if that is null. */
-  ask(most = null) {
+  /** Asks which fences matter, once the guess is made. The answer takes `timeout` milliseconds at most, or any time if that is null. */
+  ask(timeout = null) {
     this.clear();
     this.askedOf = this.editor.text;
     clearFault(this.editor);
-    return guess.unlock(this.editor, this.place, () => this.show(most));
+    return guess.unlock(this.editor, this.place, () => this.show(timeout));
   }
 
-  /** Shows the table, if it is there within `most` milliseconds (null: no limit). With `search` its lists are made by a search. */
-  async show(most, search = false) {
+  /** Shows the table, if it is there within `timeout` milliseconds (null: no limit). With `search` its lists are made by a search. */
+  async show(timeout, search = false) {
     const fields = { text: this.editor.text, everything: this.everything.checked, search };
-    const answer = await ask(this.editor, "fences", fields, { place: this.place, most });
+    const answer = await ask(this.editor, "fences", fields, { place: this.place, timeout });
     if (!answer) return;
     this.place.replaceChildren();
     if (!answer.table) return this.fail(answer);

@@ -115,7 +115,7 @@ function changed(before) {
   show("", true);
   pale(true);
   byId("said").textContent = CHANGED;
-  typing = setTimeout(() => list({ isKept: true, most: MAX_MILLISECONDS }), TYPING);
+  typing = setTimeout(() => list({ isKept: true, timeout: MAX_MILLISECONDS }), TYPING);
 }
 
 /** Ends all questions, and clears what is said of the text in the editor. */
@@ -141,11 +141,11 @@ function pale(isStale) {
   for (const name of ["answers", "graph-place"]) byId(name).classList.toggle("stale", isStale);
 }
 
-/** Lists the states and shows a run: that of a link, if there is one. Ends what runs by itself after `most` milliseconds. */
-async function list({ link = null, isKept = false, most = null } = {}) {
+/** Lists the states and shows a run: that of a link, if there is one. Ends what runs by itself after `timeout` milliseconds. */
+async function list({ link = null, isKept = false, timeout = null } = {}) {
   clearTimeout(typing);
   if (beside?.isOpen) return;
-  if (await states.ask(link, { isKept, most })) pale(false);
+  if (await states.ask(link, { isKept, timeout })) pale(false);
   if (byId("said").textContent === CHANGED) byId("said").textContent = "";
   present.fit();
 }
@@ -254,7 +254,7 @@ function follow() {
   states.isByHand = link.view === "hand";
   tabs.show(VIEWS.includes(link.view) ? link.view : VIEWS[0]);
   if (!beside.isOpen) panels[tabs.view]?.askOnce(MAX_MILLISECONDS);
-  list({ link: link.state || link.view === "hand" ? link : null, most: MAX_MILLISECONDS });
+  list({ link: link.state || link.view === "hand" ? link : null, timeout: MAX_MILLISECONDS });
 }
 
 /** Says that a link names examples that do not exist. */

@@ -76,36 +76,36 @@ export class Program {
   }
 
   /**
-   * Returns what is printed of a list, `states` or `schedules`; of one by a search `passed` is called with words on how far that is.
+   * Returns what is printed of a list, `states` or `schedules`; of one by a search `onProgress` is called with words on how far that is.
    * @param {string} output
    * @param {Uint8Array} text
-   * @param {{search?: boolean, passed?: function(string): void}} [options]
+   * @param {{search?: boolean, onProgress?: function(string): void}} [options]
    * @returns {string}
    */
-  list(output, text, { search = false, passed = () => null } = {}) {
-    return search ? this.search(output, text, passed) : this.ask([output], text);
+  list(output, text, { search = false, onProgress = () => null } = {}) {
+    return search ? this.search(output, text, onProgress) : this.ask([output], text);
   }
 
   /**
    * Returns a list by a search, which is kept whatever its length as long as the same text is asked about.
    * @param {string} output
    * @param {Uint8Array} text
-   * @param {function(string): void} passed
+   * @param {function(string): void} onProgress
    * @returns {string}
    */
-  search(output, text, passed) {
+  search(output, text, onProgress) {
     this.keptOf(text);
-    if (!this.searched.has(output)) this.searched.set(output, this.searchAnew(output, text, passed));
+    if (!this.searched.has(output)) this.searched.set(output, this.searchAnew(output, text, onProgress));
     return this.searched.get(output);
   }
 
-  searchAnew(output, text, passed) {
+  searchAnew(output, text, onProgress) {
     for (const budget of BUDGETS) {
       try {
         return this.askAnew(["--budget", String(budget), output], text);
       } catch (error) {
         if (error.fault?.kind !== "budget") throw error;
-        passed(`more than ${budget.toLocaleString("en")} states of the machine`);
+        onProgress(`more than ${budget.toLocaleString("en")} states of the machine`);
       }
     }
     const most = BUDGETS.at(-1).toLocaleString("en");
@@ -180,12 +180,12 @@ export class Program {
   /**
    * Returns the list of states with a mark on each, as `list` makes it, or null if the workbench has no marks.
    * @param {Uint8Array} text
-   * @param {{search?: boolean, passed?: function(string): void}} [options]
+   * @param {{search?: boolean, onProgress?: function(string): void}} [options]
    * @returns {string[] | null}
    */
-  marked(text, { search = false, passed = () => null } = {}) {
+  marked(text, { search = false, onProgress = () => null } = {}) {
     if (!this.workbench.hasFilmsAndMarks) return null;
-    const printed = search ? this.search("marks", text, passed) : this.ask(["--budget", "0", "marks"], text);
+    const printed = search ? this.search("marks", text, onProgress) : this.ask(["--budget", "0", "marks"], text);
     return printed.split("\n").slice(0, -1);
   }
 }

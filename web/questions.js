@@ -28,9 +28,9 @@ const MAX_TEXT = 65537;
 // Of how many events at most it is found which registers they have put words into.
 const MAX_LOOKED_AT = 100;
 
-/** Returns the report, with `search` by a search; `passed` is called with words on how far that is. */
-function answerStates(program, text, { search = false }, passed) {
-  const report = reportOf(program, text, { search, passed });
+/** Returns the report, with `search` by a search; `onProgress` is called with words on how far that is. */
+function answerStates(program, text, { search = false }, onProgress) {
+  const report = reportOf(program, text, { search, onProgress });
   const language = languageOf(text);
   return { report, language, words: verdictOf(language, report) };
 }
@@ -39,9 +39,9 @@ function answerStates(program, text, { search = false }, passed) {
  * Returns a film. It is that of `own`, a schedule of the test's language, if that run ends in the state, or if `state` is null; and otherwise
  * that to the state, or to `otherwise`.
  */
-function answerFilm(program, text, { own = null, state, otherwise = null, ...how }, passed) {
+function answerFilm(program, text, { own = null, state, otherwise = null, ...how }, onProgress) {
   const film = own === null ? null : ownFilmOrNull(program, text, own, how);
-  return film && (state ?? film.state) === film.state ? film : listedFilm(program, text, { state: state ?? otherwise, ...how }, passed);
+  return film && (state ?? film.state) === film.state ? film : listedFilm(program, text, { state: state ?? otherwise, ...how }, onProgress);
 }
 
 /**
@@ -75,8 +75,8 @@ function ownFilm(program, text, own, { protocol }) {
 }
 
 /** Returns the film to a state; of a source test that of its compiled program, and that of the source run. */
-function listedFilm(program, text, { state, protocol, search = false }, passed) {
-  const schedule = scheduleTo(program, text, state, { search, passed });
+function listedFilm(program, text, { state, protocol, search = false }, onProgress) {
+  const schedule = scheduleTo(program, text, state, { search, onProgress });
   const isSource = languageOf(text) === "SRC";
   const compiled = isSource ? bytesOf(program.ask(["compile"], text)) : text;
   const films = { x86: filmOf(program, compiled, schedule, protocol) };
@@ -175,18 +175,18 @@ function answerCompile(program, text) {
 }
 
 /** Returns the table of fences, with where its lists come from (with `search` by a search), and of each row the text without its fence. */
-function answerFences(program, text, { everything, search = false }, passed) {
+function answerFences(program, text, { everything, search = false }, onProgress) {
   const test = readTest(program.ask(["compile"], text));
-  const listOf = (canonical) => listOrNull(program, bytesOf(canonical), { search, passed });
+  const listOf = (canonical) => listOrNull(program, bytesOf(canonical), { search, onProgress });
   const asked = everything ? showingEverything(test) : test;
   const texts = fencesOf(asked).map((fence) => canonicalText(without(asked, [fence])));
   return { table: tableOfFences(asked, listOf), condition: conditionText(test), texts, language: languageOf(text) };
 }
 
 /** Returns where fences more would answer the question of an x86 test; of a source test, whose compiler adds them, nothing. */
-function answerMoreFences(program, text, { search = false }, passed) {
+function answerMoreFences(program, text, { search = false }, onProgress) {
   if (languageOf(text) === "SRC") return { fenced: null };
-  const listOf = (canonical) => listOrNull(program, bytesOf(canonical), { search, passed });
+  const listOf = (canonical) => listOrNull(program, bytesOf(canonical), { search, onProgress });
   return { fenced: setsOfFences(readTest(program.ask(["compile"], text)), listOf) };
 }
 
@@ -252,16 +252,16 @@ const QUESTIONS = {
 };
 
 /**
- * Returns the answer of a program to a question. What takes long calls `passed` with words on how far it is.
+ * Returns the answer of a program to a question. What takes long calls `onProgress` with words on how far it is.
  * @param {Program} program
  * @param {string} question
  * @param {{text: string}} fields
- * @param {function(string): void} [passed]
+ * @param {function(string): void} [onProgress]
  * @returns {object}
  */
-export function answerTo(program, question, { text, ...more }, passed = () => null) {
+export function answerTo(program, question, { text, ...more }, onProgress = () => null) {
   try {
-    return QUESTIONS[question](program, bytesOf(text).subarray(0, MAX_TEXT), more, passed);
+    return QUESTIONS[question](program, bytesOf(text).subarray(0, MAX_TEXT), more, onProgress);
   } catch (error) {
     if (error instanceof Fault) return { fault: error.fault };
     if (error instanceof NoAnswer) return { error: error.message, ...error.more };

@@ -79,13 +79,13 @@ export class States {
 
   /**
    * Asks for the list, by a search if `search` is set, and shows then what a link leads to. With `isKept` what is shown stays till the
-   * answer is there; `most` is the most milliseconds that it may take. Returns whether there is an answer.
+   * answer is there; `timeout` is the most milliseconds that it may take. Returns whether there is an answer.
    */
-  async ask(link = null, { isKept = false, search = false, most = null } = {}) {
+  async ask(link = null, { isKept = false, search = false, timeout = null } = {}) {
     if (!isKept) this.clear();
     clearFault(this.editor);
     const { text } = this.editor;
-    const answer = await ask(this.editor, "states", { text, search }, { place: this.list, most });
+    const answer = await ask(this.editor, "states", { text, search }, { place: this.list, timeout });
     if (!answer) return false;
     this.list.replaceChildren();
     this.isSearched = search;

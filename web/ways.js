@@ -38,16 +38,16 @@ export async function hasModule() {
 }
 
 /** Returns the answer by the module. */
-async function byModule(question, fields, signal, passed) {
+async function byModule(question, fields, signal, onProgress) {
   const module = await loading;
-  return module ? byWorker({ module, question, fields }, signal, passed) : { error: NO_MODULE };
+  return module ? byWorker({ module, question, fields }, signal, onProgress) : { error: NO_MODULE };
 }
 
-/** Returns the answer of a worker. The signal ends it at once, with its worker. `passed` is called with words on how far it is. */
-async function byWorker(asked, signal, passed) {
+/** Returns the answer of a worker. The signal ends it at once, with its worker. `onProgress` is called with words on how far it is. */
+async function byWorker(asked, signal, onProgress) {
   if (signal.aborted) return null;
   const worker = idle.pop() ?? (await workerOf());
-  const answer = await answerOf(worker, asked, signal, passed);
+  const answer = await answerOf(worker, asked, signal, onProgress);
   if (signal.aborted || worker.broken) worker.terminate();
   else idle.push(worker);
   return answer;
@@ -63,28 +63,28 @@ async function workerOf() {
   return worker;
 }
 
-/** Returns what a worker answers, or null once the signal is aborted. `passed` is called with how far it is. */
-function answerOf(worker, asked, signal, passed) {
+/** Returns what a worker answers, or null once the signal is aborted. `onProgress` is called with how far it is. */
+function answerOf(worker, asked, signal, onProgress) {
   return new Promise((resolve) => {
     signal.addEventListener("abort", () => resolve(null), { once: true });
-    worker.onmessage = ({ data }) => ("passed" in data ? passed(data.passed) : resolve(data));
+    worker.onmessage = ({ data }) => ("progress" in data ? onProgress(data.progress) : resolve(data));
     if (worker.broken) resolve(worker.broken);
     else worker.postMessage(asked);
   });
 }
 
 /** Returns the answer by the program on this machine. */
-export function byServer(question, fields, signal, passed) {
-  return unlessStale(question, byWorker({ module: null, question, fields }, signal, passed), signal);
+export function byServer(question, fields, signal, onProgress) {
+  return unlessStale(question, byWorker({ module: null, question, fields }, signal, onProgress), signal);
 }
 
 /** Answers by the module if there is one; what is beyond it, or without a module, by the program, if there is a server. */
-export async function byBest(question, fields, signal, passed) {
-  if (!hasServer) return byModule(question, fields, signal, passed);
-  if (!(await hasModule())) return byServer(question, fields, signal, passed);
-  const answer = await unlessStale(question, byModule(question, fields, signal, passed), signal);
+export async function byBest(question, fields, signal, onProgress) {
+  if (!hasServer) return byModule(question, fields, signal, onProgress);
+  if (!(await hasModule())) return byServer(question, fields, signal, onProgress);
+  const answer = await unlessStale(question, byModule(question, fields, signal, onProgress), signal);
   if (!answer?.isBeyond) return answer;
-  const served = await byServer(question, fields, signal, passed);
+  const served = await byServer(question, fields, signal, onProgress);
   return served?.error === NO_SERVER ? answer : served;
 }
 

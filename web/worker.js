@@ -1,6 +1,6 @@
 // A worker of the page: answers questions by the module that it is given with them, or where it is given none by the program on this
 // machine, so that the page goes on meanwhile, and so that a run can be ended. It stays from one question to the next, with what was
-// printed for it; a run that is ended ends it, and another takes its place. Before an answer it may say how far it is: `passed`.
+// printed for it; a run that is ended ends it, and another takes its place. Before an answer it may say how far it is: `progress`.
 
 import { Workbench } from "./module.js";
 import { Program } from "./program.js";
@@ -19,7 +19,7 @@ function programOf(module) {
 /** Returns the answer to a question, or an error if the module fails. */
 function answer({ module, question, fields }) {
   try {
-    return answerTo(programOf(module), question, fields, (passed) => postMessage({ passed }));
+    return answerTo(programOf(module), question, fields, (progress) => postMessage({ progress }));
   } catch (error) {
     return { error: `The page failed: ${error}.`, isBeyond: true };
   }
