@@ -50,7 +50,10 @@ function reading() {
   return documents.length ? [el("h3", {}, "To read"), el("ul", { class: "reading" }, documents.map(link))] : [];
 }
 
-/** Fills the dialog that says what the page is, and opens it on a click. */
+/**
+ * Fills the dialog that says what the page is, and opens it on a click.
+ * @param {Element} place
+ */
 export function about(place) {
   const list = (pairs) => el("dl", {}, pairs.flatMap(([name, words]) => [el("dt", {}, name), el("dd", {}, sentence(words))]));
   place.append(

@@ -104,6 +104,7 @@ export function onLink(act) {
   });
 }
 
+/** Returns the address, with all changes written into it. */
 export function link() {
   write();
   return location.href;

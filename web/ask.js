@@ -9,7 +9,7 @@ const PAUSE = 400;
 const SECOND = 1000;
 
 // Of each editor the questions that are asked on its test, by their names.
-const asked = new WeakMap();
+const askedByEditor = new WeakMap();
 
 /** A question that is asked. */
 class Asked {
@@ -52,8 +52,8 @@ class Asked {
    * @returns {Element}
    */
   line() {
-    const said = el("span", {}, "…");
-    const line = el("p", { class: "row asking", role: "status" }, said);
+    const words = el("span", {}, "…");
+    const line = el("p", { class: "row asking", role: "status" }, words);
     const cancel = () => this.end({ error: "Cancelled." });
     const instead = (event) => {
       event.target.remove();
@@ -64,7 +64,7 @@ class Asked {
       if (!hasServer || !(await hasModule())) return;
       line.append(button("Ask the program on this machine instead", instead, { class: "instead" }));
     }, PAUSE);
-    this.clock = setInterval(() => (said.textContent = this.waitingWords()), SECOND);
+    this.clock = setInterval(() => (words.textContent = this.waitingWords()), SECOND);
     this.shown = line;
     return line;
   }
@@ -76,8 +76,8 @@ class Asked {
 }
 
 function askedOn(editor) {
-  if (!asked.has(editor)) asked.set(editor, new Map());
-  return asked.get(editor);
+  if (!askedByEditor.has(editor)) askedByEditor.set(editor, new Map());
+  return askedByEditor.get(editor);
 }
 
 /**

@@ -40,11 +40,11 @@ export class Beside {
 
   /** Puts the controls of both and the two sides into their place. */
   layOut(copyLink) {
-    const said = el("span", { role: "status" });
+    const status = el("span", { role: "status" });
     const controls = [
       button("◂ Back to one test", () => this.close(), { id: "close-beside" }),
-      button("Link to both", () => copyLink(said), { id: "link-both" }),
-      said,
+      button("Link to both", () => copyLink(status), { id: "link-both" }),
+      status,
       this.compared,
       this.lockstep.place,
     ];
@@ -57,7 +57,7 @@ export class Beside {
   listen() {
     byId("set-beside").addEventListener("click", () => this.open());
     for (const side of this.sides) {
-      for (const used of ["focusin", "pointerdown"]) side.place.addEventListener(used, () => this.giveKeys(side));
+      for (const type of ["focusin", "pointerdown"]) side.place.addEventListener(type, () => this.giveKeys(side));
     }
     this.giveKeys(null);
   }
@@ -107,8 +107,8 @@ export class Beside {
   show(text, example) {
     this.notices.replaceChildren();
     this.first.put(this.editor.text, this.examples.name, this.examples.options());
-    const made = Object.entries(MADE).map(([value, words]) => el("option", { value: `=${value}` }, words));
-    const options = [...this.examples.options(), el("optgroup", { label: "The first test" }, made)];
+    const derived = Object.entries(MADE).map(([value, words]) => el("option", { value: `=${value}` }, words));
+    const options = [...this.examples.options(), el("optgroup", { label: "The first test" }, derived)];
     const isMade = this.made?.of === this.editor.text && this.made.text === text;
     this.second.put(text, isMade ? `=${this.made.kind}` : example, options);
   }
@@ -145,7 +145,7 @@ export class Beside {
   compare() {
     const reports = this.sides.map((it) => it.states.report);
     const { why, both, alone = [null, null] } = reports.every(Boolean) ? differenceOf(...reports) : {};
-    for (const [at, side] of this.sides.entries()) side.states.mark(alone[at]);
+    for (const [index, side] of this.sides.entries()) side.states.mark(alone[index]);
     const [first, second] = alone.map((lines) => lines?.length);
     const states = (number) => (number === 1 ? "1 state" : `${number} states`);
     const numbers = `${states(both)} in both, ${first} only left, ${second} only right. `;

@@ -9,19 +9,20 @@ import { REGISTERS } from "./token_reader.js";
 /**
  * Returns an instruction in the canonical text.
  * @param {Test} test
- * @param {Statement} it
+ * @param {Statement} instruction
  * @returns {string}
  */
-export function instructionText(test, it) {
+export function instructionText(test, instruction) {
   const names = REGISTERS.X86;
-  const register = names[it.register] ?? "";
-  const location = it.location === undefined ? "" : `[${test.locations[it.location]}]`;
-  const value = it.value && (it.value.number === undefined ? names[it.value.register] : `$${it.value.number}`);
-  if (it.kind === "store") return `MOV ${location},${value}`;
-  if (it.kind === "load" || it.kind === "set") return `MOV ${register},${location || value}`;
-  if (it.kind === "add" || it.kind === "cmp") return `${it.kind.toUpperCase()} ${register},${value}`;
-  if (it.kind === "xchg" || it.kind === "xadd") return `${it.kind === "xchg" ? "XCHG" : "LOCK XADD"} ${location},${register}`;
-  return it.kind === "mfence" ? "MFENCE" : `${it.kind.toUpperCase()} L${it.target}`;
+  const register = names[instruction.register] ?? "";
+  const location = instruction.location === undefined ? "" : `[${test.locations[instruction.location]}]`;
+  const value = instruction.value && (instruction.value.number === undefined ? names[instruction.value.register] : `$${instruction.value.number}`);
+  if (instruction.kind === "store") return `MOV ${location},${value}`;
+  if (instruction.kind === "load" || instruction.kind === "set") return `MOV ${register},${location || value}`;
+  if (instruction.kind === "add" || instruction.kind === "cmp") return `${instruction.kind.toUpperCase()} ${register},${value}`;
+  if (instruction.kind === "xchg") return `XCHG ${location},${register}`;
+  if (instruction.kind === "xadd") return `LOCK XADD ${location},${register}`;
+  return instruction.kind === "mfence" ? "MFENCE" : `${instruction.kind.toUpperCase()} L${instruction.target}`;
 }
 
 /** Returns the cells of a thread in the canonical text. */

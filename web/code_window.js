@@ -10,9 +10,12 @@ const MIN_LINES = 3;
 // What is left empty below a machine, in pixels.
 const MARGIN = 14;
 
-/** Puts the next instruction of each thread's code into sight, and says which lines are there. */
-export function showNext(place) {
-  for (const code of place.querySelectorAll(".code")) {
+/**
+ * Puts the next instruction of each thread's code into sight, and says which lines are there.
+ * @param {Element} machine
+ */
+export function showNext(machine) {
+  for (const code of machine.querySelectorAll(".code")) {
     const next = code.querySelector(".next, .reached");
     code.style.paddingBottom = "";
     const isWhole = code.scrollHeight <= code.clientHeight + SPARE * code.firstElementChild.offsetHeight;
@@ -27,52 +30,61 @@ export function showNext(place) {
  * Returns how high a machine may be to be in sight as a whole, the best first: on a phone on the first screen, or else once it is scrolled there. Returns
  * nothing if it has the room that the page gives it.
  */
-function roomsOf(place) {
-  const { top } = place.getBoundingClientRect();
-  const column = place.closest(".side")?.parentElement.parentElement;
+function roomsOf(machine) {
+  const { top } = machine.getBoundingClientRect();
+  const column = machine.closest(".side")?.parentElement.parentElement;
   if (matchMedia(PHONE).matches) {
     if (column) return [];
-    const head = place.closest(".run").querySelector(".run-head");
+    const head = machine.closest(".run").querySelector(".run-head");
     return [innerHeight - top - scrollY, innerHeight - head.offsetHeight];
   }
   if (!column || getComputedStyle(column).overflowY !== "auto") return [];
   return [column.clientHeight - (top - column.getBoundingClientRect().top + column.scrollTop) - MARGIN];
 }
 
-/** Lets the codes of a machine be so high that all of the machine is in sight: on a phone, and beside another one. */
-export function fitCodes(place) {
-  place.style.removeProperty("--code-fit");
-  place.classList.remove("below-first-screen");
-  const codes = [...place.querySelectorAll(".code")];
-  const rooms = codes.length && place.closest(".run") ? roomsOf(place) : [];
+/**
+ * Lets the codes of a machine be so high that all of the machine is in sight: on a phone, and beside another one.
+ * @param {Element} machine
+ */
+export function fitCodes(machine) {
+  machine.style.removeProperty("--code-fit");
+  machine.classList.remove("below-first-screen");
+  const codes = [...machine.querySelectorAll(".code")];
+  const rooms = codes.length && machine.closest(".run") ? roomsOf(machine) : [];
   if (!rooms.length) return;
   const rows = matchMedia(PHONE).matches ? Math.ceil(codes.length / COLUMNS) : 1;
-  const most = Math.max(...codes.map((it) => it.clientHeight));
-  const least = Math.min(most, MIN_LINES * codes[0].firstElementChild.offsetHeight);
-  const fitting = rooms.map((room) => most - Math.ceil((place.offsetHeight - room) / rows));
+  const tallest = Math.max(...codes.map((it) => it.clientHeight));
+  const least = Math.min(tallest, MIN_LINES * codes[0].firstElementChild.offsetHeight);
+  const fitting = rooms.map((room) => tallest - Math.ceil((machine.offsetHeight - room) / rows));
   const fit = fitting.find((it) => it >= least) ?? least;
   // Memory lies over nothing: if the machine is not in sight as a whole at first, memory is scrolled with it.
-  place.classList.toggle("below-first-screen", matchMedia(PHONE).matches && fit !== fitting[0]);
-  if (fit < most) place.style.setProperty("--code-fit", `${fit}px`);
+  machine.classList.toggle("below-first-screen", matchMedia(PHONE).matches && fit !== fitting[0]);
+  if (fit < tallest) machine.style.setProperty("--code-fit", `${fit}px`);
 }
 
-/** Returns how much of a machine is out of sight at first in a column that is scrolled, in pixels. */
-export function hiddenHeight(place) {
-  const column = place.closest("#answers");
+/**
+ * Returns how much of a machine is out of sight at first in a column that is scrolled, in pixels.
+ * @param {Element} machine
+ * @returns {number}
+ */
+export function hiddenHeight(machine) {
+  const column = machine.closest("#answers");
   if (!column || getComputedStyle(column).overflowY !== "auto") return 0;
-  const [threads, memory] = [".threads", ".memory"].map((css) => place.querySelector(css));
-  const bottom = threads.getBoundingClientRect().bottom + parseFloat(getComputedStyle(place).rowGap) + memory.offsetHeight;
+  const [threads, memory] = [".threads", ".memory"].map((css) => machine.querySelector(css));
+  const bottom = threads.getBoundingClientRect().bottom + parseFloat(getComputedStyle(machine).rowGap) + memory.offsetHeight;
   return Math.max(0, bottom - column.getBoundingClientRect().bottom + column.scrollTop);
 }
 
 /**
  * Returns how much lower a machine can be: as much as is out of sight, if each code still has its least number of lines then, and otherwise as much
  * as leaves them.
+ * @param {Element} machine
+ * @returns {number}
  */
-export function spareHeight(place) {
-  const hidden = hiddenHeight(place);
+export function spareHeight(machine) {
+  const hidden = hiddenHeight(machine);
   if (!hidden) return 0;
-  const spares = [...place.querySelectorAll(".thread")].map((thread) => {
+  const spares = [...machine.querySelectorAll(".thread")].map((thread) => {
     const [code, waits, below] = [".code", ".waits", ".below"].map((css) => thread.querySelector(css));
     const least = Math.min(code.children.length, MIN_LINES) * code.firstElementChild.offsetHeight;
     return below.getBoundingClientRect().top - code.getBoundingClientRect().top - waits.offsetHeight - least;
@@ -80,11 +92,14 @@ export function spareHeight(place) {
   return Math.max(0, Math.min(hidden + 1, ...spares));
 }
 
-/** Watches the codes of a machine: what is in sight of them changes with the room and when the reader scrolls them. */
-export function watchCodes(place) {
-  place.addEventListener("scroll", ({ target }) => target.classList?.contains("code") && showLinesInSight(target), { capture: true, passive: true });
-  new ResizeObserver(() => showNext(place)).observe(place);
-  addEventListener("resize", () => fitCodes(place));
+/**
+ * Watches the codes of a machine: what is in sight of them changes with the room and when the reader scrolls them.
+ * @param {Element} machine
+ */
+export function watchCodes(machine) {
+  machine.addEventListener("scroll", ({ target }) => target.classList?.contains("code") && showLinesInSight(target), { capture: true, passive: true });
+  new ResizeObserver(() => showNext(machine)).observe(machine);
+  addEventListener("resize", () => fitCodes(machine));
 }
 
 /** Scrolls a line into sight inside its box, with one line around it, and nothing else. The first line in sight is whole. */
@@ -103,7 +118,7 @@ function firstLine(code, line) {
   const isAbove = (it) => it.offsetTop >= code.scrollTop - 1;
   const isEnough = (it) => after.offsetTop + after.offsetHeight <= it.offsetTop + code.clientHeight + 1;
   if (line.offsetTop < code.scrollTop + 4) return before;
-  return lines.find((it) => it === line || (isAbove(it) && isEnough(it)));
+  return lines.find((other) => other === line || (isAbove(other) && isEnough(other)));
 }
 
 /** Says which lines of a code are in sight. */
@@ -115,6 +130,6 @@ function showLinesInSight(code) {
   const lines = [...code.children].slice(0, -1);
   const middle = (it) => it.offsetTop + it.offsetHeight / 2;
   const seen = lines.flatMap((it, index) => (middle(it) > top && middle(it) < bottom ? [index + 1] : []));
-  const said = code.parentElement.querySelector(".lines-in-sight");
-  if (said) said.textContent = isWhole || !seen.length || seen.length === lines.length ? "" : `lines ${seen[0]} to ${seen.at(-1)} of ${lines.length}`;
+  const note = code.parentElement.querySelector(".lines-in-sight");
+  if (note) note.textContent = isWhole || !seen.length || seen.length === lines.length ? "" : `lines ${seen[0]} to ${seen.at(-1)} of ${lines.length}`;
 }

@@ -63,20 +63,21 @@ export class Compile {
   wordsOn(answer) {
     const isSource = answer.language === "SRC";
     const number = answer.fences.length;
-    const said = number === 0 ? (isSource ? "No fence is needed." : "The test has no fence.") : number === 1 ? "There is one fence." : `There are ${number} fences.`;
+    const none = isSource ? "No fence is needed." : "The test has no fence.";
+    const fences = number === 0 ? none : number === 1 ? "There is one fence." : `There are ${number} fences.`;
     const source = number ? "The source test, what it is compiled to, and that without its fences." : "The source test, and what it is compiled to.";
-    const shown = isSource ? source : number ? "The test, and the same without its fences." : "";
-    return el("p", { role: "status" }, shown, " ", said, " ", isSource ? sentence(mappedNames(answer.compiled)) : "");
+    const texts = isSource ? source : number ? "The test, and the same without its fences." : "";
+    return el("p", { role: "status" }, texts, " ", fences, " ", isSource ? sentence(mappedNames(answer.compiled)) : "");
   }
 
   /** Returns the code of each text: of the source, of what it is compiled to, and of that without its fences. */
   codesOf(answer) {
     const isSource = answer.language === "SRC";
     const compiled = answer.fences.length ? "x86, with its fences" : "x86, no fence needed";
-    const found = [this.code(isSource ? compiled : "x86, as it is", answer.cells, answer.compiled)];
-    if (isSource) found.unshift(this.code("Source", answer.cells_of_source));
-    if (answer.fences.length) found.push(this.code(["x86, without fences ", plainMark()], answer.bare_cells, answer.bare));
-    return found;
+    const codes = [this.code(isSource ? compiled : "x86, as it is", answer.cells, answer.compiled)];
+    if (isSource) codes.unshift(this.code("Source", answer.cells_of_source));
+    if (answer.fences.length) codes.push(this.code(["x86, without fences ", plainMark()], answer.bare_cells, answer.bare));
+    return codes;
   }
 
   /** Returns the code of all threads, each a column; a fence is marked. */
@@ -150,9 +151,9 @@ class List {
   /** Marks the states that are not in another list, if both are there and the other is whole. */
   markWhatIsNewTo({ report }) {
     if (!this.report || !report || report.left_out) return;
-    const known = new Set(report.states.map((it) => it.line));
-    const alone = this.report.states.map((it) => it.line).filter((line) => !known.has(line));
-    this.strip.mark(alone.length ? alone : null);
+    const lines = new Set(report.states.map((it) => it.line));
+    const added = this.report.states.map((it) => it.line).filter((line) => !lines.has(line));
+    this.strip.mark(added.length ? added : null);
   }
 }
 

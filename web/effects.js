@@ -209,8 +209,8 @@ function add(step, register, value) {
  */
 function compare(step, register, value) {
   const [one, other] = [step.value(register), step.value(value)];
-  const found = one === other ? "are equal" : "differ";
-  return { words: `${step.name} compares \`${register}=${one}\` with ${other}: they ${found}` };
+  const result = one === other ? "are equal" : "differ";
+  return { words: `${step.name} compares \`${register}=${one}\` with ${other}: they ${result}` };
 }
 
 /** Says what a jump does to an instruction, whose number is in its label. */

@@ -10,7 +10,9 @@ const EVENTS = 64;
 const READS = ["load", "xchg", "xadd"];
 const WRITES = ["store", "xchg", "xadd"];
 
+/** Returns the thread of an event. */
 export const threadOf = (event) => Math.floor(event / EVENTS);
+/** Returns the position of an event's instruction in its thread's code. */
 export const positionOf = (event) => event % EVENTS;
 const eventOf = (thread, position) => thread * EVENTS + position;
 const edgeOf = (kind) => ([source, target]) => ({ kind, source, target });
@@ -47,7 +49,7 @@ export class Execution {
    * @returns {number[]}
    */
   events() {
-    return eventsOf(this.paths).filter((it) => hasPlace(this.instruction(it)));
+    return eventsOf(this.paths).filter((it) => isAccessOrFence(this.instruction(it)));
   }
 
   // Words.
@@ -207,11 +209,11 @@ export class Execution {
 
 /**
  * Returns whether an instruction accesses memory or is a fence.
- * @param {Statement} it
+ * @param {Statement} instruction
  * @returns {boolean}
  */
-function hasPlace(it) {
-  return it.location !== undefined || it.kind === "mfence";
+function isAccessOrFence(instruction) {
+  return instruction.location !== undefined || instruction.kind === "mfence";
 }
 
 /**
@@ -231,7 +233,7 @@ function eventsOf(paths) {
  * @param {(number | null)[]} registers
  * @returns {number | null}
  */
-function known(value, registers) {
+function wordOf(value, registers) {
   return value.number === undefined ? registers[value.register] : value.number;
 }
 
@@ -241,7 +243,7 @@ function known(value, registers) {
  * @param {number | null} second
  * @returns {number | null}
  */
-function total(first, second) {
+function sumOf(first, second) {
   return first === null || second === null ? null : (first + second) % WORD;
 }
 
@@ -255,40 +257,43 @@ function isSame(first, second) {
   return first === null || second === null ? null : first === second;
 }
 
-function put(list, at, item) {
+function replaceItem(list, at, item) {
   return list.map((it, number) => (number === at ? item : it));
 }
 
 /**
  * Returns the word that an instruction writes to memory.
- * @param {Statement} it
+ * @param {Statement} instruction
  * @param {(number | null)[]} registers
- * @param {number | null} read
+ * @param {number | null} word
  * @returns {number | null}
  */
-function writtenWord(it, registers, read) {
-  if (it.kind === "store") return known(it.value, registers);
-  return it.kind === "xchg" ? registers[it.register] : total(read, registers[it.register]);
+function writtenWord(instruction, registers, word) {
+  if (instruction.kind === "store") return wordOf(instruction.value, registers);
+  return instruction.kind === "xchg" ? registers[instruction.register] : sumOf(word, registers[instruction.register]);
 }
 
 /** Returns the position, the registers and the zero flag after an instruction that reads a word, if it reads one. */
-function stateAfter(it, position, { registers, zero }, read) {
-  const at = position + 1;
-  if (it.target !== undefined) {
-    const jumps = it.kind === "jmp" ? true : isSame(zero, it.kind === "je");
-    return { at: jumps === null ? null : jumps ? it.target : at, registers, zero };
+function stateAfter(instruction, position, { registers, zero }, word) {
+  const next = position + 1;
+  if (instruction.target !== undefined) {
+    const jumps = instruction.kind === "jmp" ? true : isSame(zero, instruction.kind === "je");
+    return { at: jumps === null ? null : jumps ? instruction.target : next, registers, zero };
   }
-  if (it.kind === "load" || it.kind === "xchg") return { at, registers: put(registers, it.register, read), zero };
-  if (it.kind === "xadd") {
-    return { at, registers: put(registers, it.register, read), zero: isSame(total(read, registers[it.register]), 0) };
+  if (instruction.kind === "load" || instruction.kind === "xchg") return { at: next, registers: replaceItem(registers, instruction.register, word), zero };
+  if (instruction.kind === "xadd") {
+    const sum = sumOf(word, registers[instruction.register]);
+    return { at: next, registers: replaceItem(registers, instruction.register, word), zero: isSame(sum, 0) };
   }
-  if (it.kind === "set") return { at, registers: put(registers, it.register, known(it.value, registers)), zero };
-  if (it.kind === "add") {
-    const sum = total(registers[it.register], known(it.value, registers));
-    return { at, registers: put(registers, it.register, sum), zero: isSame(sum, 0) };
+  if (instruction.kind === "set") {
+    return { at: next, registers: replaceItem(registers, instruction.register, wordOf(instruction.value, registers)), zero };
   }
-  if (it.kind === "cmp") return { at, registers, zero: isSame(registers[it.register], known(it.value, registers)) };
-  return { at, registers, zero };
+  if (instruction.kind === "add") {
+    const sum = sumOf(registers[instruction.register], wordOf(instruction.value, registers));
+    return { at: next, registers: replaceItem(registers, instruction.register, sum), zero: isSame(sum, 0) };
+  }
+  if (instruction.kind === "cmp") return { at: next, registers, zero: isSame(registers[instruction.register], wordOf(instruction.value, registers)) };
+  return { at: next, registers, zero };
 }
 
 // Cycles.
@@ -299,29 +304,29 @@ function stateAfter(it, position, { registers, zero }, read) {
  * @returns {Edge[] | null}
  */
 export function cycleIn(edges) {
-  const leaving = new Map();
+  const edgesFrom = new Map();
   for (const it of edges) {
-    const targets = leaving.get(it.source) ?? leaving.set(it.source, new Map()).get(it.source);
+    const targets = edgesFrom.get(it.source) ?? edgesFrom.set(it.source, new Map()).get(it.source);
     if (!targets.has(it.target)) targets.set(it.target, it);
   }
-  if (isAcyclic(leaving)) return null;
-  const starts = [...leaving.keys()].sort((a, b) => a - b);
-  const found = starts.map((start) => cycleFrom(start, leaving)).filter(Boolean);
-  return found.reduce((best, it) => (it.length < best.length ? it : best));
+  if (isAcyclic(edgesFrom)) return null;
+  const starts = [...edgesFrom.keys()].sort((a, b) => a - b);
+  const cycles = starts.map((start) => cycleFrom(start, edgesFrom)).filter(Boolean);
+  return cycles.reduce((best, it) => (it.length < best.length ? it : best));
 }
 
 /**
  * Returns whether there is no cycle: events without a successor are removed until none is left.
- * @param {Map<number, Edge[]>} leaving
+ * @param {Map<number, Map<number, Edge>>} edgesFrom
  * @returns {boolean}
  */
-function isAcyclic(leaving) {
-  let left = [...leaving].map(([source, targets]) => [source, [...targets.keys()]]);
-  while (left.length) {
-    const sources = new Set(left.map(([source]) => source));
-    const kept = left.map(([source, all]) => [source, all.filter((it) => sources.has(it))]).filter(([, all]) => all.length);
-    if (kept.length === left.length) return false;
-    left = kept;
+function isAcyclic(edgesFrom) {
+  let rest = [...edgesFrom].map(([source, targets]) => [source, [...targets.keys()]]);
+  while (rest.length) {
+    const sources = new Set(rest.map(([source]) => source));
+    const next = rest.map(([source, targets]) => [source, targets.filter((it) => sources.has(it))]).filter(([, targets]) => targets.length);
+    if (next.length === rest.length) return false;
+    rest = next;
   }
   return true;
 }
@@ -329,18 +334,18 @@ function isAcyclic(leaving) {
 /**
  * Returns a shortest cycle through an event, or null.
  * @param {number} start
- * @param {Map<number, Edge[]>} leaving
+ * @param {Map<number, Map<number, Edge>>} edgesFrom
  * @returns {Edge[] | null}
  */
-function cycleFrom(start, leaving) {
+function cycleFrom(start, edgesFrom) {
   const cameBy = new Map();
-  const waiting = [start];
-  for (const at of waiting) {
-    for (const [target, edge] of leaving.get(at) ?? []) {
+  const queue = [start];
+  for (const event of queue) {
+    for (const [target, edge] of edgesFrom.get(event) ?? []) {
       if (target === start) return wayBack(start, edge, cameBy);
       if (!cameBy.has(target)) {
         cameBy.set(target, edge);
-        waiting.push(target);
+        queue.push(target);
       }
     }
   }
@@ -355,9 +360,9 @@ function cycleFrom(start, leaving) {
  * @returns {Edge[]}
  */
 function wayBack(start, last, cameBy) {
-  const found = [last];
-  while (found.at(-1).source !== start) found.push(cameBy.get(found.at(-1).source));
-  return found.reverse();
+  const cycle = [last];
+  while (cycle.at(-1).source !== start) cycle.push(cameBy.get(cycle.at(-1).source));
+  return cycle.reverse();
 }
 
 // All candidate executions.
@@ -397,12 +402,12 @@ function pathsOf(code, at = 0) {
 }
 
 /**
- * Yields all candidate executions of a test. Throws TooMany after `most` of them.
+ * Yields all candidate executions of a test. Throws TooMany after `limit` of them.
  * @param {Test} test
- * @param {number} most
+ * @param {number} limit
  * @returns {Generator<Execution>}
  */
-export function* candidates(test, most) {
+export function* candidates(test, limit) {
   let number = 0;
   for (const paths of choices(test.threads.map((code) => pathsOf(code)))) {
     const events = eventsOf(paths);
@@ -416,12 +421,12 @@ export function* candidates(test, most) {
     const sources = reads.map((read) => [null, ...(writes.get(instruction(read).location) ?? []).filter((it) => it !== read)]);
     for (const chosen of choices(sources)) {
       number += 1;
-      if (number > most) throw new TooMany();
-      const one = new Execution(test, paths, new Map(reads.map((read, index) => [read, chosen[index]])), writes);
-      if (one.ends === null) continue;
+      if (number > limit) throw new TooMany();
+      const execution = new Execution(test, paths, new Map(reads.map((read, index) => [read, chosen[index]])), writes);
+      if (execution.ends === null) continue;
       for (const rows of choices([...writes.values()].map(permutations))) {
         number += 1;
-        yield one.withOrders(new Map([...writes.keys()].map((location, index) => [location, rows[index]])));
+        yield execution.withOrders(new Map([...writes.keys()].map((location, index) => [location, rows[index]])));
       }
     }
   }
@@ -429,10 +434,15 @@ export function* candidates(test, most) {
 
 // The execution of a run.
 
-/** Returns the execution of a run of an x86 test to its end, by the words of its schedule, each of which can be done. */
+/**
+ * Returns the execution of a run of an x86 test to its end, by the words of its schedule, each of which can be done.
+ * @param {Test} test
+ * @param {[string, number][]} schedule
+ * @returns {Execution}
+ */
 export function executionOf(test, schedule) {
-  const at = test.threads.map(() => 0);
-  const waiting = test.threads.map(() => []);
+  const positions = test.threads.map(() => 0);
+  const buffers = test.threads.map(() => []);
   const paths = test.threads.map(() => []);
   const last = new Map();
   const [rf, co] = [new Map(), new Map()];
@@ -443,17 +453,17 @@ export function executionOf(test, schedule) {
   };
   for (const [word, next] of schedule) {
     const thread = Number(word[1]);
-    if (word[0] === "D") reach(waiting[thread].shift());
+    if (word[0] === "D") reach(buffers[thread].shift());
     if (word[0] !== "P") continue;
-    const event = eventOf(thread, at[thread]);
-    const { kind, location } = test.threads[thread][at[thread]];
-    paths[thread].push(at[thread]);
-    at[thread] = next;
+    const event = eventOf(thread, positions[thread]);
+    const { kind, location } = test.threads[thread][positions[thread]];
+    paths[thread].push(positions[thread]);
+    positions[thread] = next;
     if (READS.includes(kind)) {
-      const own = waiting[thread].findLast((it) => locationOf(it) === location);
-      rf.set(event, own ?? last.get(location) ?? null);
+      const store = buffers[thread].findLast((it) => locationOf(it) === location);
+      rf.set(event, store ?? last.get(location) ?? null);
     }
-    if (kind === "store") waiting[thread].push(event);
+    if (kind === "store") buffers[thread].push(event);
     else if (WRITES.includes(kind)) reach(event);
   }
   return new Execution(test, paths, rf, co);

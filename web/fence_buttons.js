@@ -8,6 +8,11 @@ const FENCE = /\bMFENCE$/;
 /**
  * Returns the button that puts a fence before an instruction of a thread, or that takes a fence out; null if there is nothing to do. `act` is called
  * with the thread, the number of the instruction, and whether a fence is put.
+ * @param {Cell} cell
+ * @param {Cell[]} cells
+ * @param {number} thread
+ * @param {function(number, number, boolean): void} act
+ * @returns {Element | null}
  */
 export function fenceButton({ text, at }, cells, thread, act) {
   const isFence = FENCE.test(text);
@@ -24,7 +29,10 @@ export function fenceButton({ text, at }, cells, thread, act) {
   });
 }
 
-/** Goes by arrows from one of these buttons to the next of its thread. */
+/**
+ * Goes by arrows from one of these buttons to the next of its thread.
+ * @param {KeyboardEvent} event
+ */
 export function goToFence(event) {
   const way = { ArrowDown: 1, ArrowUp: -1 }[event.key];
   if (!way || !event.target.dataset.fence) return;

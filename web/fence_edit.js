@@ -16,18 +16,18 @@ const END_OF_ROWS = /^\s*(?:locations|exists|forall|filter|~)/;
  * @returns {string}
  */
 function withoutComments(text) {
-  let [depth, found] = [0, ""];
-  for (let at = 0; at < text.length; at += 1) {
-    const mark = text.slice(at, at + 2);
+  let [depth, blanked] = [0, ""];
+  for (let index = 0; index < text.length; index += 1) {
+    const mark = text.slice(index, index + 2);
     if (mark === "(*") depth += 1;
-    found += depth > 0 && text[at] !== "\n" ? " " : text[at];
+    blanked += depth > 0 && text[index] !== "\n" ? " " : text[index];
     if (depth > 0 && (mark === "(*" || mark === "*)")) {
-      found += " ";
-      at += 1;
+      blanked += " ";
+      index += 1;
       if (mark === "*)") depth -= 1;
     }
   }
-  return found;
+  return blanked;
 }
 
 /**
@@ -89,7 +89,7 @@ function placeOf(rows, [thread, number]) {
   return filled[number];
 }
 
-function replaced(text, { begin, end }, inner) {
+function replaceCell(text, { begin, end }, inner) {
   return text.slice(0, begin) + inner + text.slice(end);
 }
 
@@ -99,7 +99,7 @@ function replaced(text, { begin, end }, inner) {
  * @param {TextCell} cell
  * @returns {string}
  */
-function padded(inner, { begin, end }) {
+function padCell(inner, { begin, end }) {
   return `${` ${inner}`.trimEnd().padEnd(end - begin - 1)} `;
 }
 
@@ -109,18 +109,18 @@ function padded(inner, { begin, end }) {
  * @param {Place} place
  * @returns {string}
  */
-function putInto(text, place) {
+function insertFence(text, place) {
   const rows = rowsOf(text);
   const { row, cell } = placeOf(rows, place);
   const [thread] = place;
   const labelled = `${cell.labels.trim()} ${FENCE}`.trim();
-  const kept = cell.labels ? replaced(text, cell, padded(cell.instruction, cell)) : text;
-  const before = rows[row - 1]?.cells[thread];
-  const isFree = before && !text.slice(before.begin, before.end).trim();
-  if (isFree) return replaced(kept, before, padded(labelled, before));
+  const unlabelled = cell.labels ? replaceCell(text, cell, padCell(cell.instruction, cell)) : text;
+  const above = rows[row - 1]?.cells[thread];
+  const isFree = above && !text.slice(above.begin, above.end).trim();
+  if (isFree) return replaceCell(unlabelled, above, padCell(labelled, above));
   const { begin, cells } = rows[row];
-  const added = cells.map((it, index) => (index === thread ? padded(labelled, it) : " ".repeat(Math.max(1, it.end - it.begin))));
-  return `${kept.slice(0, begin)}${added.join("|")};\n${kept.slice(begin)}`;
+  const added = cells.map((it, index) => (index === thread ? padCell(labelled, it) : " ".repeat(Math.max(1, it.end - it.begin))));
+  return `${unlabelled.slice(0, begin)}${added.join("|")};\n${unlabelled.slice(begin)}`;
 }
 
 /**
@@ -129,33 +129,33 @@ function putInto(text, place) {
  * @param {Place} place
  * @returns {string}
  */
-function takenOut(text, place) {
+function removeFence(text, place) {
   const rows = rowsOf(text);
   const [thread] = place;
   const { row, cell } = placeOf(rows, place);
-  const next = rows[row + 1]?.cells[thread];
-  const isMoved = Boolean(cell.labels && next?.instruction);
-  const left = isMoved ? replaced(text, next, padded(`${cell.labels.trim()} ${next.labels}${next.instruction}`, next)) : text;
+  const below = rows[row + 1]?.cells[thread];
+  const isMoved = Boolean(cell.labels && below?.instruction);
+  const relabelled = isMoved ? replaceCell(text, below, padCell(`${cell.labels.trim()} ${below.labels}${below.instruction}`, below)) : text;
   const labels = isMoved ? "" : cell.labels.trim();
   const { begin, end, cells } = rows[row];
   const isAlone = !labels && cells.every((it) => it === cell || !text.slice(it.begin, it.end).trim());
-  if (!isAlone) return replaced(left, cell, padded(labels, cell));
-  return left.slice(0, begin) + left.slice(end + 1).replace(/^[ \t]*\n/, "");
+  if (!isAlone) return replaceCell(relabelled, cell, padCell(labels, cell));
+  return relabelled.slice(0, begin) + relabelled.slice(end + 1).replace(/^[ \t]*\n/, "");
 }
 
 /**
- * Returns a text after changes, if it is then the test that is wanted; or null.
+ * Returns a text with a change at each place, or null unless it then reads as the test that `changeTest` returns.
  * @param {string} text
  * @param {Place[]} places
  * @param {function(string, Place): string} change
- * @param {function(Test): Test} wanted
+ * @param {function(Test): Test} changeTest
  * @returns {string | null}
  */
-function changed(text, places, change, wanted) {
+function applyChanges(text, places, change, changeTest) {
   try {
     const inOrder = [...places].sort(([, one], [, other]) => other - one);
-    const found = inOrder.reduce(change, text);
-    return JSON.stringify(readTest(found).threads) === JSON.stringify(wanted(readTest(text)).threads) ? found : null;
+    const result = inOrder.reduce(change, text);
+    return JSON.stringify(readTest(result).threads) === JSON.stringify(changeTest(readTest(text)).threads) ? result : null;
   } catch {
     return null;
   }
@@ -168,7 +168,7 @@ function changed(text, places, change, wanted) {
  * @returns {string | null}
  */
 export function textWithFences(text, places) {
-  return changed(text, places, putInto, (test) => withFences(test, places));
+  return applyChanges(text, places, insertFence, (test) => withFences(test, places));
 }
 
 /**
@@ -178,5 +178,5 @@ export function textWithFences(text, places) {
  * @returns {string | null}
  */
 export function textWithoutFence(text, place) {
-  return changed(text, [place], takenOut, (test) => without(test, [place]));
+  return applyChanges(text, [place], removeFence, (test) => without(test, [place]));
 }

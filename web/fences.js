@@ -78,18 +78,18 @@ export class Fences {
 
   /** Returns what is said of the sets of places for fences. */
   partsOfMore({ sets, more }, isForall) {
-    const wanted = isForall ? "make the condition hold in every state" : "forbid it";
-    if (!sets.length) return [el("p", { class: "next-step" }, el("b", {}, `No further MFENCE would ${wanted}.`))];
+    const goal = isForall ? "make the condition hold in every state" : "forbid it";
+    if (!sets.length) return [el("p", { class: "next-step" }, el("b", {}, `No further MFENCE would ${goal}.`))];
     const rows = sets.map(({ places, text, states }) => {
-      const put = places.map((it) => it.replace(/^(P\d) at \d+, before (.*)$/, "in $1 before `$2`")).join(" and ");
+      const placeWords = places.map((it) => it.replace(/^(P\d) at \d+, before (.*)$/, "in $1 before `$2`")).join(" and ");
       const result = isForall ? `it holds in all ${statesOf(states)}` : `it holds in none of ${statesOf(states)}`;
-      const taken = () => this.take(textWithFences(this.editor.text, places.map(placeIn)) ?? text);
-      return el("li", {}, `An MFENCE `, sentence(put), `: ${result}. `, button("Try it", taken, { class: "take" }));
+      const tryIt = () => this.take(textWithFences(this.editor.text, places.map(placeIn)) ?? text);
+      return el("li", {}, `An MFENCE `, sentence(placeWords), `: ${result}. `, button("Try it", tryIt, { class: "take" }));
     });
     const others = more ? [el("p", { class: "small" }, `And ${more} other sets of as many fences.`)] : [];
-    const head = el("p", { class: "next-step" }, el("b", {}, `The fewest fences that ${wanted}:`));
-    const made = el("p", { class: "small" }, "The page itself puts the fences into the text ", plainMark(), ". The lists come from lw.");
-    return [head, el("ul", { class: "fence-sets" }, rows), ...others, made];
+    const head = el("p", { class: "next-step" }, el("b", {}, `The fewest fences that ${goal}:`));
+    const note = el("p", { class: "small" }, "The page itself puts the fences into the text ", plainMark(), ". The lists come from lw.");
+    return [head, el("ul", { class: "fence-sets" }, rows), ...others, note];
   }
 
   /** Says why there is no table, and offers a search if it would take too long. */
@@ -112,8 +112,8 @@ export class Fences {
     const shown = el("table", {}, el("thead", {}, head), el("tbody", {}, rows));
     const isSource = answer.language === "SRC";
     const isPlain = table.answered_by.includes("plain");
-    const refused = "lw refuses some lists by their count of orders; these come from the page's own interpreter ";
-    const lists = isPlain ? [refused, plainMark(), "."] : [`All lists come from lw${this.isSearched ? ", by a search" : ""}.`];
+    const byPage = "lw refuses some lists by their count of orders; these come from the page's own interpreter ";
+    const lists = isPlain ? [byPage, plainMark(), "."] : [`All lists come from lw${this.isSearched ? ", by a search" : ""}.`];
     return [
       el("p", {}, `Which fences of ${isSource ? "the compiled program" : "the test"} are needed, `, by,
         isSource ? [" ", sentence(mappedNames(JSON.stringify([condition, table])))] : ""),
@@ -127,10 +127,10 @@ export class Fences {
 
   /** Returns the row of a fence, by its name, given the text without it. */
   rowOf(name, { added }, text) {
-    const alone = added.length ? `adds ${statesOf(added.length)}` : "changes nothing";
+    const effect = added.length ? `adds ${statesOf(added.length)}` : "changes nothing";
     const of = [`without the fence of ${name} `, plainMark(), " "];
     const watch = (line) => watchButton(line, () => this.film.show(line, { text, of, search: this.isSearched }));
-    return el("tr", {}, el("th", { scope: "row" }, name), el("td", {}, alone), el("td", {}, shownOf(added, watch)));
+    return el("tr", {}, el("th", { scope: "row" }, name), el("td", {}, effect), el("td", {}, shownOf(added, watch)));
   }
 }
 
@@ -156,13 +156,13 @@ function namesOf({ rows }) {
 /** Returns which fences are enough for the states that exist with all of them, and in how many of these the condition holds. */
 function verdictOf({ table, language }, names) {
   const { rows, enough, states, positive } = table;
-  const what = language === "SRC" ? "the compiled program" : "the test";
+  const program = language === "SRC" ? "the compiled program" : "the test";
   const holding = ` the condition holds in ${positive || "none"} of `;
   const isOne = rows.length === 1;
   if (!rows.length) return [`The program has no MFENCE:${holding}${statesOf(states)}.`];
   if (!enough.length) {
     const [fences, all] = isOne ? ["The fence changes", "it and without it"] : ["The fences change", "all of them and with none"];
-    return [`${fences} nothing: with ${all} ${what} ends in the same ${statesOf(states)}, and${holding}${states === 1 ? "it." : "them."}`];
+    return [`${fences} nothing: with ${all} ${program} ends in the same ${statesOf(states)}, and${holding}${states === 1 ? "it." : "them."}`];
   }
   if (enough.length < rows.length) {
     const kept = names.filter((_, index) => enough.some((it) => `${rows[index].place},`.startsWith(`${it},`)));
@@ -170,7 +170,7 @@ function verdictOf({ table, language }, names) {
     return [`${needed} With them${holding}these states.`];
   }
   const needed = isOne ? "The fence is needed: without it" : "Every fence is needed: if any one of them is left out,";
-  return [`${needed} ${what} ends in more states. With ${isOne ? "it" : "all"}${holding}${statesOf(states)}.`];
+  return [`${needed} ${program} ends in more states. With ${isOne ? "it" : "all"}${holding}${statesOf(states)}.`];
 }
 
 function shownOf(lines, watch) {

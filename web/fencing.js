@@ -29,12 +29,12 @@ function followers({ kind, target }, position) {
  */
 function positionsAfterStores(code) {
   const seen = new Set();
-  const waiting = code.flatMap((it, index) => (it.kind === "store" ? followers(it, index) : []));
-  while (waiting.length) {
-    const position = waiting.pop();
+  const queue = code.flatMap((it, index) => (it.kind === "store" ? followers(it, index) : []));
+  while (queue.length) {
+    const position = queue.pop();
     if (position >= code.length || seen.has(position)) continue;
     seen.add(position);
-    if (!WAITS.includes(code[position].kind)) waiting.push(...followers(code[position], position));
+    if (!WAITS.includes(code[position].kind)) queue.push(...followers(code[position], position));
   }
   return [...seen].sort((a, b) => a - b);
 }
@@ -110,21 +110,21 @@ export function smallestSets(fences, isEnough) {
   const others = fences.filter((it) => !needed.includes(it));
   const tooFew = [];
   for (let size = 1; size <= others.length; size += 1) {
-    const found = [];
-    for (const more of combinations(others, size)) {
-      const tried = inOrder([...needed, ...more]);
-      if (tooFew.some((known) => tried.every((it) => known.includes(it)))) continue;
-      if (isEnough(tried)) found.push(tried);
-      else tooFew.push(grown(tried, others, inOrder, isEnough));
+    const sets = [];
+    for (const added of combinations(others, size)) {
+      const candidate = inOrder([...needed, ...added]);
+      if (tooFew.some((known) => candidate.every((it) => known.includes(it)))) continue;
+      if (isEnough(candidate)) sets.push(candidate);
+      else tooFew.push(enlarge(candidate, others, inOrder, isEnough));
     }
-    if (found.length) return found;
+    if (sets.length) return sets;
   }
   return [];
 }
 
 /** Returns an insufficient set, enlarged as long as it stays insufficient. */
-function grown(tried, others, inOrder, isEnough) {
-  let found = tried;
+function enlarge(fences, others, inOrder, isEnough) {
+  let found = fences;
   for (const it of others) {
     const larger = inOrder([...found, it]);
     if (!found.includes(it) && !isEnough(larger)) found = larger;
@@ -141,21 +141,24 @@ function grown(tried, others, inOrder, isEnough) {
  * @returns {{number: number, isAnswered: boolean, sets: {places: string[], text: string, states: number}[], more: number}}
  */
 export function setsOfFences(test, listOf) {
-  const known = new Map();
-  const listed = (places) => {
+  const lists = new Map();
+  const countsOf = (places) => {
     const text = canonicalText(withFences(test, places));
-    if (!known.has(text)) {
-      if (known.size >= MAX_LISTS) throw new NoAnswer("There are too many places for fences to try them all here: `tools/fences.py` tries more.");
-      known.set(text, listOf(text));
+    if (!lists.has(text)) {
+      if (lists.size >= MAX_LISTS) throw new NoAnswer("There are too many places for fences to try them all here: `tools/fences.py` tries more.");
+      lists.set(text, listOf(text));
     }
-    const list = known.get(text);
+    const list = lists.get(text);
     if (!list) throw new NoAnswer("lw refuses the list of this test with a fence, so no place for fences is looked for.");
     return { text, states: list.lines.length, positive: list.positive };
   };
   const isAnswered = ({ states, positive }) => positive === (test.quantifier === "forall" ? states : 0);
-  const named = ([thread, position]) => `P${thread} at ${position}, before ${instructionText(test, test.threads[thread][position])}`;
-  const all = placesOf(test);
-  const sets = isAnswered(listed([])) ? [] : smallestSets(all, (places) => isAnswered(listed(places)));
-  const shown = sets.slice(0, MAX_SETS).map((places) => ({ places: places.map(named), text: listed(places).text, states: listed(places).states }));
-  return { number: all.length, isAnswered: isAnswered(listed([])), sets: shown, more: sets.length - shown.length };
+  const nameOf = ([thread, position]) => `P${thread} at ${position}, before ${instructionText(test, test.threads[thread][position])}`;
+  const candidates = placesOf(test);
+  const sets = isAnswered(countsOf([])) ? [] : smallestSets(candidates, (places) => isAnswered(countsOf(places)));
+  const shown = sets.slice(0, MAX_SETS).map((places) => {
+    const { text, states } = countsOf(places);
+    return { places: places.map(nameOf), text, states };
+  });
+  return { number: candidates.length, isAnswered: isAnswered(countsOf([])), sets: shown, more: sets.length - shown.length };
 }

@@ -4,7 +4,12 @@ import { button } from "./dom.js";
 import { isStill } from "./motion.js";
 import { Run } from "./run.js";
 
-/** Makes the button that shows a run to a state. */
+/**
+ * Makes the button that shows a run to a state.
+ * @param {string} state
+ * @param {function(): void} act
+ * @returns {Element}
+ */
 export function watchButton(state, act) {
   return button("Watch", act, { class: "watch", "aria-label": `Watch a run to ${state}` });
 }

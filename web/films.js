@@ -37,13 +37,13 @@ export function cellsOf(program, text) {
  * @returns {Film}
  */
 export function filmOf(program, text, schedule, protocol) {
-  const given = eventsIn(schedule);
-  if (given.length > MAX_STEPS) {
-    throw new NoAnswer(`The schedule has ${given.length} events; a film has at most ${MAX_STEPS}.`);
+  const scheduled = eventsIn(schedule);
+  if (scheduled.length > MAX_STEPS) {
+    throw new NoAnswer(`The schedule has ${scheduled.length} events; a film has at most ${MAX_STEPS}.`);
   }
-  const { end } = program.replayed(text, given.join(" "), protocol);
-  const refused = end.kind === "Stopped" ? { event: given[end.at], at: end.at, number: end.number, cause: end.cause } : null;
-  const events = given.slice(0, refused?.at);
+  const { end } = program.replayed(text, scheduled.join(" "), protocol);
+  const refused = end.kind === "Stopped" ? { event: scheduled[end.at], at: end.at, number: end.number, cause: end.cause } : null;
+  const events = scheduled.slice(0, refused?.at);
   const states = program.statesAlong(text, events, protocol);
   const cells = cellsOf(program, text);
   const effects = events.map((event, index) => effectOf(event, cells, states[index], states[index + 1]));
@@ -84,14 +84,14 @@ export function compiledSchedule(program, compiled, test, schedule) {
   const events = [];
   for (const event of eventsIn(schedule)) {
     const thread = Number(event[1]);
-    let place;
+    let state;
     do {
       events.push(event);
       const { end, threads } = program.replayed(compiled, events.join(" "), "mesi");
       if (end.kind === "Stopped") return null;
-      place = threads[thread];
-    } while (!begins[thread].has(place.at) && place.at < lengths[thread]);
-    events.push(...place.buffer.map(() => `D${thread}`));
+      state = threads[thread];
+    } while (!begins[thread].has(state.at) && state.at < lengths[thread]);
+    events.push(...state.buffer.map(() => `D${thread}`));
   }
   return events.join(" ");
 }

@@ -68,9 +68,9 @@ function fitOf(word, { name, also, shows, about }, family, { isOnlyNames, isX86 
   if (wordsOfName(name).some(begins)) return IN_NAME;
   if (isOnlyNames) return null;
   if ([also, family.name].some((it) => wordsOf(it).some(isWord(word)))) return IN_FAMILY;
-  const said = wordsOf(`${shows} ${about}`);
-  if (said.some(isWord(word))) return IN_WORDS;
-  return [...said, ...wordsOf(family.name)].some(begins) ? BEGINS_WORD : null;
+  const words = wordsOf(`${shows} ${about}`);
+  if (words.some(isWord(word))) return IN_WORDS;
+  return [...words, ...wordsOf(family.name)].some(begins) ? BEGINS_WORD : null;
 }
 
 /**
@@ -93,12 +93,12 @@ export function isNameOf(lower, word) {
  */
 function bestFit(word, test, family, how) {
   const others = Object.hasOwn(SYNONYMS, word) ? SYNONYMS[word] : [];
-  const found = [fitOf(word, test, family, how), ...others.map((it, index) => addedTo(fitOf(it, test, family, how), FOR_SYNONYM + index))];
-  const fits = found.filter((it) => it !== null);
+  const allFits = [fitOf(word, test, family, how), ...others.map((it, index) => addTo(fitOf(it, test, family, how), FOR_SYNONYM + index))];
+  const fits = allFits.filter((it) => it !== null);
   return fits.length ? Math.min(...fits) : null;
 }
 
-const addedTo = (fit, more) => (fit === null ? null : fit + more);
+const addTo = (fit, penalty) => (fit === null ? null : fit + penalty);
 
 /**
  * Returns the words of a text that is looked for.
@@ -129,14 +129,14 @@ export function notesOn(text) {
  */
 export function findTests(families, text, isOnlyNames, isX86 = false) {
   const words = wordsLookedFor(text);
-  const all = families.flatMap((family) => family.tests.map((test) => ({ test, family })));
+  const candidates = families.flatMap((family) => family.tests.map((test) => ({ test, family })));
   const phrase = words.join(" ");
   const fullName = Object.hasOwn(FULL_NAMES, phrase) ? FULL_NAMES[phrase] : null;
-  const found = all.flatMap(({ test, family }) => {
+  const fitting = candidates.flatMap(({ test, family }) => {
     const named = fullName === null ? null : fitOf(fullName, test, family, { isOnlyNames: true, isX86 });
     if (named !== null) return [{ test, fit: FULL_NAME + named }];
     const fits = words.map((it) => bestFit(it, test, family, { isOnlyNames, isX86 }));
     return fits.includes(null) ? [] : [{ test, fit: fits.reduce((sum, it) => sum + it, 0) }];
   });
-  return words.length ? found.sort((one, other) => one.fit - other.fit).map((it) => it.test) : [];
+  return words.length ? fitting.sort((one, other) => one.fit - other.fit).map((it) => it.test) : [];
 }

@@ -3,7 +3,11 @@
 
 import { threadClass } from "./tint.js";
 
-/** Returns the flights of a step, each `from` a key `to` a key, with its `word` and the `kind` that has its colour. */
+/**
+ * Returns the flights of a step, each `from` a key `to` a key, with its `word` and the `kind` that has its colour.
+ * @param {Shown} step
+ * @returns {{from: string, to: string, word: string, kind: string}[]}
+ */
 export function flightsOf({ event, effect, state, before, drained, tints }) {
   if (!event || !effect) return [];
   const { thread } = effect;

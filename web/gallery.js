@@ -57,22 +57,22 @@ export class Gallery {
   enter(event) {
     event.preventDefault();
     const written = this.search.value.trim().toLowerCase();
-    const found = [...this.body.querySelectorAll(".example")];
-    const names = found.map((it) => it.dataset.name);
+    const buttons = [...this.body.querySelectorAll(".example")];
+    const names = buttons.map((it) => it.dataset.name);
     const named = names.find((it) => isNameOf(it.toLowerCase(), written));
-    const only = names.length === 1 ? names[0] : undefined;
-    if (written && (named ?? only)) this.take(named ?? only);
-    else if (written) found[0]?.focus();
+    const single = names.length === 1 ? names[0] : undefined;
+    if (written && (named ?? single)) this.take(named ?? single);
+    else if (written) buttons[0]?.focus();
   }
 
   /** Goes by arrows from the field to the first example and through the examples, and from the first back to the field. */
   move(event) {
     const to = { ArrowDown: 1, ArrowUp: -1 }[event.key];
     const places = [this.search, ...this.body.querySelectorAll(".card, .example")];
-    const at = places.indexOf(event.target);
-    if (to === undefined || at < 0 || !places[at + to]) return;
+    const index = places.indexOf(event.target);
+    if (to === undefined || index < 0 || !places[index + to]) return;
     event.preventDefault();
-    places[at + to].focus();
+    places[index + to].focus();
   }
 
   /** Returns whether the test that is shown is an x86 test. */
@@ -99,12 +99,12 @@ export class Gallery {
 
   /** Shows what is found by all words of a text, the best first: by names, and unless the reader predicts also by what is said of the tests. */
   drawFound(text) {
-    const found = findTests(this.examples.families, text, this.isPredicting, this.isX86);
-    this.count.textContent = `${found.length} found`;
-    const named = { class: "found-tests", "aria-label": "Examples that are found, the best first" };
-    const list = el("ul", named, found.map((it) => el("li", {}, this.exampleOf(it))));
+    const tests = findTests(this.examples.families, text, this.isPredicting, this.isX86);
+    this.count.textContent = `${tests.length} found`;
+    const attributes = { class: "found-tests", "aria-label": "Examples that are found, the best first" };
+    const list = el("ul", attributes, tests.map((it) => el("li", {}, this.exampleOf(it))));
     const notes = notesOn(text).map((it) => el("p", { class: "search-note" }, sentence(it)));
-    this.body.replaceChildren(...notes, found.length ? list : el("p", {}, "Nothing is found. Look through the families: clear the field."));
+    this.body.replaceChildren(...notes, tests.length ? list : el("p", {}, "Nothing is found. Look through the families: clear the field."));
   }
 
   /** Draws eight tests to begin with, and all by family. */
@@ -115,8 +115,8 @@ export class Gallery {
     const names = families.map((family) => el("li", {}, this.choiceOf(family), el("span", { class: "small" }, String(family.tests.length))));
     const picks = el("section", { class: "picks", "aria-label": "Eight to begin with" }, el("h3", {}, "Eight to begin with"),
       el("div", { class: "cards" }, this.picks()));
-    const all = el("div", { class: "by-family" }, el("ul", { class: "families", "aria-label": "Families" }, names), this.familyOf(this.family));
-    this.body.replaceChildren(picks, el("h3", {}, "All, by family"), all);
+    const byFamily = el("div", { class: "by-family" }, el("ul", { class: "families", "aria-label": "Families" }, names), this.familyOf(this.family));
+    this.body.replaceChildren(picks, el("h3", {}, "All, by family"), byFamily);
   }
 
   /** Returns the button that chooses a family. */

@@ -8,25 +8,39 @@
 import { threadOf } from "./executions.js";
 import { EDGE, LETTER, LINE } from "./pictures.js";
 
-const BOX = 24; // the height of an event's box
-export const BASE = 16; // from the top of a box to the base of its text
-const LANE = 11; // from one lane to the next, where there is room
-const STUB = 24; // the length of an arrow from the initial word
-const [OUTER, MORE] = [16, 12]; // at the edge, and for each end more
-const UPRIGHT = { side: 48, gutter: 84, gap: 28, end: 14 }; // at a side with ends, between threads, between events, and after the last
+// The height of an event's box.
+const BOX = 24;
+// From the top of a box to the base of its text.
+export const BASE = 16;
+// From one lane to the next, if there is room.
+const LANE = 11;
+// The length of an arrow from the initial word.
+const STUB = 24;
+// The room at the edge, and for each further end.
+const [OUTER, MORE] = [16, 12];
+// The room at a side with ends, between threads, between events, and after the last; and that of a picture that is turned.
+const UPRIGHT = { side: 48, gutter: 84, gap: 28, end: 14 };
 const TURNED = { side: 32, gutter: 34, gap: 42, end: 26 };
-const FREE_ENDS = 4; // so many ends find room in a gutter
+// How many ends have room in a gutter, and at how many it has its full width.
+const FREE_ENDS = 4;
 const MAX_ENDS = 8;
-const LABEL = 16; // the height of a label
-const APART = 8; // from one label to the next beside it
-const HEAD = 5; // how far the head of an arrow reaches from its end
-const CLEAR = 1; // from a label to an arrow of another edge
-const PARTS = 24; // the number of parts of a curve at whose ends it is looked at
-const NARROWER = 0.85; // a picture is turned if it is so much narrower then
+// The height of a label.
+const LABEL = 16;
+// From one label to the next beside it.
+const APART = 8;
+// How far the head of an arrow reaches from its end.
+const HEAD = 5;
+// From a label to an arrow of another edge.
+const CLEAR = 1;
+// The number of parts of a curve, at whose ends it is looked at.
+const PARTS = 24;
+// A picture is turned if that makes it narrower by this factor.
+const NARROWER = 0.85;
 // Where along its way the label of an edge may be, and how far beside it, in widths of the label and in pixels below: the best first.
 const PLACES = [0.24, 0.34, 0.16, 0.46, 0.58, 0.7, 0.8, 0.88, 0.1, 0.94, 0.05];
 const [ON, BESIDE] = [[[0, 0], [0, -12], [0, 12]], [[0.7, 0], [-0.7, 0]]];
-const SHORT = 50; // the label of an arrow that is shorter is beside it
+// The label of a shorter arrow is beside it.
+const SHORT = 50;
 
 /** Returns a point of a cubic curve. */
 function onCurve([a, b, c, d], part) {

@@ -4,7 +4,8 @@ import { positionOf, threadOf } from "./executions.js";
 import { BASE, GraphLayout } from "./graph_layout.js";
 import { Drawing, EDGE, LETTER, LINE, digits } from "./pictures.js";
 
-const MAX_NAMED = 4; // so many reads of the initial word have a name at their arrow
+// If the initial word has more reads, their arrows have no names.
+const MAX_NAMED = 4;
 const LETTERS = "abcdefghijklmnopqrstuvwxyz";
 const NAMES = { po: "program order", rf: "reads-from", co: "coherence order", fr: "from-reads" };
 // Relations differ by their names and by how their lines are broken: colours are those of threads and locations.
@@ -20,13 +21,14 @@ path, path.marked { stroke: #ececec } path.po { stroke: #8d939c } text.relation 
 
 // Words.
 
+/** Returns a word as text, `?` if it is not known. */
 export const shown = (word) => (word === null || word === undefined ? "?" : String(word));
 
 /** Names an execution's events by letters, and says what each does. */
 export class Names {
   constructor(execution) {
     this.execution = execution;
-    const letterAt = (at) => (at < 26 ? LETTERS[at] : `${LETTERS[at % 26]}${Math.floor(at / 26)}`);
+    const letterAt = (index) => (index < 26 ? LETTERS[index] : `${LETTERS[index % 26]}${Math.floor(index / 26)}`);
     this.letters = new Map(execution.events().map((it, index) => [it, letterAt(index)]));
   }
 
@@ -75,9 +77,9 @@ function near(edges) {
 
 /** Returns of each read the edge to the first write after the one that it reads from. */
 function nearFr(execution) {
-  const found = new Map();
-  for (const it of execution.frEdges()) if (!found.has(it.source)) found.set(it.source, it);
-  return [...found.values()];
+  const edges = new Map();
+  for (const it of execution.frEdges()) if (!edges.has(it.source)) edges.set(it.source, it);
+  return [...edges.values()];
 }
 
 const isSameEdge = (one) => (other) => one.kind === other.kind && one.source === other.source && one.target === other.target;
@@ -192,17 +194,17 @@ function drawEvents(drawing, layout, execution, texts, inCycle) {
 }
 
 /** Returns the edges of a picture: those of the relations, and those of a marked cycle. */
-function drawnEdges(execution, marked) {
+function drawnEdges(execution, cycle) {
   const edges = [...near(execution.po()), ...execution.rfEdges(), ...near(execution.coEdges()), ...nearFr(execution)];
-  return [...edges, ...marked.filter((it) => !edges.some(isSameEdge(it)))];
+  return [...edges, ...cycle.filter((it) => !edges.some(isSameEdge(it)))];
 }
 
 /** Returns the lines below a picture. */
 function linesBelow(names, cycle, broken, missing) {
   const noFence = (it) => `${names.letters.get(it.source)}, then ${names.letters.get(it.target)}: no fence between`;
   if (broken) return [`Marked: a cycle, against ${broken.axiom}.`];
-  const said = cycle.length ? "Marked: a cycle, so no run of interleaving." : "No cycle: a run of interleaving, too.";
-  return [said, ...missing.map(noFence)];
+  const verdict = cycle.length ? "Marked: a cycle, so no run of interleaving." : "No cycle: a run of interleaving, too.";
+  return [verdict, ...missing.map(noFence)];
 }
 
 /**

@@ -19,7 +19,7 @@ const answered = new Set(stored(KEY_OF_ANSWERED));
 // What the reader has made by hand of a text on which there was a guess: it is not asked about again.
 let edited = null;
 // What waits for guesses, or until their answers are shown: each with its text, what is shown meanwhile, and what is done then.
-let waiting = [];
+let pending = [];
 
 /**
  * Returns whether a guess on a text is awaited.
@@ -42,10 +42,10 @@ export function guessOn(text) {
 /**
  * Keeps what the reader expects of a text, or that nothing can be expected of it.
  * @param {string} text
- * @param {boolean | null} said
+ * @param {boolean | null} guess
  */
-export function settle(text, said) {
-  guesses.set(text, said);
+export function settle(text, guess) {
+  guesses.set(text, guess);
   store();
   follow();
 }
@@ -117,7 +117,7 @@ function stored(key) {
 /** Stores the guesses, for when the page is loaded anew. */
 function store() {
   try {
-    sessionStorage.setItem(KEY, JSON.stringify([...guesses].filter(([, said]) => said !== undefined)));
+    sessionStorage.setItem(KEY, JSON.stringify([...guesses].filter(([, guess]) => guess !== undefined)));
     sessionStorage.setItem(KEY_OF_ANSWERED, JSON.stringify([...answered]));
   } catch {
     // Without a store it is kept till the page is loaded anew.
@@ -135,32 +135,39 @@ export function change(before, after) {
 
 /** Does what has waited for a guess or its answer, once none is waited for. What is not shown any more is forgotten. */
 export function follow() {
-  const left = waiting.filter((it) => it.shown.isConnected);
-  waiting = left.filter((it) => isAwaited(it.text) || (it.isUntilAnswered && isOpen(it.text)));
-  for (const it of waiting) if (it.isUntilAnswered) it.shown.textContent = isOpen(it.text) ? OPEN : FIRST;
-  for (const it of left) if (!waiting.includes(it)) it.show();
+  const shown = pending.filter((it) => it.shown.isConnected);
+  pending = shown.filter((it) => isAwaited(it.text) || (it.isUntilAnswered && isOpen(it.text)));
+  for (const it of pending) if (it.isUntilAnswered) it.shown.textContent = isOpen(it.text) ? OPEN : FIRST;
+  for (const it of shown) if (!pending.includes(it)) it.show();
 }
 
 /**
- * Shows something in a place till there is a guess on a text, or till its answer is shown, and does then what waits for it.
+ * Shows a notice in a place till there is a guess on a text, or till its answer is shown, and does then what waits for it.
  * @param {string} text
  * @param {Element} place
- * @param {Element} shown
+ * @param {Element} notice
  * @param {function(): void} show
  * @param {boolean} [isUntilAnswered]
  */
-export function wait(text, place, shown, show, isUntilAnswered = false) {
-  place.replaceChildren(shown);
-  waiting.push({ text, shown, show, isUntilAnswered });
+export function wait(text, place, notice, show, isUntilAnswered = false) {
+  place.replaceChildren(notice);
+  pending.push({ text, shown: notice, show, isUntilAnswered });
 }
 
-/** Asks in a place what the reader expects of a text, given the answer that has its list; `id` makes the ids of the choices. */
+/**
+ * Asks in a place what the reader expects of a text, given the answer that has its list; `id` makes the ids of the choices.
+ * @param {string} text
+ * @param {Element} place
+ * @param {{report: Report, words: object}} answer
+ * @param {function(string): string} id
+ * @param {function(): void} show
+ */
 export function question(text, place, { report, words }, id, show) {
-  const settled = (said) => () => {
-    settle(text, said);
+  const settled = (guess) => () => {
+    settle(text, guess);
     if (document.activeElement === document.body) place.focus();
   };
-  const choice = (title, said, name) => button(title, settled(said), { id: id(name) });
+  const choice = (title, guess, name) => button(title, settled(guess), { id: id(name) });
   const yes = choice("Yes", true, "yes");
   const asked = el("p", { class: "verdict" }, el("span", { class: "sign", "aria-hidden": "true" }, "?"), el("strong", {}, words.question));
   const tints = tintsOf(text);
@@ -182,7 +189,12 @@ export function isLocked(text) {
   return isAwaited(text) || isOpen(text);
 }
 
-/** Shows in a panel's place what is asked for, once the reader has said what to expect of the test and was shown the answer. */
+/**
+ * Shows in a panel's place what is asked for, once the reader has said what to expect of the test and was shown the answer.
+ * @param {Editor} editor
+ * @param {Element} place
+ * @param {function(): void} show
+ */
 export function unlock({ text }, place, show) {
   if (!isLocked(text)) return show();
   return wait(text, place, el("p", {}, isOpen(text) ? OPEN : FIRST), show, true);

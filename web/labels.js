@@ -18,7 +18,11 @@ function labelsOf(text) {
   });
 }
 
-/** Returns what puts the reader's own labels in place of counted ones, in the code of a thread or in words about it. */
+/**
+ * Returns what puts the reader's own labels in place of counted ones, in the code of a thread or in words about it.
+ * @param {string} text
+ * @returns {function(string, number): string}
+ */
 export function labelled(text) {
   let labels = [];
   try {

@@ -28,7 +28,10 @@ function point(at) {
   if (at) for (const it of document.querySelectorAll(`[data-at="${CSS.escape(at)}"]`)) it.classList.add("pointed");
 }
 
-/** Lights what the pointer is on, and what has the focus. */
+/**
+ * Lights what the pointer is on, and what has the focus.
+ * @param {Editor} editor
+ */
 export function lightNames({ area, colours }) {
   document.addEventListener("pointerover", ({ target }) => {
     if (target !== area) lightName(kindOf(target));

@@ -14,7 +14,12 @@ function commonFrom(first, second) {
   return table;
 }
 
-/** Returns the steps of two schedules together: pairs of a step of each, from the start to both ends. */
+/**
+ * Returns the steps of two schedules together: pairs of a step of each, from the start to both ends.
+ * @param {string[]} first
+ * @param {string[]} second
+ * @returns {[number, number][]}
+ */
 export function stepsTogether(first, second) {
   const common = commonFrom(first, second);
   const pairs = [[0, 0]];
@@ -33,11 +38,11 @@ export class Lockstep {
   /** Makes the controls of both runs. `used` is called when the reader steps both. */
   constructor(runs, used) {
     Object.assign(this, { runs, used, pairs: [[0, 0]], at: 0 });
-    const to = (text, at, attributes) => button(text, () => this.jump(at()), attributes);
-    const first = to("|◀", () => 0, { "aria-label": "Both to the start", title: "Both to the start (Home)" });
-    const last = to("▶|", () => this.pairs.length - 1, { "aria-label": "Both to the end", title: "Both to the end (End)" });
-    this.back = to("◀", () => this.at - 1, { id: "both-back", "aria-label": "Both back", title: "Both back (←)" });
-    this.forward = to("Step both ▶", () => this.at + 1, { id: "both-forward", class: "main", title: "Both forward (→)" });
+    const buttonTo = (text, at, attributes) => button(text, () => this.jump(at()), attributes);
+    const first = buttonTo("|◀", () => 0, { "aria-label": "Both to the start", title: "Both to the start (Home)" });
+    const last = buttonTo("▶|", () => this.pairs.length - 1, { "aria-label": "Both to the end", title: "Both to the end (End)" });
+    this.back = buttonTo("◀", () => this.at - 1, { id: "both-back", "aria-label": "Both back", title: "Both back (←)" });
+    this.forward = buttonTo("Step both ▶", () => this.at + 1, { id: "both-forward", class: "main", title: "Both forward (→)" });
     this.count = el("span", { class: "count" });
     const named = { class: "lockstep", role: "group", "aria-label": "Both runs together" };
     this.place = el("span", named, first, this.back, this.forward, last, this.count);
@@ -65,10 +70,10 @@ export class Lockstep {
   }
 
   /** Goes to a pair of steps of both runs. */
-  async jump(wanted) {
+  async jump(index) {
     if (!this.isReady) return;
     this.used();
-    const [i, j] = this.pairs[Math.max(0, Math.min(wanted, this.pairs.length - 1))];
+    const [i, j] = this.pairs[Math.max(0, Math.min(index, this.pairs.length - 1))];
     const [first, second] = this.runs;
     for (const it of this.runs) it.view.player.touch();
     await Promise.all([first.step === i ? null : first.go(i), second.step === j ? null : second.go(j)]);

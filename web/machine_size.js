@@ -1,4 +1,6 @@
 // How much room a machine needs, and in which of its sizes it is drawn: by its threads, code, registers and store buffers, and by the window.
+//
+// `Shown` is what a machine is drawn from, as `shownOf` of run_view.js makes it.
 
 import { caches, largeType } from "./preferences.js";
 
@@ -29,17 +31,30 @@ export function usedRegisters(cells, states, thread) {
   return named;
 }
 
-/** Returns whether registers are shown above the store buffer: in a narrow box, if there are many of them or if entries are long. */
+/**
+ * Returns whether registers are shown above the store buffer: in a narrow box, if there are many of them or if entries are long.
+ * @param {Shown} shown
+ * @param {number} number
+ * @returns {boolean}
+ */
 export function isStacked({ cells }, number) {
   return cells.length > 2 && (number > 2 || hasLongStores(cells));
 }
 
-/** Returns whether a store has a long text, so that its entry is wide. */
+/**
+ * Returns whether a store has a long text, so that its entry is wide.
+ * @param {Cell[][]} cells
+ * @returns {boolean}
+ */
 export function hasLongStores(cells) {
   return cells.flat().some(({ text }) => /\bMOV \[/.test(text) && text.length > LONG_STORE);
 }
 
-/** Returns whether there are many threads, or many slots, so that entries are small. */
+/**
+ * Returns whether there are many threads, or many slots, so that entries are small.
+ * @param {Shown} shown
+ * @returns {boolean}
+ */
 export function isTight({ cells, slots }) {
   return cells.length > ROOMY.threads || slots.some((it) => it > ROOMY.slots);
 }
@@ -53,7 +68,11 @@ function isLowForType() {
   return largeType.isOn && innerHeight < HIGH && innerWidth > NARROW;
 }
 
-/** Returns whether there is so little room that only a dense machine has it: for many registers, or in large type. */
+/**
+ * Returns whether there is so little room that only a dense machine has it: for many registers, or in large type.
+ * @param {Shown} shown
+ * @returns {boolean}
+ */
 export function isDense(shown) {
   const { cells, state, used } = shown;
   if (isLowForType() && !isRoomy(shown)) return true;
@@ -61,7 +80,11 @@ export function isDense(shown) {
   return cells.length > 3 ? Math.max(...registers) > 2 : cells.length > 2 && Math.max(...registers) > 4;
 }
 
-/** Returns whether a store buffer has so many slots that its entries are low. */
+/**
+ * Returns whether a store buffer has so many slots that its entries are low.
+ * @param {Shown} shown
+ * @returns {boolean}
+ */
 export function isTall({ slots }) {
   return slots.some((it) => it >= MAX_SLOTS);
 }
@@ -71,13 +94,21 @@ function isListAbove() {
   return document.querySelector("#outcome > .states-place:not(.aside)") !== null;
 }
 
-/** Returns whether the machine is small and the window is high enough to draw it large. */
+/**
+ * Returns whether the machine is small and the window is high enough to draw it large.
+ * @param {Shown} shown
+ * @returns {boolean}
+ */
 export function isRoomy(shown) {
   const isHigh = innerHeight >= HIGH || !(hasCaches(shown) || isListAbove() || (largeType.isOn && shown.slots.some((it) => it > 1)));
   return isHigh && !isTight(shown) && shown.cells.every((it) => it.length <= ROOMY.lines);
 }
 
-/** Returns whether the code is short: in a large window it is drawn even larger. */
+/**
+ * Returns whether the code is short: in a large window it is drawn even larger.
+ * @param {Shown} shown
+ * @returns {boolean}
+ */
 export function isFew({ cells, slots }) {
   return cells.every((it) => it.length <= FEW.lines) && slots.every((it) => it <= FEW.slots);
 }

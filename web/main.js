@@ -220,9 +220,9 @@ function show(example, isOwn) {
 }
 
 /** Puts a fence into the text before an instruction of a thread, or takes the fence there out, and lists the states anew. */
-async function changeFence(thread, at, isPut) {
+async function changeFence(thread, position, isPut) {
   const before = editor.text;
-  const text = isPut ? textWithFences(before, [[thread, at]]) : textWithoutFence(before, [thread, at]);
+  const text = isPut ? textWithFences(before, [[thread, position]]) : textWithoutFence(before, [thread, position]);
   if (text === null) {
     byId("said").textContent = "The page can't change this text.";
     return;
@@ -237,7 +237,7 @@ async function changeFence(thread, at, isPut) {
   pale(true);
   byId("said").textContent = isPut ? "MFENCE put in." : "MFENCE taken out.";
   await list({ isKept: true });
-  document.querySelector(`#watching [data-fence="${thread}:${at}"]`)?.focus({ preventScroll: true });
+  document.querySelector(`#watching [data-fence="${thread}:${position}"]`)?.focus({ preventScroll: true });
 }
 
 /** Shows what the address says. */
@@ -300,9 +300,9 @@ async function openFile({ target }) {
   target.value = "";
 }
 
-async function copyLink(said) {
+async function copyLink(status) {
   if (!address.read().example && !address.read().text) address.put({ text: editor.text });
-  await copy(address.link(), said, location.protocol === "file:" ? ": it is of use on this machine only" : "");
+  await copy(address.link(), status, location.protocol === "file:" ? ": it is of use on this machine only" : "");
 }
 
 // What is listened to.

@@ -7,10 +7,10 @@ const MAX_LOOKED_AT = 2000;
 const MAX_TRIED = 20000;
 
 /** Returns the words of each site: first those that the question names, then those that it has in the states of a report. */
-function columnsOf({ states }, named) {
+function columnsOf({ states }, wordsAsked) {
   const lines = states.map(({ line }) => wordsOf(line));
   return (lines[0] ?? []).map(([name], index) => {
-    const asked = named.get(name) ?? [];
+    const asked = wordsAsked.get(name) ?? [];
     const others = [...new Set(lines.map((it) => it[index][1]))].sort((a, b) => b - a);
     return { name, words: [...new Set([...asked, ...others])] };
   });
@@ -25,17 +25,17 @@ function columnsOf({ states }, named) {
  */
 export function missingState(report, { isAsked, words } = { isAsked: () => true, words: new Map() }) {
   if (report.left_out || !report.states.length || report.states.length > MAX_LOOKED_AT) return null;
-  const known = new Set(report.states.map(({ line }) => line));
+  const lines = new Set(report.states.map(({ line }) => line));
   let tried = 0;
   const find = (begin, [column, ...others]) => {
     if (!column) {
       tried += 1;
       const line = begin.join(" ");
-      return known.has(line) || !isAsked(line) ? null : line;
+      return lines.has(line) || !isAsked(line) ? null : line;
     }
     for (const word of column.words) {
-      const found = tried < MAX_TRIED ? find([...begin, `${column.name}=${word};`], others) : null;
-      if (found !== null) return found;
+      const state = tried < MAX_TRIED ? find([...begin, `${column.name}=${word};`], others) : null;
+      if (state !== null) return state;
     }
     return null;
   };

@@ -10,12 +10,20 @@ export function isStill() {
   return less.matches;
 }
 
-/** Returns where the keyed things of a place are. */
+/**
+ * Returns where the keyed things of a place are.
+ * @param {Element} place
+ * @returns {Map<string, DOMRect>}
+ */
 export function placesIn(place) {
   return new Map([...place.querySelectorAll("[data-key]")].map((it) => [it.dataset.key, it.getBoundingClientRect()]));
 }
 
-/** Moves a thing from where it was to where it is now. */
+/**
+ * Moves a thing from where it was to where it is now.
+ * @param {Element} thing
+ * @param {DOMRect} before
+ */
 export function settle(thing, before) {
   const now = thing.getBoundingClientRect();
   const [dx, dy] = [before.left - now.left, before.top - now.top];
@@ -23,7 +31,13 @@ export function settle(thing, before) {
   thing.animate([{ transform: `translate(${dx}px, ${dy}px)` }, { transform: "none" }], { duration: TIME, easing: EASE });
 }
 
-/** Lets a word fly over a place from one box to another; the thing that it becomes is shown when it arrives. */
+/**
+ * Lets a word fly over a place from one box to another; the thing that it becomes is shown when it arrives.
+ * @param {Element} over
+ * @param {DOMRect | null} from
+ * @param {DOMRect | null} to
+ * @param {{word: string, kind: string, arrived?: Element | null}} flight
+ */
 export function fly(over, from, to, { word, kind, arrived = null }) {
   if (isStill() || !from || !to) return;
   const base = over.getBoundingClientRect();
@@ -41,7 +55,10 @@ export function fly(over, from, to, { word, kind, arrived = null }) {
   arrived?.animate([{ opacity: 0 }, { opacity: 0, offset: 0.8 }, { opacity: 1 }], { duration: TIME, easing: "linear" });
 }
 
-/** Lights a place for a moment: a word came from there. */
+/**
+ * Lights a place for a moment: a word came from there.
+ * @param {Element | null} thing
+ */
 export function glow(thing) {
   if (!thing || isStill()) return;
   const dark = { boxShadow: "0 0 0 0 transparent" };

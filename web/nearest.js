@@ -4,18 +4,18 @@
 const SHORT = 4;
 
 /**
- * Returns how many letters are changed, added, left out or exchanged with the next one to make one word of another.
- * @param {string} one
+ * Returns how many letters are changed, added, left out or exchanged with the next one to make the other word of a word.
+ * @param {string} word
  * @param {string} other
  * @returns {number}
  */
-function changesBetween(one, other) {
+function changesBetween(word, other) {
   let [before, row] = [[], Array.from({ length: other.length + 1 }, (_, at) => at)];
-  for (let i = 1; i <= one.length; i += 1) {
+  for (let i = 1; i <= word.length; i += 1) {
     const next = [i];
     for (let j = 1; j <= other.length; j += 1) {
-      next[j] = Math.min(row[j] + 1, next[j - 1] + 1, row[j - 1] + (one[i - 1] === other[j - 1] ? 0 : 1));
-      const isExchanged = i > 1 && j > 1 && one[i - 1] === other[j - 2] && one[i - 2] === other[j - 1];
+      next[j] = Math.min(row[j] + 1, next[j - 1] + 1, row[j - 1] + (word[i - 1] === other[j - 1] ? 0 : 1));
+      const isExchanged = i > 1 && j > 1 && word[i - 1] === other[j - 2] && word[i - 2] === other[j - 1];
       if (isExchanged) next[j] = Math.min(next[j], before[j - 2] + 1);
     }
     [before, row] = [row, next];
@@ -30,9 +30,9 @@ function changesBetween(one, other) {
  * @returns {string | null}
  */
 export function nearest(word, names) {
-  const most = word.length < 2 ? 0 : word.length <= SHORT ? 1 : 2;
-  const found = names.map((name) => ({ name, changes: changesBetween(word.toUpperCase(), name.toUpperCase()) }));
-  const least = Math.min(...found.map((it) => it.changes));
-  const best = found.filter((it) => it.changes === least);
-  return least > 0 && least <= most && best.length === 1 ? best[0].name : null;
+  const limit = word.length < 2 ? 0 : word.length <= SHORT ? 1 : 2;
+  const candidates = names.map((name) => ({ name, changes: changesBetween(word.toUpperCase(), name.toUpperCase()) }));
+  const least = Math.min(...candidates.map((it) => it.changes));
+  const best = candidates.filter((it) => it.changes === least);
+  return least > 0 && least <= limit && best.length === 1 ? best[0].name : null;
 }

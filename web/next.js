@@ -12,7 +12,12 @@ function wordsOf(examples, name, partner) {
   return "the same test without what was added: ";
 }
 
-/** Shows the next step from an example; `choose` opens one, `compare` sets one beside the test, and `browse` opens the list of all. */
+/**
+ * Shows the next step from an example; `choose` opens one, `compare` sets one beside the test, and `browse` opens the list of all.
+ * @param {Examples} examples
+ * @param {string} name
+ * @param {{choose: function(string): void, compare: function(string): void, browse: function(): void}} actions
+ */
 export function showNextStep(examples, name, { choose, compare, browse }) {
   const partner = examples.tests.has(name) ? examples.relativeOf(name) : undefined;
   const another = ["Next: ", button("another example", browse, { class: "link", id: "next-example" }), ". "];

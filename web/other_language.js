@@ -76,8 +76,8 @@ function inSource(cell) {
 function isAllIn(language, text) {
   const rows = text.slice(text.indexOf(";", text.search(/\bP0\b/)) + 1);
   const cells = rows.slice(0, rows.search(END_OF_ROWS) + 1).split(/[|;]/).map((it) => it.trim()).filter(Boolean);
-  const isIn = (it) => CODE[language].test(it) || (language === "X86" && /^MFENCE$/i.test(it));
-  return cells.length > 0 && cells.every(isIn);
+  const isInLanguage = (it) => CODE[language].test(it) || (language === "X86" && /^MFENCE$/i.test(it));
+  return cells.length > 0 && cells.every(isInLanguage);
 }
 
 /**
@@ -106,10 +106,10 @@ export function otherCode(place) {
   const cell = text.slice(begin, end);
   const code = cell.trim();
   if (!CODE[other].test(code)) return "";
-  const said = otherHead(place);
-  if (said) return said;
+  const proposal = otherHead(place);
+  if (proposal) return proposal;
   const translated = isX86 ? inX86(code) : inSource(code);
   if (translated === null) return SAID[other];
-  const at = begin + cell.indexOf(code);
-  return `${SAID[other]}${place.propose(translated, at, at + code.length)}`;
+  const start = begin + cell.indexOf(code);
+  return `${SAID[other]}${place.propose(translated, start, start + code.length)}`;
 }

@@ -11,7 +11,10 @@ function lineOf({ editor, run }) {
   return el("p", {}, `The run of ${nameOf(editor.text)}: `, el("code", {}, schedule), `, shown after ${run.step} of ${run.events.length} events.`);
 }
 
-/** Fills what is printed above the rest whenever the page is printed; `shown` returns the tests with their runs. */
+/**
+ * Fills what is printed above the rest whenever the page is printed; `shown` returns the tests with their runs.
+ * @param {function(): States[]} shown
+ */
 export function listenToPrint(shown) {
   const fill = () => {
     const tests = shown();

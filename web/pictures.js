@@ -6,11 +6,14 @@
 
 import { refusal } from "./effects.js";
 
-export const LETTER = 7.9; // the width of a letter
-export const LINE = 19; // the height of a line
+// The width of a letter.
+export const LETTER = 7.9;
+// The height of a line.
+export const LINE = 19;
 export const EDGE = 10;
 export const GAP = 14;
-const PANELS = 3; // in a row of a strip
+// How many panels a row of a strip has, and a strip at most.
+const PANELS = 3;
 const MAX_PANELS = 100;
 const STYLE = `
 text { font: 13px ui-monospace, Menlo, Consolas, "DejaVu Sans Mono", monospace; fill: #1b1b1b; white-space: pre }
@@ -29,7 +32,11 @@ function escaped(text) {
   return text.replaceAll("&", "&amp;").replaceAll("<", "&lt;").replaceAll(">", "&gt;");
 }
 
-/** Writes a number with six digits at most, and without zeros at its end. */
+/**
+ * Writes a number with six digits at most, and without zeros at its end.
+ * @param {number} number
+ * @returns {string}
+ */
 export function digits(number) {
   return String(Number(number.toPrecision(6)));
 }
@@ -41,13 +48,13 @@ export class Drawing {
   }
 
   text(x, y, text, kind = "") {
-    const named = kind ? ` class="${kind}"` : "";
-    this.elements.push(`<text x="${digits(x)}" y="${digits(y)}"${named}>${escaped(text)}</text>`);
+    const attributes = kind ? ` class="${kind}"` : "";
+    this.elements.push(`<text x="${digits(x)}" y="${digits(y)}"${attributes}>${escaped(text)}</text>`);
   }
 
   box(x, y, width, height, kind = "box") {
-    const at = `x="${digits(x)}" y="${digits(y)}" width="${digits(width)}" height="${digits(height)}"`;
-    this.elements.push(`<rect ${at} rx="4" class="${kind}"/>`);
+    const attributes = `x="${digits(x)}" y="${digits(y)}" width="${digits(width)}" height="${digits(height)}"`;
+    this.elements.push(`<rect ${attributes} rx="4" class="${kind}"/>`);
   }
 
   /** Draws a text in a box of its own. Returns where the box ends. */
@@ -101,8 +108,8 @@ function refusalOf({ refused }) {
   return refused ? `Here ${refused.event} is refused: ${refusal(refused.number)}` : "";
 }
 
-function heldLines(place) {
-  return (place.lines ?? []).filter(([, letter]) => letter !== "I").map(([name, letter]) => `${name}:${letter}`);
+function heldLines(thread) {
+  return (thread.lines ?? []).filter(([, letter]) => letter !== "I").map(([name, letter]) => `${name}:${letter}`);
 }
 
 /** How much room the threads of a film need, the same for all its states. */
@@ -138,28 +145,28 @@ class Measures {
 // Drawing.
 
 /** Draws a thread: its code, its registers, its store buffer and its cache lines. */
-function drawThread(drawing, film, step, thread, left, y, room) {
+function drawThread(drawing, film, step, thread, left, y, measures) {
   const place = film.states[step].threads[thread];
   const before = film.states[Math.max(step - 1, 0)].threads[thread];
   const effect = step && film.effects[step - 1].thread === thread ? film.effects[step - 1] : {};
-  drawing.box(left, y, room.width, room.height);
+  drawing.box(left, y, measures.width, measures.height);
   const x = left + EDGE;
   let top = y + LINE;
   drawing.text(x, top, `P${thread}`, "title");
   drawCode(drawing, film.cells[thread], place.at, x, top);
-  top += LINE * (room.code + 1) + 4;
+  top += LINE * (measures.code + 1) + 4;
   const [words, old] = [new Map(place.registers), new Map(before.registers)];
-  for (const [row, name] of room.used[thread].entries()) {
+  for (const [row, name] of measures.used[thread].entries()) {
     const word = words.get(name);
     drawing.text(x, top + LINE * row, `${name}=${word}`, word !== old.get(name) || name === effect.register ? "changed" : "");
   }
-  top += LINE * room.registers;
-  if (room.hasLines) {
+  top += LINE * measures.registers;
+  if (measures.hasLines) {
     const isChanged = JSON.stringify(place.lines) !== JSON.stringify(before.lines);
     drawing.text(x, top, `lines ${heldLines(place).join(" ") || "none"}`, isChanged ? "changed" : "faint");
     top += LINE;
   }
-  if (room.hasBuffers) drawBuffer(drawing, place.buffer, before.buffer, effect.entry, x, top, room);
+  if (measures.hasBuffers) drawBuffer(drawing, place.buffer, before.buffer, effect.entry, x, top, measures);
 }
 
 function drawCode(drawing, cells, at, x, top) {
@@ -171,22 +178,22 @@ function drawCode(drawing, cells, at, x, top) {
 }
 
 /** Draws a store buffer as a queue: the oldest entry is lowest, next to memory. */
-function drawBuffer(drawing, buffer, before, read, x, top, room) {
+function drawBuffer(drawing, buffer, before, read, x, top, measures) {
   drawing.text(x, top, "store buffer", "faint");
-  if (!buffer.length) drawing.text(x, top + 6 + (room.entries - 1) * (LINE + 3) + 14, "(empty)", "faint");
+  if (!buffer.length) drawing.text(x, top + 6 + (measures.entries - 1) * (LINE + 3) + 14, "(empty)", "faint");
   for (const [number, [name, word]] of buffer.entries()) {
     const isNew = buffer.length > before.length && number === buffer.length - 1;
-    const y = top + 6 + (room.entries - 1 - number) * (LINE + 3);
+    const y = top + 6 + (measures.entries - 1 - number) * (LINE + 3);
     drawing.framed(x, y, `${name}=${word}`, "entry", isNew ? "changed" : number === read ? "read" : "");
   }
 }
 
 /** Draws one state of a film. */
-function drawState(drawing, film, step, left, y, room) {
-  for (const thread of film.cells.keys()) drawThread(drawing, film, step, thread, left + thread * (room.width + GAP), y, room);
+function drawState(drawing, film, step, left, y, measures) {
+  for (const thread of film.cells.keys()) drawThread(drawing, film, step, thread, left + thread * (measures.width + GAP), y, measures);
   const before = new Map(film.states[Math.max(step - 1, 0)].content);
-  const top = y + room.height + GAP;
-  drawing.text(left, top + 14, room.hasBuffers ? "content" : "memory", "title");
+  const top = y + measures.height + GAP;
+  drawing.text(left, top + 14, measures.hasBuffers ? "content" : "memory", "title");
   let x = left + 9 * LETTER;
   for (const [name, word] of film.states[step].content) {
     const isRead = step && film.effects[step - 1].location === name;
@@ -194,15 +201,20 @@ function drawState(drawing, film, step, left, y, room) {
   }
 }
 
-/** Returns a picture of one state of a film. */
+/**
+ * Returns a picture of one state of a film.
+ * @param {Film} film
+ * @param {number} step
+ * @returns {string}
+ */
 export function pictureOf(film, step) {
   const drawing = new Drawing();
-  const room = new Measures(film);
-  drawState(drawing, film, step, EDGE, EDGE, room);
+  const measures = new Measures(film);
+  drawState(drawing, film, step, EDGE, EDGE, measures);
   const title = `${film.states[0].name} after ${film.events.slice(0, step).join(" ") || "no event"}`;
   const refusal = step === film.events.length ? refusalOf(film) : "";
-  const width = Math.max(room.wholeWidth, refusal.length * LETTER);
-  const height = room.wholeHeight + 2 * EDGE + drawRefusal(drawing, refusal, room.wholeHeight + EDGE);
+  const width = Math.max(measures.wholeWidth, refusal.length * LETTER);
+  const height = measures.wholeHeight + 2 * EDGE + drawRefusal(drawing, refusal, measures.wholeHeight + EDGE);
   return drawing.svg(width + 2 * EDGE, height, title);
 }
 
@@ -213,20 +225,24 @@ function drawRefusal(drawing, refusal, y) {
   return LINE;
 }
 
-/** Returns a strip of all states of a film, each below the event that leads to it and what that does. */
+/**
+ * Returns a strip of all states of a film, each below the event that leads to it and what that does.
+ * @param {Film} film
+ * @returns {string}
+ */
 export function stripOf(film) {
   const drawing = new Drawing();
-  const room = new Measures(film);
+  const measures = new Measures(film);
   const number = Math.min(film.states.length, MAX_PANELS);
   const titles = Array.from({ length: number }, (_, step) => titleOf(film, step));
-  const width = Math.max(room.wholeWidth, ...titles.map((it) => it.length * LETTER));
+  const width = Math.max(measures.wholeWidth, ...titles.map((it) => it.length * LETTER));
   const captions = titles.map((title, step) => [title, ...effectLines(film, step, Math.floor(width / LETTER))]);
   const rows = Math.max(...captions.map((it) => it.length));
-  const height = room.wholeHeight + LINE * rows + GAP;
+  const height = measures.wholeHeight + LINE * rows + GAP;
   for (const [step, lines] of captions.entries()) {
     const [x, y] = [EDGE + (step % PANELS) * (width + 2 * GAP), EDGE + Math.floor(step / PANELS) * (height + GAP)];
     for (const [row, line] of lines.entries()) drawing.text(x, y + 14 + LINE * row, line, row ? "" : "title");
-    drawState(drawing, film, step, x, y + LINE * rows + 4, room);
+    drawState(drawing, film, step, x, y + LINE * rows + 4, measures);
   }
   const [across, down] = [Math.min(number, PANELS), Math.ceil(number / PANELS)];
   const refused = drawRefusal(drawing, refusalOf(film), down * (height + GAP));

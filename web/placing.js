@@ -8,6 +8,7 @@ const NARROW = "(max-width: 69.99rem)";
 /**
  * Places the parts: in one column the verdict and the machine come first, and the text is folded. The graph is beside the machine if it has room, and
  * otherwise below it.
+ * @param {Present} present
  */
 export function placeParts(present) {
   const narrow = matchMedia(NARROW);
@@ -43,12 +44,16 @@ function setRoom() {
   watching.style.setProperty("--room", `${Math.floor(answers.clientHeight - above)}px`);
 }
 
-/** Folds the text of the test, or unfolds it. */
+/**
+ * Folds the text of the test, or unfolds it.
+ * @param {boolean} isClosed
+ */
 export function fold(isClosed) {
   byId("test").classList.toggle("folded-up", isClosed);
   byId("unfold").setAttribute("aria-expanded", String(!isClosed));
 }
 
+/** Returns whether the text of the test is folded. */
 export function isFolded() {
   return byId("test").classList.contains("folded-up");
 }

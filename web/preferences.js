@@ -48,7 +48,10 @@ function store(name, value) {
 
 const THEMES = ["system", "light", "dark"];
 
-/** Shows the page by light or by dark, as the reader has chosen in a list, or else as the system asks. */
+/**
+ * Shows the page by light or by dark, as the reader has chosen in a list, or else as the system asks.
+ * @param {HTMLSelectElement} list
+ */
 export function bindTheme(list) {
   const show = (theme) => {
     if (theme === THEMES[0]) delete document.documentElement.dataset.theme;

@@ -108,8 +108,8 @@ export class Program {
         onProgress(`more than ${budget.toLocaleString("en")} states of the machine`);
       }
     }
-    const most = BUDGETS.at(-1).toLocaleString("en");
-    throw new NoAnswer(`The search found more than ${most} states of the machine, and was ended. \`./beyond --budget N\` takes more.`);
+    const states = BUDGETS.at(-1).toLocaleString("en");
+    throw new NoAnswer(`The search found more than ${states} states of the machine, and was ended. \`./beyond --budget N\` takes more.`);
   }
 
   /**
@@ -127,10 +127,10 @@ export class Program {
   }
 
   keptOf(text) {
-    const asked = textOf(text);
-    if (asked !== this.textOfKept || this.kept.size >= MAX_KEPT) this.kept = new Map();
-    if (asked !== this.textOfKept) this.searched = new Map();
-    this.textOfKept = asked;
+    const decoded = textOf(text);
+    if (decoded !== this.textOfKept || this.kept.size >= MAX_KEPT) this.kept = new Map();
+    if (decoded !== this.textOfKept) this.searched = new Map();
+    this.textOfKept = decoded;
     return this.kept;
   }
 
@@ -185,8 +185,8 @@ export class Program {
    */
   marked(text, { search = false, onProgress = () => null } = {}) {
     if (!this.workbench.hasFilmsAndMarks) return null;
-    const printed = search ? this.search("marks", text, onProgress) : this.ask(["--budget", "0", "marks"], text);
-    return printed.split("\n").slice(0, -1);
+    const marks = search ? this.search("marks", text, onProgress) : this.ask(["--budget", "0", "marks"], text);
+    return marks.split("\n").slice(0, -1);
   }
 }
 
@@ -199,13 +199,13 @@ export class Program {
  * @returns {Fault}
  */
 function faultOf(line, status, text, schedule) {
-  const [, kind, number, name, at] = FAULT.exec(line) ?? [];
+  const [, kind, number, name, digits] = FAULT.exec(line) ?? [];
   if (kind) {
-    const place = Number(at);
-    const front = textOf((kind === "schedule" ? bytesOf(schedule) : text).subarray(0, place));
+    const offset = Number(digits);
+    const front = textOf((kind === "schedule" ? bytesOf(schedule) : text).subarray(0, offset));
     const last = front.slice(front.lastIndexOf("\n") + 1);
     const where = { row: front.split("\n").length, column: [...last].length + 1, index: front.length };
-    return { line, status, kind, number: Number(number), name, place, ...where };
+    return { line, status, kind, number: Number(number), name, place: offset, ...where };
   }
   const limit = LIMIT.exec(line);
   if (limit) return { line, status, kind: "limit", number: Number(limit[1]), name: limit[2] };

@@ -48,13 +48,13 @@ function answerFilm(program, text, { own = null, state, otherwise = null, ...how
  * Returns the film of a schedule that a test has of its own; null also if the schedule is none of the test.
  * @param {Program} program
  * @param {Uint8Array} text
- * @param {string} own
+ * @param {string} schedule
  * @param {{protocol: string}} how
  * @returns {object | null}
  */
-function ownFilmOrNull(program, text, own, how) {
+function ownFilmOrNull(program, text, schedule, how) {
   try {
-    return ownFilm(program, text, own, how);
+    return ownFilm(program, text, schedule, how);
   } catch (error) {
     if (error instanceof Fault || error instanceof NoAnswer || error instanceof NoTest) return null;
     throw error;
@@ -118,8 +118,8 @@ function registersPut(program, text, { schedule, protocol }, cells) {
   if (events.length > MAX_LOOKED_AT) return null;
   const states = program.statesAlong(text, events, protocol);
   const put = cells.map(() => []);
-  for (const [at, event] of events.entries()) {
-    const { thread, register } = effectOf(event, cells, states[at], states[at + 1]);
+  for (const [index, event] of events.entries()) {
+    const { thread, register } = effectOf(event, cells, states[index], states[index + 1]);
     if (register !== undefined && !put[thread].includes(register)) put[thread].push(register);
   }
   return put;
@@ -178,9 +178,9 @@ function answerCompile(program, text) {
 function answerFences(program, text, { everything, search = false }, onProgress) {
   const test = readTest(program.ask(["compile"], text));
   const listOf = (canonical) => listOrNull(program, bytesOf(canonical), { search, onProgress });
-  const asked = everything ? showingEverything(test) : test;
-  const texts = fencesOf(asked).map((fence) => canonicalText(without(asked, [fence])));
-  return { table: tableOfFences(asked, listOf), condition: conditionText(test), texts, language: languageOf(text) };
+  const compared = everything ? showingEverything(test) : test;
+  const texts = fencesOf(compared).map((fence) => canonicalText(without(compared, [fence])));
+  return { table: tableOfFences(compared, listOf), condition: conditionText(test), texts, language: languageOf(text) };
 }
 
 /** Returns where fences more would answer the question of an x86 test; of a source test, whose compiler adds them, nothing. */

@@ -2,7 +2,11 @@
 
 import { REGISTERS } from "./token_reader.js";
 
-/** Says which register of the source each one is that a compiled text names; an empty text if it names none. */
+/**
+ * Says which register of the source each one is that a compiled text names; an empty text if it names none.
+ * @param {string} text
+ * @returns {string}
+ */
 export function mappedNames(text) {
   const used = REGISTERS.X86.map((name, index) => [name, REGISTERS.SRC[index]]).filter(([name]) => new RegExp(`\\b${name}\\b`).test(text));
   if (!used.length) return "";

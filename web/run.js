@@ -100,16 +100,16 @@ export class Run {
   async begin({ schedule = "", run = "test", protocol = this.protocol }, { isLocked = false, text = this.editor.text, of = [] } = {}) {
     const ticket = this.prepare(protocol, isLocked);
     const program = PROGRAMS.includes(run) ? run : "test";
-    const made = program === "test" ? { test: text } : await ask(this.editor, "compile", { text });
-    if (!made || ticket !== this.ticket) return;
-    if (!made[program]) return this.fail(made);
-    const answer = await this.leadTo(made[program], schedule);
+    const texts = program === "test" ? { test: text } : await ask(this.editor, "compile", { text });
+    if (!texts || ticket !== this.ticket) return;
+    if (!texts[program]) return this.fail(texts);
+    const answer = await this.leadTo(texts[program], schedule);
     if (!answer || ticket !== this.ticket) return;
     if (!answer.moves) return this.fail(answer);
-    const isSource = (made.language ?? answer.language) === "SRC";
+    const isSource = (texts.language ?? answer.language) === "SRC";
     const isX86 = answer.language === "X86";
     Object.assign(this, { listed: null, of, asked: text, isByHand: true, program, isSource, isX86 });
-    this.open(made[program], answer.cells, eventsIn(schedule), []);
+    this.open(texts[program], answer.cells, eventsIn(schedule), []);
     this.keep(schedule, Promise.resolve(answer));
     this.frames[this.events.length] = answer;
     await this.go(this.events.length);
@@ -204,8 +204,8 @@ export class Run {
 
   /** Shows a step. What moves from one step to the next is animated. */
   async go(wanted) {
-    const most = this.events.length;
-    const step = wanted === "telling" ? tellingStep(this.frames) : Math.max(0, Math.min(Math.floor(Number(wanted) || 0), most));
+    const last = this.events.length;
+    const step = wanted === "telling" ? tellingStep(this.frames) : Math.max(0, Math.min(Math.floor(Number(wanted) || 0), last));
     this.ticket += 1;
     const { ticket } = this;
     if (!this.frames[step]) {
@@ -255,11 +255,11 @@ export class Run {
     const key = this.keyOf(schedule);
     if (!this.kept.has(key)) {
       const whole = !this.frames[step]?.put && !this.frames[step - 1]?.put;
-      const asked = ask(this.editor, "moves", { text: this.text, schedule, protocol: this.protocol, whole }).then((answer) => {
+      const answering = ask(this.editor, "moves", { text: this.text, schedule, protocol: this.protocol, whole }).then((answer) => {
         if (!answer?.moves) this.kept.delete(key);
         return answer;
       });
-      this.keep(schedule, asked);
+      this.keep(schedule, answering);
     }
     return this.kept.get(key);
   }

@@ -22,6 +22,8 @@ const KEYS_OF_SOURCE = "By keys: 0 to 3 carry out the next statement of that thr
 /**
  * Returns a sentence that says what can be clicked; of a run by hand, where the sentence on its start says that, which keys do the same. If cache
  * lines are shown, it says what their letters mean.
+ * @param {Run} run
+ * @returns {string}
  */
 export function hintOn({ slots, isByHand, isX86: hasCaches, protocol }) {
   if (caches.isOn && hasCaches) return protocol === "moesi" ? LETTERS_OF_MOESI : LETTERS_OF_MESI;
@@ -30,7 +32,11 @@ export function hintOn({ slots, isByHand, isX86: hasCaches, protocol }) {
   return isX86 ? HINT_OF_X86 : HINT_OF_SOURCE;
 }
 
-/** Returns the sentence on the step that a run is at. */
+/**
+ * Returns the sentence on the step that a run is at.
+ * @param {Run} run
+ * @returns {Node[]}
+ */
 export function stepWords(run) {
   const { effect } = run.frame;
   const number = numberWords(run);

@@ -4,12 +4,21 @@ import { button, el } from "./dom.js";
 
 const TITLE = "List the states by a proved search of the machine's states, which counts no orders";
 
-/** Returns whether an answer says that a list is refused for its number of orders. */
+/**
+ * Returns whether an answer says that a list is refused for its number of orders.
+ * @param {object} answer
+ * @returns {boolean}
+ */
 export function isTooLong(answer) {
   return answer.fault?.kind === "limit";
 }
 
-/** Makes the button that searches. */
+/**
+ * Makes the button that searches.
+ * @param {function(): void} search
+ * @param {string} id
+ * @returns {Element}
+ */
 export function searchOffer(search, id) {
   return el("p", { class: "row" }, button("Search instead", search, { id, class: "main", title: TITLE }));
 }

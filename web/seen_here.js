@@ -25,16 +25,16 @@ export class SeenHere {
   }
 
   button() {
-    const act = () => this.run(this.text);
-    return this.text === null ? [] : [button(`Run it on this machine for ${SECONDS} seconds`, act, { class: "run-here" })];
+    const run = () => this.run(this.text);
+    return this.text === null ? [] : [button(`Run it on this machine for ${SECONDS} seconds`, run, { class: "run-here" })];
   }
 
   /** Runs a test, and shows what was seen, unless another is offered meanwhile. */
   async run(text) {
-    const waiting = el("p", { class: "row asking", role: "status" }, `Running on this machine for ${SECONDS} seconds …`);
-    this.place.replaceChildren(waiting);
+    const notice = el("p", { class: "row asking", role: "status" }, `Running on this machine for ${SECONDS} seconds …`);
+    this.place.replaceChildren(notice);
     const answer = await answerOf(text);
-    if (!this.place.contains(waiting)) return;
+    if (!this.place.contains(notice)) return;
     this.place.replaceChildren(...(answer.error ? [el("p", { class: "notice", role: "alert" }, answer.error)] : shown(answer)), ...this.button());
   }
 }
@@ -49,18 +49,26 @@ async function answerOf(text) {
   }
 }
 
-/** Returns the rows of the table: of each state its line and what is said of it, those that are seen most often first. */
+/**
+ * Returns the rows of the table: of each state its line and what is said of it, those that are seen most often first.
+ * @param {object} answer
+ * @returns {[string, string][]}
+ */
 export function rowsOf({ seen, not_seen: notSeen }) {
-  const often = [...seen].sort((one, other) => Number(one.listed) - Number(other.listed) || other.count - one.count);
-  const said = ({ count, listed }) => (listed ? count.toLocaleString("en") : `${count.toLocaleString("en")}, and it is not listed`);
-  return [...often.map((it) => [it.state, said(it)]), ...notSeen.map((state) => [state, "not seen"])];
+  const ordered = [...seen].sort((one, other) => Number(one.listed) - Number(other.listed) || other.count - one.count);
+  const words = ({ count, listed }) => (listed ? count.toLocaleString("en") : `${count.toLocaleString("en")}, and it is not listed`);
+  return [...ordered.map((it) => [it.state, words(it)]), ...notSeen.map((state) => [state, "not seen"])];
 }
 
-/** Returns a sentence on a run. */
+/**
+ * Returns a sentence on a run.
+ * @param {object} answer
+ * @returns {string}
+ */
 export function sentenceOn({ runs, seconds, processors, listed, seen, list }) {
-  const found = seen.filter((it) => it.listed).length;
-  const many = `${runs.toLocaleString("en")} runs in ${seconds.toFixed(1)} seconds on ${processors} processor${processors === 1 ? "" : "s"}`;
-  return `${many}: seen here ${found} of ${listed} listed states (the list by ${list}).`;
+  const seenOfListed = seen.filter((it) => it.listed).length;
+  const howOften = `${runs.toLocaleString("en")} runs in ${seconds.toFixed(1)} seconds on ${processors} processor${processors === 1 ? "" : "s"}`;
+  return `${howOften}: seen here ${seenOfListed} of ${listed} listed states (the list by ${list}).`;
 }
 
 /** Returns the table of what was seen on this machine. */

@@ -15,14 +15,14 @@ export class Served {
    * @returns {{status: number, isFault: boolean, out: Uint8Array}}
    */
   run(words, text) {
-    const { status, printed, fault, error } = asked("run", { words, text: textOf(text) });
+    const { status, printed, fault, error } = ask("run", { words, text: textOf(text) });
     if (error) throw new NoAnswer(error);
     return { status, isFault: fault !== null, out: bytesOf(fault ?? printed) };
   }
 }
 
 /** Returns what the server answers to a question. */
-function asked(path, question) {
+function ask(path, question) {
   try {
     const request = new XMLHttpRequest();
     request.open("POST", path, false);

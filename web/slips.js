@@ -20,15 +20,20 @@ const QUESTION = /~?\s*\b(?:exists|forall)\b[^;]*$/;
  * Returns a slip: its `words`, and the `change` that is proposed if there is a name that may be meant in place of a written one, in the question or
  * in the code; or null.
  */
-function slip(words, written, name, isInQuestion) {
+function makeSlip(words, written, name, isInQuestion) {
   return name ? { words: `${words} Did you mean \`${name}\`?`, change: { written, name, isInQuestion } } : { words, change: null };
 }
 
-/** Returns a text in which a name takes the place of a written one wherever that is in the question, or in the rest. */
+/**
+ * Returns a text in which a name takes the place of a written one wherever that is in the question, or in the rest.
+ * @param {string} text
+ * @param {{written: string, name: string, isInQuestion: boolean}} change
+ * @returns {string}
+ */
 export function mended(text, { written, name, isInQuestion }) {
-  const at = text.search(QUESTION);
+  const index = text.search(QUESTION);
   const pattern = new RegExp(`(?<![\\w:])${written.replace(":", "\\s*:\\s*")}\\b`, "g");
-  const [rest, question] = [text.slice(0, at), text.slice(at)];
+  const [rest, question] = [text.slice(0, index), text.slice(index)];
   return isInQuestion ? rest + question.replace(pattern, name) : rest.replace(pattern, name) + question;
 }
 
@@ -38,33 +43,34 @@ function registersWritten(code) {
 }
 
 /** Says that the question names a register that its thread does not write, if that is so. */
-function slipOfRegister(test, site, asked) {
+function slipOfRegister(test, site, askedSites) {
   const { thread, register } = site;
   const written = registersWritten(test.threads[thread]);
   if (written.includes(register)) return [];
   const names = REGISTERS[test.language];
-  const free = written.filter((it) => !asked.some((other) => other.thread === thread && other.register === it));
+  const free = written.filter((it) => !askedSites.some((other) => other.thread === thread && other.register === it));
   const proposed = free.length === 1 ? `${thread}:${names[free[0]]}` : null;
   const word = test.registers[thread][register];
   const named = siteName(test, site);
   const words = `The question names \`${named}\`, but nothing in P${thread} writes ${names[register]}: it is ${word} in every run.`;
-  return [slip(words, named, proposed, true)];
+  return [makeSlip(words, named, proposed, true)];
 }
 
 /** Says of locations that no thread writes that the question names them, or that a thread loads one to which the text gives no word. */
-function slipsOfLocations(test, text, asked) {
+function slipsOfLocations(test, text, askedSites) {
   const code = test.threads.flat();
-  const isIn = (kinds) => (_, location) => code.some((it) => kinds.includes(it.kind) && it.location === location);
-  const written = test.locations.filter(isIn(STORES));
+  const isAccessedBy = (kinds) => (_, location) => code.some((it) => kinds.includes(it.kind) && it.location === location);
+  const stored = test.locations.filter(isAccessedBy(STORES));
   const block = text.slice(text.indexOf("{"), text.indexOf("}"));
   return test.locations.flatMap((name, location) => {
-    if (written.includes(name)) return [];
-    const isAsked = asked.some((it) => it.location === location);
-    const isGiven = new RegExp(`\\b${name}\\b`).test(block);
-    if (!isAsked && (isGiven || !isIn(LOADS)(name, location))) return [];
-    const begin = isAsked ? `The question names \`${name}\`` : `A thread loads \`${name}\``;
+    if (stored.includes(name)) return [];
+    const isInQuestion = askedSites.some((it) => it.location === location);
+    const hasInitialWord = new RegExp(`\\b${name}\\b`).test(block);
+    const isLoadOfNothing = !hasInitialWord && isAccessedBy(LOADS)(name, location);
+    if (!isInQuestion && !isLoadOfNothing) return [];
+    const begin = isInQuestion ? `The question names \`${name}\`` : `A thread loads \`${name}\``;
     const words = `${begin}, but no thread writes ${name}: it is ${test.words[location]} in every run.`;
-    return [slip(words, name, nearest(name, written), isAsked)];
+    return [makeSlip(words, name, nearest(name, stored), isInQuestion)];
   });
 }
 
@@ -80,9 +86,9 @@ export function slipsIn(text) {
   } catch {
     return [];
   }
-  const asked = sortedSites(sitesIn(test.proposition));
-  const registers = asked.filter((it) => it.location === undefined);
-  return [...registers.flatMap((it) => slipOfRegister(test, it, asked)), ...slipsOfLocations(test, text, asked)];
+  const askedSites = sortedSites(sitesIn(test.proposition));
+  const registers = askedSites.filter((it) => it.location === undefined);
+  return [...registers.flatMap((site) => slipOfRegister(test, site, askedSites)), ...slipsOfLocations(test, text, askedSites)];
 }
 
 /**

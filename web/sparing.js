@@ -22,9 +22,9 @@ export function fencesOf(test) {
  */
 export function without(test, leftOut) {
   const threads = test.threads.map((code, thread) => {
-    const gone = leftOut.filter(([of]) => of === thread).map(([, at]) => at);
-    const moved = (target) => target - gone.filter((at) => at < target).length;
-    const kept = code.filter((_, index) => !gone.includes(index));
+    const positions = leftOut.filter(([of]) => of === thread).map(([, at]) => at);
+    const moved = (target) => target - positions.filter((at) => at < target).length;
+    const kept = code.filter((_, index) => !positions.includes(index));
     return kept.map((it) => (it.target === undefined ? it : { ...it, target: moved(it.target) }));
   });
   return { ...test, threads };
@@ -48,9 +48,9 @@ export function showingEverything(test) {
  * @param {Place} place
  * @returns {string}
  */
-function placeOf(test, [thread, at]) {
-  const behind = test.threads[thread][at + 1];
-  return `P${thread} at ${at}${behind ? `, before ${instructionText(test, behind)}` : ""}`;
+function placeOf(test, [thread, position]) {
+  const next = test.threads[thread][position + 1];
+  return `P${thread} at ${position}${next ? `, before ${instructionText(test, next)}` : ""}`;
 }
 
 /** Asks for the lists of tests, and keeps who answered. */
@@ -83,13 +83,13 @@ export function tableOfFences(test, listOf) {
   const lists = new Lists(listOf);
   const fences = fencesOf(test);
   const { lines: states, positive } = lists.whole(test);
-  const before = new Set(states);
+  const known = new Set(states);
   const rows = fences.map((fence) => {
-    const added = lists.of(without(test, [fence])).filter((line) => !before.has(line));
+    const added = lists.of(without(test, [fence])).filter((line) => !known.has(line));
     return { place: placeOf(test, fence), added };
   });
-  const gone = spared(test, fences, states, lists);
-  const enough = fences.filter((fence) => !gone.includes(fence)).map(([thread, at]) => `P${thread} at ${at}`);
+  const leftOut = spared(test, fences, states, lists);
+  const enough = fences.filter((fence) => !leftOut.includes(fence)).map(([thread, at]) => `P${thread} at ${at}`);
   return { rows, enough, states: states.length, positive, answered_by: [...lists.answeredBy].sort() };
 }
 

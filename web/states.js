@@ -32,12 +32,12 @@ const unmarked = () => [
 ];
 
 /** Returns what is said of the reader's guess, if there is one, with the `reason` if it was wrong, and buttons that ask again and on another test. */
-function guessedWords(said, isSo, again, reason) {
-  const words = said === null ? "" : said === isSo ? "✓ As you said." : "✗ Not as you said.";
-  const kind = said === null ? "" : said === isSo ? " right" : " wrong";
+function guessedWords(guessed, isSo, askAgain, reason) {
+  const words = guessed === null ? "" : guessed === isSo ? "✓ As you said." : "✗ Not as you said.";
+  const kind = guessed === null ? "" : guessed === isSo ? " right" : " wrong";
   const why = kind === " wrong" && reason.length ? el("span", { class: "reason" }, reason, " ") : null;
-  const more = [button("Predict again", again, { class: "link again" }), " ", button("Surprise me", () => null, { class: "link again surprise" })];
-  return el("p", { class: `said${kind}` }, words, " ", why, more);
+  const buttons = [button("Predict again", askAgain, { class: "link again" }), " ", button("Surprise me", () => null, { class: "link again surprise" })];
+  return el("p", { class: `said${kind}` }, words, " ", why, buttons);
 }
 
 export class States {
@@ -172,13 +172,13 @@ export class States {
     const { text } = this.editor;
     const tints = tintsOf(text);
     const inWords = conditionWords(text);
-    const kept = guess.guessOn(text) === null ? "" : "Your guess is kept. ";
+    const note = guess.guessOn(text) === null ? "" : "Your guess is kept. ";
     this.verdict.className = "verdicts veiled";
     this.verdict.replaceChildren(
       el("p", { class: "verdict" }, el("span", { class: "sign", "aria-hidden": "true" }, "?"),
         el("span", {}, el("strong", {}, words.question), " ", inWords && el("span", { class: "in-words" }, tintedSentence(`${inWords}.`, tints)))),
       el("p", { class: "asked" }, testName(text), el("code", {}, codeNodes(propositionOf(report), tints, null)), " ",
-        el("span", { class: "by" }, `${kept}${VEILED} `), button("Show the answer", () => this.unveil(), { class: "unveil" })),
+        el("span", { class: "by" }, `${note}${VEILED} `), button("Show the answer", () => this.unveil(), { class: "unveil" })),
     );
   }
 
@@ -201,13 +201,13 @@ export class States {
     const { text } = this.editor;
     this.answered = text;
     const tints = tintsOf(text);
-    const said = guess.guessOn(text);
-    if (said !== null) countPrediction(text, said === words.is_so);
+    const guessed = guess.guessOn(text);
+    if (guessed !== null) countPrediction(text, guessed === words.is_so);
     const [kind, word, sentence] = headlineOf(this.language, report, conditionWords(text));
     const [by, way] = BY[this.isSearched ? "searched" : "enumerated"];
     this.verdict.className = `verdicts ${kind}`;
     this.verdict.replaceChildren(
-      guess.wasAsked(text) ? guessedWords(said, words.is_so, () => this.askAgain(), this.reason()) : "",
+      guess.wasAsked(text) ? guessedWords(guessed, words.is_so, () => this.askAgain(), this.reason()) : "",
       el("p", { class: "verdict" }, el("span", { class: "sign", "aria-hidden": "true" }, SIGNS[kind]),
         el("span", {}, el("strong", {}, word), " ", el("span", { class: "in-words", title: words.bounds }, tintedSentence(sentence, tints)))),
       el("p", { class: "asked" }, testName(text), el("code", {}, codeNodes(report.condition, tints, null)),
@@ -266,9 +266,10 @@ export class States {
   printed() {
     const { report, words } = this;
     if (!report) return [];
-    const shown = report.states.length > MAX_PRINTED ? [] : [el("pre", {}, asPrinted(report))];
-    const asked = "The first line says what the test asks (`Allowed` for `exists`, `Forbidden` for `~exists`, `Required` for `forall`), and the last line the answer.";
-    return [el("p", { class: "small" }, sentence(asked)), el("p", { class: "small" }, sentence(words.bounds)), ...shown, button("Save the list as a file", () => saveReport(report))];
+    const list = report.states.length > MAX_PRINTED ? [] : [el("pre", {}, asPrinted(report))];
+    const first = "The first line says what the test asks (`Allowed` for `exists`, `Forbidden` for `~exists`, `Required` for `forall`)";
+    const sentences = [`${first}, and the last line the answer.`, words.bounds].map((it) => el("p", { class: "small" }, sentence(it)));
+    return [...sentences, ...list, button("Save the list as a file", () => saveReport(report))];
   }
 
   // By hand.

@@ -99,7 +99,11 @@ export function headingOf(text) {
   return { language: heading[1], name: heading[2], end: offset + heading[0].length };
 }
 
-/** Returns the name of a test, as far as it has one. */
+/**
+ * Returns the name of a test, as far as it has one.
+ * @param {string} text
+ * @returns {string}
+ */
 export function nameOf(text) {
   try {
     return headingOf(text).name;

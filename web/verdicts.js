@@ -46,11 +46,11 @@ export function verdictOf(language, report) {
 export function headlineOf(language, { asked, verdict }, condition = null) {
   const isOk = verdict === "Ok";
   const runs = language === "SRC" ? " by interleaving" : "";
-  const what = condition ?? "the condition holds";
-  const some = `There is a run${runs} in which ${what}.`;
-  const none = `There is no run${runs} in which ${what}.`;
-  if (asked === "Required" && isOk) return ["yes", "Always.", `In every run${runs} ${what}.`];
-  if (asked === "Required") return ["no", "Not always.", `Not in every run${runs} ${what}.`];
+  const words = condition ?? "the condition holds";
+  const some = `There is a run${runs} in which ${words}.`;
+  const none = `There is no run${runs} in which ${words}.`;
+  if (asked === "Required" && isOk) return ["yes", "Always.", `In every run${runs} ${words}.`];
+  if (asked === "Required") return ["no", "Not always.", `Not in every run${runs} ${words}.`];
   if (asked === "Forbidden") return isOk ? ["no", "Forbidden.", none] : ["wrong", "Allowed.", `${some.slice(0, -1)}; the test forbids that.`];
   return isOk ? ["can", "Allowed.", some] : ["no", "Forbidden.", none];
 }
@@ -61,7 +61,7 @@ export function headlineOf(language, { asked, verdict }, condition = null) {
  * @returns {string}
  */
 export function countWords({ positive, number }) {
-  const shown = (it) => it.toLocaleString("en");
-  const states = `${shown(number)} final state${number === 1 ? "" : "s"}`;
-  return `The condition holds in ${positive === number && number > 1 ? "all" : positive ? `${shown(positive)} of` : "none of"} ${states}.`;
+  const format = (it) => it.toLocaleString("en");
+  const states = `${format(number)} final state${number === 1 ? "" : "s"}`;
+  return `The condition holds in ${positive === number && number > 1 ? "all" : positive ? `${format(positive)} of` : "none of"} ${states}.`;
 }

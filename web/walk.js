@@ -14,7 +14,7 @@ import { WORD } from "./token_reader.js";
  * @param {Item} item
  * @returns {Item[]}
  */
-function put(list, index, item) {
+function replaceItem(list, index, item) {
   return list.with ? list.with(index, item) : list.map((it, number) => (number === index ? item : it));
 }
 
@@ -36,9 +36,9 @@ function wordOf(value, registers) {
  * @param {number[]} [words]
  * @returns {MachineState}
  */
-function after(state, cpu, changes, words = state.words) {
+function advance(state, cpu, changes, words = state.words) {
   const processor = state.processors[cpu];
-  return { processors: put(state.processors, cpu, { ...processor, position: processor.position + 1, ...changes }), words };
+  return { processors: replaceItem(state.processors, cpu, { ...processor, position: processor.position + 1, ...changes }), words };
 }
 
 /**
@@ -52,22 +52,22 @@ function step(test, state, cpu) {
   const { position, registers, zero, buffer } = state.processors[cpu];
   const instruction = test.threads[cpu][position];
   if (!instruction) return null;
-  if (instruction.kind === "mfence") return buffer.length ? null : after(state, cpu, {});
+  if (instruction.kind === "mfence") return buffer.length ? null : advance(state, cpu, {});
   if (instruction.kind === "xchg" || instruction.kind === "xadd") return buffer.length ? null : lockedStep(state, cpu, instruction);
   if (instruction.target !== undefined) {
     const jumps = instruction.kind === "jmp" || zero === (instruction.kind === "je");
-    return after(state, cpu, jumps ? { position: instruction.target } : {});
+    return advance(state, cpu, jumps ? { position: instruction.target } : {});
   }
   if (instruction.kind === "load") {
-    const own = buffer.findLast(([location]) => location === instruction.location);
-    return after(state, cpu, { registers: put(registers, instruction.register, own ? own[1] : state.words[instruction.location]) });
+    const entry = buffer.findLast(([location]) => location === instruction.location);
+    return advance(state, cpu, { registers: replaceItem(registers, instruction.register, entry ? entry[1] : state.words[instruction.location]) });
   }
   const word = wordOf(instruction.value, registers);
-  if (instruction.kind === "store") return after(state, cpu, { buffer: [...buffer, [instruction.location, word]] });
-  if (instruction.kind === "set") return after(state, cpu, { registers: put(registers, instruction.register, word) });
-  if (instruction.kind === "cmp") return after(state, cpu, { zero: registers[instruction.register] === word });
+  if (instruction.kind === "store") return advance(state, cpu, { buffer: [...buffer, [instruction.location, word]] });
+  if (instruction.kind === "set") return advance(state, cpu, { registers: replaceItem(registers, instruction.register, word) });
+  if (instruction.kind === "cmp") return advance(state, cpu, { zero: registers[instruction.register] === word });
   const total = (registers[instruction.register] + word) % WORD;
-  return after(state, cpu, { registers: put(registers, instruction.register, total), zero: total === 0 });
+  return advance(state, cpu, { registers: replaceItem(registers, instruction.register, total), zero: total === 0 });
 }
 
 /**
@@ -81,10 +81,10 @@ function lockedStep(state, cpu, instruction) {
   const { registers } = state.processors[cpu];
   const old = state.words[instruction.location];
   const operand = registers[instruction.register];
-  const changed = put(registers, instruction.register, old);
-  if (instruction.kind === "xchg") return after(state, cpu, { registers: changed }, put(state.words, instruction.location, operand));
+  const loaded = replaceItem(registers, instruction.register, old);
+  if (instruction.kind === "xchg") return advance(state, cpu, { registers: loaded }, replaceItem(state.words, instruction.location, operand));
   const total = (old + operand) % WORD;
-  return after(state, cpu, { registers: changed, zero: total === 0 }, put(state.words, instruction.location, total));
+  return advance(state, cpu, { registers: loaded, zero: total === 0 }, replaceItem(state.words, instruction.location, total));
 }
 
 /**
@@ -97,7 +97,7 @@ function drain(state, cpu) {
   const { position, buffer } = state.processors[cpu];
   if (!buffer.length) return null;
   const [[location, word], ...others] = buffer;
-  return after(state, cpu, { position, buffer: others }, put(state.words, location, word));
+  return advance(state, cpu, { position, buffer: others }, replaceItem(state.words, location, word));
 }
 
 /**
@@ -118,15 +118,15 @@ function moves(test, state) {
 function finalStates(test) {
   const start = { processors: test.registers.map((registers) => ({ position: 0, registers, zero: false, buffer: [] })), words: test.words };
   const seen = new Set([JSON.stringify(start)]);
-  const waiting = [start];
+  const queue = [start];
   const finals = [];
-  while (waiting.length) {
-    const state = waiting.pop();
+  while (queue.length) {
+    const state = queue.pop();
     const successors = moves(test, state);
     if (!successors.length) finals.push(state);
     for (const next of successors) {
       const key = JSON.stringify(next);
-      if (!seen.has(key)) waiting.push(next);
+      if (!seen.has(key)) queue.push(next);
       seen.add(key);
     }
   }

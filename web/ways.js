@@ -44,10 +44,10 @@ async function byModule(question, fields, signal, onProgress) {
 }
 
 /** Returns the answer of a worker. The signal ends it at once, with its worker. `onProgress` is called with words on how far it is. */
-async function byWorker(asked, signal, onProgress) {
+async function byWorker(request, signal, onProgress) {
   if (signal.aborted) return null;
   const worker = idle.pop() ?? (await workerOf());
-  const answer = await answerOf(worker, asked, signal, onProgress);
+  const answer = await answerOf(worker, request, signal, onProgress);
   if (signal.aborted || worker.broken) worker.terminate();
   else idle.push(worker);
   return answer;
@@ -64,21 +64,35 @@ async function workerOf() {
 }
 
 /** Returns what a worker answers, or null once the signal is aborted. `onProgress` is called with how far it is. */
-function answerOf(worker, asked, signal, onProgress) {
+function answerOf(worker, request, signal, onProgress) {
   return new Promise((resolve) => {
     signal.addEventListener("abort", () => resolve(null), { once: true });
     worker.onmessage = ({ data }) => ("progress" in data ? onProgress(data.progress) : resolve(data));
     if (worker.broken) resolve(worker.broken);
-    else worker.postMessage(asked);
+    else worker.postMessage(request);
   });
 }
 
-/** Returns the answer by the program on this machine. */
+/**
+ * Returns the answer by the program on this machine.
+ * @param {string} question
+ * @param {object} fields
+ * @param {AbortSignal} signal
+ * @param {function(string): void} onProgress
+ * @returns {Promise<object | null>}
+ */
 export function byServer(question, fields, signal, onProgress) {
   return unlessStale(question, byWorker({ module: null, question, fields }, signal, onProgress), signal);
 }
 
-/** Answers by the module if there is one; what is beyond it, or without a module, by the program, if there is a server. */
+/**
+ * Answers by the module if there is one; what is beyond it, or without a module, by the program, if there is a server.
+ * @param {string} question
+ * @param {object} fields
+ * @param {AbortSignal} signal
+ * @param {function(string): void} onProgress
+ * @returns {Promise<object | null>}
+ */
 export async function byBest(question, fields, signal, onProgress) {
   if (!hasServer) return byModule(question, fields, signal, onProgress);
   if (!(await hasModule())) return byServer(question, fields, signal, onProgress);
@@ -99,8 +113,8 @@ async function unlessStale(question, answering, signal) {
 async function isStaleBy(signal) {
   try {
     const headers = { "Content-Type": "application/json" };
-    const said = await fetch("current", { method: "POST", headers, body: "{}", signal });
-    const isStale = (await said.json()).is_current === false;
+    const response = await fetch("current", { method: "POST", headers, body: "{}", signal });
+    const isStale = (await response.json()).is_current === false;
     currentAt = isStale ? -Infinity : performance.now();
     return isStale;
   } catch {

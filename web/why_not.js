@@ -19,14 +19,14 @@ const NONE_FORBIDDEN = "x86-TSO allows every state that some candidate execution
  */
 function stateOf(test, line) {
   const pairs = [...line.matchAll(/([^\s=;]+)=(\d+);/g)].map(([, name, word]) => [name, Number(word)]);
-  const found = new Map(pairs);
+  const words = new Map(pairs);
   const sites = observed(test);
   const names = sites.map((site) => siteName(test, site));
   const isWhole = /^(?:\s*[^\s=;]+=\d+;)*\s*$/.test(line);
-  if (!isWhole || pairs.length !== names.length || !names.every((name) => found.has(name))) {
+  if (!isWhole || pairs.length !== names.length || !names.every((name) => words.has(name))) {
     throw new NoAnswer(`The test shows ${names.map((it) => `${it}=..;`).join(" ")}, and the state has to name these.`);
   }
-  return new Map(sites.map((site, index) => [siteKey(site), found.get(names[index])]));
+  return new Map(sites.map((site, index) => [siteKey(site), words.get(names[index])]));
 }
 
 /**
@@ -41,7 +41,7 @@ function forbiddenStates(test, wanted) {
   for (const it of candidates(test, MAX_EXECUTIONS)) {
     const outcome = it.outcome();
     const words = sites.map((site) => wordAt(site, outcome) ?? null);
-    const isOther = (word, at) => word !== null && word !== wanted.get(siteKey(sites[at]));
+    const isOther = (word, index) => word !== null && word !== wanted.get(siteKey(sites[index]));
     if (allowed.has(String(words)) || (wanted && words.some(isOther))) continue;
     const violation = it.broken();
     if (!violation) {
@@ -83,12 +83,12 @@ function sayWhy(test, { words, ways }) {
  */
 function inOrder(forbidden) {
   const key = ({ words }) => words.map((word) => word ?? -1);
-  const before = (a, b) => {
-    const at = key(a).findIndex((word, number) => word !== key(b)[number]);
-    return at < 0 ? 0 : key(a)[at] - key(b)[at];
+  const compareWords = (a, b) => {
+    const index = key(a).findIndex((word, number) => word !== key(b)[number]);
+    return index < 0 ? 0 : key(a)[index] - key(b)[index];
   };
-  const shorter = (a, b) => a.events.length - b.events.length || b.times - a.times;
-  return forbidden.sort(before).map(({ words, ways }) => ({ words, ways: [...ways.values()].sort(shorter) }));
+  const compareWays = (a, b) => a.events.length - b.events.length || b.times - a.times;
+  return forbidden.sort(compareWords).map(({ words, ways }) => ({ words, ways: [...ways.values()].sort(compareWays) }));
 }
 
 /**
@@ -100,20 +100,20 @@ function inOrder(forbidden) {
  */
 export function whyNot(test, state) {
   const wanted = state === "all" ? null : stateOf(test, state);
-  let found;
+  let byAxioms;
   try {
-    found = forbiddenStates(test, wanted);
+    byAxioms = forbiddenStates(test, wanted);
   } catch (error) {
     if (!(error instanceof TooMany)) throw error;
     return { lines: [`More than ${MAX_EXECUTIONS} candidate executions: that is too many for this tool.`], cycles: [] };
   }
-  if (wanted && found.allowed.has(String([...wanted.values()]))) {
+  if (wanted && byAxioms.allowed.has(String([...wanted.values()]))) {
     return { lines: ["x86-TSO allows this state: `lw schedules` lists it with a schedule."], cycles: [] };
   }
-  if (!found.forbidden.length) {
+  if (!byAxioms.forbidden.length) {
     return { lines: [wanted ? `No thread reads or writes such values: no candidate execution ends in ${state}` : NONE_FORBIDDEN], cycles: [] };
   }
-  const states = inOrder(found.forbidden);
+  const states = inOrder(byAxioms.forbidden);
   const drawn = states.flatMap(({ ways }) => ways.slice(0, MAX_DRAWN)).slice(0, MAX_DRAWN);
   const cycles = drawn.map(({ execution, violation, cycle, axiom }) => {
     return { graph: graphOf(execution, `${test.name}: ${cycle}`, violation), words: `${axiom}: ${cycle}` };
