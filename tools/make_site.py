@@ -33,8 +33,8 @@ WEB = f"{web_files.HOME}/web"
 IMPORT = re.compile(r'^import (?:\* as (\w+)|\{([^}]*)\}) from "\./(\w+)\.js";\n', re.M)
 # Comments on lines of their own, which the scripts are made without.
 COMMENT = re.compile(r"^[ \t]*(?://[^\n]*|/\*\*.*?\*/)\n", re.M | re.S)
-# What a site is made without, so that less has to be loaded: blanks at the start of lines, and comments of styles.
-INDENT = re.compile(r"^[ \t]+", re.M)
+# What a site is made without, so that less has to be loaded: blanks at the start of lines, lines without letters, and comments of styles.
+INDENT = re.compile(r"^\s+", re.M)
 STYLE_COMMENT = re.compile(r"/\*.*?\*/\n?", re.S)
 # Where a style has a blank or a line end that says nothing: around braces, and after a line's last semicolon.
 STYLE_BLANK = re.compile(r"\s*([{}])\s*|(;)\s*\n\s*")

@@ -9,7 +9,7 @@ const KEY = "address";
 // What names an example, whose name has no blank.
 const NAMES = ["example", "beside"];
 
-let kept = parsed(keptForReload() ?? location.hash.slice(1));
+let fields = parsed(keptForReload() ?? location.hash.slice(1));
 let timer = null;
 // The address as it was written or followed last. Where it is another, a link is about to be followed, and is not written over.
 let known = location.hash;
@@ -22,9 +22,9 @@ addEventListener("pageshow", keep);
  * @returns {URLSearchParams}
  */
 function parsed(text) {
-  const found = new URLSearchParams(text);
-  for (const name of NAMES) if (found.has(name)) found.set(name, found.get(name).replaceAll(" ", "+"));
-  return found;
+  const parameters = new URLSearchParams(text);
+  for (const name of NAMES) if (parameters.has(name)) parameters.set(name, parameters.get(name).replaceAll(" ", "+"));
+  return parameters;
 }
 
 /**
@@ -42,7 +42,7 @@ function keptForReload() {
 /** Stores what is kept, for when the page is loaded anew. */
 function keep() {
   try {
-    sessionStorage.setItem(KEY, String(kept));
+    sessionStorage.setItem(KEY, String(fields));
   } catch {
     // A browser without a store writes the address a little later, and no more is lost than was typed in that time.
   }
@@ -53,7 +53,7 @@ function keep() {
  * @returns {Object<string, string>}
  */
 export function read() {
-  return Object.fromEntries(kept);
+  return Object.fromEntries(fields);
 }
 
 /**
@@ -64,8 +64,8 @@ export function read() {
 export function put(changes, isNew = false) {
   if (isNew) write();
   for (const [key, value] of Object.entries(changes)) {
-    if (value === null || value === undefined || value === "") kept.delete(key);
-    else kept.set(key, String(value));
+    if (value === null || value === undefined || value === "") fields.delete(key);
+    else fields.set(key, String(value));
   }
   keep();
   if (!isNew) timer ??= setTimeout(write, PAUSE);
@@ -85,7 +85,7 @@ function write() {
 }
 
 function written() {
-  return String(kept) ? `#${kept}` : location.href.split("#")[0];
+  return String(fields) ? `#${fields}` : location.href.split("#")[0];
 }
 
 /**
@@ -98,7 +98,7 @@ export function onLink(act) {
     timer = null;
     const before = read();
     known = location.hash;
-    kept = parsed(location.hash.slice(1));
+    fields = parsed(location.hash.slice(1));
     keep();
     act(before);
   });

@@ -20,7 +20,7 @@ export function aligned(text) {
   const lines = text.split("\n");
   const begin = lines.findIndex((line) => /^\s*P0\s*[|;]/.test(line));
   const threads = cellsOf(lines[begin] ?? "")?.length;
-  const isRow = (cells, at) => cells && at >= begin && cells.length === threads;
+  const isRow = (cells, index) => cells && index >= begin && cells.length === threads;
   const rows = lines.map(cellsOf).map((cells, index) => (isRow(cells, index) ? cells : null));
   const widths = Array.from({ length: threads ?? 0 }, (_, thread) => Math.max(...rows.map((cells) => cells?.[thread].length ?? 0)));
   const shown = (cells) => ` ${cells.map((cell, thread) => cell.padEnd(widths[thread])).join(" | ")} ;`;

@@ -64,9 +64,9 @@ export class Beside {
 
   /** Gives the keys that step through a run to a side, or to both together if there is none. */
   giveKeys(side) {
-    for (const it of this.sides) {
-      it.sheet.hasKeys = it === side;
-      it.place.classList.toggle("active", it === side);
+    for (const other of this.sides) {
+      other.sheet.hasKeys = other === side;
+      other.place.classList.toggle("active", other === side);
     }
   }
 

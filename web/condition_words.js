@@ -31,8 +31,8 @@ function testOf(text) {
 function atomsOf({ kind, parts, site, word }) {
   if (kind === "Eq") return [{ site, word }];
   if (kind !== "And") return null;
-  const found = parts.map(atomsOf);
-  return found.includes(null) ? null : found.flat();
+  const atoms = parts.map(atomsOf);
+  return atoms.includes(null) ? null : atoms.flat();
 }
 
 /**
@@ -56,9 +56,9 @@ function readInto(test, { thread, register }) {
  * @returns {string}
  */
 function wordsOfThread(test, thread, atoms) {
-  const found = atoms.map(({ site, word }) => ({ site, word, read: readInto(test, site) }));
-  const reads = found.filter((it) => it.read).sort((first, second) => first.read.position - second.read.position);
-  const others = found.filter((it) => !it.read).map(({ site, word }) => `\`${siteName(test, site).slice(2)}=${word}\``);
+  const observations = atoms.map(({ site, word }) => ({ site, word, read: readInto(test, site) }));
+  const reads = observations.filter((it) => it.read).sort((first, second) => first.read.position - second.read.position);
+  const others = observations.filter((it) => !it.read).map(({ site, word }) => `\`${siteName(test, site).slice(2)}=${word}\``);
   const parts = [];
   if (reads.length) parts.push(`reads ${reads.map(({ read, word }) => `\`${test.locations[read.location]}=${word}\``).join(", then ")}`);
   if (others.length) parts.push(`ends with ${others.join(" and ")}`);
@@ -120,13 +120,13 @@ function outcomeOf(test, line) {
  * @returns {Site[]}
  */
 function sitesOf(test) {
-  const found = new Map();
-  const add = (site) => site.location === undefined && found.set(siteKey(site), site);
+  const sites = new Map();
+  const add = (site) => site.location === undefined && sites.set(siteKey(site), site);
   const collect = ({ kind, parts, site }) => {
     if (kind === "Eq") add(site);
     parts.forEach(collect);
   };
   test.listed.forEach(add);
   collect(test.proposition);
-  return [...found.values()];
+  return [...sites.values()];
 }

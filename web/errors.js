@@ -69,11 +69,11 @@ function errorWords({ error, refused }) {
  */
 function endOfRowBefore({ kind, row }, text) {
   const lines = text.split("\n").slice(0, row - 1);
-  const at = lines.findLastIndex((it) => it.trim());
+  const last = lines.findLastIndex((it) => it.trim());
   const begin = lines.findIndex((it) => /^\s*P0\b/.test(it));
-  if (!isInText({ kind }) || begin < 0 || at < begin || /;|\(\*|\*\)/.test(lines[at]) || misspeltQuestion(text)) return "";
-  if (questionIn(lines.slice(0, at + 1).join("\n")) !== null) return "";
-  return sentence(`Line ${at + 1} has no \`;\` at its end: perhaps that is the fault. `);
+  if (!isInText({ kind }) || begin < 0 || last < begin || /;|\(\*|\*\)/.test(lines[last]) || misspeltQuestion(text)) return "";
+  if (questionIn(lines.slice(0, last + 1).join("\n")) !== null) return "";
+  return sentence(`Line ${last + 1} has no \`;\` at its end: perhaps that is the fault. `);
 }
 
 // Why a list is refused, by the name of the limit.

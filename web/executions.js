@@ -78,11 +78,11 @@ export class Execution {
     let state = { at: 0, registers: this.test.registers[thread], zero: false };
     for (const position of path) {
       if (state.at !== position && state.at !== null) return null;
-      const [event, it] = [eventOf(thread, position), code[position]];
-      const word = READS.includes(it.kind) ? this.wordRead(event) : null;
+      const [event, instruction] = [eventOf(thread, position), code[position]];
+      const word = READS.includes(instruction.kind) ? this.wordRead(event) : null;
       this.read.set(event, word);
-      if (WRITES.includes(it.kind)) this.written.set(event, writtenWord(it, state.registers, word));
-      state = stateAfter(it, position, state, word);
+      if (WRITES.includes(instruction.kind)) this.written.set(event, writtenWord(instruction, state.registers, word));
+      state = stateAfter(instruction, position, state, word);
     }
     return state.at === code.length || state.at === null ? state.registers : null;
   }
@@ -305,9 +305,9 @@ function stateAfter(instruction, position, { registers, zero }, word) {
  */
 export function cycleIn(edges) {
   const edgesFrom = new Map();
-  for (const it of edges) {
-    const targets = edgesFrom.get(it.source) ?? edgesFrom.set(it.source, new Map()).get(it.source);
-    if (!targets.has(it.target)) targets.set(it.target, it);
+  for (const edge of edges) {
+    const targets = edgesFrom.get(edge.source) ?? edgesFrom.set(edge.source, new Map()).get(edge.source);
+    if (!targets.has(edge.target)) targets.set(edge.target, edge);
   }
   if (isAcyclic(edgesFrom)) return null;
   const starts = [...edgesFrom.keys()].sort((a, b) => a - b);

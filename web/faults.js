@@ -36,7 +36,7 @@ export function tokenAt(text, index) {
 }
 
 /** Returns what is at a fault's place, in words. */
-function named(token) {
+function wordsOfToken(token) {
   if (token === "") return "the end of the text";
   if (token === "\n") return "the end of the line";
   return `\`${token}\``;
@@ -46,7 +46,7 @@ function named(token) {
 class Place {
   constructor(text, index) {
     const token = tokenAt(text, index);
-    Object.assign(this, { text, index, token, it: named(token), change: null, isX86: /^\s*X86\b/.test(text) });
+    Object.assign(this, { text, index, token, tokenWords: wordsOfToken(token), change: null, isX86: /^\s*X86\b/.test(text) });
     Object.assign(this, { before: cellBefore(text, index), after: text.slice(index + token.length) });
   }
 
@@ -135,8 +135,8 @@ function missingInQuestion(place) {
 function missingThread({ token, after, text }) {
   const names = /^[ \t]*P0\b[^;]*(?=;)/m.exec(text)?.[0].split("|").map((_, thread) => `\`P${thread}\``);
   if (!names || !/^\d+$/.test(token) || !/^\s*:/.test(after) || Number(token) < names.length) return "";
-  const all = names.length === 1 ? names[0] : `${names.slice(0, -1).join(", ")} and ${names.at(-1)}`;
-  return `There is no thread ${token}: the test has ${names.length === 1 ? "only " : ""}${all}.`;
+  const threads = names.length === 1 ? names[0] : `${names.slice(0, -1).join(", ")} and ${names.at(-1)}`;
+  return `There is no thread ${token}: the test has ${names.length === 1 ? "only " : ""}${threads}.`;
 }
 
 /**
@@ -223,7 +223,7 @@ function formOfX86(place) {
   return `lw has no instruction of this name.${place.meant(MNEMONICS)} ${INSTRUCTIONS}`;
 }
 
-// Of each fault, by its kind and name, what is wrong and what is expected. `it` is the token in words.
+// Of each fault, by its kind and name, what is wrong and what is expected. `tokenWords` is the token in words.
 const SENTENCES = {
   "text NotUtf8": () => "The text is not UTF-8 from here on.",
   "text TooLong": () => "The text is too long: it may have 65,536 bytes.",
@@ -234,13 +234,13 @@ const SENTENCES = {
   "text Unexpected": (place) =>
     otherNotation(place) ||
     firstWord(place) ||
-    `${place.it} is not expected here. A test is \`SRC\` or \`X86\` and a name, the initial values in \`{ }\`, the row \`P0 | P1 ;\`, ` +
+    `${place.tokenWords} is not expected here. A test is \`SRC\` or \`X86\` and a name, the initial values in \`{ }\`, the row \`P0 | P1 ;\`, ` +
     "the rows of code, and a question.",
-  "text Number": ({ it }) => `${it} is no number that lw takes: one up to 4294967295, also as \`0x10\`, with no letter after it.`,
+  "text Number": ({ tokenWords }) => `${tokenWords} is no number that lw takes: one up to 4294967295, also as \`0x10\`, with no letter after it.`,
   "text Name": (place) =>
     missingThread(place) ||
     (otherRegister(place.token, place.isX86) !== null && otherHead(place)) ||
-    `${place.it} can't be a name here. A question names a location, as \`x=1\`, or a register with its thread, as ` +
+    `${place.tokenWords} can't be a name here. A question names a location, as \`x=1\`, or a register with its thread, as ` +
     `\`${place.isX86 ? "0:EAX=1" : "0:r0=1"}\`.${place.meantRegister()}`,
   "text Ragged": () => "This row has too few or too many cells: it needs one for each thread, with `|` between them. A cell may be empty.",
   "text TooManyThreads": () => "A test has four threads at most.",
@@ -248,18 +248,18 @@ const SENTENCES = {
   "text TooManyLocations": () => "A test has eight locations at most.",
   "text Condition": (place) =>
     otherNotation(place) ||
-    `${place.it} does not fit into the question. It is \`exists\`, \`~exists\` or \`forall\`, and then for instance \`(x=1 /\\ 0:r0=0)\`, ` +
+    `${place.tokenWords} does not fit into the question. It is \`exists\`, \`~exists\` or \`forall\`, and then for instance \`(x=1 /\\ 0:r0=0)\`, ` +
     "with `/\\` (and), `\\/` (or) and `~` (not).",
-  "cell Form": (place) => `${place.it} does not fit here. ${otherCode(place) || (place.isX86 ? formOfX86(place) : formOfSource(place))}`,
+  "cell Form": (place) => `${place.tokenWords} does not fit here. ${otherCode(place) || (place.isX86 ? formOfX86(place) : formOfSource(place))}`,
   "cell Register": (place) =>
     otherCode(place) ||
-    `${place.it} is no register, and one is needed here: ${place.isX86 ? "`EAX`, `EBX`, `ECX`, `EDX`, `ESI` or `EDI`" : "`r0` to `r5`"}.` +
+    `${place.tokenWords} is no register, and one is needed here: ${place.isX86 ? "`EAX`, `EBX`, `ECX`, `EDX`, `ESI` or `EDI`" : "`r0` to `r5`"}.` +
     `${place.meantRegister()} ` +
     (place.isX86 ? "A location has brackets: `[x]`." : "A location is loaded into a register first: `r0 := y`."),
   "cell LabelMissing": (place) =>
-    `The thread has no label ${place.it} to jump to.${place.meant([...place.text.matchAll(/([A-Za-z_]\w*)\s*:(?!=)/g)].map(([, label]) => label))}`,
-  "cell LabelTwice": ({ it }) => `The thread has the label ${it} already.`,
-  "cell Backward": ({ it }) => `The jump to ${it} goes back. Jumps go forward only: a loop is written out as often as it is tried.`,
+    `The thread has no label ${place.tokenWords} to jump to.${place.meant([...place.text.matchAll(/([A-Za-z_]\w*)\s*:(?!=)/g)].map(([, label]) => label))}`,
+  "cell LabelTwice": ({ tokenWords }) => `The thread has the label ${tokenWords} already.`,
+  "cell Backward": ({ tokenWords }) => `The jump to ${tokenWords} goes back. Jumps go forward only: a loop is written out as often as it is tried.`,
   "cell TooMany": ({ isX86 }) =>
     `A thread has ${isX86 ? "32 instructions" : "16 statements"} at most, and a test eight locations.`,
 };

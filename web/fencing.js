@@ -74,8 +74,8 @@ export function withFences(test, places) {
   const threads = test.threads.map((code, thread) => {
     const added = places.filter(([otherThread]) => otherThread === thread).map(([, position]) => position);
     const moved = (target) => target + added.filter((position) => position < target).length;
-    return code.flatMap((it, index) => {
-      const kept = it.target === undefined ? it : { ...it, target: moved(it.target) };
+    return code.flatMap((instruction, index) => {
+      const kept = instruction.target === undefined ? instruction : { ...instruction, target: moved(instruction.target) };
       return added.includes(index) ? [{ kind: "mfence" }, kept] : [kept];
     });
   });

@@ -67,12 +67,12 @@ export class Gallery {
 
   /** Goes by arrows from the field to the first example and through the examples, and from the first back to the field. */
   move(event) {
-    const to = { ArrowDown: 1, ArrowUp: -1 }[event.key];
+    const step = { ArrowDown: 1, ArrowUp: -1 }[event.key];
     const places = [this.search, ...this.body.querySelectorAll(".card, .example")];
     const index = places.indexOf(event.target);
-    if (to === undefined || index < 0 || !places[index + to]) return;
+    if (step === undefined || index < 0 || !places[index + step]) return;
     event.preventDefault();
-    places[index + to].focus();
+    places[index + step].focus();
   }
 
   /** Returns whether the test that is shown is an x86 test. */

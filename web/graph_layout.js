@@ -44,10 +44,10 @@ const SHORT = 50;
 
 /** Returns a point of a cubic curve. */
 function onCurve([a, b, c, d], part) {
-  const rest = 1 - part;
-  const at = (axis) =>
-    rest * rest * rest * a[axis] + 3 * rest * rest * part * b[axis] + 3 * rest * part * part * c[axis] + part * part * part * d[axis];
-  return [at(0), at(1)];
+  const other = 1 - part;
+  const coordinate = (axis) =>
+    other * other * other * a[axis] + 3 * other * other * part * b[axis] + 3 * other * part * part * c[axis] + part * part * part * d[axis];
+  return [coordinate(0), coordinate(1)];
 }
 
 export class GraphLayout {

@@ -7,14 +7,14 @@ function labelsOf(text) {
   const test = readTest(text);
   if (test.language !== "X86") return [];
   return test.columns.map((cells) => {
-    const found = new Map();
+    const labels = new Map();
     let number = 0;
     for (const cell of cells) {
-      let at = 0;
-      for (; cell[at + 1]?.text === ":"; at += 2) found.set(number, cell[at].text);
-      if (at < cell.length) number += 1;
+      let index = 0;
+      for (; cell[index + 1]?.text === ":"; index += 2) labels.set(number, cell[index].text);
+      if (index < cell.length) number += 1;
     }
-    return found;
+    return labels;
   });
 }
 

@@ -28,14 +28,14 @@ export function fileName(name, ending) {
  * Copies a text: by an older way if the page may not use the new one, as on an address that is no secure context. Returns whether it is
  * copied, and says so; otherwise it shows the text selected.
  * @param {string} text
- * @param {Element} said
+ * @param {Element} status
  * @param {string} [note]
  * @returns {Promise<boolean>}
  */
-export async function copy(text, said, note = "") {
-  const isCopied = (await isWritten(text)) || isCopiedFromField(text, said);
-  if (isCopied) said.textContent = `Copied${note}.`;
-  else showToCopy(text, said);
+export async function copy(text, status, note = "") {
+  const isCopied = (await isWritten(text)) || isCopiedFromField(text, status);
+  if (isCopied) status.textContent = `Copied${note}.`;
+  else showToCopy(text, status);
   return isCopied;
 }
 
@@ -51,13 +51,13 @@ async function isWritten(text) {
 /**
  * Copies a text out of a field that is there for a moment. It lies in the dialog that is open, since nothing else can be selected then.
  * @param {string} text
- * @param {Element} said
+ * @param {Element} status
  * @returns {boolean}
  */
-function isCopiedFromField(text, said) {
+function isCopiedFromField(text, status) {
   const field = el("textarea", { class: "copied", "aria-label": "To copy", readonly: true }, text);
   const focused = document.activeElement;
-  (said.closest("dialog") ?? document.body).append(field);
+  (status.closest("dialog") ?? document.body).append(field);
   field.select();
   const isCopied = document.execCommand("copy");
   field.remove();
@@ -65,8 +65,8 @@ function isCopiedFromField(text, said) {
   return isCopied;
 }
 
-function showToCopy(text, said) {
-  const shown = el("input", { type: "text", class: "copied-shown", readonly: true, value: text, "aria-label": "To copy" });
-  said.replaceChildren("Copy it by hand: ", shown);
-  shown.select();
+function showToCopy(text, status) {
+  const field = el("input", { type: "text", class: "copied-shown", readonly: true, value: text, "aria-label": "To copy" });
+  status.replaceChildren("Copy it by hand: ", field);
+  field.select();
 }

@@ -115,13 +115,13 @@ function heldLines(thread) {
 /** How much room the threads of a film need, the same for all its states. */
 class Measures {
   constructor(film) {
-    const places = film.states.flatMap((state) => state.threads);
+    const threadStates = film.states.flatMap((state) => state.threads);
     this.used = film.cells.map((_, thread) => usedRegisters(film, thread));
     this.hasBuffers = "buffer" in film.states[0].threads[0];
-    this.entries = this.hasBuffers ? Math.max(1, ...places.map((it) => it.buffer.length)) : 0;
+    this.entries = this.hasBuffers ? Math.max(1, ...threadStates.map((it) => it.buffer.length)) : 0;
     this.code = Math.max(1, ...film.cells.map((column) => column.length));
     this.registers = Math.max(1, ...this.used.map((it) => it.length));
-    this.hasLines = places.some((it) => heldLines(it).length > 0);
+    this.hasLines = threadStates.some((it) => heldLines(it).length > 0);
     this.width = Math.max(...film.cells.map((_, thread) => this.widthOf(film, thread)));
     this.height = LINE * (this.code + this.registers + 2) + EDGE * 2;
     this.height += this.hasBuffers ? (this.entries + 1) * (LINE + 3) : 0;
@@ -134,9 +134,9 @@ class Measures {
   widthOf(film, thread) {
     const texts = ["store buffer", ...film.cells[thread].map((it) => `${it.text}  `)];
     for (const state of film.states) {
-      const place = state.threads[thread];
-      texts.push(...[...place.registers, ...(place.buffer ?? [])].map(([name, word]) => `${name}=${word}`));
-      texts.push(`lines ${heldLines(place).join(" ")}`);
+      const threadState = state.threads[thread];
+      texts.push(...[...threadState.registers, ...(threadState.buffer ?? [])].map(([name, word]) => `${name}=${word}`));
+      texts.push(`lines ${heldLines(threadState).join(" ")}`);
     }
     return Math.max(...texts.map((it) => it.length)) * LETTER + EDGE * 2;
   }
@@ -146,45 +146,45 @@ class Measures {
 
 /** Draws a thread: its code, its registers, its store buffer and its cache lines. */
 function drawThread(drawing, film, step, thread, left, y, measures) {
-  const place = film.states[step].threads[thread];
+  const state = film.states[step].threads[thread];
   const before = film.states[Math.max(step - 1, 0)].threads[thread];
   const effect = step && film.effects[step - 1].thread === thread ? film.effects[step - 1] : {};
   drawing.box(left, y, measures.width, measures.height);
   const x = left + EDGE;
   let top = y + LINE;
   drawing.text(x, top, `P${thread}`, "title");
-  drawCode(drawing, film.cells[thread], place.at, x, top);
+  drawCode(drawing, film.cells[thread], state.at, x, top);
   top += LINE * (measures.code + 1) + 4;
-  const [words, old] = [new Map(place.registers), new Map(before.registers)];
+  const [words, old] = [new Map(state.registers), new Map(before.registers)];
   for (const [row, name] of measures.used[thread].entries()) {
     const word = words.get(name);
     drawing.text(x, top + LINE * row, `${name}=${word}`, word !== old.get(name) || name === effect.register ? "changed" : "");
   }
   top += LINE * measures.registers;
   if (measures.hasLines) {
-    const isChanged = JSON.stringify(place.lines) !== JSON.stringify(before.lines);
-    drawing.text(x, top, `lines ${heldLines(place).join(" ") || "none"}`, isChanged ? "changed" : "faint");
+    const isChanged = JSON.stringify(state.lines) !== JSON.stringify(before.lines);
+    drawing.text(x, top, `lines ${heldLines(state).join(" ") || "none"}`, isChanged ? "changed" : "faint");
     top += LINE;
   }
-  if (measures.hasBuffers) drawBuffer(drawing, place.buffer, before.buffer, effect.entry, x, top, measures);
+  if (measures.hasBuffers) drawBuffer(drawing, state.buffer, before.buffer, effect.entry, x, top, measures);
 }
 
-function drawCode(drawing, cells, at, x, top) {
+function drawCode(drawing, cells, position, x, top) {
   for (const [row, cell] of cells.entries()) {
-    const isNext = cell.at === at;
-    const kind = isNext ? "next" : cell.at < at ? "faint" : "";
+    const isNext = cell.at === position;
+    const kind = isNext ? "next" : cell.at < position ? "faint" : "";
     drawing.text(x, top + LINE * (row + 1), (isNext ? "▸ " : "  ") + cell.text, kind);
   }
 }
 
 /** Draws a store buffer as a queue: the oldest entry is lowest, next to memory. */
-function drawBuffer(drawing, buffer, before, read, x, top, measures) {
+function drawBuffer(drawing, buffer, before, entryRead, x, top, measures) {
   drawing.text(x, top, "store buffer", "faint");
   if (!buffer.length) drawing.text(x, top + 6 + (measures.entries - 1) * (LINE + 3) + 14, "(empty)", "faint");
   for (const [number, [name, word]] of buffer.entries()) {
     const isNew = buffer.length > before.length && number === buffer.length - 1;
     const y = top + 6 + (measures.entries - 1 - number) * (LINE + 3);
-    drawing.framed(x, y, `${name}=${word}`, "entry", isNew ? "changed" : number === read ? "read" : "");
+    drawing.framed(x, y, `${name}=${word}`, "entry", isNew ? "changed" : number === entryRead ? "read" : "");
   }
 }
 

@@ -43,16 +43,16 @@ export class Player {
     if (now) this.schedule.scrollLeft = Math.max(0, now.offsetLeft - this.schedule.offsetLeft - this.schedule.clientWidth / 2);
   }
 
-  buttonOf(event, at) {
-    const [isDone, isNow] = [at < this.step, at === this.step - 1];
+  buttonOf(event, index) {
+    const [isDone, isNow] = [index < this.step, index === this.step - 1];
     const kinds = ["event", threadClass(event[1]), event[0] === "D" && "drains", isDone && "behind", isNow && "now"];
-    return button(event, () => this.jump(at + 1), {
+    return button(event, () => this.jump(index + 1), {
       class: kinds.filter(Boolean).join(" "),
-      "data-step": String(at + 1),
-      "data-at": this.places[at] ?? null,
-      "aria-label": `Event ${at + 1} of ${this.events.length}: ${event}`,
+      "data-step": String(index + 1),
+      "data-at": this.places[index] ?? null,
+      "aria-label": `Event ${index + 1} of ${this.events.length}: ${event}`,
       "aria-current": isNow ? "step" : null,
-      tabindex: at === Math.max(this.step - 1, 0) ? "0" : "-1",
+      tabindex: index === Math.max(this.step - 1, 0) ? "0" : "-1",
     });
   }
 

@@ -119,7 +119,7 @@ export class Present {
     const root = document.documentElement;
     root.style.fontSize = `${size}px`;
     root.style.setProperty("--of-machine", ofMachine);
-    const isWhole = (it) => it.scrollWidth <= it.clientWidth + 1 && it.scrollHeight <= it.clientHeight + 1;
+    const isWhole = (box) => box.scrollWidth <= box.clientWidth + 1 && box.scrollHeight <= box.clientHeight + 1;
     const scrolled = [...document.querySelectorAll(".code, .wide")].filter((it) => it.offsetParent !== null);
     return scrolled.every(isWhole) && root.scrollHeight <= innerHeight && root.scrollWidth <= innerWidth;
   }

@@ -24,7 +24,7 @@ export class NoReplay extends Error {}
 const pairs = (text) => text.split(" ").filter(Boolean).map((it) => it.split("="));
 
 /** Returns whether the names of two lists of pairs are the same, in the same order. */
-const sameNames = (found, names) => found.map(([name]) => name).join(" ") === names.join(" ");
+const sameNames = (actual, names) => actual.map(([name]) => name).join(" ") === names.join(" ");
 
 /** The lines of a text, which are read one after another. */
 class Page {

@@ -84,8 +84,8 @@ export class Rows {
 
   /** Shows anew what is chosen, found and marked. */
   follow() {
-    const at = this.shown.findIndex((it) => it.line === this.strip.chosen);
-    if (at >= 0 && this.strip.chosen !== this.chosen) this.bring(at);
+    const index = this.shown.findIndex((it) => it.line === this.strip.chosen);
+    if (index >= 0 && this.strip.chosen !== this.chosen) this.bring(index);
     else this.draw(true);
     this.chosen = this.strip.chosen;
     this.never.hidden = this.strip.ghost === null;
@@ -100,9 +100,9 @@ export class Rows {
   }
 
   /** Brings a row into sight. */
-  bring(at) {
-    this.at = at;
-    const top = at * this.height;
+  bring(index) {
+    this.at = index;
+    const top = index * this.height;
     if (top < this.body.scrollTop) this.body.scrollTop = top;
     else if (top + this.height > this.body.scrollTop + this.body.clientHeight) this.body.scrollTop = top + this.height - this.body.clientHeight;
     this.draw(true);
@@ -119,34 +119,34 @@ export class Rows {
     this.body.setAttribute("aria-activedescendant", this.idOf(this.at));
   }
 
-  idOf(at) {
-    return this.strip.editor.id(`${this.strip.name}-${at}`);
+  idOf(index) {
+    return this.strip.editor.id(`${this.strip.name}-${index}`);
   }
 
-  rowOf(state, at) {
+  rowOf(state, index) {
     const { strip } = this;
     const isShown = strip.isShown(state);
     const words = wordsOf(state.line).map(([, word]) => el("span", {}, isShown ? String(word) : "·"));
     const mark = this.report.is_marked ? el("span", {}, isShown && state.holds ? "✓" : "") : null;
     const alone = strip.alone?.has(state.line) ? el("span", { class: "small" }, `+ ${strip.aloneWords}`) : null;
     const attributes = {
-      class: `row-line ${strip.kindOf(state)}${at === this.at ? " at" : ""}`,
+      class: `row-line ${strip.kindOf(state)}${index === this.at ? " at" : ""}`,
       role: "option",
-      id: this.idOf(at),
+      id: this.idOf(index),
       "aria-selected": String(state.line === strip.chosen),
       "aria-setsize": String(this.shown.length),
-      "aria-posinset": String(at + 1),
-      "data-at": String(at),
+      "aria-posinset": String(index + 1),
+      "data-at": String(index),
     };
     const row = el("div", attributes, el("span", { class: "index" }, String(state.index + 1)), words, mark, alone);
-    Object.assign(row.style, { gridTemplateColumns: this.columns, top: `${at * this.height}px`, height: `${this.height}px` });
+    Object.assign(row.style, { gridTemplateColumns: this.columns, top: `${index * this.height}px`, height: `${this.height}px` });
     return row;
   }
 
   clicked(event) {
-    const at = event.target.closest("[data-at]")?.dataset.at;
-    if (at === undefined) return;
-    this.at = Number(at);
+    const index = event.target.closest("[data-at]")?.dataset.at;
+    if (index === undefined) return;
+    this.at = Number(index);
     this.choose();
   }
 
@@ -156,9 +156,9 @@ export class Rows {
   }
 
   key(event) {
-    const { at } = this;
+    const { at: index } = this;
     const [page, last] = [Math.floor(this.body.clientHeight / this.height), this.shown.length - 1];
-    const to = { ArrowDown: at + 1, ArrowUp: at - 1, PageDown: at + page, PageUp: at - page, Home: 0, End: last }[event.key];
+    const to = { ArrowDown: index + 1, ArrowUp: index - 1, PageDown: index + page, PageUp: index - page, Home: 0, End: last }[event.key];
     if (to !== undefined) this.bring(Math.max(0, Math.min(to, last)));
     else if (event.key === "Enter" || event.key === " ") this.choose();
     else return;

@@ -47,8 +47,8 @@ export function stepWords(run) {
 
 /** Returns why a run opens at a step in its middle. */
 function openingWords({ threads }) {
-  const waiting = threads.reduce((sum, it) => sum + (it.buffer?.length ?? 0), 0);
-  return el("span", { class: "opening" }, ` This step is shown first: ${waiting === 1 ? "a store waits" : `${waiting} stores wait`}.`);
+  const count = threads.reduce((sum, it) => sum + (it.buffer?.length ?? 0), 0);
+  return el("span", { class: "opening" }, ` This step is shown first: ${count === 1 ? "a store waits" : `${count} stores wait`}.`);
 }
 
 /** Returns the number of the step; of a run by hand its length only if events follow, and nothing before the first event. */

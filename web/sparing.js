@@ -25,7 +25,7 @@ export function without(test, leftOut) {
     const positions = leftOut.filter(([of]) => of === thread).map(([, at]) => at);
     const moved = (target) => target - positions.filter((at) => at < target).length;
     const kept = code.filter((_, index) => !positions.includes(index));
-    return kept.map((it) => (it.target === undefined ? it : { ...it, target: moved(it.target) }));
+    return kept.map((instruction) => (instruction.target === undefined ? instruction : { ...instruction, target: moved(instruction.target) }));
   });
   return { ...test, threads };
 }

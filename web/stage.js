@@ -80,10 +80,10 @@ export class Stage {
   mark() {
     const refusedOf = (event) => this.moves.get(event)?.refused ?? null;
     const hasWords = (refused) => refused !== null && !NOTHING_LEFT.includes(refused.cause);
-    for (const it of this.place.querySelectorAll("button[data-event]")) {
-      const refused = refusedOf(it.dataset.event);
-      it.setAttribute("aria-disabled", String(refused !== null));
-      it.classList.toggle("refused", hasWords(refused));
+    for (const button of this.place.querySelectorAll("button[data-event]")) {
+      const refused = refusedOf(button.dataset.event);
+      button.setAttribute("aria-disabled", String(refused !== null));
+      button.classList.toggle("refused", hasWords(refused));
     }
     for (const [thread, it] of [...this.place.querySelectorAll(".waits")].entries()) {
       it.textContent = hasWords(refusedOf(`P${thread}`)) ? "waits for its buffer" : "";
@@ -103,49 +103,49 @@ export class Stage {
   // A thread.
 
   /** Returns a thread: its code, its registers and its store buffer. */
-  threadOf(place, thread) {
-    const registers = this.registersOf(place, thread);
+  threadOf(state, thread) {
+    const registers = this.registersOf(state, thread);
     const stacked = isStacked(this.shown, registers.length) ? ` stacked${hasLongStores(this.shown.cells) ? " long" : ""}` : "";
-    const below = [this.registerList(registers, thread), place.buffer ? this.buffer(place.buffer, thread) : null];
+    const below = [this.registerList(registers, thread), state.buffer ? this.buffer(state.buffer, thread) : null];
     return el(
       "section",
       { class: `thread ${threadClass(thread)}`, "aria-label": `Thread ${thread}` },
       el("h3", {}, el("span", { class: "badge-thread" }, `P${thread}`), " ", el("span", { class: "lines-in-sight" })),
-      this.code(place, thread),
+      this.code(state, thread),
       el("p", { class: "waits" }),
       el("div", { class: `below${stacked}` }, below),
-      caches.isOn && place.lines ? this.lines(place.lines, thread) : null,
+      caches.isOn && state.lines ? this.lines(state.lines, thread) : null,
     );
   }
 
   /** Returns the code of a thread, in which the next instruction is marked. */
-  code(place, thread) {
+  code(state, thread) {
     const cells = this.shown.cells[thread];
-    const isEnd = cells.every((it) => it.at < place.at || it.text.endsWith(":"));
+    const isEnd = cells.every((it) => it.at < state.at || it.text.endsWith(":"));
     const end = el("li", { class: isEnd ? "end reached" : "end" }, el("span", { class: "line" }, isEnd ? "at its end" : "end"));
     const fences = this.shown.hasFences ? cells.map((it) => fenceButton(it, cells, thread, this.fence)) : [];
     const first = fences.find(Boolean);
     if (first) first.tabIndex = 0;
-    return el("ol", { class: "code", "aria-label": "code" }, cells.map((it, index) => this.lineOf(it, place, thread, fences[index])), end);
+    return el("ol", { class: "code", "aria-label": "code" }, cells.map((it, index) => this.lineOf(it, state, thread, fences[index])), end);
   }
 
   /** Returns a line of code; the next instruction is a button. */
-  lineOf(cell, place, thread, fence = null) {
+  lineOf(cell, state, thread, fence = null) {
     const { tints, effect, event, before } = this.shown;
     const isLabel = cell.text.endsWith(":");
-    const isNext = cell.at === place.at && !isLabel;
+    const isNext = cell.at === state.at && !isLabel;
     const isDone = event?.[0] === "P" && effect?.thread === thread && cell.at === before.threads[thread].at && !isLabel;
-    const kinds = [isNext ? "next" : cell.at < place.at && "behind", isDone && "done"];
-    const at = `${thread}:${cell.at}`;
-    const attributes = { class: "line", "data-key": `c:${at}${isLabel ? "l" : ""}`, "data-at": isLabel ? null : at };
+    const kinds = [isNext ? "next" : cell.at < state.at && "behind", isDone && "done"];
+    const key = `${thread}:${cell.at}`;
+    const attributes = { class: "line", "data-key": `c:${key}${isLabel ? "l" : ""}`, "data-at": isLabel ? null : key };
     const text = codeNodes(cell.text, tints, thread);
     const label = `P${thread}: carry out ${cell.text}`;
     const line = isNext ? this.buttonOf(`P${thread}`, label, attributes, text) : el("span", attributes, text);
     return el("li", { class: kinds.filter(Boolean).join(" "), "aria-current": isNext ? "step" : null }, line, fence);
   }
 
-  registersOf(place, thread) {
-    return place.registers.filter(([name]) => this.shown.used[thread].has(name));
+  registersOf(state, thread) {
+    return state.registers.filter(([name]) => this.shown.used[thread].has(name));
   }
 
   /** Returns the registers of a thread, in which changes are marked. */
@@ -166,8 +166,8 @@ export class Stage {
 
   /** Returns the queue: the newest entry on top, the oldest below, next to memory. */
   buffer(entries, thread) {
-    const room = Math.max(Math.min(this.shown.slots[thread], MAX_SLOTS), entries.length, 1);
-    const empty = Array.from({ length: room - entries.length }, () => el("li", { class: "slot", "aria-hidden": "true" }));
+    const slots = Math.max(Math.min(this.shown.slots[thread], MAX_SLOTS), entries.length, 1);
+    const empty = Array.from({ length: slots - entries.length }, () => el("li", { class: "slot", "aria-hidden": "true" }));
     const full = entries.map((_, index) => el("li", {}, this.entryOf(entries, index, thread))).reverse();
     const label = entries.length ? "store buffer, the oldest entry last" : "store buffer: empty";
     const caption = el("span", { class: "caption" }, el("span", { class: "long-word" }, "store "), "buffer");

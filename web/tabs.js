@@ -10,7 +10,7 @@ export class Tabs {
   constructor(chosen) {
     this.chosen = chosen;
     this.view = VIEWS[0];
-    for (const it of VIEWS) byId(`tab-${it}`).addEventListener("click", () => this.choose(it));
+    for (const name of VIEWS) byId(`tab-${name}`).addEventListener("click", () => this.choose(name));
     byId("tabs").addEventListener("keydown", (event) => this.key(event));
   }
 
@@ -23,11 +23,11 @@ export class Tabs {
   show(view) {
     this.view = view;
     document.body.dataset.view = view;
-    for (const it of VIEWS) {
-      const tab = byId(`tab-${it}`);
-      tab.setAttribute("aria-selected", String(it === view));
-      tab.tabIndex = it === view ? 0 : -1;
-      if (!IN_RUN.includes(it)) byId(it).hidden = it !== view;
+    for (const name of VIEWS) {
+      const tab = byId(`tab-${name}`);
+      tab.setAttribute("aria-selected", String(name === view));
+      tab.tabIndex = name === view ? 0 : -1;
+      if (!IN_RUN.includes(name)) byId(name).hidden = name !== view;
     }
     byId("watching").hidden = !this.isOfRun;
     byId("watching").setAttribute("aria-labelledby", `tab-${this.isOfRun ? view : IN_RUN[0]}`);

@@ -111,22 +111,22 @@ export function textNodes(text, tints) {
   if (text.length > MAX_COLOURED) return [text];
   const nodes = [];
   let [depth, thread, isHead] = [0, null, false];
-  for (const [it] of text.matchAll(TOKEN)) {
-    if (it === "(*") depth += 1;
+  for (const [token] of text.matchAll(TOKEN)) {
+    if (token === "(*") depth += 1;
     if (depth > 0) {
-      nodes.push(el("span", { class: "comment" }, it));
-      if (it === "*)") depth -= 1;
+      nodes.push(el("span", { class: "comment" }, token));
+      if (token === "*)") depth -= 1;
       continue;
     }
-    if (/^P\d$/.test(it)) {
-      [thread, isHead] = [Number(it[1]), true];
-      nodes.push(el("span", { class: `head ${threadClass(thread)}` }, it));
+    if (/^P\d$/.test(token)) {
+      [thread, isHead] = [Number(token[1]), true];
+      nodes.push(el("span", { class: `head ${threadClass(thread)}` }, token));
       continue;
     }
-    if (thread !== null && it === "|") thread += 1;
-    if (thread !== null && it === ";") [thread, isHead] = [0, false];
-    if (!isHead && /^(?:exists|forall|locations|filter)$/.test(it)) thread = null;
-    nodes.push(it === "|" || it === ";" ? el("span", { class: "bar" }, it) : nodeOf(it, tints, thread));
+    if (thread !== null && token === "|") thread += 1;
+    if (thread !== null && token === ";") [thread, isHead] = [0, false];
+    if (!isHead && /^(?:exists|forall|locations|filter)$/.test(token)) thread = null;
+    nodes.push(token === "|" || token === ";" ? el("span", { class: "bar" }, token) : nodeOf(token, tints, thread));
   }
   return nodes;
 }

@@ -38,20 +38,20 @@ function stateOf(test, line) {
  */
 function forbiddenStates(test, wanted) {
   const [allowed, forbidden, sites] = [new Set(), new Map(), observed(test)];
-  for (const it of candidates(test, MAX_EXECUTIONS)) {
-    const outcome = it.outcome();
+  for (const execution of candidates(test, MAX_EXECUTIONS)) {
+    const outcome = execution.outcome();
     const words = sites.map((site) => wordAt(site, outcome) ?? null);
     const isOther = (word, index) => word !== null && word !== wanted.get(siteKey(sites[index]));
     if (allowed.has(String(words)) || (wanted && words.some(isOther))) continue;
-    const violation = it.broken();
+    const violation = execution.broken();
     if (!violation) {
       allowed.add(String(words));
       forbidden.delete(String(words));
       continue;
     }
-    const names = new Names(it);
+    const names = new Names(execution);
     const events = violation.cycle.map((each) => names.line(each.source));
-    const way = { axiom: violation.axiom, cycle: names.cycle(violation.cycle), events, times: 0, execution: it, violation };
+    const way = { axiom: violation.axiom, cycle: names.cycle(violation.cycle), events, times: 0, execution: execution, violation };
     const { ways } = forbidden.get(String(words)) ?? forbidden.set(String(words), { words, ways: new Map() }).get(String(words));
     const key = JSON.stringify([way.axiom, way.cycle, events]);
     if (!ways.has(key)) ways.set(key, way);
