@@ -16,20 +16,20 @@ const MADE = { compiled: "what it is compiled to", bare: "that without its fence
 
 export class Beside {
   /**
-   * Makes both sides. `choose` puts an example into the editor, or with no name the reader's own test; `copyLink` copies the address; `drawn` is
+   * Makes both sides. `choose` puts an example into the editor, or with no name the reader's own test; `copyLink` copies the address; `onDraw` is
    * called when another run is shown.
    */
-  constructor(editor, examples, own, { choose, copyLink, drawn }) {
+  constructor(editor, examples, own, { choose, copyLink, onDraw }) {
     Object.assign(this, { editor, examples, own, isOpen: false, made: null });
     this.place = byId("beside");
-    const revealed = () => this.compare();
-    const moved = () => this.lockstep?.follow();
+    const onReveal = () => this.compare();
+    const onStep = () => this.lockstep?.follow();
     const fitted = () => {
-      drawn();
+      onDraw();
       this.fitLater();
     };
-    this.first = new Side("first", "The first test", { chosen: choose, revealed, drawn: fitted, moved });
-    this.second = new Side("second", "The second test", { chosen: (value) => this.choose(value), revealed, drawn: fitted, moved });
+    this.first = new Side("first", "The first test", { onChoose: choose, onReveal, onDraw: fitted, onStep });
+    this.second = new Side("second", "The second test", { onChoose: (value) => this.choose(value), onReveal, onDraw: fitted, onStep });
     this.sides = [this.first, this.second];
     this.lockstep = new Lockstep(this.sides.map((it) => it.states.run), () => this.giveKeys(null));
     this.notices = el("div", {});

@@ -56,7 +56,7 @@ export class Compile {
     const columns = lists.map((it, index) => el("div", {}, codes[index], it.place));
     this.place.append(this.wordsOn(answer), el("div", { class: "columns" }, columns));
     const [bare, compiled] = ["bare", "compiled"].map((name) => lists.find((it) => it.name === name));
-    await Promise.all(lists.map((it) => it.ask({ timeout, listed: () => bare?.markWhatIsNewTo(compiled) })));
+    await Promise.all(lists.map((it) => it.ask({ timeout, onList: () => bare?.markWhatIsNewTo(compiled) })));
   }
 
   /** Returns what is said of the texts that are shown. */
@@ -117,24 +117,24 @@ class List {
     this.strip = new Strip(editor, { choose, name, aloneWords: "new" });
   }
 
-  /** Asks for the list, by a search if `search` is set; `listed` is called when it is there. */
-  async ask({ timeout = null, listed, search = false }) {
-    const waiting = el("div", {});
-    this.place.replaceChildren(el("h3", {}, this.title), waiting);
-    const how = { place: waiting, timeout, name: `the list of what is ${this.name}` };
+  /** Asks for the list, by a search if `search` is set; `onList` is called when it is there. */
+  async ask({ timeout = null, onList, search = false }) {
+    const placeholder = el("div", {});
+    this.place.replaceChildren(el("h3", {}, this.title), placeholder);
+    const how = { place: placeholder, timeout, name: `the list of what is ${this.name}` };
     const answer = await ask(this.editor, "states", { text: this.text, search }, how);
     if (!answer) return;
-    waiting.replaceChildren();
+    placeholder.replaceChildren();
     Object.assign(this, { report: answer.report ?? null, isSearched: search });
-    if (!this.report) return this.fail(answer, waiting, listed);
+    if (!this.report) return this.fail(answer, placeholder, onList);
     this.draw();
-    listed();
+    onList();
   }
 
   /** Says why there is no list, and offers a search if it would take too long. */
-  fail(answer, place, listed) {
+  fail(answer, place, onList) {
     showError(answer, place, this.editor);
-    const search = () => this.ask({ listed, search: true });
+    const search = () => this.ask({ onList, search: true });
     if (isTooLong(answer)) place.append(searchOffer(search, this.editor.id(`search-${this.name}`)));
   }
 

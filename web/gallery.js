@@ -16,9 +16,9 @@ const PICKS = [
 ];
 
 export class Gallery {
-  /** Fills the dialog. It calls `chosen` with the name of an example, or with none for the reader's own test. */
-  constructor(examples, chosen) {
-    Object.assign(this, { examples, chosen });
+  /** Fills the dialog. It calls `onChoose` with the name of an example, or with none for the reader's own test. */
+  constructor(examples, onChoose) {
+    Object.assign(this, { examples, onChoose });
     this.place = byId("gallery");
     this.search = el("input", {
       type: "search",
@@ -82,7 +82,7 @@ export class Gallery {
 
   take(name) {
     this.place.close();
-    this.chosen(name);
+    this.onChoose(name);
   }
 
   /** Returns whether nothing may be shown that gives an answer away. */

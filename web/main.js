@@ -41,26 +41,26 @@ const CHANGED = "Changed: Ctrl+Enter lists its states.";
 // What the address says of a test, and of where in it the reader is.
 const NOWHERE = { text: null, example: null, state: null, own: null, step: null, run: null, protocol: null, schedule: null, view: null };
 
-const editor = new Editor(byId("editor"), changed);
+const editor = new Editor(byId("editor"), followChange);
 const own = new Own(editor, (text) => take(text, { text }, true));
 const present = new Present();
 const why = new Why(editor, watchState, (line) => states.strip.explain(line));
-const states = new States(byId("outcome"), editor, () => revealed(), {
+const states = new States(byId("outcome"), editor, () => updateOffers(), {
   why: askWhy,
-  watched: watchState,
+  onWatch: watchState,
   runPanel: byId("watching"),
-  drawn: fitLater,
+  onDraw: fitLater,
   graphPlace: byId("graph-place"),
   next: byId("next"),
-  veiled: keepBack,
+  onVeil: keepBack,
   ownOf: (text) => examples.scheduleOf(text),
-  fenced: changeFence,
+  onFence: changeFence,
 });
 const panels = {
   compile: new Compile(byId("compile"), editor, (text) => take(text, { text })),
   fences: new Fences(byId("fences"), editor, (text) => take(text, { text })),
 };
-const tabs = new Tabs(opened);
+const tabs = new Tabs(followTab);
 let examples;
 let beside;
 let typing = null;
@@ -73,7 +73,7 @@ function fitLater() {
 // What is asked.
 
 /** Offers what can be asked about the list, after it is shown or gone. */
-function revealed() {
+function updateOffers() {
   const report = states?.report ?? null;
   why.offer(report, report && states.asked);
   if (report && tabs.view === "why") why.askOnce();
@@ -108,7 +108,7 @@ function showAnswered() {
 }
 
 /** Pales what was answered on the text before the reader changed it, and lists the new one after a pause. */
-function changed(before) {
+function followChange(before) {
   guess.change(before, editor.text);
   forgetAnswers();
   address.put({ ...NOWHERE, text: editor.text });
@@ -182,7 +182,7 @@ function watchState(line) {
 }
 
 /** Asks for what a tab shows, after it was chosen. */
-function opened(view) {
+function followTab(view) {
   address.put({ view: view === VIEWS[0] ? null : view });
   if (view !== "why") states.strip.explain(null);
   if (view === "hand") {
@@ -365,7 +365,7 @@ async function begin() {
   const [families] = await Promise.all([table("examples"), loadSentences()]);
   examples = new Examples(families, choose);
   new Gallery(examples, choose);
-  beside = new Beside(editor, examples, own, { choose, copyLink, drawn: fitLater });
+  beside = new Beside(editor, examples, own, { choose, copyLink, onDraw: fitLater });
   follow();
   document.body.dataset.ready = "true";
   address.onLink(followFrom);

@@ -40,13 +40,13 @@ const protocolOf = (name) => (PROTOCOLS.includes(name) ? name : "mesi");
 
 export class Run {
   /**
-   * Makes a place for a run. `reached` is called with the line of a state in which a run by hand has ended, `drawn` when another run is shown,
-   * `moved` when it is at another step, `fenced` when a fence is put into the test or taken out. `truthOf` says of the line of a state whether the
+   * Makes a place for a run. `onEnd` is called with the line of a state in which a run by hand has ended, `onDraw` when another run is shown,
+   * `onStep` when it is at another step, `onFence` when a fence is put into the test or taken out. `truthOf` says of the line of a state whether the
    * condition holds there, or null if the list does not say.
    */
   constructor(editor, { isLinked = true, graphPlace = null, ...called } = {}) {
     const nothing = () => null;
-    Object.assign(this, { editor, reached: nothing, drawn: nothing, moved: nothing, fenced: nothing, truthOf: nothing, ...called });
+    Object.assign(this, { editor, onEnd: nothing, onDraw: nothing, onStep: nothing, onFence: nothing, truthOf: nothing, ...called });
     Object.assign(this, { isLinked: isLinked && editor.isAlone, isOpen: false, isLocked: false, protocol: "mesi" });
     Object.assign(this, { kept: new Map(), queue: Promise.resolve(), ticket: 0 });
     this.view = new RunView(this, graphPlace);
@@ -61,7 +61,7 @@ export class Run {
     this.step = null;
     this.kept.clear();
     this.view.clear();
-    this.moved();
+    this.onStep();
   }
 
   // Which run it is.
@@ -141,7 +141,7 @@ export class Run {
     this.view.menu.reset();
     this.view.player.begin();
     this.view.layOut();
-    this.drawn();
+    this.onDraw();
   }
 
   /** Runs another program of a source test: by hand from its start, and a listed run anew. */
@@ -216,7 +216,7 @@ export class Run {
     const direction = this.step === null || Math.abs(step - this.step) !== 1 ? 0 : step - this.step;
     Object.assign(this, { step, ending: null, isOpening: wanted === "telling" && step > 0 });
     this.view.draw(direction);
-    this.moved();
+    this.onStep();
     this.putAddress();
     clearTimeout(this.learning);
     const isKnown = this.kept.has(this.keyOf(this.scheduleTo(step)));
@@ -274,7 +274,7 @@ export class Run {
     this.ending = answer.ending;
     this.view.showStep();
     if (this.isByHand && this.view.hasGraph) this.view.drawGraph();
-    if (answer.ending && this.isByHand) this.reached(answer.ending.line, this.program);
+    if (answer.ending && this.isByHand) this.onEnd(answer.ending.line, this.program);
   }
 
   /** Carries out an event, if it can be done when its turn comes. Events that are clicked fast are carried out in sequence. */
@@ -309,7 +309,7 @@ export class Run {
     if (this.isByHand) return;
     Object.assign(this, { isByHand: true, program: this.isSource && this.program === "x86" ? "compiled" : "test" });
     this.view.layOut();
-    this.drawn();
+    this.onDraw();
   }
 
   // The address and the keys.

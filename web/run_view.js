@@ -33,7 +33,7 @@ export class RunView {
   constructor(run, graphPlace) {
     Object.assign(this, { run, hasGraph: graphPlace !== null, isGraphAside: graphPlace !== null });
     const id = (name) => run.editor.id(name);
-    this.stage = new Stage((event) => run.take(event), (event, refused) => this.refuse(event, refused), (...fence) => run.fenced(...fence));
+    this.stage = new Stage((event) => run.take(event), (event, refused) => this.refuse(event, refused), (...fence) => run.onFence(...fence));
     this.graph = graphPlace ?? el("div", { class: "graph-place", role: "status" });
     this.graphSwitch = button("Graph", () => this.chooseGraph(), {
       class: "draw-execution", "aria-pressed": "false", id: id("graph-switch"), title: "The run as a graph of events",
@@ -181,7 +181,7 @@ export class RunView {
     this.place.classList.toggle("with-graph", isOn && !this.isGraphAside);
     this.graph.replaceChildren();
     if (isOn) await this.drawGraph();
-    this.run.drawn();
+    this.run.onDraw();
   }
 
   /** Draws the graph of the run; of a listed source run that of the compiled program's. Of one by hand it says that there is none. */

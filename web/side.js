@@ -49,17 +49,17 @@ class Sheet {
 
 export class Side {
   /**
-   * Makes an empty side. `chosen` is called with what is chosen in the list of tests, `revealed` when the states are shown and when they are gone,
-   * `drawn` when another run is shown, `moved` when a run is at another step.
+   * Makes an empty side. `onChoose` is called with what is chosen in the list of tests, `onReveal` when the states are shown and when they are gone,
+   * `onDraw` when another run is shown, `onStep` when a run is at another step.
    */
-  constructor(name, label, { chosen, revealed, drawn, moved }) {
+  constructor(name, label, { onChoose, onReveal, onDraw, onStep }) {
     this.sheet = new Sheet(name);
     const [titled, listed] = [this.sheet.id("title"), this.sheet.id("example")];
     this.title = el("h2", { id: titled });
-    this.select = el("select", { id: listed, change: () => chosen(this.select.value) });
+    this.select = el("select", { id: listed, change: () => onChoose(this.select.value) });
     const head = el("div", { class: "head row" }, this.title, el("label", { for: listed, class: "hidden" }, label), this.select);
     this.place = el("section", { class: "side", "aria-labelledby": titled }, head, this.sheet.place);
-    this.states = new States(this.place, this.sheet, revealed, { drawn, moved, firstStep: 0 });
+    this.states = new States(this.place, this.sheet, onReveal, { onDraw, onStep, firstStep: 0 });
   }
 
   /** Shows a test, and which of the options it is. Where it was there before, all that was shown of it stays. */

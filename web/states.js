@@ -42,21 +42,22 @@ function guessedWords(guessed, isSo, askAgain, reason) {
 
 export class States {
   /**
-   * Makes the places for a verdict, a list and a run. `revealed` is called when a list is shown, and when it is gone: `report` is that list, or null.
-   * `why` is called with a missing state, `watched` with one whose run the reader wants to see, `drawn` when another run is shown, `moved` when it is at another step. Runs are shown in `runPanel`, and
-   * their graph in `graphPlace`. `firstStep` is the step at which the first run is shown: "telling", or a number. `ownOf` returns the schedule that
-   * a text has of its own, or null. `fenced` is called if a fence is put into the test or taken out. `next` is shown below the run.
+   * Makes the places for a verdict, a list and a run. `onReveal` is called when a list is shown, and when it is gone: `report` is that list, or null.
+   * `why` is called with a missing state, `onWatch` with one whose run the reader wants to see, `onDraw` when another run is shown, `onStep` when
+   * it is at another step, `onFence` if a fence is put into the test or taken out, and `onVeil` with whether the verdict is kept back. Runs are
+   * shown in `runPanel`, and their graph in `graphPlace`. `firstStep` is the step at which the first run is shown: "telling", or a number. `ownOf`
+   * returns the schedule that a text has of its own, or null. `next` is shown below the run.
    */
-  constructor(panel, editor, revealed = () => null, more = {}) {
+  constructor(panel, editor, onReveal = () => null, more = {}) {
     const { why = null, runPanel = panel, graphPlace = null, firstStep = "telling", next = null, ...others } = more;
-    const { veiled = () => null, ownOf = () => null, watched = null, ...called } = others;
-    Object.assign(this, { editor, revealed, veiled, ownOf, firstStep, why, watched });
+    const { onVeil = () => null, ownOf = () => null, onWatch = null, ...called } = others;
+    Object.assign(this, { editor, onReveal, onVeil, ownOf, firstStep, why, onWatch });
     Object.assign(this, { report: null, isByHand: false, isSearched: false, isVeiled: false, found: new Set(), answered: null });
     this.verdict = el("div", { role: "status", tabindex: "-1", class: "verdicts" });
     this.list = el("div", { class: "list-place" });
     this.strip = new Strip(editor, { choose: (line) => this.choose(line), why });
-    const reached = (line, program) => this.reach(line, program);
-    this.run = new Run(editor, { reached, truthOf: (line) => this.truthOf(line), graphPlace, ...called });
+    const onEnd = (line, program) => this.reach(line, program);
+    this.run = new Run(editor, { onEnd, truthOf: (line) => this.truthOf(line), graphPlace, ...called });
     panel.append(this.verdict, this.list, this.strip.place);
     this.here = new SeenHere(editor);
     largeType.onChange(() => this.strip.layOut());
@@ -71,8 +72,8 @@ export class States {
     this.run.clear();
     this.here.offer(null);
     Object.assign(this, { report: null, isVeiled: false, found: new Set(), answered: null });
-    this.veiled(false);
-    this.revealed();
+    this.onVeil(false);
+    this.onReveal();
   }
 
   // The list.
@@ -140,7 +141,7 @@ export class States {
     this.showNotes();
     this.here.offer(this.isByHand ? null : this.editor.text);
     this.strip.show(report, tintsOf(this.editor.text), missingState(report, questionOf(this.editor.text)));
-    this.revealed();
+    this.onReveal();
     if (this.isByHand) return this.beginByHand(link?.view === "hand" ? link : {});
     if (link?.view === "hand" && link.schedule !== undefined) return this.run.begin(link);
     const { state = null, protocol = "mesi", run = null } = link ?? {};
@@ -161,7 +162,7 @@ export class States {
 
   /** Shows the verdict, or the question before it. */
   showVerdict() {
-    this.veiled(this.isVeiled);
+    this.onVeil(this.isVeiled);
     if (this.isVeiled) this.showQuestion();
     else this.showAnswer();
   }
@@ -225,7 +226,7 @@ export class States {
       return [words, el("code", {}, line.replace(/;$/, "")), " ", link];
     };
     if (missing !== null) return linked("No run ends in ", missing, "why not", this.why);
-    return this.asked !== null && this.watched ? linked("A run ends in ", this.asked, "watch it", this.watched) : [];
+    return this.asked !== null && this.onWatch ? linked("A run ends in ", this.asked, "watch it", this.onWatch) : [];
   }
 
   /** Returns the state whose run shows what the verdict says, or else the first; undefined if there is none. */

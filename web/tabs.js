@@ -6,9 +6,9 @@ export const VIEWS = ["states", "hand", "why", "compile", "fences"];
 const IN_RUN = ["states", "hand"];
 
 export class Tabs {
-  /** Listens to the tabs. It calls `chosen` with the tab that the reader has chosen. */
-  constructor(chosen) {
-    this.chosen = chosen;
+  /** Listens to the tabs. It calls `onChoose` with the tab that the reader has chosen. */
+  constructor(onChoose) {
+    this.onChoose = onChoose;
     this.view = VIEWS[0];
     for (const name of VIEWS) byId(`tab-${name}`).addEventListener("click", () => this.choose(name));
     byId("tabs").addEventListener("keydown", (event) => this.key(event));
@@ -37,7 +37,7 @@ export class Tabs {
   choose(view) {
     this.show(view);
     byId(`tab-${view}`).focus({ preventScroll: true });
-    this.chosen(view);
+    this.onChoose(view);
   }
 
   /** Goes from tab to tab by arrows. */
