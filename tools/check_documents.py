@@ -176,9 +176,9 @@ Check = Tuple[Any, ...]
 # Each check yields its comparisons: what is compared, what is expected, and what is found.
 
 
-def run_command(command: Sequence[str | bytes], given: bytes = b"", **more: Any) -> tuple[bytes, bytes, int]:
+def run_command(command: Sequence[str | bytes], stdin: bytes = b"", **options: Any) -> tuple[bytes, bytes, int]:
     """Returns what a command prints on both streams, and its exit status."""
-    ran = subprocess.run(command, input=given, capture_output=True, cwd=HOME, timeout=60, **more)
+    ran = subprocess.run(command, input=stdin, capture_output=True, cwd=HOME, timeout=60, **options)
     return ran.stdout, ran.stderr, ran.returncode
 
 
@@ -227,20 +227,20 @@ def unescape(text: str) -> bytes:
 def check_fault(kind: str, number: int, name: str, example: str, language: str = "SRC") -> Iterator[Comparison]:
     """Compares what the program says of an example of a row of a table of faults."""
     if example in IN_WORDS:
-        given, position = IN_WORDS[example], None
+        stdin, position = IN_WORDS[example], None
     else:
         words = re.fullmatch(r"(.*): at (\d+)", example)
         text = words and re.fullmatch(r"`(.*)`", words[1])
         if not words or not text and words[1] not in IN_WORDS:
             yield f"docs/FORMAT.md, {kind} {number}: an example that is not understood", "", example
             return
-        given, position = unescape(text[1]) if text else IN_WORDS[words[1]], words[2]
+        stdin, position = unescape(text[1]) if text else IN_WORDS[words[1]], words[2]
     schedule = ""
     if kind == "cell" and example not in IN_WORDS:
-        given = language.encode() + b" G\n{}\n P0 ;\n" + given + b"\nexists (true)\n"
+        stdin = language.encode() + b" G\n{}\n P0 ;\n" + stdin + b"\nexists (true)\n"
     if kind == "schedule":
-        given, schedule = TWO_THREADS, given.decode()
-    out, err, status = run_command([PROGRAM, "replay", schedule], given)
+        stdin, schedule = TWO_THREADS, stdin.decode()
+    out, err, status = run_command([PROGRAM, "replay", schedule], stdin)
     line = re.sub(rb"\d+\n$", b"", err) if position is None else err
     wanted = f"lw: {kind} {number} {name} at {position or ''}" + ("\n" if position else "")
     yield f"docs/FORMAT.md, {kind} fault {number}", (b"", wanted.encode(), 1), (out, line, status)
@@ -332,8 +332,8 @@ def check_questions() -> Iterator[Comparison]:
     for family in read_file("examples/INDEX.md").split("\n## ")[1:]:
         for name, word in re.findall(r"^\| (?!Test )(\S+) \|.*\| (allowed|forbidden) \|$", family, re.M):
             if family.splitlines()[0] in SHAPES:
-                asked = plain.read_test(read_file(f"examples/{name}.litmus")).quantifier
-                yield f"what {name} asks", "exists" if word == "allowed" else "~exists", asked
+                quantifier_read = plain.read_test(read_file(f"examples/{name}.litmus")).quantifier
+                yield f"what {name} asks", "exists" if word == "allowed" else "~exists", quantifier_read
 
 
 def measure_statements(source: str, compiled: str, thread: int) -> list[tuple[int, bool]]:
@@ -370,19 +370,19 @@ def read_state_words(page: str) -> tuple[list[int], list[list[str]], str]:
 def check_compiled(name: str) -> Iterator[Comparison]:
     """Compares a source test with what it is compiled to."""
     source = read_file(name)
-    given, random = source.encode(), Random(name)
-    compiled = run_command([PROGRAM, "compile"], given)[0]
+    stdin, random = source.encode(), Random(name)
+    compiled = run_command([PROGRAM, "compile"], stdin)[0]
     yield f"{name}, compiled twice", (compiled, b"", 0), run_command([PROGRAM, "compile"], compiled)
-    report = run_command([PROGRAM, "states"], given)[0].decode()
+    report = run_command([PROGRAM, "states"], stdin)[0].decode()
     in_x86 = re.sub(r"\b(\d):r([0-5])\b", lambda it: f"{it[1]}:{plain.REGISTERS['X86'][int(it[2])]}", report)
     yield f"{name}, compiled, its report", (in_x86.encode(), b"", 0), run_command([PROGRAM, "states"], compiled)
-    threads = len(read_state_words(run_command([PROGRAM, "replay", ""], given)[0].decode())[0])
+    threads = len(read_state_words(run_command([PROGRAM, "replay", ""], stdin)[0].decode())[0])
     sizes = [measure_statements(source, compiled.decode(), thread) for thread in range(threads)]
     for _ in range(5):
         order: list[str] = []
         events: list[str] = []
         while True:
-            page = run_command([PROGRAM, "replay", " ".join(order)], given)[0].decode()
+            page = run_command([PROGRAM, "replay", " ".join(order)], stdin)[0].decode()
             index, *end = read_state_words(page)
             running = [thread for thread in range(threads) if index[thread] < len(sizes[thread])]
             if not running:
@@ -397,15 +397,15 @@ def check_compiled(name: str) -> Iterator[Comparison]:
 
 def check_refused_memory(program: str, test: str, *arguments: str) -> Iterator[Comparison]:
     """Refuses every call for memory of a run in turn, up to the first run that makes fewer calls."""
-    given = open(f"{HOME}/examples/{test}.litmus", "rb").read()
+    stdin = open(f"{HOME}/examples/{test}.litmus", "rb").read()
     name = f"{os.path.basename(program)} on {test}, {' '.join(arguments)}"
-    refused, whole = (b"", b"lw: memory\n", 4), run_command([program, *arguments], given)
+    refused, whole = (b"", b"lw: memory\n", 4), run_command([program, *arguments], stdin)
     with tempfile.TemporaryDirectory() as folder:
         library, mark = f"{folder}/refuse_memory.so", f"{folder}/mark"
         subprocess.run(["cc", "-O1", "-shared", "-fPIC", "-o", library, f"{HOME}/tools/gate/refuse_memory.c"], check=True)
         for nth in range(1, 10000):
             refusing = {"LD_PRELOAD": library, "REFUSED_CALL": str(nth), "REFUSED_MARK": mark}
-            printed = run_command([program, *arguments], given, env={**os.environ, **refusing})
+            printed = run_command([program, *arguments], stdin, env={**os.environ, **refusing})
             if not os.path.exists(mark):
                 break
             os.remove(mark)
@@ -442,15 +442,15 @@ def wait_for_no_reader(writing: int) -> None:
 def check_output_stream(program: str, command: Sequence[str]) -> Iterator[Comparison]:
     """Runs a command whose standard output is closed or full, and one whose output nobody reads."""
     wanted, name = (b"lw: write failed\n", 4), format_command(program, command)
-    with open(f"{HOME}/examples/SB.litmus", "rb") as given:
-        yield f"{name}, standard output closed", wanted, run_with_streams(wrap_with_closed_stream(">&-", program, command), stdin=given)
-    with open(f"{HOME}/examples/SB.litmus", "rb") as given, open("/dev/full", "wb") as output:
-        yield f"{name}, standard output is full", wanted, run_with_streams([program, *command], stdin=given, stdout=output)
+    with open(f"{HOME}/examples/SB.litmus", "rb") as example:
+        yield f"{name}, standard output closed", wanted, run_with_streams(wrap_with_closed_stream(">&-", program, command), stdin=example)
+    with open(f"{HOME}/examples/SB.litmus", "rb") as example, open("/dev/full", "wb") as output:
+        yield f"{name}, standard output is full", wanted, run_with_streams([program, *command], stdin=example, stdout=output)
     reading, writing = os.pipe()
     os.close(reading)
     wait_for_no_reader(writing)
-    with open(f"{HOME}/examples/SB.litmus", "rb") as given, open(writing, "wb") as output:
-        yield f"{name}, nobody reads standard output", wanted, run_with_streams([program, *command], stdin=given, stdout=output)
+    with open(f"{HOME}/examples/SB.litmus", "rb") as example, open(writing, "wb") as output:
+        yield f"{name}, nobody reads standard output", wanted, run_with_streams([program, *command], stdin=example, stdout=output)
 
 
 def check_input_stream(program: str, command: Sequence[str]) -> Iterator[Comparison]:
@@ -469,11 +469,11 @@ def check_input_stream(program: str, command: Sequence[str]) -> Iterator[Compari
         yield f"{name}, nothing is written", 0, output.tell()
 
 
-def run_and_read_rest(command: Sequence[str], given: bytes) -> tuple[bytes, bytes, bytes, int]:
+def run_and_read_rest(command: Sequence[str], content: bytes) -> tuple[bytes, bytes, bytes, int]:
     """Returns what a command leaves in the pipe of its standard input, what it prints on both streams, and its exit status."""
     reading, writing = os.pipe()
     with open(writing, "wb") as pipe:
-        pipe.write(given)
+        pipe.write(content)
     with open(reading, "rb") as pipe:
         ran = subprocess.run(command, stdin=pipe, capture_output=True, cwd=HOME, timeout=60, check=False)
         return pipe.read(), ran.stdout, ran.stderr, ran.returncode
@@ -481,11 +481,11 @@ def run_and_read_rest(command: Sequence[str], given: bytes) -> tuple[bytes, byte
 
 def check_usage(program: str, usage: str, command: Sequence[str], others: Sequence[Sequence[str]]) -> Iterator[Comparison]:
     """Runs a program with words that are no command, which leave their input unread, and with a command, which reads it."""
-    given = read_file("examples/SB.litmus").encode()
+    stdin = read_file("examples/SB.litmus").encode()
     for words in others:
-        wanted = given, b"", usage.encode(), 2
-        yield f"{format_command(program, words)} leaves its input unread", wanted, run_and_read_rest([program, *words], given)
-    yield f"{format_command(program, command)} reads its input", (b"", 0), run_and_read_rest([program, *command], given)[::3]
+        wanted = stdin, b"", usage.encode(), 2
+        yield f"{format_command(program, words)} leaves its input unread", wanted, run_and_read_rest([program, *words], stdin)
+    yield f"{format_command(program, command)} reads its input", (b"", 0), run_and_read_rest([program, *command], stdin)[::3]
 
 
 def check_words() -> Iterator[Comparison]:
@@ -498,10 +498,10 @@ def check_words() -> Iterator[Comparison]:
         yield f"{format_command(program, words)}, words that are no UTF-8", (b"", b"lw: read failed\n", 4), run_command([program, b"states\xff"])
     for others in ([b"replay", b"\xff"], [b"\xff"], [b"states", b"P0\xc3"], [b"replay", b"P0", b"--protocol", b"me\xffsi"]):
         yield f"lw {others}", (b"", b"lw: read failed\n", 4), run_command([PROGRAM, *others])
-    given = read_file("examples/SB-x86.litmus").encode()
-    by_default = run_command([PROGRAM, "replay", "P0 P0 D0 P1 P1 D1"], given)
+    stdin = read_file("examples/SB-x86.litmus").encode()
+    by_default = run_command([PROGRAM, "replay", "P0 P0 D0 P1 P1 D1"], stdin)
     yield "a replay by default", (0, b""), (by_default[2], by_default[1])
-    yield "lw replay --protocol mesi", by_default, run_command([PROGRAM, "replay", "P0 P0 D0 P1 P1 D1", "--protocol", "mesi"], given)
+    yield "lw replay --protocol mesi", by_default, run_command([PROGRAM, "replay", "P0 P0 D0 P1 P1 D1", "--protocol", "mesi"], stdin)
 
 
 def check_measured(name: str, wanted: str) -> Iterator[Comparison]:
@@ -535,8 +535,8 @@ def check_counts() -> Iterator[Comparison]:
         "wrong bodies": len(check_edits.list_edits()),
         "tests of the crates": sum(read_file(it).count("#[test]") for it in sources),
     }
-    for what, number in numbers.items():
-        yield f"there are at least {MIN_COUNTS[what]} {what}: {number}", True, number >= MIN_COUNTS[what]
+    for counted, number in numbers.items():
+        yield f"there are at least {MIN_COUNTS[counted]} {counted}: {number}", True, number >= MIN_COUNTS[counted]
 
 
 def read_file(name: str) -> str:
@@ -552,17 +552,17 @@ def count_fences(name: str) -> tuple[int, int]:
     return len(places), len(places) - len(fences.find_spared(test, places, fences.list_states(test)))
 
 
-def check_counts_of_fences(names: str, number: str, needed: str) -> Iterator[Comparison]:
+def check_counts_of_fences(names: str, number: str, fence_count: str) -> Iterator[Comparison]:
     """Compares a row of the table of docs/FENCES.md."""
     for name in names.split(", "):
-        yield f"docs/FENCES.md, the fences of {name}", (int(number), int(needed)), count_fences(name)
+        yield f"docs/FENCES.md, the fences of {name}", (int(number), int(fence_count)), count_fences(name)
 
 
-def check_family(name: str, interleaving: str, x86: str, needed: str) -> Iterator[Comparison]:
+def check_family(name: str, interleaving: str, x86: str, fence_count: str) -> Iterator[Comparison]:
     """Compares a row of the table of docs/FAMILIES.md."""
     words = make_pages.match_fixed_words(read_file(f"examples/{name}.litmus"))
     counted = words["interleaving"], words["x86"], count_fences(name)[1]
-    yield f"docs/FAMILIES.md, {name}", (interleaving, x86, int(needed)), counted
+    yield f"docs/FAMILIES.md, {name}", (interleaving, x86, int(fence_count)), counted
 
 
 def list_table_checks() -> Iterator[Check]:
@@ -769,10 +769,10 @@ def main() -> int:
         with open(f"{HOME}/examples/SB.litmus", "rb") as file:
             subprocess.run([f"{HOME}/{words[0]}", *words[1:]], stdin=file, stdout=subprocess.DEVNULL)
     passed = failed = 0
-    for what, wanted, found in comparisons(is_quick):
-        passed, failed = passed + (wanted == found), failed + (wanted != found)
-        if wanted != found:
-            print(f"{what}\n  wanted: {wanted!r}\n  told:   {found!r}")
+    for subject, expected, actual in comparisons(is_quick):
+        passed, failed = passed + (expected == actual), failed + (expected != actual)
+        if expected != actual:
+            print(f"{subject}\n  wanted: {expected!r}\n  told:   {actual!r}")
     for skipped in ["the checks of single tools, the page, the library and the pack were left out"] if is_quick else list_skipped():
         print(skipped)
     print(f"{passed} passed, {failed} failed")

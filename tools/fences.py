@@ -136,12 +136,12 @@ def format_place(test: plain.Test, fence: Place) -> str:
     return f"P{thread} at {position}" + (f", before {after[0]}" if after else "")
 
 
-def format_fence(row: Row, spare: bool, asked: str) -> list[str]:
+def format_fence(row: Row, spare: bool, question: str) -> list[str]:
     """Returns what is said of a fence that is left out alone, and whether it is spare. Advice names what was asked, since it is read by itself."""
     if spare:
         return [f"{row['place']}: spare: can be left out by a proved law, whatever is asked"]
     if not row["added"]:
-        return [f"{row['place']}: can be left out alone, by {asked}"]
+        return [f"{row['place']}: can be left out alone, by {question}"]
     return [f"{row['place']}: needed, {len(row['added'])} more without it", *format_added_states(row["added"], "  ")]
 
 
@@ -188,11 +188,11 @@ def format_load_place(test: plain.Test, place: Place) -> str:
     return f"P{thread} at {position}, before {plain.format_instruction(test, test.threads[thread][position])}"
 
 
-def format_enough_sets(test: plain.Test, states: list[str], asked: str, are_enough: bool) -> list[str]:
+def format_enough_sets(test: plain.Test, states: list[str], question: str, are_enough: bool) -> list[str]:
     """Returns which sets of fences add no state, by what was asked, and whether they are enough."""
     fences = list_fences(test)
     sets = find_enough_sets(test, fences, states) if fences or are_enough else []
-    return format_sets([[f"P{thread} at {position}" for thread, position in it] for it in sets], asked, are_enough)
+    return format_sets([[f"P{thread} at {position}" for thread, position in it] for it in sets], question, are_enough)
 
 
 def format_helping_places(test: plain.Test, number: int, states: int) -> list[str]:
@@ -204,15 +204,15 @@ def format_helping_places(test: plain.Test, number: int, states: int) -> list[st
     return [head, *(f"  {'; '.join(format_load_place(test, place) for place in places)}" for places in sets)]
 
 
-def format_without_lock(test: plain.Test, place: Place, asked: str) -> list[str]:
-    """Returns what is said of an exchange without its lock, by the states that a test shows. `asked` says by what it is asked."""
+def format_without_lock(test: plain.Test, place: Place, question: str) -> list[str]:
+    """Returns what is said of an exchange without its lock, by the states that a test shows. `question` says by what it is asked."""
     instructions = make_unlocked_instructions(test, place)
     if not instructions:
-        return [f"  {asked}: not tried, since no register is free"]
+        return [f"  {question}: not tried, since no register is free"]
     before = set(list_states(test))
     added = [line for line in list_states(replace_instruction(test, place, instructions)) if line not in before]
     number = f"{len(added) or 'no'} state{'s' * (len(added) > 1)}"
-    return [f"  {asked}: {number} more as {format_instructions(instructions)}", *format_added_states(added, "    ")]
+    return [f"  {question}: {number} more as {format_instructions(instructions)}", *format_added_states(added, "    ")]
 
 
 def format_exchanges(test: plain.Test, by_everything: bool) -> list[str]:
@@ -275,20 +275,20 @@ def print_fences(choices: Choices, text: str, name: str = given.STANDARD_INPUT) 
         return print_converted(choices, text, name, convert_unread_text(text, fault, choices))
     test = plain.compile_test(read)
     by_everything = choices.everything
-    asked = "all registers and locations" if by_everything else f"its question, {plain.format_condition(test)}"
+    question = "all registers and locations" if by_everything else f"its question, {plain.format_condition(test)}"
     shown = show_everything(test) if by_everything else test
     table = make_table(shown)
     spare = [is_spare(shown, fence) for fence in list_fences(shown)]
-    lines = [line for row in zip(table["rows"], spare) for line in format_fence(*row, asked)]
+    lines = [line for row in zip(table["rows"], spare) for line in format_fence(*row, question)]
     number = 0 if by_everything else count_unwanted_states(test)
     are_enough = not number and (read.language == "SRC" or not by_everything)
-    lines += format_enough_sets(shown, list_states(shown), asked, are_enough)
+    lines += format_enough_sets(shown, list_states(shown), question, are_enough)
     if number:
         lines += format_helping_places(test, number, table["states"])
     if choices.exchanges:
         lines += format_exchanges(test, by_everything)
     mark = "" if answers.are_proved(list_makers()) else " (not proved)"
-    head = f"{test.name}, by {asked}: fences {len(table['rows'])}, states {table['states']}{mark}"
+    head = f"{test.name}, by {question}: fences {len(table['rows'])}, states {table['states']}{mark}"
     print("\n".join([head, *lines, *format_makers()]))
     return 0
 

@@ -84,7 +84,7 @@ def print_answer(arguments: Namespace, name: str, text: str) -> int:
     try:
         answer, converter = answer_by(compiler)
         film = render_film(answer, converter, arguments.film, text.splitlines()) if arguments.film else ""
-        more = format_schedules(answer, converter) if arguments.schedules else format_fences(answer, converter) if arguments.fences else ""
+        details = format_schedules(answer, converter) if arguments.schedules else format_fences(answer, converter) if arguments.fences else ""
     except NoRun as why:
         print(format_no_run(source, why.cause), end="")
         return answers.NO_VERDICT
@@ -99,7 +99,7 @@ def print_answer(arguments: Namespace, name: str, text: str) -> int:
         return 0
     no_run = f"no run goes through every loop within {arguments.tries} tr{'ies' if arguments.tries != 1 else 'y'}"
     print(answer.report if answer.has_run else format_no_run(source, no_run), end="")
-    print(more, end="")
+    print(details, end="")
     print(describe_answer(answer, compiler, arguments.tries))
     print(LIMITS)
     return 0 if answer.has_run else answers.NO_VERDICT

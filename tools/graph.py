@@ -243,8 +243,8 @@ def format_caption(
     """Returns what is said below a picture."""
     if broken:
         return [f"Marked: a cycle, against {broken[0]}."]
-    said = "Marked: a cycle, so no run of interleaving." if cycle else "No cycle: a run of interleaving, too."
-    return [said, *(f"{names.letters[it.source]}, then {names.letters[it.target]}: no fence between" for it in missing)]
+    verdict = "Marked: a cycle, so no run of interleaving." if cycle else "No cycle: a run of interleaving, too."
+    return [verdict, *(f"{names.letters[it.source]}, then {names.letters[it.target]}: no fence between" for it in missing)]
 
 
 def draw_execution(execution: executions.Execution, title: str, broken: tuple[str, list[executions.Edge]] | None = None) -> str:

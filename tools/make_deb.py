@@ -140,11 +140,11 @@ def format_description(text: str) -> str:
 
 def make_control_files(origin: Origin, files: Mapping[str, bytes], package: Installed) -> dict[str, bytes]:
     """Returns the files of the package's own description."""
-    held = {name: it for name, it in package.items() if not isinstance(it, Link)}
+    regular_files = {name: it for name, it in package.items() if not isinstance(it, Link)}
     least = "{}.{}".format(*tree.find_least_glibc([it for it in files.values() if it.startswith(b"\x7fELF")]))
-    size = sum(-(-len(it) // 1024) for it in held.values())
+    size = sum(-(-len(it) // 1024) for it in regular_files.values())
     description = format_description(tree.describe_provenance(origin, tree.BEYOND in files))
-    sums = "".join(f"{hashlib.md5(held[name]).hexdigest()}  {name}\n" for name in sorted(held))
+    sums = "".join(f"{hashlib.md5(regular_files[name]).hexdigest()}  {name}\n" for name in sorted(regular_files))
     return {"control": CONTROL.format(version=origin.version, size=size, libc=least, told=description).encode(), "md5sums": sums.encode()}
 
 

@@ -216,8 +216,8 @@ def make_folder(modules: list[bytes], web: str, has_documents: bool = True, slid
     head += "".join(f'<script defer src="{name}"></script>\n' for name in ("tables.js", "page.js"))
     files["index.html"] = front + head + back
     edition = hashlib.sha256(json.dumps(files).encode()).hexdigest()[:16]
-    kept = ["./", *sorted(files)]
-    files["offline.js"] = f"const edition = {format_in_script(edition)};\nconst files = {format_in_script(kept)};\n" + read_source("offline.js", web)
+    names = ["./", *sorted(files)]
+    files["offline.js"] = f"const edition = {format_in_script(edition)};\nconst files = {format_in_script(names)};\n" + read_source("offline.js", web)
     return files
 
 

@@ -143,11 +143,11 @@ class Measures:
         threads = range(len(film["cells"]))
         self.used = [list_used_registers(film, thread) for thread in threads]
         self.has_buffers = "buffer" in film["states"][0]["threads"][0]
-        places = [place for state in film["states"] for place in state["threads"]]
-        self.entries = max([len(place.get("buffer", [])) for place in places] + [1]) if self.has_buffers else 0
+        places = [thread_state for state in film["states"] for thread_state in state["threads"]]
+        self.entries = max([len(thread_state.get("buffer", [])) for thread_state in places] + [1]) if self.has_buffers else 0
         self.code = max([len(column) for column in film["cells"]] + [1])
         self.registers = max([len(used) for used in self.used] + [1])
-        self.lines = max(len(list_held_lines(place)) for place in places) > 0
+        self.lines = max(len(list_held_lines(thread_state)) for thread_state in places) > 0
         self.width = max(self.find_width(film, thread) for thread in threads)
         self.height = LINE * (self.code + self.registers + 2) + EDGE * 2
         self.height += (self.entries + 1) * (LINE + 3) if self.has_buffers else 0
@@ -189,8 +189,8 @@ def draw_thread(drawing: Drawing, film: Film, step: int, thread: int, x: float, 
         drawing.draw_text(x, top + LINE * row, f"{name}={words[name]}", "changed" if is_lit else "")
     top += LINE * measures.registers
     if measures.lines:
-        held = "lines " + (" ".join(list_held_lines(thread_state)) or "none")
-        drawing.draw_text(x, top, held, "changed" if thread_state["lines"] != before["lines"] else "faint")
+        lines_text = "lines " + (" ".join(list_held_lines(thread_state)) or "none")
+        drawing.draw_text(x, top, lines_text, "changed" if thread_state["lines"] != before["lines"] else "faint")
         top += LINE
     if measures.has_buffers:
         draw_buffer(drawing, thread_state["buffer"], before["buffer"], effect.get("entry"), x, top, measures)

@@ -313,10 +313,10 @@ def main() -> int:
     passed = failed = 0
     with ProcessPoolExecutor(len(os.sched_getaffinity(0))) as pool:
         for compared in pool.map(list_comparisons, list_jobs(arguments.count, arguments.first)):
-            for subject, expected, found in compared:
-                passed, failed = passed + (expected == found), failed + (expected != found)
-                if expected != found:
-                    print(f"{subject}\n  wanted: {expected!r}\n  told:   {found!r}")
+            for subject, expected, actual in compared:
+                passed, failed = passed + (expected == actual), failed + (expected != actual)
+                if expected != actual:
+                    print(f"{subject}\n  wanted: {expected!r}\n  told:   {actual!r}")
     print(f"{passed} passed, {failed} failed")
     return 1 if failed else 0
 

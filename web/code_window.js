@@ -97,7 +97,8 @@ export function spareHeight(machine) {
  * @param {Element} machine
  */
 export function watchCodes(machine) {
-  machine.addEventListener("scroll", ({ target }) => target.classList?.contains("code") && showLinesInSight(target), { capture: true, passive: true });
+  const scrolled = ({ target }) => target.classList?.contains("code") && showLinesInSight(target);
+  machine.addEventListener("scroll", scrolled, { capture: true, passive: true });
   new ResizeObserver(() => showNext(machine)).observe(machine);
   addEventListener("resize", () => fitCodes(machine));
 }

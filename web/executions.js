@@ -280,7 +280,9 @@ function stateAfter(instruction, position, { registers, zero }, word) {
     const jumps = instruction.kind === "jmp" ? true : isSame(zero, instruction.kind === "je");
     return { at: jumps === null ? null : jumps ? instruction.target : next, registers, zero };
   }
-  if (instruction.kind === "load" || instruction.kind === "xchg") return { at: next, registers: replaceItem(registers, instruction.register, word), zero };
+  if (instruction.kind === "load" || instruction.kind === "xchg") {
+    return { at: next, registers: replaceItem(registers, instruction.register, word), zero };
+  }
   if (instruction.kind === "xadd") {
     const sum = sumOf(word, registers[instruction.register]);
     return { at: next, registers: replaceItem(registers, instruction.register, word), zero: isSame(sum, 0) };

@@ -36,7 +36,8 @@ function guessedWords(guessed, isSo, askAgain, reason) {
   const words = guessed === null ? "" : guessed === isSo ? "✓ As you said." : "✗ Not as you said.";
   const kind = guessed === null ? "" : guessed === isSo ? " right" : " wrong";
   const why = kind === " wrong" && reason.length ? el("span", { class: "reason" }, reason, " ") : null;
-  const buttons = [button("Predict again", askAgain, { class: "link again" }), " ", button("Surprise me", () => null, { class: "link again surprise" })];
+  const surprise = button("Surprise me", () => null, { class: "link again surprise" });
+  const buttons = [button("Predict again", askAgain, { class: "link again" }), " ", surprise];
   return el("p", { class: `said${kind}` }, words, " ", why, buttons);
 }
 

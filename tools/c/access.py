@@ -26,7 +26,7 @@ class Access:
 
     def __init__(self, program: Program, thread: int, stored_words: dict[int, dict[int, Clock]], way: Way, instruction: Instruction) -> None:
         """Does an instruction on a way of a thread. `stored_words` are the words that the thread has stored at each address, with their clocks."""
-        self.program, self.thread, self.found, self.way, self.instruction = program, thread, stored_words, way, instruction
+        self.program, self.thread, self.stored_words, self.way, self.instruction = program, thread, stored_words, way, instruction
         self.effects: list[Effect] = []
         self.done: tuple[Way, Effect] | None = None
         self.guess: tuple[Question, bool] | None = None
@@ -36,8 +36,8 @@ class Access:
 
     def read_register(self, name: str, size: int, offset: int = 0) -> Value:
         """Returns some bytes of a register."""
-        value, known = self.way.registers[name]
-        return self.way.extract_bytes(value, size, offset) if known >= size + offset else None
+        value, known_bytes = self.way.registers[name]
+        return self.way.extract_bytes(value, size, offset) if known_bytes >= size + offset else None
 
     def read_register_or_number(self, operand: Any, size: int) -> Value:
         """Returns the value of a register or a number."""
@@ -52,18 +52,18 @@ class Access:
     def write_register(self, operand: Any, size: int, value: Value) -> None:
         """Sets a register. A write of 4 bytes clears those above, and a shorter one preserves them."""
         way, name, offset = self.way, operand.name, operand.offset
-        old, known = way.registers[name]
+        old, known_bytes = way.registers[name]
         if size >= 4:
             way.registers[name] = (value, 8 if value is not None else 0)
-        elif known <= size and not offset:
+        elif known_bytes <= size and not offset:
             way.registers[name] = (value, size if value is not None else 0)
-        elif value is None or old is None or known < size + offset:
+        elif value is None or old is None or known_bytes < size + offset:
             way.registers[name] = (None, 0)
-        elif isinstance(value, Symbol) and not offset and way.apply(old, lambda it: it & MASK[known] & ~MASK[size]) == 0:
-            way.registers[name] = (value, known)
+        elif isinstance(value, Symbol) and not offset and way.apply(old, lambda it: it & MASK[known_bytes] & ~MASK[size]) == 0:
+            way.registers[name] = (value, known_bytes)
         else:
             number = way.require_number(value) & MASK[size]
-            way.registers[name] = (way.require_number(old) & ~(MASK[size] << 8 * offset) | number << 8 * offset, known)
+            way.registers[name] = (way.require_number(old) & ~(MASK[size] << 8 * offset) | number << 8 * offset, known_bytes)
 
     def compute_address(self, memory: Memory) -> int:
         """Returns the address of a place in memory."""
@@ -90,7 +90,7 @@ class Access:
 
     def read_own_last_store(self, address: int, size: int) -> Value:
         """Returns what this thread, the only one that stores to a location, has stored last."""
-        return self.way.last.get(address, self.program.layout.read_initial_word(address, size))
+        return self.way.last_stored.get(address, self.program.layout.read_initial_word(address, size))
 
     def load(self, address: int, size: int) -> Value:
         """Returns what a load finds. It is an effect if others may have stored it."""
@@ -100,9 +100,9 @@ class Access:
         if not locations.find_writers(address, size):
             return self.program.layout.read_initial_word(address, size)
         begin, length = locations.find_location(address, size)
-        if self.way.pending:
-            value, = self.way.pending
-            self.way.pending = None
+        if self.way.pending_value:
+            value, = self.way.pending_value
+            self.way.pending_value = None
         elif self.is_only_writer(begin, length):
             value = self.read_own_last_store(begin, length)
         else:
@@ -114,8 +114,8 @@ class Access:
     def finish_load(self, effect: Effect, value: Value) -> None:
         """Adds the effect of a load. If the way forks later in this instruction, the load stays done, and the rest is followed again."""
         before = self.way.copy()
-        before.place -= 1
-        before.pending = (value,)
+        before.position -= 1
+        before.pending_value = (value,)
         self.done = (before, effect)
         self.effects.append(effect)
 
@@ -131,7 +131,7 @@ class Access:
         self.check_whole_location(address, size)
         value = self.way.extract_bytes(value, size)
         self.record_store(address, self.way.list_clocked_words(value))
-        self.way.last[address] = value
+        self.way.last_stored[address] = value
         self.effects.append(Store(address, value))
 
     def check_whole_location(self, address: int, size: int) -> None:
@@ -144,7 +144,7 @@ class Access:
     def record_store(self, address: int, words: dict[int, Clock]) -> None:
         """Records a store: its words come after all that this way has observed, and after this thread's earlier stores."""
         self.way.stores += 1
-        clocks = self.found.setdefault(address, {})
+        clocks = self.stored_words.setdefault(address, {})
         for word, clock in words.items():
             clock = later_clock(clock, self.way.past)
             record_earlier(clocks, word, (*clock[: self.thread], self.way.stores, *clock[self.thread + 1 :]))
@@ -171,17 +171,17 @@ class Access:
         self.forget_dead()
         way = self.way
         values = [*(value for value, _ in way.registers.values()), *(value for _, value in way.memory.values())]
-        values += [*way.seen.values(), *way.last.values()]
+        values += [*way.shown_values.values(), *way.last_stored.values()]
         values += [way.flags.left, way.flags.right] if way.flags else []
-        taken = frozenset().union(*map(symbols_in, values))
-        return next(it for it in range(len(taken) + 1) if it not in taken)
+        taken_symbols = frozenset().union(*map(symbols_in, values))
+        return next(it for it in range(len(taken_symbols) + 1) if it not in taken_symbols)
 
     def forget_dead(self) -> None:
         """Forgets registers, flags and places of the stack that cannot be read any more."""
         way, (used, writes) = self.way, list_reads_and_writes(self.instruction)
         if self.instruction.mnemonic.startswith("jmp"):  # what comes next is not known yet
             return
-        live = used | self.program.live[way.place] - writes
+        live = used | self.program.live[way.position] - writes
         for name in WHOLE_REGISTERS:
             if name not in live:
                 way.registers[name] = (None, 0)

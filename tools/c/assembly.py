@@ -152,7 +152,7 @@ class Reader:
 
     def __init__(self, assembly: Assembly) -> None:
         """Makes a reader that adds what it reads to an assembly."""
-        self.made = assembly
+        self.assembly = assembly
         self.section, self.section_name = Section.CODE, ".text"
         self.stack: list[tuple[Section, str]] = []
         self.object, self.is_new, self.alignment = DataObject(), False, 1
@@ -180,7 +180,7 @@ class Reader:
         register = REGISTERS.get(operand.lstrip("%"))
         if register is None:
             raise Refused("lw_see has a value that is in no register")
-        self.made.code.append(Instruction(text, "see", (register,), line=self.line, name=name))
+        self.assembly.code.append(Instruction(text, "see", (register,), line=self.line, name=name))
 
     def read_statement(self, text: str) -> None:
         """Reads the labels and the directive or the instruction of a statement."""
@@ -191,7 +191,7 @@ class Reader:
             label = LABEL.match(text)
         alias = re.fullmatch(rf"({NAME})\s*=\s*({NAME})", text)
         if alias:
-            self.made.aliases[alias[1]] = alias[2]
+            self.assembly.aliases[alias[1]] = alias[2]
         elif text.startswith("."):
             word, _, rest = re.sub(r"\s+", " ", text, count=1).partition(" ")
             self.read_directive(word, rest.strip())
@@ -200,7 +200,7 @@ class Reader:
 
     def begin_label(self, name: str) -> None:
         """Starts an object, or names the place of the next instruction."""
-        assembly = self.made
+        assembly = self.assembly
         if self.section is Section.CODE:
             assembly.labels[name] = len(assembly.code)
             self.line = None if name in assembly.functions else self.line
@@ -220,10 +220,10 @@ class Reader:
             self.change_section(word, rest)
         elif word in (".comm", ".lcomm"):
             name, size, *alignment = [it.strip() for it in rest.split(",")]
-            self.made.objects[name] = DataObject(parse_number(alignment[0]) if alignment else 1, [], parse_number(size))
+            self.assembly.objects[name] = DataObject(parse_number(alignment[0]) if alignment else 1, [], parse_number(size))
         elif word in (".set", ".equ"):
             name, value = [it.strip() for it in rest.split(",", 1)]
-            self.made.aliases[name] = value
+            self.assembly.aliases[name] = value
         elif word in (".type", ".file", ".loc"):
             self.read_debug_directive(word, rest)
         elif word in (".align", ".balign", ".p2align"):
@@ -253,10 +253,10 @@ class Reader:
         """Reads what a line says about functions and the source's lines."""
         if word == ".type":
             name, _, kind = rest.partition(",")
-            self.made.functions |= {name.strip()} if "function" in kind else set()
+            self.assembly.functions |= {name.strip()} if "function" in kind else set()
         elif word == ".file":
             match = re.fullmatch(r'(\d+) (?:"[^"]*" )?"([^"]*)".*', rest)
-            if match and os.path.splitext(os.path.basename(match[2]))[0] == self.made.source:
+            if match and os.path.splitext(os.path.basename(match[2]))[0] == self.assembly.source:
                 self.main_files.add(match[1])
         else:
             number, line = rest.split()[:2]
@@ -309,7 +309,7 @@ class Reader:
             raise Refused(f"'{repeated[0]} {mnemonic}' is not followed")
         leads = mnemonic[0] == "j" or mnemonic.startswith("call")
         operands_read = self.parse_target(operands) if leads else map(parse_operand, split_operands(operands))
-        self.made.code.append(Instruction(text, mnemonic, tuple(operands_read), "lock" in self.prefixes, self.line))
+        self.assembly.code.append(Instruction(text, mnemonic, tuple(operands_read), "lock" in self.prefixes, self.line))
         self.prefixes = []
 
     @staticmethod

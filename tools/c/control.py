@@ -72,9 +72,9 @@ class Control(Locked):
 
     def go_to(self, index: int) -> None:
         """Continues elsewhere. A backward jump within a call is one more pass through a loop."""
-        if index < self.way.place and (self.way.call, index) in self.way.passes:
-            self.way.is_back = True
-        self.way.place = index
+        if index < self.way.position and (self.way.call, index) in self.way.passes:
+            self.way.has_jumped_back = True
+        self.way.position = index
 
     def call(self, destination: Operand) -> None:
         """Calls: the return address is pushed onto the stack."""
@@ -84,11 +84,11 @@ class Control(Locked):
             self.program.notes.add(f"{destination.name} does nothing: memory is not given out again")
             return None
         index, way = self.find_target(destination), self.way
-        address = self.push(CODE + way.place)
+        address = self.push(CODE + way.position)
         way.callers[address] = way.call
         way.calls += 1
         way.call = way.calls
-        way.place = index
+        way.position = index
         return None
 
     def return_(self) -> None:
@@ -97,7 +97,7 @@ class Control(Locked):
             raise Refused("a return that takes arguments from the stack is not followed")
         way = self.way
         address = way.require_number(self.read_register("rsp", 8))
-        way.place = way.require_number(self.pop()) - CODE
+        way.position = way.require_number(self.pop()) - CODE
         way.call = way.callers.get(address, 0)
 
     def call_allocator(self, name: str) -> None:

@@ -87,8 +87,8 @@ class Converter:
             for address in thread.ways.list_reachable():
                 node = thread.ways.nodes[address]
                 used |= {node.effect.address} if isinstance(node, Do) and not isinstance(node.effect, Fence) else set()
-        asked = [address for address in self.program.asked.values() if address in used]
-        order = list(dict.fromkeys([*asked, *sorted(used)]))
+        used_globals = [address for address in self.program.asked_addresses.values() if address in used]
+        order = list(dict.fromkeys([*used_globals, *sorted(used)]))
         if len(order) > MAX_LOCATIONS:
             names = ", ".join(map(self.program.layout.name_address, order))
             raise Refused(f"the threads share {len(order)} locations, and lw has {MAX_LOCATIONS}: {names}")
@@ -129,7 +129,7 @@ class Converter:
         """Returns where lw has what a site of the program means, or None if no thread stores it. Raises Refused if it is a part of a location."""
         if isinstance(site, Seen):
             return plain.RegisterSite(site.thread, self.assign_seen_registers(site.thread)[site.name])
-        address = self.program.asked[site.name]
+        address = self.program.asked_addresses[site.name]
         for thread in range(len(self.threads)):
             if (site.name, address) in self.program.list_own_asked(thread):
                 return plain.RegisterSite(thread, self.assign_seen_registers(thread)[f"&{site.name}"])
@@ -147,7 +147,7 @@ class Converter:
         site, lw_site, number = eq.site, self.find_site(eq.site), self.compute_number(eq.word)
         if isinstance(site, Seen):
             return plain.Eq(lw_site, number % 2**32)
-        address = self.program.asked[site.name]
+        address = self.program.asked_addresses[site.name]
         size = self.program.find_asked_size(address) if not isinstance(lw_site, plain.LocationSite) else self.program.locations.sizes[address]
         if not -(1 << 8 * size - 1) <= number < 1 << 8 * size:
             raise Refused(f"the condition compares '{site.name}', of {size} bytes, with {number}")

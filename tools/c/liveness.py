@@ -96,7 +96,7 @@ def compute_live_sets(assembly: Assembly) -> list[frozenset[str]]:
             if code[index].mnemonic.startswith("ret"):
                 after |= {"rax"}
             used, writes = facts[index]
-            needed = frozenset(used | after - writes)
-            has_changed |= needed != live[index]
-            live[index] = needed
+            live_before = frozenset(used | after - writes)
+            has_changed |= live_before != live[index]
+            live[index] = live_before
     return live

@@ -37,10 +37,10 @@ class Locked(Vectors):
 
     def take_guess(self, cases: int) -> int:
         """Returns the guess of one of several cases. Raises NextGuess if the thread is followed without a guess for it."""
-        index = self.way.guessed
+        index = self.way.guess_count
         if index >= len(self.guesses):
             raise NextGuess(cases)
-        self.way.guessed += 1
+        self.way.guess_count += 1
         return min(self.guesses[index], cases - 1)
 
     def execute_locked(self, base: str, size: int) -> None:
@@ -105,10 +105,10 @@ class Locked(Vectors):
 
     def take_pending(self, register: Operand | None, size: int) -> bool:
         """Puts what a locked instruction has found into its register, if the way forked after it."""
-        if not self.way.pending:
+        if not self.way.pending_value:
             return False
-        value, = self.way.pending
-        self.way.pending = None
+        value, = self.way.pending_value
+        self.way.pending_value = None
         if register is not None:
             self.write_register(register, size, value)
         return True
@@ -127,7 +127,7 @@ class Locked(Vectors):
         words = self.way.list_clocked_words(value)
         symbol = self.make_symbol(address, size)
         self.record_store(address, words)
-        self.way.last[address] = value
+        self.way.last_stored[address] = value
         self.finish_locked(register, size, Exchange(symbol, address, value))
 
     def execute_locked_add(self, base: str, address: int, size: int, value: Value, register: Operand | None) -> None:
@@ -148,7 +148,7 @@ class Locked(Vectors):
         self.record_store(address, words)
         if self.is_only_writer(address, size):
             try:
-                way.last[address] = add_values(way, old, added, size)
+                way.last_stored[address] = add_values(way, old, added, size)
             except Ask:
                 raise Refused("two words that are not known are added in a location to which only one thread stores") from None
         self.set_flags_of_sum(base, old, added, value, size)
@@ -175,7 +175,7 @@ class Locked(Vectors):
         before = way.flags
         symbol = self.make_symbol(address, size)
         self.record_store(address, {way.resolve(result): way.clocks[symbol][old]})
-        way.last[address] = result
+        way.last_stored[address] = result
         way.flags = flags or before
         self.effects.append(Exchange(symbol, address, result))
         if len(words) > 1:
@@ -200,7 +200,7 @@ class Locked(Vectors):
         way.flags = Flags(Source.EXCHANGE, int(succeeds), None, size)
         if succeeds:
             self.record_store(address, stored)
-            way.last[address] = new
+            way.last_stored[address] = new
             self.effects.append(Exchange(symbol, address, new))
         else:
             self.put_found(symbol, size)

@@ -27,7 +27,7 @@ class Program:
     # The instructions at which functions start, and those that some jump targets backward.
     entries: set[int] = field(init=False)
     back_targets: set[int] = field(init=False)
-    asked: dict[str, int] = field(init=False)
+    asked_addresses: dict[str, int] = field(init=False)
     # The first instructions of loops that a run passes at most `tries` times, and what is assumed.
     bounded: set[int] = field(default_factory=set)
     notes: set[str] = field(default_factory=set)
@@ -43,7 +43,7 @@ class Program:
         self.locations = Locations(self.layout, len(self.threads))
         self.live = compute_live_sets(self.assembly)
         self.entries, self.back_targets = self.assembly.find_function_starts(), self.assembly.find_backward_targets()
-        self.asked = {name: self.find_asked_address(name) for name in self.asked_names}
+        self.asked_addresses = {name: self.find_asked_address(name) for name in self.asked_names}
 
     def find_asked_address(self, name: str) -> int:
         """Returns the address of a global that the condition names, such as x or x+8. Raises Refused if no variable is there."""
@@ -69,4 +69,4 @@ class Program:
     def list_own_asked(self, thread: int) -> list[tuple[str, int]]:
         """Returns the globals that the condition names and that only this thread uses."""
         users, shared = self.locations.users, self.locations.shared
-        return [(name, address) for name, address in self.asked.items() if address not in shared and users.get(address) == {thread}]
+        return [(name, address) for name, address in self.asked_addresses.items() if address not in shared and users.get(address) == {thread}]

@@ -57,8 +57,8 @@ class Registers:
         """Chooses a register for each symbol. Raises Refused if six are not enough."""
         wishes = self.find_wishes()
         for symbol, others in sorted(self.find_conflicts().items()):
-            taken = {self.of[it] for it in others if it in self.of}
-            free = [it for it in range(SIX) if it not in taken]
+            taken_registers = {self.of[it] for it in others if it in self.of}
+            free = [it for it in range(SIX) if it not in taken_registers]
             if not free:
                 raise self.refuse_too_many()
             wish = [it for it in wishes.get(symbol, []) if it in free]
@@ -67,8 +67,8 @@ class Registers:
 
     def find_spare_register(self, node_index: int) -> int:
         """Returns a register that is free at a node. Raises Refused if there is none."""
-        taken = {self.of[it] for it in self.live[node_index] | self.find_live_after(node_index)}
-        free = [it for it in range(SIX) if it not in taken and it != self.mark]
+        taken_registers = {self.of[it] for it in self.live[node_index] | self.find_live_after(node_index)}
+        free = [it for it in range(SIX) if it not in taken_registers and it != self.mark]
         if not free:
             raise self.refuse_too_many()
         return ([it for it in free if it not in self.seen.values()] or free)[0]

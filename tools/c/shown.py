@@ -98,7 +98,7 @@ def render_film(answer: Answer, converter: Converter, number: int, source: list[
     if not 1 <= number <= len(states):
         raise NoFilm(f"the report has {len(states)} state{'s' * (len(states) != 1)}, and no state {number}")
     films.check_program()
-    all_schedules = ((it, *found) for it in answer.tests for found in list_schedules(it, converter))
+    all_schedules = ((it, *schedule_pair) for it in answer.tests for schedule_pair in list_schedules(it, converter))
     written, schedule = next((it, schedule) for it, state, schedule in all_schedules if state == states[number - 1])
     try:
         film = films.make_film(plain.format_canonical_text(restore_question(written)).encode(), schedule, "mesi")
@@ -123,8 +123,8 @@ def list_schedules(written: Written, converter: Converter) -> Iterator[tuple[str
     for state, schedule in zip(lines[::2], lines[1::2]):
         words = parse_state(state)
         if all(words[mark] == 1 for mark in marks):
-            kept = " ".join(f"{site}={word};" for site, word in words.items() if site in shown)
-            yield names.translate_line(kept), schedule.strip()
+            shown_words = " ".join(f"{site}={word};" for site, word in words.items() if site in shown)
+            yield names.translate_line(shown_words), schedule.strip()
 
 
 def list_visible_events(written: Written, schedule: list[str]) -> Iterator[str]:

@@ -50,9 +50,9 @@ def blank_comments(text: str, comment: "re.Pattern[str]" = NO_CODE) -> str:
     return comment.sub(lambda it: re.sub(r"[^\n]", " ", it[0]), text)
 
 
-def check_returns(code: str, bodies: dict[int, tuple[int, int]], asked: dict[int, set[str]]) -> None:
+def check_returns(code: str, bodies: dict[int, tuple[int, int]], names_by_thread: dict[int, set[str]]) -> None:
     """Refuses the result of a thread that has fewer than 32 bits, since a register may have anything above them."""
-    for thread in [it for it, names in asked.items() if "return" in names and it in bodies]:
+    for thread in [it for it, names in names_by_thread.items() if "return" in names and it in bodies]:
         begin = bodies[thread][0]
         head = re.split(r"[;{}]", code[:begin])[-1]
         if NARROW.search(head):
@@ -91,14 +91,14 @@ def blank_bodies(code: str, bodies: dict[int, tuple[int, int]]) -> str:
     return code
 
 
-def insert_sees(text: str, asked: dict[int, set[str]], is_rust: bool) -> tuple[str, set[str]]:
+def insert_sees(text: str, names_by_thread: dict[int, set[str]], is_rust: bool) -> tuple[str, set[str]]:
     """Returns the source with an lw_see at the end of each function, for each local variable that the condition names and the function does not show;
     and the names of these. Raises Fault if a thread is missing, or returns before its end.
     """
     code = blank_comments(text)
     bodies, places, added = find_bodies(code), [], set()
-    check_returns(code, bodies, asked)
-    for thread, names in asked.items():
+    check_returns(code, bodies, names_by_thread)
+    for thread, names in names_by_thread.items():
         if thread not in bodies:
             raise given.Fault(f"the condition asks about P{thread}, which is not there", 0)
         begin, end = bodies[thread]
@@ -185,8 +185,8 @@ def convert_herd_form(text: str) -> Source:
                 raise given.Fault(f"'{location}' has two types, '{kinds[location]}' and '{kind}'", match.start(2))
             pointers += f" {kind} *{location} = &{PREFIX}{location};"
         lines.append(f"void P{match[1]}(void) {{{pointers}\n#line {text.count(chr(10), 0, match.end()) + 1}\n{text[match.end():last]}}}\n")
-    asked = re.compile(r"\s*(?:~\s*exists|not\s+exists|exists|forall)").match(code, last + 1)
-    if not asked:
+    question = re.compile(r"\s*(?:~\s*exists|not\s+exists|exists|forall)").match(code, last + 1)
+    if not question:
         raise given.Fault("the condition is to follow the functions: `locations` and `filter` are not read", last + 1)
     condition = read_condition(code, last + 1, len(code.rstrip()))
     head = ["#include <stdatomic.h>", "#include <stdbool.h>", "#include <stdint.h>"]

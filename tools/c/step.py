@@ -85,7 +85,7 @@ class Step(Control):
         """Does what `lw_see` writes: a name, and its value."""
         value = self.read_register_or_number(self.instruction.operands[0], 4)
         self.way.list_words(value)
-        self.way.seen[self.instruction.name] = value
+        self.way.shown_values[self.instruction.name] = value
 
     def execute_extension(self, name: str) -> None:
         """Does MOVZX and MOVSX."""

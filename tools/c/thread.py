@@ -32,14 +32,14 @@ class Unbounded(Exception):
 
 
 class Thread:
-    """A thread under a guess: its ways, and the words that it stores."""
+    """A thread under a guess: its ways, and the words that it stores. `missing_cases` says how many cases the next guess has, if one is missing."""
 
     def __init__(self, program: Program, number: int, guesses: tuple[int, ...]) -> None:
         """Follows a thread under a guess of what its locked instructions find."""
         self.program, self.number, self.guesses = program, number, guesses
         self.ways = Ways()
-        self.found: dict[int, dict[int, Clock]] = {}
-        self.more: int | None = None
+        self.stored_words: dict[int, dict[int, Clock]] = {}
+        self.missing_cases: int | None = None
         self.ways.first = self.follow(self.make_way())
 
     def make_way(self) -> Way:
@@ -54,24 +54,24 @@ class Thread:
 
     def enter_loop(self, way: Way) -> None:
         """Starts to count passes, if a loop starts at a way's place."""
-        if way.place in self.program.back_targets:
-            way.passes[(way.call, way.place)] = Pass(asked_before=way.asked, asked=way.asked, stores=way.stores)
+        if way.position in self.program.back_targets:
+            way.passes[(way.call, way.position)] = Pass(questions_before=way.question_count, question_count=way.question_count, stores=way.stores)
 
     def follow(self, way: Way) -> int:
         """Returns the node of what follows on a way. Raises Refused, with the instruction, if that is not followed."""
         effects: list[tuple[Effect, int | None]] = []
         last = None
         while last is None:
-            if way.place == LEAVE - CODE:
+            if way.position == LEAVE - CODE:
                 last = self.add_end(way)
                 break
             instruction = self.fetch_instruction(way)
             if instruction is None:
                 last = self.ways.intern_node(GiveUp())
                 break
-            step = Step(self.program, self.number, self.found, way.copy(), instruction)
+            step = Step(self.program, self.number, self.stored_words, way.copy(), instruction)
             step.guesses = self.guesses
-            step.way.place += 1
+            step.way.position += 1
             try:
                 step.execute()
             except Ask as ask:
@@ -82,7 +82,7 @@ class Thread:
                 effects.append((effect, instruction.line))
                 continue
             except NextGuess as missing:  # the other guesses are followed later
-                self.more = max(self.more or 0, missing.cases)
+                self.missing_cases = max(self.missing_cases or 0, missing.cases)
                 last = self.ways.intern_node(GiveUp())
                 break
             except Refused as why:
@@ -101,9 +101,9 @@ class Thread:
         code = self.program.assembly.code
         way.steps += 1
         self.program.work += 1
-        if not 0 <= way.place < len(code):
+        if not 0 <= way.position < len(code):
             raise Refused("a jump leads out of the code")
-        instruction = code[way.place]
+        instruction = code[way.position]
         if self.program.work > MAX_WORK:
             raise Refused("the threads have too many ways", instruction.line, instruction.text)
         if way.steps > MAX_STEPS:
@@ -118,14 +118,14 @@ class Thread:
         if step.guess:
             self.enter_loop(way)
             return self.follow_guess(way, *step.guess, step.instruction.line)
-        if way.place == LEAVE - CODE:
+        if way.position == LEAVE - CODE:
             return None
-        runs_over = way.place in self.program.entries and self.program.assembly.code[way.place - 1] is step.instruction
+        runs_over = way.position in self.program.entries and self.program.assembly.code[way.position - 1] is step.instruction
         if runs_over and step.instruction.mnemonic[0] != "j" and not step.instruction.mnemonic.startswith("call"):
             raise Refused("the code runs over the end of its function", step.instruction.line, step.instruction.text)
-        key = (way.call, way.place)
-        if way.is_back:
-            way.is_back = False
+        key = (way.call, way.position)
+        if way.has_jumped_back:
+            way.has_jumped_back = False
             return self.ways.intern_node(GiveUp()) if self.is_given_up(way, key) else None
         self.enter_loop(way)
         return None
@@ -135,16 +135,16 @@ class Thread:
         it finds that a loop need not end, and Refused if --tries does not limit it.
         """
         before, state = way.passes[key], way.snapshot()
-        if way.asked == before.asked and way.stores == before.stores and state == before.state:
+        if way.question_count == before.question_count and way.stores == before.stores and state == before.state:
             return True
-        present = Pass(before.count + 1, before.asked_before, way.asked, way.stores, state)
+        present = Pass(before.count + 1, before.questions_before, way.question_count, way.stores, state)
         way.passes[key] = present
         if key[1] in self.program.bounded:
             if not self.program.tries:
                 instruction = self.program.assembly.code[key[1]]
                 raise Refused("a loop need not end: --tries N goes through it N times at most", instruction.line)
             return present.count >= self.program.tries
-        if present.asked - present.asked_before > MAX_ASKED or present.count > MAX_PASSES and present.stores:
+        if present.question_count - present.questions_before > MAX_ASKED or present.count > MAX_PASSES and present.stores:
             self.program.bounded.add(key[1])
             raise Unbounded
         return False
@@ -157,20 +157,20 @@ class Thread:
         def follow_answer(holds: bool) -> int:
             """Follows one answer."""
             branch = way.copy()
-            branch.asked += 1
+            branch.question_count += 1
             branch.learn(question, holds)
             return self.follow(branch)
 
         yes = follow_answer(True)
         return self.ways.intern_branch(question, yes, follow_answer(False), line)
 
-    def follow_guess(self, way: Way, question: Question, wanted: bool, line: int | None) -> int:
+    def follow_guess(self, way: Way, question: Question, answer: bool, line: int | None) -> int:
         """Follows the answer that confirms a guess. The other one abandons the run."""
         branch = way.copy()
-        branch.asked += GUESS
-        branch.learn(question, wanted)
+        branch.question_count += GUESS
+        branch.learn(question, answer)
         rest, given_up = self.follow(branch), self.ways.intern_node(GiveUp())
-        return self.ways.intern_branch(question, *((rest, given_up) if wanted else (given_up, rest)), line)
+        return self.ways.intern_branch(question, *((rest, given_up) if answer else (given_up, rest)), line)
 
     def add_end(self, way: Way) -> int:
         """Returns the node of the thread's end. The way forks if what the condition mentions is composed of what loads have found."""
@@ -183,33 +183,33 @@ class Thread:
         """Returns what the condition can mention at the thread's end: values that were shown, the thread's result, and globals of its own. Raises
         Refused if a result is asked for that a run does not return.
         """
-        program, wanted = self.program, self.program.names.get(self.number, set())
-        seen = {name: value for name, value in way.seen.items() if name in wanted}
-        if "return" in wanted:
-            value, known = way.registers["rax"]
-            if known < 4:
+        program, asked_names = self.program, self.program.names.get(self.number, set())
+        values = {name: value for name, value in way.shown_values.items() if name in asked_names}
+        if "return" in asked_names:
+            value, known_bytes = way.registers["rax"]
+            if known_bytes < 4:
                 raise Refused(f"the condition asks what P{self.number} returns, and a run of it returns nothing")
-            seen["return"] = way.extract_bytes(value, 4)
+            values["return"] = way.extract_bytes(value, 4)
         for name, address in program.list_own_asked(self.number):
             value = load_own(way, program.layout, address, program.find_asked_size(address))
             program.own_words.setdefault(name, set()).update(way.list_words(value))
-            seen[f"&{name}"] = value
-        return tuple(sorted(seen.items()))
+            values[f"&{name}"] = value
+        return tuple(sorted(values.items()))
 
 
 def follow_guesses(program: Program, number: int, max_guesses: int) -> list[Thread]:
     """Returns a thread under all its guesses. Raises Refused if they are more than `max_guesses`."""
-    waiting: list[tuple[int, ...]] = [()]
+    queue: list[tuple[int, ...]] = [()]
     done: list[Thread] = []
-    while waiting:
-        guesses = waiting.pop(0)
+    while queue:
+        guesses = queue.pop(0)
         thread = Thread(program, number, guesses)
-        for address, words in thread.found.items():
+        for address, words in thread.stored_words.items():
             program.locations.add_words(address, words)
-        if thread.more is None:
+        if thread.missing_cases is None:
             done.append(thread)
         else:
-            waiting += [(*guesses, case) for case in range(thread.more)]
-        if len(done) + len(waiting) > max_guesses:
+            queue += [(*guesses, case) for case in range(thread.missing_cases)]
+        if len(done) + len(queue) > max_guesses:
             raise Refused(f"the locked instructions of P{number} make more than {max_guesses} guesses")
     return done

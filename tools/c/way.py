@@ -17,8 +17,8 @@ class Pass:
     """How often a call has passed a loop since it was entered, how much was asked before that, and the state at the last pass."""
 
     count: int = 0
-    asked_before: int = 0
-    asked: int = 0
+    questions_before: int = 0
+    question_count: int = 0
     stores: int = 0
     state: tuple | None = None
 
@@ -27,7 +27,7 @@ class Pass:
 class Way:
     """The place of a thread, and what it knows there. A register has a value and the number of its lowest bytes that are known."""
 
-    place: int
+    position: int
     past: Clock
     registers: dict[str, tuple[Value, int]] = field(default_factory=dict)
     memory: dict[int, tuple[int, Value]] = field(default_factory=dict)
@@ -35,19 +35,19 @@ class Way:
     words: dict[int, frozenset[int]] = field(default_factory=dict)
     clocks: dict[int, dict[int, Clock]] = field(default_factory=dict)
     facts: dict[Question, bool] = field(default_factory=dict)
-    seen: dict[str, Value] = field(default_factory=dict)
-    last: dict[int, Value] = field(default_factory=dict)
+    shown_values: dict[str, Value] = field(default_factory=dict)
+    last_stored: dict[int, Value] = field(default_factory=dict)
     stores: int = 0
-    asked: int = 0
-    guessed: int = 0
+    question_count: int = 0
+    guess_count: int = 0
     steps: int = 0
     blocks: int = 0
     call: int = 0
     calls: int = 0
     callers: dict[int, int] = field(default_factory=dict)
     passes: dict[tuple[int, int], Pass] = field(default_factory=dict)
-    is_back: bool = False
-    pending: tuple[Value] | None = None
+    has_jumped_back: bool = False
+    pending_value: tuple[Value] | None = None
 
     def copy(self) -> "Way":
         """Returns a copy of the way, which continues on its own."""
@@ -175,9 +175,9 @@ class Way:
         shown = lambda value: value if value is None or self.resolve(value) is None else self.resolve(value)
         registers = tuple((name, shown(value), size) for name, (value, size) in sorted(self.registers.items()))
         memory = tuple((address, size, shown(value)) for address, (size, value) in sorted(self.memory.items()))
-        last = tuple((address, shown(value)) for address, value in sorted(self.last.items()))
+        last = tuple((address, shown(value)) for address, value in sorted(self.last_stored.items()))
         flags = self.flags and (self.flags.source, shown(self.flags.left), shown(self.flags.right), self.flags.size, self.flags.has_carry)
-        return registers, memory, last, flags, tuple(sorted(self.seen.items(), key=lambda it: it[0]))
+        return registers, memory, last, flags, tuple(sorted(self.shown_values.items(), key=lambda it: it[0]))
 
 
 NAMES = tuple(it.name for it in fields(Way))

@@ -26,7 +26,7 @@ class Writer:
         self.ways, self.seen, self.mark, self.locations = ways, seen, mark, locations
         self.registers = Registers(ways, seen, mark, thread)
         self.order = sort_nodes(ways)
-        self.made: list[Statement] = []
+        self.statements: list[Statement] = []
         self.origins: list[int] = []
         self.written = self.list_written_registers()
 
@@ -61,7 +61,7 @@ class Writer:
         if not value.added:
             return Register(self.registers.of[value.id])
         spare = self.registers.find_spare_register(node_index)
-        self.made += self.write_value(spare, value, self.registers.of)
+        self.statements += self.write_value(spare, value, self.registers.of)
         return Register(spare)
 
     # Nodes.
@@ -70,11 +70,11 @@ class Writer:
         """Returns the instructions. While they are written, jumps target nodes."""
         begins: dict[int, int] = {}
         for node_index, following in zip(self.order, [*self.order[1:], END]):
-            begins[node_index] = len(self.made)
+            begins[node_index] = len(self.statements)
             self.write_node(node_index, following)
-            self.origins += [node_index] * (len(self.made) - len(self.origins))
-        begins[END] = len(self.made)
-        resolved = [it if it.target is None else replace(it, target=begins[it.target]) for it in self.made]
+            self.origins += [node_index] * (len(self.statements) - len(self.origins))
+        begins[END] = len(self.statements)
+        resolved = [it if it.target is None else replace(it, target=begins[it.target]) for it in self.statements]
         return self.simplify_jumps(resolved)
 
     def write_node(self, node_index: int, following: int) -> None:
@@ -89,28 +89,28 @@ class Writer:
             if isinstance(node, End):
                 self.write_end(node)
             elif self.mark in self.registers.of.values():
-                self.made.append(Statement("set", self.mark, value=Number(0)))
+                self.statements.append(Statement("set", self.mark, value=Number(0)))
             self.write_continuation(END, following)
 
     def write_continuation(self, target: int, following: int) -> None:
         """Continues at a node, by a jump unless it is written next."""
         if target != following:
-            self.made.append(Statement("jmp", target=target))
+            self.statements.append(Statement("jmp", target=target))
 
     def write_effect(self, effect: Effect, node_index: int) -> None:
         """Writes the effect of a node."""
         registers = self.registers.of
         if isinstance(effect, Fence):
-            self.made.append(Statement("mfence"))
+            self.statements.append(Statement("mfence"))
         elif isinstance(effect, Load):
-            self.made.append(Statement("load", registers[effect.symbol], self.locations[effect.address]))
+            self.statements.append(Statement("load", registers[effect.symbol], self.locations[effect.address]))
         elif isinstance(effect, Store):
             value = self.make_operand(effect.value, node_index)
-            self.made.append(Statement("store", location=self.locations[effect.address], value=value))
+            self.statements.append(Statement("store", location=self.locations[effect.address], value=value))
         else:
-            self.made += self.write_value(registers[effect.symbol], effect.value, registers)
+            self.statements += self.write_value(registers[effect.symbol], effect.value, registers)
             kind = "xchg" if isinstance(effect, Exchange) else "xadd"
-            self.made.append(Statement(kind, registers[effect.symbol], self.locations[effect.address]))
+            self.statements.append(Statement(kind, registers[effect.symbol], self.locations[effect.address]))
 
     def write_branch(self, node: Branch, node_index: int, following: int) -> None:
         """Writes a question: comparisons with the fewer words, or with another register."""
@@ -123,12 +123,12 @@ class Writer:
         else:
             values = [self.make_operand(Symbol(question.other, question.width, question.added, question.width), node_index)]
         for value in values[:-1]:
-            self.made += [Statement("cmp", register, value=value), Statement("je", target=yes)]
-        self.made.append(Statement("cmp", register, value=values[-1]))
+            self.statements += [Statement("cmp", register, value=value), Statement("je", target=yes)]
+        self.statements.append(Statement("cmp", register, value=values[-1]))
         if yes == following:
-            self.made.append(Statement("jne", target=no))
+            self.statements.append(Statement("jne", target=no))
         else:
-            self.made.append(Statement("je", target=yes))
+            self.statements.append(Statement("je", target=yes))
             self.write_continuation(no, following)
 
     def write_end(self, node: End) -> None:
@@ -138,18 +138,18 @@ class Writer:
         moves += [] if self.mark is None else [(self.mark, 1)]
         moves = [it for it in moves if it[1] != 0 or it[0] in self.written]
         while moves:
-            needed = lambda move: {registers[value.id] for _, value in moves if isinstance(value, Symbol) and (_, value) != move}
-            ready = next((it for it in moves if it[0] not in needed(it)), None)
+            registers_read = lambda move: {registers[value.id] for _, value in moves if isinstance(value, Symbol) and (_, value) != move}
+            ready = next((it for it in moves if it[0] not in registers_read(it)), None)
             if ready is None:  # a ring: one of its registers is copied
                 busy = {register for register, _ in moves} | {registers[value.id] for _, value in moves if isinstance(value, Symbol)}
                 free = next((it for it in range(SIX) if it not in busy), None)
                 if free is None:
                     raise self.registers.refuse_too_many()
                 symbol = moves[0][1].id
-                self.made.append(Statement("set", free, value=Register(registers[symbol])))
+                self.statements.append(Statement("set", free, value=Register(registers[symbol])))
                 registers[symbol] = free
                 continue
-            self.made += self.write_value(*ready, registers)
+            self.statements += self.write_value(*ready, registers)
             moves.remove(ready)
 
     # Jumps.

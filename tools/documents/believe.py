@@ -261,9 +261,9 @@ def print_blocks(text: str, files: list[dict[str, set[int]]]) -> None:
 def main() -> int:
     """Runs the command that the arguments describe. Returns the exit status."""
     reader = command.Reader(__doc__)
-    what = reader.add_mutually_exclusive_group()
-    what.add_argument("--write", action="store_true")
-    what.add_argument("--print", action="store_true")
+    mode = reader.add_mutually_exclusive_group()
+    mode.add_argument("--write", action="store_true")
+    mode.add_argument("--print", action="store_true")
     arguments = reader.read()
     text, sittings = read_page(), list_sittings()
     files = [group_lines_by_file(it) for it in sittings]

@@ -162,11 +162,11 @@ class Names:
         wanted: dict[tuple[str, str], int] = Counter()
         for path in self.crates.list_proofs(crate) if self.crates.has_common(crate) else ():
             text = self.crates.read_proof(path)
-            kept = find_unfolded_names(text)
+            unfolded = find_unfolded_names(text)
             for module, name in self.list_imports(text):
                 module = self.find_module(module, name)
                 own = module.startswith(f"Rattle.{crate}.proofs")
-                if " as " not in name and name not in kept and not own and (module, name) not in self.opened:
+                if " as " not in name and name not in unfolded and not own and (module, name) not in self.opened:
                     wanted[module, name] += 1
         return wanted
 
@@ -190,13 +190,13 @@ class Names:
 
     def rewrite_proof(self, crate: str, text: str) -> str:
         """Returns a proof's text with its imports gathered."""
-        kept = find_unfolded_names(text)
+        unfolded = find_unfolded_names(text)
         common: list[str] = []
         others: dict[str, list[str]] = {}
         for module, name in self.list_imports(text):
-            if name not in kept:
+            if name not in unfolded:
                 module = self.find_module(module, name.split(" as ")[0])
-            if " as " not in name and name not in kept and self.passed[crate].get(name) == module:
+            if " as " not in name and name not in unfolded and self.passed[crate].get(name) == module:
                 common.append(name)
             else:
                 others.setdefault(module, []).append(name)

@@ -91,7 +91,7 @@ class SpecFile:
             return
         depth = len(body[0]) - len(body[0].lstrip())
         at_depth = [line for line in body if len(line) - len(line.lstrip()) == depth]
-        names = [found[1] for found in map(DEFINED.match, at_depth) if found]
+        names = [defined_name[1] for defined_name in map(DEFINED.match, at_depth) if defined_name]
         definition = Definition(names[0], self.path, start, start + len(block) - 1, "\n".join(code))
         for name in names:
             self.defined.setdefault(name, definition)

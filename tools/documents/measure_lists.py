@@ -30,9 +30,9 @@ def list_tests() -> list[tuple[str, str]]:
 
 def measure_report(name: str) -> tuple[float, str]:
     """Returns the millions of instructions of a test's report, and the number of its states."""
-    with open(f"{HOME}/bench/{name}.litmus", "rb") as given, tempfile.TemporaryDirectory() as folder:
+    with open(f"{HOME}/bench/{name}.litmus", "rb") as stream, tempfile.TemporaryDirectory() as folder:
         words = ["valgrind", "--tool=callgrind", f"--callgrind-out-file={folder}/out", f"--log-file={folder}/log", PROGRAM, "states"]
-        printed = subprocess.run(words, stdin=given, capture_output=True, check=False).stdout
+        printed = subprocess.run(words, stdin=stream, capture_output=True, check=False).stdout
         with open(f"{folder}/out", encoding="utf-8") as out:
             counted = int(require_match(re.search(r"^summary: (\d+)", out.read(), re.M))[1])
     states = re.search(rb"^States (\d+)$", printed, re.M)

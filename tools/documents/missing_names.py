@@ -130,9 +130,9 @@ class Missing:
                 continue
             for name in lacking:
                 file.brings.pop(name.split(" as ")[-1], None)
-            kept = [it for it in split_names(use[2]) if it not in lacking]
-            if kept:
-                yield f"use {use[1]}.{{{', '.join(kept)}}}"
+            names = [it for it in split_names(use[2]) if it not in lacking]
+            if names:
+                yield f"use {use[1]}.{{{', '.join(names)}}}"
 
     def complete_imports(self, path: str) -> str:
         """Returns a proof's text with missing imports added. Prints for each name from where it is imported, or that it has no unique

@@ -134,13 +134,13 @@ Result = Dict[str, Any]
 
 
 class Copy:
-    """A copy of the last commit, in which mutations are made. `kept` has what was built of each crate with nothing mutated."""
+    """A copy of the last commit, in which mutations are made. `unmutated` has what was built of each crate with nothing mutated."""
 
     def __init__(self, work: str, built: str, jobs: str) -> None:
         """Copies the last commit into a folder of `work`. `built` is the repository of which what is built is taken."""
         os.makedirs(work, exist_ok=True)
         self.folder = tempfile.mkdtemp(dir=work)
-        self.tree, self.kept, self.built, self.jobs = f"{self.folder}/tree", f"{self.folder}/kept", built, jobs
+        self.tree, self.unmutated, self.built, self.jobs = f"{self.folder}/tree", f"{self.folder}/kept", built, jobs
         self.below = check_up.read_dependencies()
         # The crates that are proved with nothing mutated, and those checked since a mutation was made.
         self.sound: set[str] = set()
@@ -178,31 +178,31 @@ class Copy:
 
     def copy_built(self, crate: str) -> None:
         """Copies what was built of a crate, if that is not done already."""
-        if not os.path.exists(f"{self.kept}/{crate}"):
+        if not os.path.exists(f"{self.unmutated}/{crate}"):
             source = f"{self.built}/crates/{crate}/out"
             if os.path.exists(source):
-                shutil.copytree(source, f"{self.kept}/{crate}", symlinks=True)
+                shutil.copytree(source, f"{self.unmutated}/{crate}", symlinks=True)
             else:
-                os.makedirs(f"{self.kept}/{crate}")
+                os.makedirs(f"{self.unmutated}/{crate}")
             self.restore_built(crate)
 
     def restore_built(self, crate: str) -> None:
         """Puts what was built of a crate with nothing mutated into the copy."""
         shutil.rmtree(self.make_out_path(crate), ignore_errors=True)
-        shutil.copytree(f"{self.kept}/{crate}", self.make_out_path(crate), symlinks=True)
+        shutil.copytree(f"{self.unmutated}/{crate}", self.make_out_path(crate), symlinks=True)
 
     def prove_unmutated(self, crate: str) -> None:
         """Proves a crate and those below it with nothing mutated. Raises Unusable if one is not proved."""
         lower = sorted(check_up.list_dependencies(crate, self.below), key=lambda it: len(check_up.list_dependencies(it, self.below)))
-        for needed in [*lower, crate]:
-            if needed not in self.sound:
-                self.copy_built(needed)
-                status, printed = self.run_rt(needed, [self.choose_command(needed)], None)
+        for crate_below in [*lower, crate]:
+            if crate_below not in self.sound:
+                self.copy_built(crate_below)
+                status, printed = self.run_rt(crate_below, [self.choose_command(crate_below)], None)
                 if status != 0:
-                    raise Unusable(f"{needed} is not proved with nothing mutated:\n{check_up.remove_notes(printed)}")
-                shutil.rmtree(f"{self.kept}/{needed}")
-                shutil.copytree(self.make_out_path(needed), f"{self.kept}/{needed}", symlinks=True)
-                self.sound.add(needed)
+                    raise Unusable(f"{crate_below} is not proved with nothing mutated:\n{check_up.remove_notes(printed)}")
+                shutil.rmtree(f"{self.unmutated}/{crate_below}")
+                shutil.copytree(self.make_out_path(crate_below), f"{self.unmutated}/{crate_below}", symlinks=True)
+                self.sound.add(crate_below)
 
     def check_crate(self, crate: str, seconds: float) -> tuple[int | None, str]:
         """Checks a crate, and builds it if it is proved. Returns the status, which is 0 if it is proved, and what was printed."""
@@ -271,8 +271,8 @@ def try_mutation(mutation: Mutation, copy: Copy, minutes: float) -> Result:
 
 def format_names(names: list[str]) -> str:
     """Returns some names in backticks, and how many there are beyond those."""
-    more = f" and {len(names) - SHOWN} more" if len(names) > SHOWN else ""
-    return ", ".join(f"`{it}`" for it in names[:SHOWN]) + more
+    rest = f" and {len(names) - SHOWN} more" if len(names) > SHOWN else ""
+    return ", ".join(f"`{it}`" for it in names[:SHOWN]) + rest
 
 
 def format_cells(result: Result) -> tuple[str, str]:

@@ -56,8 +56,8 @@ def format_instructions(instructions: list[Statement]) -> str:
 def replace_instruction(test: Test, place: Place, instructions: list[Statement]) -> Test:
     """Returns a test with other instructions in place of one."""
     thread, position = place
-    more = len(instructions) - 1
-    moved = lambda it: it if it.target is None or it.target <= position else replace(it, target=it.target + more)
+    growth = len(instructions) - 1
+    moved = lambda it: it if it.target is None or it.target <= position else replace(it, target=it.target + growth)
     code = [moved(it) for it in test.threads[thread]]
     threads = list(test.threads)
     threads[thread] = tuple(code[:position] + instructions + code[position + 1 :])

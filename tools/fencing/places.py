@@ -54,8 +54,8 @@ def remove_fences(test: Test, left_out: list[Place]) -> Test:
     for thread, code in enumerate(test.threads):
         gone = [position for other_thread, position in left_out if other_thread == thread]
         moved = lambda target, gone=gone: target - sum(position < target for position in gone)
-        kept = [it for position, it in enumerate(code) if position not in gone]
-        threads.append(tuple(it if it.target is None else replace(it, target=moved(it.target)) for it in kept))
+        instructions = [it for position, it in enumerate(code) if position not in gone]
+        threads.append(tuple(it if it.target is None else replace(it, target=moved(it.target)) for it in instructions))
     return replace(test, threads=threads)
 
 
@@ -66,7 +66,7 @@ def insert_fences(test: Test, places: list[Place]) -> Test:
         added = [position for other_thread, position in places if other_thread == thread]
         new: list[Statement] = []
         for position, statement in enumerate(code):
-            target = None if statement.target is None else statement.target + sum(place < statement.target for place in added)
+            target = None if statement.target is None else statement.target + sum(fence_position < statement.target for fence_position in added)
             new += [Statement("mfence")] * (position in added) + [statement if target is None else replace(statement, target=target)]
         threads.append(tuple(new))
     return replace(test, threads=threads)

@@ -15,15 +15,15 @@ def find_smallest_sets(fences: Sequence[Fence], is_enough: Callable[[frozenset[F
     whole = frozenset(fences)
     if not is_enough(whole):
         return []
-    needed = frozenset(it for it in fences if not is_enough(whole - {it}))
-    if is_enough(needed):
-        return [sort_set(needed, fences)]
-    others = [it for it in fences if it not in needed]
+    needed_fences = frozenset(it for it in fences if not is_enough(whole - {it}))
+    if is_enough(needed_fences):
+        return [sort_set(needed_fences, fences)]
+    others = [it for it in fences if it not in needed_fences]
     too_few: list[frozenset[Fence]] = []
     for size in range(1, len(others) + 1):
         smallest_sets = []
-        for more in combinations(others, size):
-            tried = needed.union(more)
+        for chosen in combinations(others, size):
+            tried = needed_fences.union(chosen)
             if any(tried <= known for known in too_few):
                 continue
             if is_enough(tried):

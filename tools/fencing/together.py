@@ -69,7 +69,7 @@ class CombinedTest:
         """Returns the same with more sites shown."""
         shown = lambda test: replace(test, listed=test.listed | sites)
         conversions = [replace(it.conversion, test=shown(it.test), question=shown(it.conversion.question)) for it in self.parts]
-        parts = [it._replace(conversion=made) for it, made in zip(self.parts, conversions)]
+        parts = [it._replace(conversion=shown_conversion) for it, shown_conversion in zip(self.parts, conversions)]
         return CombinedTest(parts, self.in_names, self.is_tried_everywhere)
 
     def make_report(self, change: Callable[[Part], plain.Test] = lambda part: part.test) -> str:
@@ -172,22 +172,22 @@ def format_added_states(added: list[str], indent: str) -> Iterator[str]:
         yield f"{indent}and {len(added) - MAX_SHOWN_STATES} others"
 
 
-def format_sets(sets: list[list[str]], asked: str, are_enough: bool) -> list[str]:
+def format_sets(sets: list[list[str]], question: str, are_enough: bool) -> list[str]:
     """Returns the line that says which sets of a test's fences add no state, by what was asked; none if there is no set. If even all fences do not
     forbid what the question is against, or nothing is asked of an x86 test, such a set is not called enough: it is as good as all fences."""
     texts = "; or ".join(", ".join(it) or "no fence" for it in sets)
-    return [f"{'Enough' if are_enough else 'As good as all its fences'}, with none to spare, by {asked}: {texts}"] if sets else []
+    return [f"{'Enough' if are_enough else 'As good as all its fences'}, with none to spare, by {question}: {texts}"] if sets else []
 
 
-def format_fences(tests: CombinedTest, original: Original, asked: str, are_enough: bool) -> Iterator[str]:
+def format_fences(tests: CombinedTest, original: Original, question: str, are_enough: bool) -> Iterator[str]:
     """Yields what is said of each fence, and which sets of them add no state, by what was asked."""
     before, fences = {*tests.list_states()}, tests.list_fences()
     for place in fences:
         added = [line for line in tests.list_states_without({place}) if line not in before]
-        yield f"{original.named(place)}: " + (f"needed, {len(added)} more without it" if added else f"can be left out alone, by {asked}")
+        yield f"{original.named(place)}: " + (f"needed, {len(added)} more without it" if added else f"can be left out alone, by {question}")
         yield from format_added_states(added, "  ")
     sets = tests.find_enough_sets() if fences or are_enough else []
-    yield from format_sets([list(map(original.short, it)) for it in sets], asked, are_enough)
+    yield from format_sets([list(map(original.short, it)) for it in sets], question, are_enough)
 
 
 def format_helping_places(tests: CombinedTest, named: Callable[[Place], str]) -> Iterator[str]:
@@ -225,9 +225,9 @@ def format_tests_and_makers(tests: CombinedTest, makers: set[answers.Maker], tri
 def format_answer(tests: CombinedTest, original: Original, by_everything: bool, with_exchanges: bool) -> list[str]:
     """Returns all that is said of the fences of a test of which some run is left."""
     everything = tests.show_sites(original.everything)
-    asked = original.all_shown if by_everything else f"its question, {original.condition}"
+    question = original.all_shown if by_everything else f"its question, {original.condition}"
     shown, named = everything if by_everything else tests, original.named
-    lines = list(format_fences(shown, original, asked, not by_everything and not tests.count_unwanted_states()))
+    lines = list(format_fences(shown, original, question, not by_everything and not tests.count_unwanted_states()))
     if not by_everything:
         lines += format_helping_places(tests, named)
     if with_exchanges:
@@ -235,5 +235,5 @@ def format_answer(tests: CombinedTest, original: Original, by_everything: bool, 
         lines += format_exchanges([*asks, (f"by {original.all_shown}", everything)], named)
     makers = tests.makers | everything.makers
     mark = "" if answers.are_proved(makers) else " (not proved)"
-    head = f"{original.name}, by {asked}: fences {len(shown.list_fences())}, states {len(shown.list_states())}{mark}"
+    head = f"{original.name}, by {question}: fences {len(shown.list_fences())}, states {len(shown.list_states())}{mark}"
     return [head, *lines, format_tests_and_makers(tests, makers, original.tries)]

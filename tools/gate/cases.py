@@ -25,11 +25,11 @@ Comparison = Tuple[str, object, object]
 def make_counted_assertion(name: str) -> Callable[..., None]:
     """Returns an assertion of `unittest` that is counted."""
 
-    def compare(self: Case, *values: object, **more: object) -> None:
+    def compare(self: Case, *values: object, **options: object) -> None:
         """Compares by the assertion of `unittest`, and counts it."""
-        self.made += 1
-        getattr(unittest.TestCase, name)(self, *values, **more)
-        self.held += 1
+        self.comparison_count += 1
+        getattr(unittest.TestCase, name)(self, *values, **options)
+        self.held_count += 1
 
     return compare
 
@@ -38,24 +38,24 @@ class Case(unittest.TestCase):
     """A subject. Assertions other than these four are not counted."""
 
     maxDiff = None
-    made = held = 0
+    comparison_count = held_count = 0
     assertEqual, assertTrue, assertFalse, assertIn = map(make_counted_assertion, ("assertEqual", "assertTrue", "assertFalse", "assertIn"))
 
     def tearDown(self) -> None:
         """Fails a method that has compared nothing."""
-        if not self.made:
+        if not self.comparison_count:
             self.fail("nothing was compared")
 
 
 class Count(unittest.TestResult):
     """The failures, and the number of assertions that held."""
 
-    held = 0
+    held_count = 0
 
     def stopTest(self, test: Any) -> None:
         """Adds the assertions of a test that has ended."""
         super().stopTest(test)
-        self.held += test.held
+        self.held_count += test.held_count
 
 
 def comparisons(module: ModuleType) -> Iterator[Comparison]:
@@ -67,7 +67,7 @@ def run_suite(suite: unittest.TestSuite) -> Iterator[Comparison]:
     """Returns the same for some tests."""
     count = Count()
     suite.run(count)
-    yield from [("an assertion", "holds", "holds")] * count.held
+    yield from [("an assertion", "holds", "holds")] * count.held_count
     for test, why in count.failures + count.errors:
         yield f"{test.id()}\n{why}", "holds", "fails"
 

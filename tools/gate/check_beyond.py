@@ -238,13 +238,13 @@ def run_on_terminal(path: str) -> tuple[str, str]:
 
 def check_seconds() -> Iterator[Comparison]:
     """Checks that a search that takes long shows on a terminal how long, and leaves nothing of that; and that a short one shows nothing."""
-    made, shown = run_on_terminal("examples/beyond/3.TryLock.litmus")
+    printed, shown = run_on_terminal("examples/beyond/3.TryLock.litmus")
     yield "beyond on a terminal, a short search", "\r\x1b[Kbeyond: listed by a search of 65 states\r\n", shown
-    yield "its report", run_tool([BEYOND, "states"], read("examples/beyond/3.TryLock.litmus"))[0], made
-    made, shown = run_on_terminal(f"bench/beyond/{LONG_SEARCH}.litmus")
+    yield "its report", run_tool([BEYOND, "states"], read("examples/beyond/3.TryLock.litmus"))[0], printed
+    printed, shown = run_on_terminal(f"bench/beyond/{LONG_SEARCH}.litmus")
     yield "beyond on a terminal, a long search: its first line", True, shown.startswith("\rbeyond: searching, 2 s")
     yield "and its last", True, re.search(r"\r\x1b\[Kbeyond: listed by a search of \d+ states\r\n$", shown) is not None
-    yield "its report", True, made.startswith("Test ") and made.count("\n") > 100_000
+    yield "its report", True, printed.startswith("Test ") and printed.count("\n") > 100_000
 
 
 def checks() -> Iterator[tuple[Any, ...]]:

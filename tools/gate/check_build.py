@@ -87,10 +87,10 @@ class Place:
         with open(path, "w", encoding="utf-8") as file:
             file.write(text)
 
-    def start_command(self, arguments: Sequence[str] = ("lw", "states"), **more: Any) -> Any:
+    def start_command(self, arguments: Sequence[str] = ("lw", "states"), **options: Any) -> Any:
         """Starts ./lw, or a command."""
         how: dict[str, Any] = {"stdin": subprocess.PIPE, "stdout": subprocess.PIPE, "stderr": subprocess.PIPE, "env": self.environment}
-        return subprocess.Popen([f"{self.home}/{arguments[0]}", *arguments[1:]], start_new_session=True, **{**how, **more})
+        return subprocess.Popen([f"{self.home}/{arguments[0]}", *arguments[1:]], start_new_session=True, **{**how, **options})
 
     def run_command(self, *arguments: str) -> tuple[bytes, str, list[str]]:
         """Returns what ./lw, or a command, prints on both streams, and what it has asked the stand-in to do."""
@@ -212,8 +212,8 @@ def run_on_terminal(place: Place, output: Any) -> tuple[str, bytes | None, int]:
     ran.stdin.close()
     shown = b""
     try:
-        while more := os.read(ours, 4096):
-            shown += more
+        while data := os.read(ours, 4096):
+            shown += data
     except OSError:
         pass
     return shown.decode(), ran.stdout.read() if output == subprocess.PIPE else None, ran.wait(60)
@@ -265,15 +265,15 @@ def comparisons() -> Iterator[Comparison]:
         place = Place(folder)
         checks = check_builds(place), check_copies(place, folder), check_failures(place), check_first_answer(place, folder)
         for check in (*checks, check_other_program(place, folder)):
-            for what, wanted, found in check:
-                yield f"with a stand-in for rt: {what}", wanted, found
+            for subject, expected, actual in check:
+                yield f"with a stand-in for rt: {subject}", expected, actual
 
 
 def main() -> int:
     """Runs the command that the arguments describe. Returns the exit status."""
     wrong = [it for it in comparisons() if it[1] != it[2]]
-    for what, wanted, found in wrong:
-        print(f"{what}\n  wanted: {wanted!r}\n  told:   {found!r}")
+    for subject, expected, actual in wrong:
+        print(f"{subject}\n  wanted: {expected!r}\n  told:   {actual!r}")
     return 1 if wrong else 0
 
 

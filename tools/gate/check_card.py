@@ -64,10 +64,10 @@ def comparisons() -> Iterator[Comparison]:
     statements, faults = read_tables(card)
     for language, test in tests.items():
         yield f"docs/CARD.md, the test in {language}", ("", 0), ask_program(test)
-    for source, x86, what in statements:
+    for source, x86, meaning in statements:
         for language, cell in (("SRC", source), ("X86", x86)):
             rows = [] if cell.startswith("none") else [f" {it} | ;" for it in list_code_spans(cell)]
-            yield f"docs/CARD.md, {what} in {language}", ("", 0), ask_program(replace_rows(tests[language], "\n".join(rows) or " | ;"))
+            yield f"docs/CARD.md, {meaning} in {language}", ("", 0), ask_program(replace_rows(tests[language], "\n".join(rows) or " | ;"))
     yield "docs/CARD.md has ten faults", FAULTS, len(faults)
     for language, *cells in faults:
         (written,), (meant,), (fault_name,) = map(list_code_spans, cells)

@@ -126,9 +126,9 @@ def find_picture_faults(picture: str) -> list[str]:
     labels = [it for it in root.iterfind("./svg:text", SVG) if it.get("class") == "relation"]
     places = [(number(it, "x"), number(it, "y") - 12, 7.9 * len(it.text or ""), 14) for it in labels]
     overlap = lambda a, b: a[0] < b[0] + b[2] and b[0] < a[0] + a[2] and a[1] < b[1] + b[3] and b[1] < a[1] + a[3]
-    faults = [f"{it.text} over a box" for it, place in zip(labels, places) if any(overlap(place, box) for box in boxes)]
+    faults = [f"{it.text} over a box" for it, label_box in zip(labels, places) if any(overlap(label_box, box) for box in boxes)]
     faults += [f"{label.text} over {other_label.text}" for n, label in enumerate(labels) for m, other_label in enumerate(labels[:n]) if overlap(places[n], places[m])]
-    faults += [f"{it.text} out of the picture" for it, place in zip(labels, places) if place[0] < 0 or place[0] + place[2] > number(root, "width")]
+    faults += [f"{it.text} out of the picture" for it, box in zip(labels, places) if box[0] < 0 or box[0] + box[2] > number(root, "width")]
     for path in root.iterfind("./svg:path", SVG):
         inside = [box for point in list_curve_points(path.attrib["d"]) for box in boxes if is_inside(point, box)]
         faults += [f"an arrow {path.get('class')} over a box"] * bool(inside)
@@ -141,7 +141,7 @@ def count_crossing_labels(picture: str) -> int:
     arrows = [list(list_curve_points(it.attrib["d"])) for it in root.iterfind("./svg:path", SVG)]
     labels = [it for it in root.iterfind("./svg:text", SVG) if it.get("class") == "relation"]
     places = [(float(it.attrib["x"]), float(it.attrib["y"]) - 12, 7.9 * len(it.text or ""), 14) for it in labels]
-    return sum(sum(any(is_inside(point, place) for point in arrow) for arrow in arrows) > 1 for place in places)
+    return sum(sum(any(is_inside(point, label_box) for point in arrow) for arrow in arrows) > 1 for label_box in places)
 
 
 def is_inside(point: tuple[float, float], box: tuple[float, ...]) -> bool:
@@ -262,9 +262,9 @@ def check_tool() -> Iterator[Comparison]:
     yield "where SB's fences are missing", 2, text.count("would keep their order")
     picture = run("P0 P0 P1 P1 D0 D1", SB).stdout
     yield "SB's picture marks its cycle", 4, picture.count(' marked"')
-    for path, *what in graph.DOCUMENTS:
+    for path, *arguments in graph.DOCUMENTS:
         with open(f"{HOME}/{path}", encoding="utf-8") as file:
-            yield path, graph.draw_document_picture(*what), file.read()
+            yield path, graph.draw_document_picture(*arguments), file.read()
 
 
 def comparisons() -> Iterator[Comparison]:

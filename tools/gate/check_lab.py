@@ -180,7 +180,7 @@ def check_points(lab: str) -> Iterator[Comparison]:
         yield f"each item of task {number} has points", numbered, [it for it, _, _ in items[number]]
         yield f"the points of task {number}", points, sum(int(it) for _, it, _ in items[number])
         yield f"the answers to task {number}", numbered, re.findall(r"^(\d)\. ", answers, re.M)
-    times = [(int(begin), int(end), what, points) for begin, end, what, points in TIME.findall(find_section(lab, "For the teacher"))]
+    times = [(int(begin), int(end), heading, points) for begin, end, heading, points in TIME.findall(find_section(lab, "For the teacher"))]
     yield "the timetable has no gap", [0, *(it[1] for it in times)], [*(it[0] for it in times), 90]
     yield "the timetable has 75 minutes of work", True, any(it[1] == 75 for it in times)
     for number, title, minutes, points, _ in tasks[:-1]:
@@ -224,8 +224,8 @@ def check_paper(folder: str) -> Iterator[Comparison]:
     driver = user.start_chromium(f"{folder}/paper")
     try:
         driver.get(f"file://{folder}/students/sheet.html")
-        for what, width, height in (("A4", 8.27, 11.69), ("Letter", 8.5, 11)):
-            yield f"the sheet, on {what}: its pages", True, count_paper_pages(driver, width, height) <= 8
+        for paper, width, height in (("A4", 8.27, 11.69), ("Letter", 8.5, 11)):
+            yield f"the sheet, on {paper}: its pages", True, count_paper_pages(driver, width, height) <= 8
         driver.execute_cdp_cmd("Emulation.setDeviceMetricsOverride", {"width": 360, "height": 740, "deviceScaleFactor": 2, "mobile": True})
         for name in ("sheet", "card"):
             driver.get(f"file://{folder}/students/{name}.html")
@@ -234,8 +234,8 @@ def check_paper(folder: str) -> Iterator[Comparison]:
         driver.execute_cdp_cmd("Emulation.clearDeviceMetricsOverride", {})
         driver.get(f"file://{folder}/students/sheet.html")
         driver.execute_script(FIRST_TASK)
-        for what, width, height in (("A4", 8.27, 11.69), ("Letter", 8.5, 11)):
-            yield f"task 1, on {what}: its pages", 1, count_paper_pages(driver, width, height)
+        for paper, width, height in (("A4", 8.27, 11.69), ("Letter", 8.5, 11)):
+            yield f"task 1, on {paper}: its pages", 1, count_paper_pages(driver, width, height)
     finally:
         driver.quit()
 
@@ -250,8 +250,8 @@ def check_command() -> Iterator[Comparison]:
     """Runs the command, and looks at its statuses."""
     with tempfile.TemporaryDirectory(prefix="lw-lab-") as folder:
         yield "make_lab.py FOLDER", ("", 0), run(["make_lab.py", folder])[::2]
-        made = sorted(it for it in os.listdir(folder))
-        yield "what it makes", ["students", "students.zip", "teacher"], made
+        names = sorted(it for it in os.listdir(folder))
+        yield "what it makes", ["students", "students.zip", "teacher"], names
         yield "what the teacher has", ["glossary.html", "slides.html", "solutions.html", "timetable.html"], sorted(os.listdir(f"{folder}/teacher"))
         yield "a folder that can't be made", 1, run(["make_lab.py", f"{folder}/students.zip/in"])[2]
         yield from check_paper(folder)
@@ -274,9 +274,9 @@ def find_offline_wrapper() -> list[str] | None:
 
 def list_missing() -> list[str]:
     """Returns what is missing to play the lab."""
-    needed: dict[str, object] = {"Chromium with its driver and selenium": user.is_there(), "a permission for unshare": find_offline_wrapper()}
-    needed["the module of the sources as they are"] = web_files.read_module()
-    return [what for what, is_there in needed.items() if not is_there]
+    requirements: dict[str, object] = {"Chromium with its driver and selenium": user.is_there(), "a permission for unshare": find_offline_wrapper()}
+    requirements["the module of the sources as they are"] = web_files.read_module()
+    return [requirement for requirement, is_there in requirements.items() if not is_there]
 
 
 def check_played(folder: str) -> Iterator[Comparison]:
@@ -287,7 +287,7 @@ def check_played(folder: str) -> Iterator[Comparison]:
         return
     words = [*(find_offline_wrapper() or []), sys.executable, f"{HOME}/tools", "gate.check_lab_browser", folder]
     ran = subprocess.run(words, capture_output=True, text=True, timeout=900, check=False)
-    yield from ((f"the lab, {what}", wanted, found) for what, wanted, found in map(json.loads, ran.stdout.splitlines()))
+    yield from ((f"the lab, {subject}", expected, actual) for subject, expected, actual in map(json.loads, ran.stdout.splitlines()))
     yield "the lab is played to its end", (0, ""), (ran.returncode, ran.stderr[-2000:])
     yield "how much of the lab is played", True, len(ran.stdout.splitlines()) >= MIN_PLAYED
 

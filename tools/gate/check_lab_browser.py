@@ -323,8 +323,8 @@ def comparisons(folder: str) -> Iterator[Comparison]:
             yield "the browser complains of nothing", [], [it for it in student.complaints() if not it.startswith("chrome:")]
             yield "from the page nothing foreign is reached", "not reached", student.driver.execute_async_script(FETCH)
             student.driver.switch_to.window(student.sheet)
-            found = student.driver.execute_async_script(FETCH), any("net::ERR_" in it for it in student.complaints())
-            yield "nor from the sheet, since there is no network", ("not reached", True), found
+            actual = student.driver.execute_async_script(FETCH), any("net::ERR_" in it for it in student.complaints())
+            yield "nor from the sheet, since there is no network", ("not reached", True), actual
         finally:
             student.driver.quit()
 

@@ -81,8 +81,8 @@ def load_python_module(folder: str) -> Answer:
         bench = lw.Workbench(shared, memory=1 << 20)
         command, *others = arguments
         try:
-            given = [others[0].encode(), others[2] if others[1:] else "mesi"] if others else []
-            status, page = bench.run(command, text, *given)
+            values = [others[0].encode(), others[2] if others[1:] else "mesi"] if others else []
+            status, page = bench.run(command, text, *values)
         except lw.Fault as fault:
             return fault.status, b"", fault.told.encode() + b"\n"
         if command == "states":
@@ -130,7 +130,7 @@ def compare_c_ends(folder: str) -> Iterator[Any]:
     with open(f"{HOME}/examples/SB-x86.litmus", "rb") as file:
         text = file.read()
     program = f"{folder}/lw-in-c"
-    replays = [["replay", "P0", *more] for more in (["--protocol"], ["--protocol", "msi"], ["--protocol", "MOESI"], ["--protocols", "mesi"])]
+    replays = [["replay", "P0", *options] for options in (["--protocol"], ["--protocol", "msi"], ["--protocol", "MOESI"], ["--protocols", "mesi"])]
     others: list[list] = [[], ["state"], ["states", "P0"], ["replay"], *replays, ["replay", b"P0 \xff"], ["replay", ""]]
     for words in others:
         yield f"the library from C: {words}", run_command([PROGRAM, *words], text), run_command([program, *words], text)
@@ -257,13 +257,13 @@ def comparisons() -> Iterator[Comparison]:
 def all_comparisons() -> Iterator[Comparison]:
     """Yields all comparisons of the library, in C and in Python."""
     with tempfile.TemporaryDirectory(prefix="lw-library-") as folder, ThreadPoolExecutor(2) as pool:
-        asked = list(list_cases())
-        wanted = list(pool.map(lambda it: run_command([PROGRAM, *it[1]], it[2]), asked))
+        cases = list(list_cases())
+        wanted = list(pool.map(lambda it: run_command([PROGRAM, *it[1]], it[2]), cases))
         for way, answer in (("C", build_c_example(folder)), ("Python", load_python_module(folder))):
-            for (name, words, _), want, got in zip(asked, wanted, pool.map(lambda it: answer(it[1], it[2]), asked)):
+            for (name, words, _), want, got in zip(cases, wanted, pool.map(lambda it: answer(it[1], it[2]), cases)):
                 yield f"the library from {way}: {name}, {' '.join(words)}", want, got
-        for what, want, got in compare_limits(lambda text, **settings: run_command([f"{folder}/lw-in-c", "states"], text, **settings)):
-            yield f"the library: {what}", want, got
+        for subject, want, got in compare_limits(lambda text, **settings: run_command([f"{folder}/lw-in-c", "states"], text, **settings)):
+            yield f"the library: {subject}", want, got
         yield from compare_c_ends(folder)
         yield from compare_versions(folder)
         yield from check_stack(folder)

@@ -126,12 +126,12 @@ def check_against() -> Iterator[Comparison]:
         yield "run_all.py against itself", (wanted, 0), (err.splitlines()[-1], status)
         report = run(["to_herd.py", "--report", "--form", "X86_64"], plain.make_report(plain.read_test(read("examples/SB-x86.litmus"))))[0]
         yield "a report in herd's lines", {"SB-x86": 4}, {name: len(states) for name, states in logs.read_states(report.splitlines()).items()}
-        for text, said in ((report, (f"1 tests against 1 of {log}: 0 differ\n", 0)), (LOG_OF_HERD, (TOLD_OF_LOG.format(log=log), 1))):
+        for text, expected in ((report, (f"1 tests against 1 of {log}: 0 differ\n", 0)), (LOG_OF_HERD, (TOLD_OF_LOG.format(log=log), 1))):
             with open(log, "w", encoding="utf-8") as log_file:
                 log_file.write(text)
             _, err, status = run(["run_all.py", "examples/SB-x86.litmus", "--against", log])
             errors = "".join(it for it in err.splitlines(True) if not it.startswith("run_all"))
-            yield "run_all.py against a log of herd's", said, (errors, status)
+            yield "run_all.py against a log of herd's", expected, (errors, status)
 
 
 def measure_seconds(arguments: list[str], text: str = "") -> tuple[float, float]:
@@ -161,15 +161,15 @@ def check_times() -> Iterator[Comparison]:
             files.append(os.path.join(temporary_folder, f"{name}.litmus"))
             with open(files[-1], "w", encoding="utf-8") as file:
                 file.write(format_test(make_shape(make_cycle(list(names))), name, X86))
-        for what, folder, text in (("examples", "../examples", ""), (f"{len(files)} cycles", "", "\n".join(files))):
+        for subject, folder, text in (("examples", "../examples", ""), (f"{len(files)} cycles", "", "\n".join(files))):
             times = measure_time_ratio(["run_all.py", *folder.split()], text)
-            yield f"run_all.py over {what}: {times:.2f} times the time of the programs", True, times <= MAX_TIME_RATIO
+            yield f"run_all.py over {subject}: {times:.2f} times the time of the programs", True, times <= MAX_TIME_RATIO
 
 
 def check_search() -> Iterator[Comparison]:
     """Checks the states that beyond.py finds within the limits."""
-    made = [(f"random {language} {seed}", random_tests.Writer(language, seed).draw_test()) for language, seed in random_tests.list_jobs(60)]
-    for name, text in [*examples(), *made]:
+    tests = [(f"random {language} {seed}", random_tests.Writer(language, seed).draw_test()) for language, seed in random_tests.list_jobs(60)]
+    for name, text in [*examples(), *tests]:
         test = plain.read_test(text)
         for variant in [test] if test.language == "X86" else [test, plain.compile_test(test), plain.compile_test(test, with_fences=False)]:
             exploration = Search(variant).explore(answers.MAX_STATES, beyond.show_progress)
@@ -195,11 +195,11 @@ def check_beyond() -> Iterator[Comparison]:
         yield f"beyond.py {name}", plain.make_report(test) + last, printed
     printed = run(["beyond.py", "--max-states", "50", f"{TOOLS}/search/tests/TryLock3.litmus"])[0]
     yield "beyond.py --max-states", True, "; the search ended at " in printed.splitlines()[-1]
-    for question, asked in (("exists", "Allowed"), ("forall", "Required")):
+    for question, verdict_word in (("exists", "Allowed"), ("forall", "Required")):
         text = read("examples/SB-x86.litmus").replace("exists", question)
         out, *ending = run(["beyond.py", "--max-states", "1"], text)
         why = "None: the search came to no final state, so nothing is said of the condition"
-        yield f"beyond.py without a state, {question}", [f"Test SB-x86 {asked}", "States 0", why], out.splitlines()[:3]
+        yield f"beyond.py without a state, {question}", [f"Test SB-x86 {verdict_word}", "States 0", why], out.splitlines()[:3]
         yield f"beyond.py without a state, {question}: status", ["", answers.NO_VERDICT], ending
     yield "beyond.py --max-states 0", 2, run(["beyond.py", "--max-states", "0", "examples/SB-x86.litmus"])[2]
     printed = run(["beyond.py", "--schedules", "examples/SB-x86.litmus"])[0]

@@ -151,7 +151,7 @@ def check_in_container(home: str) -> Iterator[Comparison]:
     with container.Container() as system:
         system.copy_in(home, "/lw-packed")
         for check in (check_calls("/lw-packed", system), check_server("/lw-packed", system)):
-            yield from ((f"in a container, {what}", wanted, found) for what, wanted, found in check)
+            yield from ((f"in a container, {subject}", expected, actual) for subject, expected, actual in check)
 
 
 def check_refusals() -> Iterator[Comparison]:
@@ -181,13 +181,13 @@ def comparisons() -> Iterator[Comparison]:
 
 def all_comparisons() -> Iterator[Comparison]:
     """Yields all comparisons of a pack that is made here."""
-    yield from ((f"the pack: {what}", wanted, found) for what, wanted, found in check_refusals())
+    yield from ((f"the pack: {subject}", expected, actual) for subject, expected, actual in check_refusals())
     folder = tempfile.mkdtemp(prefix="lw-packed-")
     try:
         home, files = make_and_unpack(folder)
         checks = check_contents(home, files, folder), check_calls(home, HostSystem()), check_server(home, HostSystem()), check_in_container(home)
         for check in checks:
-            yield from ((f"the pack: {what}", wanted, found) for what, wanted, found in check)
+            yield from ((f"the pack: {subject}", expected, actual) for subject, expected, actual in check)
     finally:
         subprocess.run(["chmod", "-R", "u+w", folder], check=False)
         shutil.rmtree(folder)

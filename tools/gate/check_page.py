@@ -94,9 +94,9 @@ class Page:
 
     def __init__(self, home: str = HOME, port: int | None = None, **environment: str) -> None:
         """Starts ./page, and waits until it listens."""
-        kept = {name: value for name, value in os.environ.items() if name not in ("DISPLAY", "WAYLAND_DISPLAY")}
+        variables = {name: value for name, value in os.environ.items() if name not in ("DISPLAY", "WAYLAND_DISPLAY")}
         self.port, self.home, pipe = port or find_free_port(), home, subprocess.PIPE
-        env = {**kept, **environment}
+        env = {**variables, **environment}
         self.process = subprocess.Popen([f"{home}/page", str(self.port)], stdin=subprocess.DEVNULL, stdout=pipe, stderr=pipe, env=env)
         assert self.process.stdout is not None
         self.line = self.process.stdout.readline().decode()
@@ -173,8 +173,8 @@ def read_answer(connection: socket.socket) -> HttpAnswer:
     """Reads an answer: its status, its headers and its content."""
     received = bytearray()
     with contextlib.suppress(ConnectionResetError):
-        while more := connection.recv(1 << 16):
-            received += more
+        while data := connection.recv(1 << 16):
+            received += data
     first, _, content = bytes(received).partition(b"\r\n\r\n")
     line, *fields = first.decode("latin-1").split("\r\n")
     status = int(line.split()[1]) if line else None
@@ -212,8 +212,8 @@ def check_requests(page: Page) -> Iterator[Comparison]:
     others = ("http://lw.example", f"https://{own}", "http://127.0.0.1:1", f"http://localhost:{page.port}")
     for origin in (None, "null", *others, [page.origin] * 2):
         for path in ("/run", "/current"):
-            found = page.send_request(make_head("POST", path, {**posted, "Origin": origin}) + body)[0]
-            yield f"POST {path} with Origin {origin}", 403, found
+            status = page.send_request(make_head("POST", path, {**posted, "Origin": origin}) + body)[0]
+            yield f"POST {path} with Origin {origin}", 403, status
     local = {"Host": f"localhost:{page.port}", "Origin": f"http://localhost:{page.port}"}
     yield "POST by the name localhost", 403, page.send_request(make_head("POST", "/run", {**posted, **local}) + body)[0]
     for cookie in ("a=b", "x" * 19000, "x" * 300000, "name=J\u00fcrgen".encode().decode("latin-1"), "a\tb", "\x01"):
@@ -223,8 +223,8 @@ def check_requests(page: Page) -> Iterator[Comparison]:
     for kind in (None, "text/plain", "application/x-www-form-urlencoded", "application/json; charset=latin-1"):
         yield f"POST of the kind {kind}", 415, page.post_question(states, Content_Type=kind)[0]
     for method in ("OPTIONS", "HEAD", "PUT", "DELETE", "PATCH", "TRACE"):
-        asked = {"Host": own, "Origin": page.origin, "Access-Control-Request-Method": "POST"}
-        answer_status, fields, _ = page.send_request(make_head(method, "/run", asked))
+        headers = {"Host": own, "Origin": page.origin, "Access-Control-Request-Method": "POST"}
+        answer_status, fields, _ = page.send_request(make_head(method, "/run", headers))
         refused = answer_status, [it for it in fields if it.startswith("access-control")]
         yield f"{method} is refused, with no header of CORS", (405, []), refused
     yield "POST to another path", 404, page.post_bytes(body, "/")[0]
@@ -337,10 +337,10 @@ def check_files(page: Page) -> Iterator[Comparison]:
     yield "GET /lw.wasm", (200, "application/wasm", web_files.read_module()), (status, fields["content-type"], content)
     run = page.post_question({"words": ["compile"], "text": read_file("examples/SB.litmus")})
     answers = {"a file": page.get_file("/"), "an unknown path": page.get_file("/x"), "a refusal": page.send_request(b"x\r\n\r\n"), "a run": run}
-    for what, (_, fields, _) in answers.items():
-        yield f"the headers of {what}", HEADERS, {name: fields.get(name) for name in HEADERS}
-        more = [it for it in fields if it.startswith(("access-control", "set-cookie"))]
-        yield f"{what} has no header of CORS, and no cookie", [], more
+    for file_name, (_, fields, _) in answers.items():
+        yield f"the headers of {file_name}", HEADERS, {name: fields.get(name) for name in HEADERS}
+        extra_fields = [it for it in fields if it.startswith(("access-control", "set-cookie"))]
+        yield f"{file_name} has no header of CORS, and no cookie", [], extra_fields
 
 
 def check_sources(page: Page) -> Iterator[Comparison]:
@@ -384,7 +384,7 @@ def check_answers(page: Page) -> Iterator[Comparison]:
     test = read_file("examples/SB.litmus")
     five = "SRC Five\n{}\n P0 | P1 ;\n" + " x := 1 | x := 2 ;\n" * 5 + "exists (x=1)\n"
     deep = "SRC A\n{}\n P0 ;\n x := 1 ;\nexists " + "(" * 30000 + "x=1" + ")" * 30000 + "\n"
-    for what, text, words, status, line in (
+    for subject, text, words, status, line in (
         ("what is no test", "no test", ["states"], 1, "lw: text 4 Unexpected at 0"),
         ("nothing", "", ["compile"], 1, None),
         ("a NUL", "SRC A\0", ["states"], 1, None),
@@ -399,16 +399,16 @@ def check_answers(page: Page) -> Iterator[Comparison]:
         ("their schedules", MANY, ["schedules"], 0, None),
     ):
         wanted, printed = ask_lw(text, *words), page.ask_run(text, *words)
-        yield f"the answer to {what}", wanted, printed
-        yield f"the line on {what}", (status, line or wanted["fault"]), (printed["status"], printed["fault"])
+        yield f"the answer to {subject}", wanted, printed
+        yield f"the line on {subject}", (status, line or wanted["fault"]), (printed["status"], printed["fault"])
 
 
 def check_searches(page: Page) -> Iterator[Comparison]:
     """Compares lists of any size, by the program beyond, if it is built of the sources as they are."""
     text = read_file("bench/beyond/TryLock3-x86.litmus")
     if subprocess.run([*web_runs.IS_CURRENT, "beyond"], capture_output=True, check=False).returncode != 0:
-        found = (500, "The program for tests of any size is not built of the sources as they are: run ./beyond once.")
-        yield "a list of any size, where beyond is not built", found, page.ask_run(text, "--budget", "10", "states")
+        expected = (500, "The program for tests of any size is not built of the sources as they are: run ./beyond once.")
+        yield "a list of any size, where beyond is not built", expected, page.ask_run(text, "--budget", "10", "states")
         return
     for words in (["--budget", "1000000", "states"], ["--budget", "1000000", "schedules"], ["--budget", "10", "states"]):
         yield f"a list of any size: {words}", ask_program(BEYOND, text, *words), page.ask_run(text, *words)
@@ -420,12 +420,12 @@ def check_pictures(_page: Page) -> Iterator[Comparison]:
     yield "refusals are told by the sentences of docs/FORMAT.md", sentences, effects.REFUSALS
     for path, example, schedule, is_strip in picture.DOCUMENTS:
         yield f"{path} is as tools/picture.py draws it", picture.draw_document_picture(example, schedule, is_strip), read_file(path)
-    for schedule, more, line, panels in (
+    for schedule, fields, line, panels in (
         ("P0 D1 P0", "--strip", "picture: event 1, D1, is refused: there is no entry to drain", 2),
         ("D0 P0", "--strip", "picture: event 0, D0, is refused: there is no entry to drain", 1),
         ("P0 E0:y", "", "picture: event 1, E0:y, is refused: the cache does not hold the line", 1),
     ):
-        words = [sys.executable, f"{HOME}/tools/picture.py", schedule, *more.split(), f"{HOME}/examples/SB-x86.litmus"]
+        words = [sys.executable, f"{HOME}/tools/picture.py", schedule, *fields.split(), f"{HOME}/examples/SB-x86.litmus"]
         ran = subprocess.run(words, capture_output=True, text=True, check=False)
         printed = ran.returncode, ran.stderr.strip(), ran.stdout.count(">content<"), ran.stdout.count("Here ")
         yield f"a picture of {schedule}, of which an event is refused", (1, line, panels, 1), printed
@@ -468,14 +468,14 @@ def check_slow(page: Page) -> Iterator[Comparison]:
 
 def check_idle(page: Page) -> Iterator[Comparison]:
     """Opens many connections of another user, which say nothing, or ask for a file and do not take it."""
-    for what, said in (("say nothing", b""), ("take nothing", make_head("GET", "/lw.wasm", {"Host": page.host}))):
+    for client, request in (("say nothing", b""), ("take nothing", make_head("GET", "/lw.wasm", {"Host": page.host}))):
         others = [page.connect() for _ in range(160)]
         for connection in others:
-            connection.sendall(said)
+            connection.sendall(request)
         began = time.monotonic()
-        yield f"a file, while 160 {what}", 200, page.get_file("/")[0]
-        yield f"a run, while 160 {what}", {"is_current": True}, page.is_current()
-        yield f"and at once, while 160 {what}", True, time.monotonic() - began < measure_patience()
+        yield f"a file, while 160 {client}", 200, page.get_file("/")[0]
+        yield f"a run, while 160 {client}", {"is_current": True}, page.is_current()
+        yield f"and at once, while 160 {client}", True, time.monotonic() - began < measure_patience()
         for connection in others:
             connection.close()
 
@@ -603,8 +603,8 @@ def check_too_long(copy: Copy, page: Page) -> Iterator[Comparison]:
     with ThreadPoolExecutor(5) as pool:
         hanging = [pool.submit(page.ask_run, it, "states") for it in ("Hangs", "Hangs", "Hangs", "Whispers")]
         started = copy.wait_for_processes(7)
-        found = page.get_file("/")[0], page.is_current()
-        yield "files are there while four runs hang, and whether the program is current", (200, {"is_current": True}), found
+        answer = page.get_file("/")[0], page.is_current()
+        yield "files are there while four runs hang, and whether the program is current", (200, {"is_current": True}), answer
         waiting = pool.submit(page.post_question, {"words": ["states"], "text": "SRC A"})
         wanted = [(504, "The run took longer than 20 seconds, and was ended.")] * 4
         yield "runs that take too long are told", wanted, [it.result() for it in hanging]
@@ -667,9 +667,9 @@ def check_ports() -> Iterator[Comparison]:
             port.bind(("127.0.0.1", 0))
             port.listen()
             used.append(port.getsockname()[1])
-        found = command.listen(used)
+        listener = command.listen(used)
     wanted = f"page: ports {used[0]} to {used[1]} are in use, or may not be listened on; ./page PORT takes another\n"
-    yield "where all ports are in use", (None, wanted), (found, actual.getvalue())
+    yield "where all ports are in use", (None, wanted), (listener, actual.getvalue())
 
 
 def check_no_program() -> Iterator[Comparison]:
@@ -690,8 +690,8 @@ def check_port_of_http() -> Iterator[Comparison]:
     page = Page(port=80)
     try:
         page.host, page.origin = "127.0.0.1", "http://127.0.0.1"
-        found = page.get_file("/")[0], page.is_current(), page.get_file("/", Host="localhost")[0]
-        yield "a page at the port of HTTP", (200, {"is_current": True}, 403), found
+        answers = page.get_file("/")[0], page.is_current(), page.get_file("/", Host="localhost")[0]
+        yield "a page at the port of HTTP", (200, {"is_current": True}, 403), answers
     finally:
         page.end_server()
 
@@ -799,8 +799,8 @@ def check_browser_misbehaving() -> Iterator[Comparison]:
     with tempfile.TemporaryDirectory(prefix="lw-page-") as folder:
         copy = Copy(folder)
         page = Page(copy.home, PATH=copy.path)
-        given = {"copy": copy, "page": page}
-        yield from try_subjects(page, [type("Misbehaving", (Misbehaving,), given)], "in a browser over a program that misbehaves")
+        names = {"copy": copy, "page": page}
+        yield from try_subjects(page, [type("Misbehaving", (Misbehaving,), names)], "in a browser over a program that misbehaves")
 
 
 def try_subjects(page: Page, chosen: Iterable[type[page_case.PageCase]], where: str) -> Iterator[Comparison]:
@@ -848,8 +848,8 @@ class Misbehaving(page_case.PageCase):
 
 def name_comparison(comparison: Comparison) -> Comparison:
     """Returns a comparison whose name begins with `./page`."""
-    what, wanted, found = comparison
-    return f"./page: {what}", wanted, found
+    subject, expected, actual = comparison
+    return f"./page: {subject}", expected, actual
 
 
 def run_twice_if_needed(check: Callable[..., Iterator[Comparison]], *words: object) -> list[Comparison]:
@@ -875,8 +875,8 @@ def run_check(check: Callable[..., Iterator[Comparison]], *words: object) -> Ite
 
 def format_fault(comparison: Comparison) -> str | None:
     """Returns what is printed of a comparison that differs, or None."""
-    what, wanted, found = comparison
-    return None if wanted == found else f"{what}\n  wanted: {wanted!r}\n  told:   {found!r}"[:2000]
+    subject, expected, actual = comparison
+    return None if expected == actual else f"{subject}\n  wanted: {expected!r}\n  told:   {actual!r}"[:2000]
 
 
 def skipped() -> str | None:

@@ -91,10 +91,10 @@ def check_page(page: str, tests: list[quiz.Asked]) -> Iterator[Comparison]:
 
 def check_reasons(data: quiz.Data, tests: list[quiz.Asked]) -> Iterator[Comparison]:
     """Checks why each test can end so or can't: a run if it can, which ends so, and a cycle if it can't. None is in plain sight."""
-    for index, (other_reason, found) in enumerate(zip(tests, quiz.read_reasons(data)), 1):
+    for index, (other_reason, reason_read) in enumerate(zip(tests, quiz.read_reasons(data)), 1):
         kinds = ["run" if verdict else "cycle" for verdict in (other_reason.interleaved, other_reason.on_x86)]
-        yield f"the reasons on test {index}", kinds, [reason["kind"] for reason in found]
-        yield f"the reasons on test {index} have events", True, all(len(reason.get("steps") or reason["events"]) > 1 for reason in found)
+        yield f"the reasons on test {index}", kinds, [reason["kind"] for reason in reason_read]
+        yield f"the reasons on test {index} have events", True, all(len(reason.get("steps") or reason["events"]) > 1 for reason in reason_read)
         test = plain.read_test(other_reason.text)
         ways = [reasons.list_asked_schedules(test, plain.make_x86_start, moves) for moves in (plain.list_interleaved_moves, plain.list_x86_moves)]
         yield f"runs by tools/plain.py that end as test {index} asks", [other_reason.interleaved, other_reason.on_x86], [bool(way) for way in ways]
@@ -149,14 +149,14 @@ def check_node(page: str, code: str, rights: list[int]) -> Iterator[Comparison]:
     yield "the page's own JavaScript finds the reasons", quiz.read_reasons(read_data(page)), json.loads(
         printed.stdout or b"0"
     ) or printed.stderr.decode()
-    asked = f"console.log(JSON.stringify([rightAnswers(), codeOf(studentOf('  Ana  17 '), {answers}), studentOf(' Ä  é '), studentOf('a<b'), studentOf('a'.repeat(17))]));"
-    ran = subprocess.run([NODE, "-"], input=(require_match(SCRIPT.search(page))[1] + asked).encode(), capture_output=True, timeout=60, check=False)
+    script = f"console.log(JSON.stringify([rightAnswers(), codeOf(studentOf('  Ana  17 '), {answers}), studentOf(' Ä  é '), studentOf('a<b'), studentOf('a'.repeat(17))]));"
+    ran = subprocess.run([NODE, "-"], input=(require_match(SCRIPT.search(page))[1] + script).encode(), capture_output=True, timeout=60, check=False)
     yield "the page's own JavaScript", [rights, code, "ä é", None, None], json.loads(ran.stdout or b"0") or ran.stderr.decode()
     data = read_data(page)
     for name in ("ä é", "李明", "ольга", "o'neil"):
-        asked = f"console.log(codeOf({json.dumps(name)}, {answers}));"
+        script = f"console.log(codeOf({json.dumps(name)}, {answers}));"
         ran = subprocess.run(
-            [NODE, "-"], input=(require_match(SCRIPT.search(page))[1] + asked).encode(), capture_output=True, timeout=60, check=False
+            [NODE, "-"], input=(require_match(SCRIPT.search(page))[1] + script).encode(), capture_output=True, timeout=60, check=False
         )
         handed_in = codes.HandedIn(data["mark"], data["seed"], name, answers)
         yield f"the page's code of {name}", codes.make_code(handed_in), ran.stdout.decode().strip()
@@ -202,8 +202,8 @@ def check_bad_codes(code: str, handed_in: codes.HandedIn, folder: str) -> Iterat
     with open(f"{folder}/codes.txt", "w", encoding="utf-8") as file:
         file.write("\n".join([code, *(bad for bad, _, _ in kinds)]))
     refused = "".join(f"{folder}/codes.txt:{line}:{column}: {cause}\n" for line, (_, column, cause) in enumerate(kinds, 2))
-    found = run_and_split("", f"{folder}/quiz.html", f"{folder}/codes.txt")
-    yield "bad codes are refused", ([HEADING, ["1", *ROW]], refused, 1), found
+    answer = run_and_split("", f"{folder}/quiz.html", f"{folder}/codes.txt")
+    yield "bad codes are refused", ([HEADING, ["1", *ROW]], refused, 1), answer
 
 
 def check_browser(page: str, folder: str) -> Iterator[Comparison]:
@@ -229,8 +229,8 @@ def check_browser(page: str, folder: str) -> Iterator[Comparison]:
         user.find("#student").send_keys("Ana 17")
         user.driver.refresh()
         user.find("body[data-ready]")
-        kept = user.run("return document.querySelectorAll('input:checked').length"), user.value("#student")
-        yield "a reload keeps the answers", (2 * TESTS, "Ana 17"), kept
+        answers = user.run("return document.querySelectorAll('input:checked').length"), user.value("#student")
+        yield "a reload keeps the answers", (2 * TESTS, "Ana 17"), answers
         user.click("#done")
         yield "the score", f"{2 * TESTS - 4} of {2 * TESTS} right.", user.text("#score")
         yield "the code is read", ([HEADING, ["1", *ROW]], "", 0), run_and_split(user.text("#code"), f"{folder}/quiz.html")

@@ -79,11 +79,11 @@ REFUSED = (
 SERVED = "SB SB-x86 SB+mfences-x86 MP-x86 IRIW-x86 Counter Peterson Peterson+xchg-x86 SpinLock-x86 Sharing-x86".split()
 
 
-def make_node_command(*more: str) -> list[str]:
+def make_node_command(*words: str) -> list[str]:
     """Returns the words that run tools/gate/check_site.mjs."""
     version = subprocess.run([str(NODE), "--version"], capture_output=True, text=True, check=True).stdout
     early = int(require_match(re.match(r"v(\d+)", version))[1]) < 24
-    return [str(NODE), *["--experimental-wasm-memory64"] * early, f"{HOME}/tools/gate/check_site.mjs", *more]
+    return [str(NODE), *["--experimental-wasm-memory64"] * early, f"{HOME}/tools/gate/check_site.mjs", *words]
 
 
 def check_by_node() -> Iterator[Comparison]:
@@ -99,9 +99,9 @@ def check_by_node() -> Iterator[Comparison]:
         page.end_server()
 
 
-def run_node(*more: str) -> str:
+def run_node(*words: str) -> str:
     """Returns what tools/gate/check_site.mjs prints."""
-    ran = subprocess.run(make_node_command(*more), capture_output=True, text=True, timeout=1800, check=False)
+    ran = subprocess.run(make_node_command(*words), capture_output=True, text=True, timeout=1800, check=False)
     last = ran.stdout.splitlines()[-1:] or [""]
     return "0 failed" if re.fullmatch(r"[1-9]\d* passed, 0 failed", last[0]) else (ran.stdout + ran.stderr)[-3000:]
 
@@ -119,17 +119,17 @@ def check_bundles() -> Iterator[Comparison]:
         yield "a bundle has no import and no export", [], re.findall(r"^(?:import|export)\b", text, re.M)
         yield "a bundle has no comment", 0, text.count("One.")
         if NODE:
-            given = f"const told = [];\n{text}console.log(told.join());"
-            ran = subprocess.run([NODE, "-e", given.replace('"use strict";', "", 1)], capture_output=True, text=True, check=False)
+            script = f"const told = [];\n{text}console.log(told.join());"
+            ran = subprocess.run([NODE, "-e", script.replace('"use strict";', "", 1)], capture_output=True, text=True, check=False)
             yield "a bundle runs", "2,1,undefined\n", ran.stdout + ran.stderr
-        for what, text in REFUSED:
+        for fault, text in REFUSED:
             make_site.write_file(f"{web}/main.js", text)
-            found = ""
+            message = ""
             try:
                 make_site.bundle_module("main", web)
             except make_site.NoSite as why:
-                found = str(why)
-            yield f"a module that has {what} is refused", True, what in found
+                message = str(why)
+            yield f"a module that has {fault} is refused", True, fault in message
 
 
 def check_files() -> Iterator[Comparison]:
@@ -151,8 +151,8 @@ def check_files() -> Iterator[Comparison]:
             yield f"{name} names no other site", [], re.findall(r"https?:|src=\"//|url\((?!#to-)", text)
             yield f"{name} has no module of JavaScript", [], re.findall(r"type=\"module\" src|^import |^export ", text, re.M)
         with open(f"{folder}/site/offline.js", encoding="utf-8") as stream:
-            kept = require_match(re.search(r"^const files = (.*);$", stream.read(), re.M))[1]
-        yield "what the browser keeps of a site", ["./", *(it for it in names if it != "offline.js")], json.loads(kept)
+            files = require_match(re.search(r"^const files = (.*);$", stream.read(), re.M))[1]
+        yield "what the browser keeps of a site", ["./", *(it for it in names if it != "offline.js")], json.loads(files)
 
 
 def check_documents() -> Iterator[Comparison]:
@@ -180,10 +180,10 @@ def check_commands() -> Iterator[Comparison]:
     """Checks that a command's link has the text that the program reads there, and what it asks of that text; of several commands there is a
     link each.
     """
-    for made, asked, fields in MADE:
-        text = subprocess.run(["bash", "-c", made], cwd=HOME, capture_output=True, text=True, check=True).stdout
-        found = [it.fields for it in commands.list_views(f"{made} | {asked}")]
-        yield f"the link of {made} | {asked}", [{"text": text, **fields}], found
+    for text_command, lw_command, fields in MADE:
+        text = subprocess.run(["bash", "-c", text_command], cwd=HOME, capture_output=True, text=True, check=True).stdout
+        views = [it.fields for it in commands.list_views(f"{text_command} | {lw_command}")]
+        yield f"the link of {text_command} | {lw_command}", [{"text": text, **fields}], views
     loop = 'for schedule in "P0" "P0 P1"; do ./lw replay "$schedule" < examples/SB-x86.litmus | grep at; done'
     wanted = [("run SB-x86 so: P0", "P0"), ("run SB-x86 so: P0 P1", "P0 P1")]
     yield "a command for each of some words", wanted, [(it.words, it.fields["schedule"]) for it in commands.list_views(loop)]
@@ -296,23 +296,23 @@ def format_answer(ran: tuple[int, bytes, bytes]) -> list[object]:
     return [status, bool(errors), (errors[:-1] or out).decode()]
 
 
-def compare_module_answers(address: str, modules: list[bytes], asked: Any, start: Any) -> Iterator[Comparison]:
+def compare_module_answers(address: str, modules: list[bytes], questions: Any, start: Any) -> Iterator[Comparison]:
     """Compares all answers of each module on each example, in a browser."""
     with tempfile.TemporaryDirectory(prefix="lw-browser-") as folder:
         user = User(address, folder, start)
         try:
             user.open()
-            for number, what in enumerate(MODULES[: len(modules)]):
+            for number, module_name in enumerate(MODULES[: len(modules)]):
                 user.run(f"load({number})")
                 printed = user.wait(lambda: str(user.run("return document.body.dataset.module ?? ''")), "the module is loaded")
                 user.run("delete document.body.dataset.module")
                 if printed == "none":
-                    yield f"the module {what}", "it is taken", "it is refused"
+                    yield f"the module {module_name}", "it is taken", "it is refused"
                     continue
-                for name, cases in itertools.groupby(asked, lambda it: it[0]):
+                for name, cases in itertools.groupby(questions, lambda it: it[0]):
                     _, words, texts, wanted = zip(*cases)
                     got = user.run("return answers(arguments[0])", list(zip(words, (it.decode() for it in texts))))
-                    yield f"the module {what}: {name}", list(wanted), got
+                    yield f"the module {module_name}: {name}", list(wanted), got
         finally:
             user.driver.quit()
 
@@ -338,9 +338,9 @@ def choose_subjects(site: str, browser: str) -> tuple[type[page_case.PageCase], 
 
 def make_sites(folder: str) -> dict[str, str]:
     """Makes the sites that are opened. Returns of each what it is, and its address."""
-    made = web_files.read_modules()
-    make_site.make_site(f"{folder}/site", made)
-    make_site.make_site(f"{folder}/one.html", made, True)
+    modules = web_files.read_modules()
+    make_site.make_site(f"{folder}/site", modules)
+    make_site.make_site(f"{folder}/one.html", modules, True)
     return {"a site": f"file://{folder}/site/index.html", "a site of one file": f"file://{folder}/one.html"}
 
 
@@ -377,7 +377,7 @@ def check_by_browser() -> Iterator[Comparison]:
         yield from report_missing("a browser")
     if web_files.read_module():
         answer = lambda words, text: format_answer(check_library.run_command([check_library.PROGRAM, *words], text))
-        asked = [(name, words, text, answer(words, text)) for name, words, text in check_library.list_cases()]
+        cases = [(name, words, text, answer(words, text)) for name, words, text in check_library.list_cases()]
         with tempfile.TemporaryDirectory(prefix="lw-sites-") as folder:
             modules = web_files.read_modules()
             comparing = make_comparing_page(f"{folder}/comparing", modules)
@@ -386,10 +386,10 @@ def check_by_browser() -> Iterator[Comparison]:
             loaded = sum(os.path.getsize(f"{folder}/site/{name}") for name in LOADED)
             yield f"the site: few bytes come before the first answer: {loaded}", True, loaded < MAX_LOADED_BYTES
             for name, start in browsers().items():
-                in_browser = lambda it: ((f"in {name}, {what}", wanted, found) for what, wanted, found in it)
-                yield from in_browser(check_page.run_twice_if_needed(compare_module_answers, comparing, modules, asked, start))
-                for what, address in opened.items():
-                    yield from check_page.run_check(page_case.comparisons, address, choose_subjects(what, name), f"{what}, in {name}", start)
+                in_browser = lambda it: ((f"in {name}, {subject}", expected, actual) for subject, expected, actual in it)
+                yield from in_browser(check_page.run_twice_if_needed(compare_module_answers, comparing, modules, cases, start))
+                for subject, address in opened.items():
+                    yield from check_page.run_check(page_case.comparisons, address, choose_subjects(subject, name), f"{subject}, in {name}", start)
             if is_there():
                 yield from check_page.run_twice_if_needed(check_offline, f"{folder}/site")
 
@@ -397,24 +397,24 @@ def check_by_browser() -> Iterator[Comparison]:
 # All of them.
 
 
-def report_missing(what: str) -> Iterator[Comparison]:
+def report_missing(requirement: str) -> Iterator[Comparison]:
     """Yields a fault if CI=true, since nothing may be missing then."""
     if os.environ.get("CI") == "true":
-        yield f"the site: where CI=true, {what} is there", "", "it is missing"
+        yield f"the site: where CI=true, {requirement} is there", "", "it is missing"
 
 
 def skipped() -> str | None:
     """Returns the line that says what was left out, or None if nothing was."""
-    needed: dict[str, object] = {"node": NODE, "Chromium": is_there(), "Firefox": firefox.is_there()}
-    needed["the module of the sources as they are"] = web_files.read_module()
-    lacking = [what for what, has_it in needed.items() if not has_it]
+    requirements: dict[str, object] = {"node": NODE, "Chromium": is_there(), "Firefox": firefox.is_there()}
+    requirements["the module of the sources as they are"] = web_files.read_module()
+    lacking = [requirement for requirement, has_it in requirements.items() if not has_it]
     return f"the site: checks were skipped, since this is missing: {', '.join(lacking)}" if lacking else None
 
 
 def comparisons() -> Iterator[Comparison]:
     """Yields all comparisons: what is compared, what is expected, and what was found."""
     for check in (check_bundles, check_files, check_documents, check_commands, check_origin, check_packed, check_words):
-        yield from ((f"the site: {what}", wanted, found) for what, wanted, found in check())
+        yield from ((f"the site: {subject}", expected, actual) for subject, expected, actual in check())
     yield from check_by_node()
     yield from check_by_browser()
 

@@ -110,18 +110,18 @@ def find_buffer(shown: list[str]) -> int:
     return shown.index("store buffer") if "store buffer" in shown else len(shown)
 
 
-def compare_state(what: str, svg: str, state: State) -> Iterator[Comparison]:
+def compare_state(subject: str, svg: str, state: State) -> Iterator[Comparison]:
     """Compares a picture of one state with the state that the program replays."""
     threads, content = parse_picture(svg)
-    yield f"{what}: the words of memory", format_words(state["content"]), content
-    yield f"{what}: its threads", len(state["threads"]), len(threads)
+    yield f"{subject}: the words of memory", format_words(state["content"]), content
+    yield f"{subject}: its threads", len(state["threads"]), len(threads)
     shown_words = [it for shown in threads for it in shown[: find_buffer(shown)]]
-    yield f"{what}: registers are shown", True, any(re.fullmatch(r"\w+=\d+", it) for it in shown_words)
+    yield f"{subject}: registers are shown", True, any(re.fullmatch(r"\w+=\d+", it) for it in shown_words)
     for number, (shown, thread_state) in enumerate(zip(threads, state["threads"])):
         begin = find_buffer(shown)
         registers = [it for it in shown[:begin] if re.fullmatch(r"\w+=\d+", it)]
-        yield f"{what}: the registers of P{number}", [], sorted(set(registers) - set(format_words(thread_state["registers"])))
-        yield f"{what}: the store buffer of P{number}", format_words(thread_state.get("buffer", [])) or ["(empty)"], shown[begin + 1 :] or ["(empty)"]
+        yield f"{subject}: the registers of P{number}", [], sorted(set(registers) - set(format_words(thread_state["registers"])))
+        yield f"{subject}: the store buffer of P{number}", format_words(thread_state.get("buffer", [])) or ["(empty)"], shown[begin + 1 :] or ["(empty)"]
 
 
 def check_figures(page: str, tests: dict[str, bytes]) -> Iterator[Comparison]:
@@ -129,14 +129,14 @@ def check_figures(page: str, tests: dict[str, bytes]) -> Iterator[Comparison]:
     figures = FIGURE.findall(page)
     yield "how many pictures there are", True, len(figures) >= 6
     for kind, name, schedule, svg in figures:
-        what, events = f"{name} after {schedule}", schedule.split()
+        subject, events = f"{name} after {schedule}", schedule.split()
         state = replay_schedule(tests[name], schedule)
-        yield f"{what} is carried out", len(events), state["steps"]
+        yield f"{subject} is carried out", len(events), state["steps"]
         if kind == "state":
-            yield from compare_state(what, svg, state)
+            yield from compare_state(subject, svg, state)
         else:
             loaded = re.findall(r": R \w+=(\d+)<", svg)
-            yield f"{what}, an execution: what is loaded", [str(dict(it["registers"])["EAX"]) for it in state["threads"]], loaded
+            yield f"{subject}, an execution: what is loaded", [str(dict(it["registers"])["EAX"]) for it in state["threads"]], loaded
 
 
 def check_command() -> Iterator[Comparison]:

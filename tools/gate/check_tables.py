@@ -131,8 +131,8 @@ def run_case(program: str, case: Case | None) -> tuple[object, object]:
 
 def check_table_names() -> Iterator[Comparison]:
     """Yields whether tables/ has its tables and folders, and no others."""
-    found = sorted(os.path.basename(it) for it in glob.glob(f"{HOME}/tables/*"))
-    yield "what there is in tables/", sorted([*FOLDERS, *(f"{name}.txt" for name in TABLES)]), found
+    names = sorted(os.path.basename(it) for it in glob.glob(f"{HOME}/tables/*"))
+    yield "what there is in tables/", sorted([*FOLDERS, *(f"{name}.txt" for name in TABLES)]), names
 
 
 def comparisons(program: str, name: str) -> Iterator[Comparison]:

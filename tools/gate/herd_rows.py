@@ -213,10 +213,10 @@ class SpelledRow:
         """Returns a number as an operand."""
         return f"${number}" if self.is_att or self.random.random() < 0.3 else str(number)
 
-    def spell_instruction(self, mnemonic: str, to: str, what: str | None = None) -> str:
+    def spell_instruction(self, mnemonic: str, to: str, source: str | None = None) -> str:
         """Returns an instruction with its operands, in the order of the sequence, and with the letter of a size now and then."""
         letter = "l" * (self.random.random() < 0.4 and (self.is_att or self.is_mixed))
-        operands = [to] if what is None else [what, to] if self.is_att else [to, what]
+        operands = [to] if source is None else [source, to] if self.is_att else [to, source]
         return f"{mnemonic}{letter} {','.join(operands)}"
 
     def execute_instruction(self) -> str:

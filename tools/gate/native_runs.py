@@ -164,7 +164,7 @@ def make_expression(converter: Converter, site: Seen | Global, names: list[str],
     if isinstance(site, Seen):
         return f"results[{site.thread}][{len(names) if site.name == 'return' else names.index(site.name)}]"
     base, _, offset = site.name.partition("+")
-    size = converter.program.find_asked_size(converter.program.asked[site.name])
+    size = converter.program.find_asked_size(converter.program.asked_addresses[site.name])
     number = [name for name, _, _ in objects].index(base)
     return f"*(uint{8 * size}_t *)(object_{number} + {offset or 0})"
 

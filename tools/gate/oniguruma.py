@@ -44,16 +44,16 @@ class Library:
 
     def compile_pattern(self, pattern: str) -> "Pattern":
         """Returns a pattern that is compiled. Raises Fault if the text is no pattern."""
-        code, made = pattern.encode(), ctypes.c_void_p()
+        code, handle = pattern.encode(), ctypes.c_void_p()
         text, information = ctypes.create_string_buffer(code), ctypes.create_string_buffer(64)
         begin = ctypes.addressof(text)
         bounds = ctypes.c_void_p(begin), ctypes.c_void_p(begin + len(code))
-        status = self.dll.onig_new(ctypes.byref(made), *bounds, CAPTURE_GROUP, self.utf8, self.syntax, information)
+        status = self.dll.onig_new(ctypes.byref(handle), *bounds, CAPTURE_GROUP, self.utf8, self.syntax, information)
         if status:
             message = ctypes.create_string_buffer(MAX_MESSAGE_BYTES)
             self.dll.onig_error_code_to_str(message, status, information)
             raise Fault(f"{pattern}: {message.value.decode()}")
-        return Pattern(self, made)
+        return Pattern(self, handle)
 
 
 class Match:
@@ -85,8 +85,8 @@ class Match:
 class Pattern:
     """A compiled pattern."""
 
-    def __init__(self, library: Library, made: ctypes.c_void_p) -> None:
-        self.library, self.made = library, made
+    def __init__(self, library: Library, pointer: ctypes.c_void_p) -> None:
+        self.library, self.handle = library, pointer
 
     def search(self, line: str, index: int) -> Match | None:
         """Returns the first match in a line from a place on, or None."""
@@ -95,7 +95,7 @@ class Pattern:
         begin = ctypes.addressof(text)
         end, start = ctypes.c_void_p(begin + len(code)), ctypes.c_void_p(begin + len(line[:index].encode()))
         try:
-            position = dll.onig_search(self.made, ctypes.c_void_p(begin), end, start, end, region, 0)
+            position = dll.onig_search(self.handle, ctypes.c_void_p(begin), end, start, end, region, 0)
             return Match(code, region.contents) if position >= 0 else None
         finally:
             dll.onig_region_free(region, 1)

@@ -48,21 +48,21 @@ class ListedState(TypedDict):
 class NoAnswer(Exception):
     """There is no answer: why, and what else is answered."""
 
-    def __init__(self, why: str, **more: object) -> None:
+    def __init__(self, why: str, **fields: object) -> None:
         super().__init__(why)
-        self.more = more
+        self.more = fields
 
 
 def remember(ask_once: Callable[[list[str], bytes], str]) -> Callable[[list[str], bytes], str]:
     """Returns what asks the program once for the same words and text."""
-    kept = {}
+    results = {}
 
     def ask(arguments: list[str], text: bytes) -> str:
         """Returns what the program prints, if that was asked before the same."""
         key = (tuple(arguments), text)
-        if key not in kept:
-            kept[key] = ask_once(arguments, text)
-        return kept[key]
+        if key not in results:
+            results[key] = ask_once(arguments, text)
+        return results[key]
 
     return ask
 
@@ -262,9 +262,9 @@ def answer_compile(text: bytes) -> Answer:
 def answer_fences(text: bytes, everything: bool) -> Answer:
     """Returns the table of tools/fences.py, where its lists come from, and of each row the text without its fence."""
     test = plain.read_test(ask(["compile"], text))
-    asked = fences.show_everything(test) if everything else test
-    texts = [plain.format_canonical_text(fences.remove_fences(asked, [fence])) for fence in fences.list_fences(asked)]
-    table = fences.make_table(asked)
+    compared = fences.show_everything(test) if everything else test
+    texts = [plain.format_canonical_text(fences.remove_fences(compared, [fence])) for fence in fences.list_fences(compared)]
+    table = fences.make_table(compared)
     # The page makes lists that the program refuses by a plain interpreter of its own, and not by a search.
     table["answered_by"] = sorted({it if it == "program" else "plain" for it in table["answered_by"]})
     return {"table": table, "condition": plain.format_condition(test), "texts": texts, "language": read_language(text)}
@@ -335,10 +335,10 @@ QUESTIONS: dict[str, Callable[..., Answer]] = {
 }
 
 
-def answer_question(question: str, text: str = "", **more: object) -> Answer:
+def answer_question(question: str, text: str = "", **fields: object) -> Answer:
     """Returns the answer to a question on a text."""
     try:
-        return QUESTIONS[question](text.encode()[:MAX_BYTES], **more)
+        return QUESTIONS[question](text.encode()[:MAX_BYTES], **fields)
     except Refused as why:
         return {"fault": make_fault(*why.args)}
     except NoAnswer as why:

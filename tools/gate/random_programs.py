@@ -168,10 +168,11 @@ class Program:
         random = self.random
         location_index, register = random.randrange(sum(name in "xyz" for name in self.names)), random.randrange(2)
         kind, name = self.kinds[location_index], self.names[location_index]
-        more = ["fetch", "fetch", "set", "cas", "cas"] if kind.size else ["set"]
-        what, first, second = random.choice(["store", "store", "load", "load", "exchange", *more]), self.make_expression(), self.make_expression()
+        locked_kinds = ["fetch", "fetch", "set", "cas", "cas"] if kind.size else ["set"]
+        kind_of_statement = random.choice(["store", "store", "load", "load", "exchange", *locked_kinds])
+        first, second = self.make_expression(), self.make_expression()
         operation = random.choice(list(FETCHES))
-        if what == "store" and self.is_relaxed:
+        if kind_of_statement == "store" and self.is_relaxed:
             return f"atomic_store_explicit(&{name}, {first}, memory_order_relaxed);", [Statement("relaxed", location_index, None, first)]
         fetched = random.random() < 0.6
         texts = {
@@ -181,8 +182,8 @@ class Program:
             "cas": f"{{ {kind.plain} e = {first}; r{register} = atomic_compare_exchange_strong(&{name}, &e, {second}); "
             f"if (!r{register}) r{register} = e + 10; }}",
         }
-        sets = None if what == "store" or what == "fetch" and not fetched else register
-        return texts[what], [Statement(what, location_index, sets, first, second, operation)]
+        sets = None if kind_of_statement == "store" or kind_of_statement == "fetch" and not fetched else register
+        return texts[kind_of_statement], [Statement(kind_of_statement, location_index, sets, first, second, operation)]
 
     def make_own_statement(self, thread: int) -> Written:
         """Returns a statement on the thread's own structure."""
@@ -288,15 +289,16 @@ class Interpreter:
 
     def list_successors(self, state: Place, thread: int) -> list[Place]:
         """Returns what a thread can do next: drain its oldest store, or execute its next statement."""
-        made, buffer = [], state.buffers[thread]
+        successors, buffer = [], state.buffers[thread]
         if buffer:
             (location, word), *rest = buffer
-            made.append(state._replace(buffers=replace_item(state.buffers, thread, tuple(rest)), memory=replace_item(state.memory, location, word)))
+            buffers, memory = replace_item(state.buffers, thread, tuple(rest)), replace_item(state.memory, location, word)
+            successors.append(state._replace(buffers=buffers, memory=memory))
         if state.next[thread] < len(self.program.threads[thread]):
             statement = self.program.threads[thread][state.next[thread]]
             if not buffer or statement.kind in WITH_BUFFER:
-                made.append(self.execute_statement(state, thread, statement))
-        return made
+                successors.append(self.execute_statement(state, thread, statement))
+        return successors
 
     def find_location(self, statement: Statement, registers: tuple[int, ...]) -> int:
         """Returns the location that a statement accesses."""

@@ -109,8 +109,8 @@ class Stale(cases.Case):
         with open(f"{self.room}/python/liblw.so", "wb"), folder, mock.patch.dict(sys.modules, lw=stand_in):
             for has_sources in (True, False):
                 with mock.patch.object(answers, "has_sources", lambda it=has_sources: it):
-                    made = answers.load_library.__wrapped__()
-                self.assertEqual(None if has_sources else f"{self.room}/python/liblw.so", made)
+                    library = answers.load_library.__wrapped__()
+                self.assertEqual(None if has_sources else f"{self.room}/python/liblw.so", library)
 
 
 class Sentences(cases.Case):
@@ -125,11 +125,11 @@ class Sentences(cases.Case):
             patch.start()
         self.addCleanup(answers.is_current.cache_clear)
 
-    def list_sentences(self, made: Callable[[], str]) -> Iterator[str]:
+    def list_sentences(self, make_report: Callable[[], str]) -> Iterator[str]:
         """Yields what is made with a program of these sources, and with one of others."""
         for self.is_current in (True, False):
             answers.is_current.cache_clear()
-            yield made()
+            yield make_report()
 
     def test_on_machine(self) -> None:
         """tools/on_machine.py: whether its list is proved."""
@@ -152,11 +152,11 @@ class Sentences(cases.Case):
 
     def test_asked_once(self) -> None:
         """It is asked once in a process, of each program."""
-        with mock.patch.object(spawn, "is_current", mock.Mock(return_value=True)) as asked:
+        with mock.patch.object(spawn, "is_current", mock.Mock(return_value=True)) as mocked:
             answers.is_current.cache_clear()
             for _ in range(3):
                 self.assertEqual(answers.Maker.PROGRAM, answers.make_answer(["states"], plain.read_test(read(SB))).by)
-            self.assertEqual(1, asked.call_count)
+            self.assertEqual(1, mocked.call_count)
 
 
 if __name__ == "__main__":

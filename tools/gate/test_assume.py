@@ -266,11 +266,11 @@ def format_copies(cells: list[JumpCell], copies: int, thread: int) -> list[str]:
     return [*lines[:-1], f"{lines[-1].partition(':')[0]}:", f"DONE: MOV [done{thread}],$1", "GONE:"]
 
 
-def format_test(name: str, columns: list[list[str]], asked: str, listed: str) -> str:
+def format_test(name: str, columns: list[list[str]], question: str, listed: str) -> str:
     """Returns a test of columns of cells."""
     size = max(map(len, columns))
     rows = "".join(" " + " | ".join(column[index] if index < len(column) else "" for column in columns) + " ;\n" for index in range(size))
-    return f"X86 {name}\n{{ x=0; y=0; }}\n P0 | P1 ;\n{rows}locations [{listed}]\nexists ({asked})\n"
+    return f"X86 {name}\n{{ x=0; y=0; }}\n P0 | P1 ;\n{rows}locations [{listed}]\nexists ({question})\n"
 
 
 SITES = "0:EAX; 0:EBX; 1:EAX; 1:EBX; x; y;"
@@ -337,9 +337,9 @@ class Jumps(cases.Case):
         for seed, threads, whole in islice(list_random_threads(True), RANDOM_JUMPS):
             for tries in (1, 2):
                 with self.subTest(seed=seed, tries=tries):
-                    found = list_states_by_assumption(threads, tries)
-                    self.assertEqual(set(), list_states_by_copies(threads, tries) - found)
-                    self.assertEqual(set(), found - whole)
+                    states = list_states_by_assumption(threads, tries)
+                    self.assertEqual(set(), list_states_by_copies(threads, tries) - states)
+                    self.assertEqual(set(), states - whole)
 
     def test_one_loop(self) -> None:
         """A loop that is entered at its begin, and has one jump backward, is gone through as often as there are tries: no more, no less."""
@@ -353,11 +353,11 @@ class Jumps(cases.Case):
         text = "X86 A\n{}\n P0 ;\n L: MOV EAX,[x] ;\n CMP EAX,1 ;\n JNE L ;\nexists (x=1)\n"
         for tries in (0, -1):
             try:
-                made: Any = convert(text, tries)
+                result: Any = convert(text, tries)
             except Refused as why:
-                made = why.args
+                result = why.args
             with self.subTest(tries=tries):
-                self.assertEqual(("a jump leads backward: --tries N goes through each loop N times at most", text.index("JNE")), made)
+                self.assertEqual(("a jump leads backward: --tries N goes through each loop N times at most", text.index("JNE")), result)
 
 
 def is_simple(cells: list[tuple[str, None] | tuple[str, int]]) -> bool:
@@ -379,13 +379,13 @@ class Command(cases.Case):
 
     def test_no_run(self) -> None:
         """If no run goes through every loop, that is the verdict, and neither Ok nor No, for each kind of question."""
-        for question, asked in (("forall", "Required"), ("exists", "Allowed"), ("~exists", "Forbidden")):
+        for question, word in (("forall", "Required"), ("exists", "Allowed"), ("~exists", "Forbidden")):
             printed, err, status = run(["assume.py", "--tries", "2"], WAITS_FOR_EVER.format(question))
             with self.subTest(question):
                 self.assertEqual(("", answers.NO_VERDICT), (err, status))
                 lines = printed.splitlines()
                 why = "None: no run goes through every loop within 2 tries, so nothing is said of the condition"
-                self.assertEqual([f"Test Waits {asked}", "States 0", why, f"Condition {question} (0:EAX=2)"], lines[:4])
+                self.assertEqual([f"Test Waits {word}", "States 0", why, f"Condition {question} (0:EAX=2)"], lines[:4])
                 self.assertEqual(5, len(lines))
 
     def test_not_proved(self) -> None:

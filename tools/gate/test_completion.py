@@ -169,8 +169,8 @@ class Shells(cases.Case):
         def list_offered(words: str) -> list[str]:
             """Returns what fish offers."""
             lines = self.run_shell("fish", "--no-config", "-c", "source $argv[1]; complete -C $argv[2]", self.paths["fish"], words).splitlines()
-            found = [it.partition("\t")[0] for it in lines]
-            return [FILES] if found == ["examples/"] else found
+            offered = [it.partition("\t")[0] for it in lines]
+            return [FILES] if offered == ["examples/"] else offered
 
         self.compare(list_offered)
 

@@ -91,11 +91,11 @@ class Colours:
 
     def find_scopes(self, text: str) -> list[str | None]:
         """Returns of each letter its innermost scope, or None."""
-        found: list[str | None] = []
+        scopes: list[str | None] = []
         self.open = []
         for line in text.splitlines(keepends=True):
-            found += self.find_line_scopes(line)
-        return found
+            scopes += self.find_line_scopes(line)
+        return scopes
 
     def find_match(self, pattern: str, line: str, index: int) -> Found | None:
         """Returns the first match of a pattern from an index on. None if there is none."""
@@ -119,8 +119,8 @@ class Colours:
         tried = [(inner, True, inner["end"])] if self.open else []
         tried += [(it, False, it.get("match") or it["begin"]) for it in self.expand_rules(inner.get("patterns", []))]
         matches = ((rule, is_end, self.find_match(pattern, line, index)) for rule, is_end, pattern in tried)
-        found = [(rule, is_end, match) for rule, is_end, match in matches if match]
-        return min(found, key=lambda it: it[2].start()) if found else None
+        matching = [(rule, is_end, match) for rule, is_end, match in matches if match]
+        return min(matching, key=lambda it: it[2].start()) if matching else None
 
     def find_line_scopes(self, line: str) -> list[str | None]:
         """Returns of each letter of a line its innermost scope, or `None`."""
@@ -128,10 +128,10 @@ class Colours:
         index = 0
         while True:
             scope = next((it["name"] for it in reversed(self.open) if not it["name"].startswith("meta.")), None)
-            found = self.find_next_rule(line, index)
-            if found is None:
+            next_rule = self.find_next_rule(line, index)
+            if next_rule is None:
                 return scopes + [scope] * (len(line) - index)
-            rule, is_end, match = found
+            rule, is_end, match = next_rule
             scopes += [scope] * (match.start() - index)
             scopes += self.find_match_scopes(rule, match, rule.get("captures") or (not is_end and rule.get("beginCaptures")) or {})
             index = match.end()
@@ -145,7 +145,7 @@ class Colours:
         """Returns of each letter of a match its innermost scope, or `None`."""
         scopes = [None if rule.get("name", "meta.").startswith("meta.") else rule["name"]] * len(match[0])
         for number, capture in captures.items():
-            begin, end = (place - match.start() for place in match.span(int(number)))
+            begin, end = (offset - match.start() for offset in match.span(int(number)))
             scopes[begin:end] = [capture["name"]] * (end - begin)
         return scopes
 
@@ -233,9 +233,10 @@ class Grammar(cases.Case):
             scopes, wrong = colours.find_scopes(text), []
             tokens, places = read_tokens(text, begin)
             for before, (kind, token), offset in zip([("symbol", "")] + tokens, tokens, places):
-                found = {it and it[: -len(".lw")] for it in scopes[offset : offset + len(token)]}
-                if kind != "symbol" and not (len(found) == 1 and found <= {*list_wanted_scopes(language, kind, token, before[1] == "[")}):
-                    wrong.append((token, found))
+                token_scopes = {it and it[: -len(".lw")] for it in scopes[offset : offset + len(token)]}
+                allowed = {*list_wanted_scopes(language, kind, token, before[1] == "[")}
+                if kind != "symbol" and not (len(token_scopes) == 1 and token_scopes <= allowed):
+                    wrong.append((token, token_scopes))
             with self.subTest(name):
                 self.assertEqual([], wrong)
 
@@ -243,11 +244,11 @@ class Grammar(cases.Case):
         """Names that are like words, letters of either case, comments in one another, notes, and the heading after a comment."""
         colours = Colours(grammar.make_grammar())
         for text, looked_for, scopes in TYPED:
-            made = colours.find_scopes(text)
-            at_words = (made[it.start()] for it in re.finditer(rf"(?i)\b(?:{looked_for})\b", text))
-            found = tuple(it[: -len(".lw")] for it in at_words if it)
+            scopes_by_letter = colours.find_scopes(text)
+            at_words = (scopes_by_letter[it.start()] for it in re.finditer(rf"(?i)\b(?:{looked_for})\b", text))
+            token_scopes = tuple(it[: -len(".lw")] for it in at_words if it)
             with self.subTest(text):
-                self.assertEqual(scopes, found)
+                self.assertEqual(scopes, token_scopes)
 
 
 @unittest.skipUnless(shutil.which("node"), "node is missing")
@@ -301,10 +302,10 @@ class Engine(cases.Case):
                 self.assertTrue(self.library.compile_pattern(word))
         for word in ("(", "(?P<name>x)", "[z-a]"):
             try:
-                found = str(self.library.compile_pattern(word))
+                message = str(self.library.compile_pattern(word))
             except oniguruma.Fault as why:
-                found = why.args[0]
-            self.assertIn(f"{word}: ", found)
+                message = why.args[0]
+            self.assertIn(f"{word}: ", message)
 
     def test_matches(self) -> None:
         """A match is where Oniguruma finds it, in letters, with its groups."""

@@ -85,15 +85,15 @@ def make_report_by_search(test: plain.Test) -> str:
 def find_all_smallest(items: Sequence[Any], is_enough: Callable[[Any], bool]) -> list[Any]:
     """Returns all smallest sets that are enough, by a look at each."""
     for size in range(len(items) + 1):
-        found = [list(it) for it in combinations(items, size) if is_enough(frozenset(it))]
-        if found:
-            return found
+        sets = [list(it) for it in combinations(items, size) if is_enough(frozenset(it))]
+        if sets:
+            return sets
     return []
 
 
-def list_states_with(test: plain.Test, places: list[tuple[int, int]], kept: frozenset[tuple[int, int]]) -> list[str]:
+def list_states_with(test: plain.Test, places: list[tuple[int, int]], kept_places: frozenset[tuple[int, int]]) -> list[str]:
     """Returns the lines of the states of a test with those of its fences that are kept."""
-    return fences.filter_state_lines(make_report_by_search(fences.remove_fences(test, [it for it in places if it not in kept])))
+    return fences.filter_state_lines(make_report_by_search(fences.remove_fences(test, [it for it in places if it not in kept_places])))
 
 
 class BySearch(cases.Case):
@@ -163,8 +163,8 @@ class Exchanges(BySearch):
                 instructions = make_unlocked_instructions(test, place)
                 if instructions:
                     with self.subTest(test.name, place=place):
-                        found = fences.filter_state_lines(make_report_by_search(replace_instruction(test, place, instructions)))
-                        self.assertEqual([], sorted(before - set(found)))
+                        lines = fences.filter_state_lines(make_report_by_search(replace_instruction(test, place, instructions)))
+                        self.assertEqual([], sorted(before - set(lines)))
 
 
 class Command(cases.Case):
@@ -179,12 +179,12 @@ class Command(cases.Case):
     def test_asked(self) -> None:
         """Each line that says what can be left out names what was asked, since such a line is read without the first one."""
         question, everything = "its question, ~exists (0:ECX=1 /\\ 1:ECX=1)", "all registers and locations"
-        for name, words, asked, count in (("Bakery", "", question, 2), ("Bakery", "--everything", everything, 0), ("FastLock", "", question, 2)):
+        for name, words, by_what, count in (("Bakery", "", question, 2), ("Bakery", "--everything", everything, 0), ("FastLock", "", question, 2)):
             lines = run(["fences.py", *words.split(), f"examples/{name}.litmus"])[0].splitlines()
             advice = [it for it in lines if "left out" in it or it.startswith("Enough")]
-            with self.subTest(name, asked=asked):
+            with self.subTest(name, asked=by_what):
                 self.assertEqual(count + 1, len(advice))
-                self.assertTrue(all(f", by {asked}" in it for it in advice))
+                self.assertTrue(all(f", by {by_what}" in it for it in advice))
 
     def test_enough(self) -> None:
         """Fences are called enough only if the question is answered, or if a source test behaves as by interleaving. In particular no line says
@@ -328,18 +328,18 @@ class Makers(cases.Case):
         for path in glob.glob(os.path.join(TOOLS, "search", "tests", "*.litmus")):
             searched = self.run_command(path, program="/no/program", beyond="/no/program")
             for program in (None, "/no/program"):
-                found = self.run_command(path, program=program)
+                output = self.run_command(path, program=program)
                 with self.subTest(path, program=program):
-                    self.assertEqual([searched[0].replace(" (not proved)", ""), *searched[1:-1]], found)
+                    self.assertEqual([searched[0].replace(" (not proved)", ""), *searched[1:-1]], output)
                     self.assertEqual({answers.Maker.BEYOND}, fences.list_makers())
 
     @unittest.skipUnless(os.path.exists(answers.PROGRAM), "the program is not built")
     def test_proved(self) -> None:
         """A test within the limits is not, if the program is built."""
         for path in ("examples/SB-x86.litmus", "examples/Dekker.litmus"):
-            found = self.run_command(path, fences.Choices(exchanges=True))
+            output = self.run_command(path, fences.Choices(exchanges=True))
             with self.subTest(path):
-                self.assertFalse("ot proved" in "".join(found))
+                self.assertFalse("ot proved" in "".join(output))
 
     def test_by_library(self) -> None:
         """A library that is beside python/lw.py makes lists of any size too; the search does if its memory is not enough."""

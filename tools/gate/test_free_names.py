@@ -124,9 +124,9 @@ class Places(cases.Case):
             self.missing.reports.clear()
             text = self.missing.complete_imports(file.path)
         self.assertEqual("-- A trial.\nuse Rattle.lw_litmus.specs.WellFormed.{IsWellFormedOperation}\nf : IsWellFormedOperation\nf = nowhere_at_all\n", text)
-        found = [(is_found, line.split(": ", 1)[1]) for is_found, line in self.missing.reports]
+        found_lines = [(is_found, line.split(": ", 1)[1]) for is_found, line in self.missing.reports]
         first = (True, "IsWellFormedOperation is imported from Rattle.lw_litmus.specs.WellFormed")
-        self.assertEqual([first, (False, "nowhere_at_all stands nowhere")], found)
+        self.assertEqual([first, (False, "nowhere_at_all stands nowhere")], found_lines)
 
 
 if __name__ == "__main__":

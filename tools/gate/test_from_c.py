@@ -212,9 +212,9 @@ class Reading(cases.Case):
         """A line may have several statements, and a prefix a line of its own."""
         for text in ("lock; orl $0, (%rsp)", "lock\n\torl $0, (%rsp)", "lock orl $0, (%rsp) # a comment; mfence"):
             other = make_thread("movl $1, y(%rip)", "mfence", "movl x(%rip), %eax")
-            made = make_program(f"{STORES_X}; {text}\n{make_thread('movl y(%rip), %eax')}", other)
+            program = make_program(f"{STORES_X}; {text}\n{make_thread('movl y(%rip), %eax')}", other)
             with self.subTest(text):
-                self.assertEqual(3, len(list_states(made, "exists (0:r0=0 /\\ 1:r0=0)")))
+                self.assertEqual(3, len(list_states(program, "exists (0:r0=0 /\\ 1:r0=0)")))
 
     def test_repeats(self) -> None:
         """REP before RET and NOP means nothing, and other repeated instructions are refused."""
@@ -225,8 +225,8 @@ class Reading(cases.Case):
 
     def test_lines(self) -> None:
         """An instruction has the line of the source that `.loc` says, if that is of the source itself."""
-        made = Assembly('.file 1 "/tmp/test.c"\n.file 2 "a.h"\n.text\nP0:\n.loc 1 3 5\nnop\n.loc 2 9 1\nnop\n.loc 1 4 1\nret\n')
-        self.assertEqual([3, 3, 4], [it.line for it in made.code])
+        assembly = Assembly('.file 1 "/tmp/test.c"\n.file 2 "a.h"\n.text\nP0:\n.loc 1 3 5\nnop\n.loc 2 9 1\nnop\n.loc 1 4 1\nret\n')
+        self.assertEqual([3, 3, 4], [it.line for it in assembly.code])
 
     def test_names_of_rust(self) -> None:
         """Decorated names are read, unless two of them are one."""
@@ -252,8 +252,8 @@ class Values(cases.Case):
 
     def list_values(self, *instructions: str, value: str = "%eax") -> list[int]:
         """Returns the values of r0 after instructions on what is loaded from x: 0, 1 or 5."""
-        found = list_states(make_program(self.WRITER, make_thread(*instructions, value=value)), "exists (1:r0=0)")
-        return sorted(int(it.split("=")[1]) for it in found)
+        states = list_states(make_program(self.WRITER, make_thread(*instructions, value=value)), "exists (1:r0=0)")
+        return sorted(int(it.split("=")[1]) for it in states)
 
     def test_computed(self) -> None:
         """What is computed from a load, word by word."""
@@ -510,9 +510,9 @@ class Ways(cases.Case):
         """MFENCE, and a locked instruction on memory of the thread's own, wait for the buffer; LFENCE and SFENCE don't."""
         for text, count in (("mfence", 3), ("lock orq $0, (%rsp)", 3), ("xchgl %ecx, z(%rip)", 3), ("lfence", 4), ("sfence", 4), ("pause", 4)):
             thread = lambda mine, its: f"{mine}; movl $3, %ecx; {text}; movl {its}(%rip), %eax\n#lw see r0 %eax"
-            made = make_program(thread("movl $1, x(%rip)", "y"), thread("movl $1, y(%rip)", "x").replace("z(", "z+4("))
+            program = make_program(thread("movl $1, x(%rip)", "y"), thread("movl $1, y(%rip)", "x").replace("z(", "z+4("))
             with self.subTest(text):
-                self.assertEqual(count, len(list_states(made, "exists (0:r0=0 /\\ 1:r0=0)")))
+                self.assertEqual(count, len(list_states(program, "exists (0:r0=0 /\\ 1:r0=0)")))
 
     def test_compare_and_swap(self) -> None:
         """CMPXCHG succeeds or fails, and what it finds is in RAX."""
@@ -531,11 +531,11 @@ class Ways(cases.Case):
     def test_writing(self) -> None:
         """Values that change places at a thread's end keep their names, and six registers are a limit."""
         loads = "movl x(%rip), %eax; movl y(%rip), %ecx; movl x(%rip), %edx\n#lw see a %ecx\n#lw see b %eax\n#lw see c %edx"
-        found = list_states(make_program("movl $1, x(%rip); movl $2, y(%rip)", loads), "exists (1:a=0 /\\ 1:b=0 /\\ 1:c=0)")
-        self.assertEqual(["1:a=0 1:b=0 1:c=0", "1:a=0 1:b=0 1:c=1", "1:a=0 1:b=1 1:c=1", "1:a=2 1:b=0 1:c=1", "1:a=2 1:b=1 1:c=1"], found)
+        states = list_states(make_program("movl $1, x(%rip); movl $2, y(%rip)", loads), "exists (1:a=0 /\\ 1:b=0 /\\ 1:c=0)")
+        self.assertEqual(["1:a=0 1:b=0 1:c=0", "1:a=0 1:b=0 1:c=1", "1:a=0 1:b=1 1:c=1", "1:a=2 1:b=0 1:c=1", "1:a=2 1:b=1 1:c=1"], states)
         many = "".join(f"\n#lw see v{number} %eax" for number in range(7))
-        asked = "exists (" + " /\\ ".join(f"0:v{number}=0" for number in range(7)) + ")"
-        self.assertIn("more than 6 values", find_cause(make_program(f"movl x(%rip), %eax{many}", STORES_X), asked))
+        question = "exists (" + " /\\ ".join(f"0:v{number}=0" for number in range(7)) + ")"
+        self.assertIn("more than 6 values", find_cause(make_program(f"movl x(%rip), %eax{many}", STORES_X), question))
 
     def test_sums_of_symbols(self) -> None:
         """A sum with what was loaded is stored as it is, and compared as it is."""
@@ -556,9 +556,9 @@ class Sources(cases.Case):
 
     def test_sees(self) -> None:
         """A local variable that the condition names is seen at the function's end, on the same line."""
-        made = read_source("a.c", self.PROGRAM)
-        self.assertEqual((2, ".c", "a"), (made.threads, made.ending, made.name))
-        self.assertIn("r0 = 2; }  lw_see(r0, r0); }\n", made.text)
+        source = read_source("a.c", self.PROGRAM)
+        self.assertEqual((2, ".c", "a"), (source.threads, source.ending, source.name))
+        self.assertIn("r0 = 2; }  lw_see(r0, r0); }\n", source.text)
 
     def test_faults(self) -> None:
         """What is wrong in a source is reported with its place."""
@@ -579,10 +579,10 @@ class Sources(cases.Case):
 
     def test_herd(self) -> None:
         """A test in herd's form: what is passed becomes globals, and lines stay."""
-        made = read_source("a.litmus", "C SB\n{ x=0; [y]=2; }\nP0 (atomic_int* x, volatile int* y) {\n  int r0 = *y;\n}\nexists (0:r0=0 /\\ x=0)\n")
-        self.assertEqual(("SB", "exists (0:r0=0 /\\ x=0)", ["lw_x"]), (made.name, made.condition.text, made.condition.list_globals()))
-        self.assertIn("int lw_y = 2;", made.text)
-        self.assertIn("#line 3\n", made.text)
+        source = read_source("a.litmus", "C SB\n{ x=0; [y]=2; }\nP0 (atomic_int* x, volatile int* y) {\n  int r0 = *y;\n}\nexists (0:r0=0 /\\ x=0)\n")
+        self.assertEqual(("SB", "exists (0:r0=0 /\\ x=0)", ["lw_x"]), (source.name, source.condition.text, source.condition.list_globals()))
+        self.assertIn("int lw_y = 2;", source.text)
+        self.assertIn("#line 3\n", source.text)
         self.assertIn("not read", find_refusal(lambda: read_source("a", "C SB\n{}\nP0 (int* x) { *x = 1; }\nlocations [x;]\nexists (x=0)\n")))
 
 
@@ -612,12 +612,13 @@ class Compiled(cases.Case):
         if not list_compilers(".c"):
             self.skipTest(skipped())
 
-    def compare(self, folder: str, compiler: str, name: str, wanted: object, found: object) -> None:
+    def compare(self, folder: str, compiler: str, name: str, expected: object, actual: object) -> None:
         """Compares what a compiler makes of an example. If its version is not that of the lists, a difference is reported and no fault."""
-        if wanted != found and not is_known(compiler, folder):
-            OTHER_VERSIONS.append(f"examples/{folder}/{name} by {compiler}, version {read_version(compiler.split()[0])}: {found}, and not {wanted}")
+        if expected != actual and not is_known(compiler, folder):
+            version = read_version(compiler.split()[0])
+            OTHER_VERSIONS.append(f"examples/{folder}/{name} by {compiler}, version {version}: {actual}, and not {expected}")
         else:
-            self.assertEqual(wanted, found)
+            self.assertEqual(expected, actual)
 
     def compare_example(self, folder: str, path: str, compilers: Iterable[str]) -> None:
         """Compares an example's verdicts and lists by some compilers, those of level 2 with weaker orders too, with its rows in README.md."""
@@ -626,11 +627,11 @@ class Compiled(cases.Case):
             if (name, compiler) in REFUSED:
                 continue
             with self.subTest(name, compiler=compiler):
-                found = [program_lists.make_answer(path, compiler, number) for number in ((0, 1, 2) if compiler in of_lists else (0,))]
-                verdicts = [it.observation.split()[0] for it in found]
-                self.compare(folder, compiler, name, read_verdicts(folder)[name][: len(found)], verdicts)
-                if compiler in of_lists or not found[0].bounded:
-                    self.compare(folder, compiler, name, lists[name][: len(found)], program_lists.make_lists(found))
+                answers = [program_lists.make_answer(path, compiler, number) for number in ((0, 1, 2) if compiler in of_lists else (0,))]
+                verdicts = [it.observation.split()[0] for it in answers]
+                self.compare(folder, compiler, name, read_verdicts(folder)[name][: len(answers)], verdicts)
+                if compiler in of_lists or not answers[0].bounded:
+                    self.compare(folder, compiler, name, lists[name][: len(answers)], program_lists.make_lists(answers))
 
     def test_examples(self) -> None:
         """Each example has the verdicts and the lists that its README.md has, by every compiler at every level, as far as runs are not left out
@@ -666,13 +667,13 @@ class Compiled(cases.Case):
         self.assertEqual(sorted({*lists} - {*without_change}), sorted([*(it[0] for it in of_three), "StoreBuffering"]))
         for name, pairs, added in of_three:
             source = read_source(f"{name}.c", read(f"examples/from_c/{name}.c"))
-            made = from_c.convert_source(source, list_compilers(".c")[0].split()[0] + " -O2", 1)
-            needed = parse_needed_lines(format_fences(*made))
+            answer = from_c.convert_source(source, list_compilers(".c")[0].split()[0] + " -O2", 1)
+            needed_lines = parse_needed_lines(format_fences(*answer))
             with self.subTest(name):
                 self.assertEqual([[added]] * 2, [*lists[name][1:]])
                 for thread, places in re.findall(r"P(\d)[^()]*\((?:lines )?([\d, ]+)\)", pairs):
                     first, last = map(int, places.split(", "))
-                    self.assertTrue(any(number == int(thread) and first <= line < last for number, line in needed))
+                    self.assertTrue(any(number == int(thread) and first <= line < last for number, line in needed_lines))
 
     def test_orders(self) -> None:
         """The instructions of C's orders are those of the table in docs/FENCES.md, by each compiler at -O1 to -O3. (None: it depends on the compiler.)"""
@@ -694,9 +695,9 @@ class Compiled(cases.Case):
         text = f"#include <stdatomic.h>\natomic_int x;\n{functions}"
         for compiler in [it for it in list_compilers(".c") if not it.endswith("-O0")]:
             words = [*compiler.split(), "-fcf-protection=none", "-S", "-x", "c", "-o", "-", "-"]
-            made = subprocess.run(words, input=text.encode(), stdout=subprocess.PIPE, check=True).stdout.decode()
+            preprocessed = subprocess.run(words, input=text.encode(), stdout=subprocess.PIPE, check=True).stdout.decode()
             for number, (body, waits) in enumerate(bodies.items()):
-                code = require_match(re.search(rf"^f{number}:[^\n]*\n(.*?)^\s*ret", made, re.M | re.S))[1]
+                code = require_match(re.search(rf"^f{number}:[^\n]*\n(.*?)^\s*ret", preprocessed, re.M | re.S))[1]
                 with self.subTest(body, compiler=compiler):
                     wanted = compiler.startswith("gcc") if waits is None else waits
                     self.compare("from_c", compiler, body, wanted, bool(re.search(r"\b(?:lock|xchg\w*|mfence)\b", code)))
@@ -716,49 +717,49 @@ class Compiled(cases.Case):
         """The tests that `--show` prints have the verdict of the program, and the other tools take them."""
         for name in ("HazardPointer", "ClhLock", "StoreBuffering"):
             source = read_source(f"{name}.c", read(f"examples/from_c/{name}.c"))
-            made = from_c.convert_source(source, list_compilers(".c")[0], 1)
-            text = format_tests(*made)
+            answer = from_c.convert_source(source, list_compilers(".c")[0], 1)
+            text = format_tests(*answer)
             with self.subTest(name):
-                self.assertEqual(made[0].observation.split()[0], answers.make_answer(["states"], plain.read_test(text), text).text.split()[-3])
+                self.assertEqual(answer[0].observation.split()[0], answers.make_answer(["states"], plain.read_test(text), text).text.split()[-3])
                 self.assertIn(": line ", text)
 
     def test_schedules(self) -> None:
         """Each state of the report has a run, by lines of the source."""
-        made = from_c.convert_source(read_source("a.c", read("examples/from_c/TreiberStack.c")), list_compilers(".c")[0], 1)
-        printed = format_schedules(*made).splitlines()
-        self.assertEqual(answers.filter_state_lines(made[0].report), [it for it in printed if not it.startswith(" ")])
+        answer = from_c.convert_source(read_source("a.c", read("examples/from_c/TreiberStack.c")), list_compilers(".c")[0], 1)
+        printed = format_schedules(*answer).splitlines()
+        self.assertEqual(answers.filter_state_lines(answer[0].report), [it for it in printed if not it.startswith(" ")])
         self.assertTrue(all(re.match(r"  (P\d, (line \d+|no line): |D\d: )", it) for it in printed if it.startswith(" ")))
 
     def test_fences(self) -> None:
         """The exchanges that an answer needs are reported with their lines, also of a program of several tests."""
         compiler = list_compilers(".c")[0].split()[0] + " -O2"
         printed = format_fences(*from_c.convert_source(read_source("a.c", read("examples/from_c/EventCount.c")), compiler, 1))
-        needed = re.findall(r"^P(\d) at \d+ \(line (\d+)\), (.*), without its lock:\n  by its question, .*: (\w+) state", printed, re.M)
-        self.assertEqual([("0", "10", "LOCK XADD [sleepers],EAX", "1"), ("1", "16", "XCHG [work],EAX", "1")], needed)
-        more = "  by its question, ~exists (0:sleeps=1 /\\ 1:wakes=0): 1 state more as a plain store\n    0:sleeps=1; 1:wakes=0;\n"
-        self.assertIn(more, printed)
+        needed_lines = re.findall(r"^P(\d) at \d+ \(line (\d+)\), (.*), without its lock:\n  by its question, .*: (\w+) state", printed, re.M)
+        self.assertEqual([("0", "10", "LOCK XADD [sleepers],EAX", "1"), ("1", "16", "XCHG [work],EAX", "1")], needed_lines)
+        added_state = "  by its question, ~exists (0:sleeps=1 /\\ 1:wakes=0): 1 state more as a plain store\n    0:sleeps=1; 1:wakes=0;\n"
+        self.assertIn(added_state, printed)
         lines = format_fences(*from_c.convert_source(read_source("a.c", read("examples/from_c/Once.c")), compiler, 1)).splitlines()
         index = lines.index("P0 line 12, without its lock:")
-        asked = "~exists (0:got=0 \\/ 1:got=0 \\/ writers=2)"
-        self.assertEqual([f"  by its question, {asked}: 1 state more", "    0:got=5; 1:got=5; writers=2;"], lines[index + 1 : index + 3])
-        self.assertEqual("a, by its question, " + asked + ": fences 0, states 1", lines[0].replace(" (not proved)", ""))
+        question = "~exists (0:got=0 \\/ 1:got=0 \\/ writers=2)"
+        self.assertEqual([f"  by its question, {question}: 1 state more", "    0:got=5; 1:got=5; writers=2;"], lines[index + 1 : index + 3])
+        self.assertEqual("a, by its question, " + question + ": fences 0, states 1", lines[0].replace(" (not proved)", ""))
         lines = format_fences(*from_c.convert_source(read_source("a.c", SWAPPING), compiler, 1)).splitlines()
-        asked = "its question, exists (0:r0=0 /\\ 1:r0=0)"
-        self.assertIn(f"P1 line 12: can be left out alone, by {asked}", lines)
-        self.assertEqual(["  P0 line 5"], lines[lines.index(f"As good as all its fences, with none to spare, by {asked}: no fence") + 2 :][:1])
+        question = "its question, exists (0:r0=0 /\\ 1:r0=0)"
+        self.assertIn(f"P1 line 12: can be left out alone, by {question}", lines)
+        self.assertEqual(["  P0 line 5"], lines[lines.index(f"As good as all its fences, with none to spare, by {question}: no fence") + 2 :][:1])
 
     @unittest.skipUnless(spawn.is_current(), "the program is not built")
     def test_film(self) -> None:
         """The film of a run has a picture for each event, with the lines of the source; a state that is not there is refused."""
         text = read("examples/from_c/EventCount.c")
-        made = from_c.convert_source(read_source("a.c", text), list_compilers(".c")[0].split()[0] + " -O2", 1)
-        drawn = render_film(*made, 1, text.splitlines())
-        wanted = [it.strip() for it in format_schedules(*made).splitlines()[1:5]]
+        answer = from_c.convert_source(read_source("a.c", text), list_compilers(".c")[0].split()[0] + " -O2", 1)
+        drawn = render_film(*answer, 1, text.splitlines())
+        wanted = [it.strip() for it in format_schedules(*answer).splitlines()[1:5]]
         for line in {int(require_match(re.search(r"line (\d+)", it))[1]) for it in wanted}:
             self.assertIn(f"line {line}: ", drawn)
         self.assertIn("XCHG [work],EAX  (line 16)", drawn)
         try:
-            why = render_film(*made, 4, text.splitlines())
+            why = render_film(*answer, 4, text.splitlines())
         except NoFilm as fault:
             why = fault.args[0]
         self.assertEqual("the report has 3 states, and no state 4", why)
@@ -772,10 +773,10 @@ class Compiled(cases.Case):
                 with self.subTest(compiler, store=store):
                     self.assertEqual([3, 4, 4], counts)
             source = read_source("a.cc", ALL_OF_CC)
-            found = [from_c.convert_source(source, compiler, 1, weaker)[0].report for weaker in (0, 1, 2)]
+            reports = [from_c.convert_source(source, compiler, 1, weaker)[0].report for weaker in (0, 1, 2)]
             with self.subTest(compiler):
-                self.assertEqual([found[0]] * 3, found)
-                self.assertIn("\nObservation a Always 1 0\n", found[0])
+                self.assertEqual([reports[0]] * 3, reports)
+                self.assertIn("\nObservation a Always 1 0\n", reports[0])
 
     def test_native(self) -> None:
         """No state is seen on this processor that is not listed, in some thousand runs of the same assembly."""
@@ -797,7 +798,7 @@ class Compiled(cases.Case):
         with tempfile.TemporaryDirectory() as folder:
             path = os.path.join(folder, "a.c")
             compiler = list_compilers(".c")[0]
-            asked: tuple[tuple[str, list[str], int, str], ...] = (
+            cases: tuple[tuple[str, list[str], int, str], ...] = (
                 (Sources.PROGRAM, [], 0, "listed by"), (Sources.PROGRAM, ["--show"], 0, ": line 3"),
                 (Sources.PROGRAM, ["--schedules"], 0, ", line 4: "),
                 (Sources.PROGRAM.replace("x;", "x", 1), [], 1, ": the compiler refuses it: "),
@@ -806,7 +807,7 @@ class Compiled(cases.Case):
                 (Sources.PROGRAM, ["--cc", "no-such-compiler"], 1, "does not start"), (Sources.PROGRAM, ["--cc", "true"], 1, "writes no assembly"),
                 (Sources.PROGRAM, ["--cc", "gcc -m32"], 1, "32 bits"),
             )
-            for text, words, status, part in asked:
+            for text, words, status, part in cases:
                 with open(path, "w", encoding="utf-8") as file:
                     file.write(text)
                 out, err, ended = run(["from_c.py", *(["--cc", compiler] if "--cc" not in words else []), *words, path])
@@ -817,8 +818,8 @@ class Compiled(cases.Case):
 
 def parse_needed_lines(printed: str) -> list[tuple[int, ...]]:
     """Returns the threads and the lines of the fences and exchanges that an answer needs, by what --fences prints."""
-    needed = re.findall(r"^P(\d)(?: at \d+)? \(?line (\d+)\)?.*(?:: needed, |, without its lock:\n  by its question, .*: \d)", printed, re.M)
-    return [tuple(map(int, it)) for it in needed]
+    rows = re.findall(r"^P(\d)(?: at \d+)? \(?line (\d+)\)?.*(?:: needed, |, without its lock:\n  by its question, .*: \d)", printed, re.M)
+    return [tuple(map(int, it)) for it in rows]
 
 
 def skipped() -> str | None:

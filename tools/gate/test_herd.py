@@ -104,8 +104,8 @@ class BothForms(cases.Case):
         for name, text in [*examples(), *list_random_x86_tests()]:
             if text.startswith("X86"):
                 with self.subTest(name):
-                    found = [plain.format_canonical_text(it.test) for it in convert(text).conversions]
-                    self.assertEqual([plain.format_canonical_text(plain.read_test(text))], found)
+                    texts = [plain.format_canonical_text(it.test) for it in convert(text).conversions]
+                    self.assertEqual([plain.format_canonical_text(plain.read_test(text))], texts)
 
 
 # Rows of instructions.
@@ -189,12 +189,12 @@ class Rows(cases.Case):
         for seed in range(ROWS_OF_INSTRUCTIONS):
             row = Row(seed)
             try:
-                found = plain.make_report(convert(row.make_text()).conversions[0].test).splitlines()[1:3]
+                lines = plain.make_report(convert(row.make_text()).conversions[0].test).splitlines()[1:3]
             except given.Fault as fault:
-                found = ["LEA" if fault.args[0].startswith("LEA leaves the flags alone") else fault.args[0]]
-            wanted = ["LEA"] if found == ["LEA"] and any("LEA" in cell for cell in row.cells) else ["States 1", row.format_state()]
+                lines = ["LEA" if fault.args[0].startswith("LEA leaves the flags alone") else fault.args[0]]
+            wanted = ["LEA"] if lines == ["LEA"] and any("LEA" in cell for cell in row.cells) else ["States 1", row.format_state()]
             with self.subTest(row.make_text()):
-                self.assertEqual(wanted, found)
+                self.assertEqual(wanted, lines)
 
 
 def list_only_state(conversion: Converted) -> list[str]:
@@ -207,7 +207,7 @@ class OtherRows(cases.Case):
 
     def check_rows(self, rows: Iterable[SpelledRow | WideRow], least: int) -> None:
         """Checks that each sequence that is accepted has the final words of x86, and that at least this number are accepted."""
-        taken = 0
+        count = 0
         for row in rows:
             try:
                 conversion = convert(row.make_text())
@@ -215,10 +215,10 @@ class OtherRows(cases.Case):
                 continue
             if any(says.startswith("no mark says the order of operands") for _, says in conversion.notes):
                 continue
-            taken += 1
+            count += 1
             with self.subTest(row.make_text()):
                 self.assertEqual(["States 1", row.format_state()], list_only_state(conversion))
-        self.assertTrue(taken >= least)
+        self.assertTrue(count >= least)
 
     def test_wide(self) -> None:
         """Instructions of 64 bits are refused if a word may not fit into 32 bits."""
@@ -286,9 +286,9 @@ class Orders(cases.Case):
         """Without a mark the language decides, and a note says so if the order matters; X86 with Intel's marks has no note."""
         no_mark = "no mark says the order of operands: {} is taken, the destination {}, as in herd's tests of {}"
         of_registers = lambda language: test_of("mov eax,ebx", language=language, condition="exists (0:eax=1)")
-        found = [list_order_notes(of_registers(language)) for language in ("X86", "X86_64")]
+        notes = [list_order_notes(of_registers(language)) for language in ("X86", "X86_64")]
         wanted = [["4:2 " + no_mark.format("Intel's", "first", "X86")], ["4:2 " + no_mark.format("AT&T's", "last", "X86_64")]]
-        self.assertEqual(wanted, found)
+        self.assertEqual(wanted, notes)
         self.assertEqual([["MOV EAX,EBX"], ["MOV EBX,EAX"]], [list_cells(of_registers(language)) for language in ("X86", "X86_64")])
         of_one = test_of("lock incl [z]", "incl (x)", "xchg (x),eax")
         for text in (test_of("MOV [x],$1", language="X86"), test_of("xchg eax,ebx"), test_of("je L", "L:"), of_one):
@@ -308,10 +308,10 @@ class Orders(cases.Case):
         ):
             for language in ("X86", "X86_64"):
                 with self.subTest(cells, language=language):
-                    found = find_refusal(test_of(*cells, language=language))
-                    self.assertTrue(found.startswith(second))
-                    self.assertIn(first or "order of operands", found)
-                    self.assertIn("--order intel or --order att", found)
+                    refusal = find_refusal(test_of(*cells, language=language))
+                    self.assertTrue(refusal.startswith(second))
+                    self.assertIn(first or "order of operands", refusal)
+                    self.assertIn("--order intel or --order att", refusal)
         mixed = test_of("mov [x],eax", "mov eax,(x)")
         self.assertEqual(["MOV [x],EAX", "MOV EAX,[x]"], list_cells(mixed, False))
         self.assertEqual(["MOV EAX,[x]", "MOV [x],EAX"], list_cells(mixed, True))
@@ -378,17 +378,17 @@ class Words64(cases.Case):
 
     def test_random_threads(self) -> None:
         """A test of two threads that is taken has the same states if the words of the machine have 64 bits."""
-        taken = 0
+        count = 0
         for seed in range(WIDE_THREADS):
             text = make_wide_threads(seed)
             if not find_refusal(text):
                 test = convert(text).conversions[0].test
                 with mock.patch.object(machines, "WORD", 2**64):
                     wide = plain.make_report(replace(test, threads=[tuple(map(widen_number, code)) for code in test.threads]))
-                taken += 1
+                count += 1
                 with self.subTest(text):
                     self.assertEqual(wide, plain.make_report(test))
-        self.assertTrue(WIDE_THREADS // 3 <= taken < WIDE_THREADS)
+        self.assertTrue(WIDE_THREADS // 3 <= count < WIDE_THREADS)
 
     def test_taken(self) -> None:
         """Small numbers, sums and comparisons of 64 bits are taken, and so is what 32 bits make of larger ones."""
@@ -411,10 +411,10 @@ class Words64(cases.Case):
 
     def test_negative_atoms(self) -> None:
         """A negative number is not compared with 64 bits that may have the same lower half."""
-        asked = "exists (0:rax=-1)"
+        question = "exists (0:rax=-1)"
         message = "a negative number is compared with 64 bits: write it modulo 2 to the 32, or the register by its name of 32 bits"
-        self.assertEqual(f"5:15: {message}", find_refusal(test_of("movl $-1,%eax", condition=asked)))
-        self.assertEqual("", find_refusal(test_of("movl $1,%eax", condition=asked)))
+        self.assertEqual(f"5:15: {message}", find_refusal(test_of("movl $-1,%eax", condition=question)))
+        self.assertEqual("", find_refusal(test_of("movl $1,%eax", condition=question)))
         self.assertEqual("4:2: it extends the sign of -1 to 64 bits, and a word of lw has 32 bits", find_refusal(test_of("movq $-1,(x)")))
 
 
@@ -732,8 +732,8 @@ class Logs(cases.Case):
 
     def test_cut_off(self) -> None:
         """A log that is cut off has the states that it has, and the next test its own."""
-        found = logs.read_states(["Test A Allowed", "Histogram (3 states)", "1 :>x=1;", "Test B Allowed", "States 1", "y=2;", "Ok"])
-        self.assertEqual({"A": {frozenset({"x=1"})}, "B": {frozenset({"y=2"})}}, found)
+        states = logs.read_states(["Test A Allowed", "Histogram (3 states)", "1 :>x=1;", "Test B Allowed", "States 1", "y=2;", "Ok"])
+        self.assertEqual({"A": {frozenset({"x=1"})}, "B": {frozenset({"y=2"})}}, states)
         self.assertEqual({"A": {frozenset()}}, logs.read_states(["Test A Allowed", "States 1", "", "Ok"]))
 
     def test_nothing_compared(self) -> None:

@@ -172,8 +172,8 @@ class Knobs(cases.Case):
 
     def test_taken(self) -> None:
         """A knob has the number that the harness is passed."""
-        taken = (("sync=time", 2), ("sync=mixed", 3), ("stores=nontemporal", 1), ("halts=0", 0), ("stride=31", 31), ("instances=64", 64))
-        for word, number in taken:
+        settings = (("sync=time", 2), ("sync=mixed", 3), ("stores=nontemporal", 1), ("halts=0", 0), ("stride=31", 31), ("instances=64", 64))
+        for word, number in settings:
             with self.subTest(word):
                 self.assertEqual((word.partition("=")[0], number), knobs.parse_knob(word))
         self.assertEqual({**knobs.DEFAULTS, "halts": 0}, knobs.make_knobs([("halts", 1), ("halts", 0)]))
@@ -288,17 +288,17 @@ class Scripts(cases.Case):
         """All scripts of examples do what their threads can do, and lead something."""
         for name, text in examples()[::9]:
             test = plain.compile_test(plain.read_test(text))
-            made = scripts.make_scripts(test, plain.format_canonical_text(test))
-            counts = [[sum(n for t, n in it if t == thread) <= len(code) for thread, code in enumerate(test.threads)] for it in made]
+            scripts_made = scripts.make_scripts(test, plain.format_canonical_text(test))
+            counts = [[sum(n for t, n in it if t == thread) <= len(code) for thread, code in enumerate(test.threads)] for it in scripts_made]
             with self.subTest(name):
-                self.assertTrue(all(map(all, counts)) and all(len(it) > 1 for it in made))
+                self.assertTrue(all(map(all, counts)) and all(len(it) > 1 for it in scripts_made))
 
     def test_found(self) -> None:
         """Where neither program lists schedules, a search finds as many."""
         test = plain.read_test(read("examples/MP-x86.litmus"))
         with mock.patch.multiple(answers, ask_program=lambda *_: None, run_command=lambda *_: None):
-            made = scripts.list_schedules(test, plain.format_canonical_text(test))
-        self.assertEqual(sorted(Search(test).explore(1000, lambda *_: None).schedules.values()), sorted(made))
+            schedules_made = scripts.list_schedules(test, plain.format_canonical_text(test))
+        self.assertEqual(sorted(Search(test).explore(1000, lambda *_: None).schedules.values()), sorted(schedules_made))
 
 
 def make_system_folder(folder: str, siblings: dict[int, str], nodes: dict[int, str]) -> str:
@@ -334,10 +334,10 @@ class Processors(cases.Case):
     def test_placements(self) -> None:
         """Threads come on siblings and apart, on one node and on two, each on a processor of its own."""
         here = processors.Processors(tuple(range(8)), {it: f"{it % 4},{it % 4 + 4}" for it in range(8)}, {it: it % 4 // 2 for it in range(8)})
-        made = processors.make_placements(here, 2, Random(1))
-        self.assertEqual([(processors.PLACEMENTS, 2)], sorted({(len(made), len(set(it))) for it in made}))
-        cores = {len({here.cores[cpu] for cpu in it}) for it in made}
-        nodes = {len({here.nodes[cpu] for cpu in it}) for it in made}
+        placements = processors.make_placements(here, 2, Random(1))
+        self.assertEqual([(processors.PLACEMENTS, 2)], sorted({(len(placements), len(set(it))) for it in placements}))
+        cores = {len({here.cores[cpu] for cpu in it}) for it in placements}
+        nodes = {len({here.nodes[cpu] for cpu in it}) for it in placements}
         self.assertEqual(({1, 2}, {1, 2}), (cores, nodes))
         four = processors.make_placements(here, 4, Random(1))
         self.assertEqual({2, 3, 4}, {len({here.cores[cpu] for cpu in it}) for it in four} | {3})
@@ -357,10 +357,10 @@ class Processors(cases.Case):
             (good._replace(flags=clock | {"hypervisor"}), "A hypervisor is below"),
             (good._replace(flags=frozenset()), "The time-stamp counter is not said to be invariant"),
         ):
-            said = processors.list_obstacles(here, 2)
+            obstacles = processors.list_obstacles(here, 2)
             with self.subTest(part):
-                self.assertEqual(1, len(said))
-                self.assertIn(part, said[0])
+                self.assertEqual(1, len(obstacles))
+                self.assertIn(part, obstacles[0])
 
 
 def read_subject(path: str) -> Subject:
@@ -408,12 +408,12 @@ class Logs(cases.Case):
 
     def test_verdicts(self) -> None:
         """The verdict is on what was seen, by the quantifier."""
-        said = {}
+        sentences = {}
         for quantifier in ("exists", "~exists", "forall"):
             for counts in ({(0, 0): 2}, {(1, 1): 2}, {(0, 0): 1, (1, 1): 1}):
                 text = read("examples/SB-x86.litmus").replace("exists (", f"{quantifier} (")
                 lines = logs.format_log(subjects.make_subject(text, everything=False), make_seen(counts))
-                said[quantifier, len(counts), (0, 0) in counts] = (lines[-7], lines[-3].endswith(" is NOT validated"), lines[-2].split()[2])
+                sentences[quantifier, len(counts), (0, 0) in counts] = (lines[-7], lines[-3].endswith(" is NOT validated"), lines[-2].split()[2])
         wanted = {
             ("exists", 1, True): ("Ok", False, "Always"),
             ("exists", 1, False): ("No", True, "Never"),
@@ -425,12 +425,12 @@ class Logs(cases.Case):
             ("forall", 1, False): ("No", True, "Never"),
             ("forall", 2, True): ("No", True, "Sometimes"),
         }
-        self.assertEqual(wanted, said)
+        self.assertEqual(wanted, sentences)
 
     def test_compared(self) -> None:
         """tools/run_all.py compares a log with the lists, by --machine-log and by --against."""
         not_listed = LOG.replace("0:EAX=1; 1:EAX=0;", "0:EAX=2; 1:EAX=0;")
-        for option, log, found, wanted in (
+        for option, log, seen, wanted in (
             ("--machine-log", LOG, "0 showed states that are not listed, 1 did not show all", 0),
             ("--machine-log", not_listed, "  seen and not listed: 0:EAX=2; 1:EAX=0;", 3),
             ("--against", LOG, "  too much: 0:EAX=1; 1:EAX=1;", 1),
@@ -440,7 +440,7 @@ class Logs(cases.Case):
                 file.flush()
                 _, err, status = run(["run_all.py", "examples/SB-x86.litmus", option, file.name])
             with self.subTest(option, wanted=wanted):
-                self.assertIn(found, err)
+                self.assertIn(seen, err)
                 self.assertEqual(wanted, status)
 
     def test_not_listed(self) -> None:
@@ -453,19 +453,19 @@ class Logs(cases.Case):
 
     def test_makers(self) -> None:
         """An answer says proved only of the programs, and of a source test only if its compiler is one."""
-        found = [subjects.Listed([], it).describe_maker() for it in answers.Maker]
+        makers = [subjects.Listed([], it).describe_maker() for it in answers.Maker]
         not_proved = [f"{it.value}, not proved" for it in answers.Maker if it not in (answers.Maker.PROGRAM, answers.Maker.BEYOND)]
-        self.assertEqual(["lw, proved complete", "beyond, proved complete", *not_proved], found)
-        found = [subjects.Listed([], answers.Maker.PROGRAM, it).describe_maker() for it in (answers.Maker.PROGRAM, answers.Maker.PLAIN)]
-        self.assertEqual(["lw, of the test that lw compiled, proved complete", "lw, of the test that tools/plain.py compiled, not proved"], found)
+        self.assertEqual(["lw, proved complete", "beyond, proved complete", *not_proved], makers)
+        makers = [subjects.Listed([], answers.Maker.PROGRAM, it).describe_maker() for it in (answers.Maker.PROGRAM, answers.Maker.PLAIN)]
+        self.assertEqual(["lw, of the test that lw compiled, proved complete", "lw, of the test that tools/plain.py compiled, not proved"], makers)
 
     def test_json(self) -> None:
         """JSON has the same."""
-        made = json.loads(json.dumps(summary.make_json(make_log_result())))
-        seen = [(it["state"], it["count"], it["how"], it["holds"], it["listed"]) for it in made["seen"]]
+        summary_read = json.loads(json.dumps(summary.make_json(make_log_result())))
+        seen = [(it["state"], it["count"], it["how"], it["holds"], it["listed"]) for it in summary_read["seen"]]
         wanted = [("0:EAX=0; 1:EAX=0;", 7, "by a halt", True, True), ("0:EAX=0; 1:EAX=1;", 12345678, "by a race", False, True)]
         self.assertEqual([*wanted, ("0:EAX=1; 1:EAX=0;", 123456789, "by a race", False, True)], seen)
-        rest = {name: made[name] for name in ("name", "listed", "not_seen", "not_listed", "runs", "notes", "against")}
+        rest = {name: summary_read[name] for name in ("name", "listed", "not_seen", "not_listed", "runs", "notes", "against")}
         others: dict[str, object] = {"against": None, "name": "SB-x86", "listed": 4, "not_seen": ["0:EAX=1; 1:EAX=1;"], "not_listed": [], "runs": 135802474, "notes": ["A note."]}
         self.assertEqual(others, rest)
 
@@ -506,10 +506,10 @@ class Runs(cases.Case):
             ({"is_pinned": 0}, "Threads could not be pinned"),
             ({"switches": 5000}, "Others took processors away 2500 times a second"),
         ):
-            said = runs.list_missing(make_seen({}, **facts), plan)
+            sentences = runs.list_missing(make_seen({}, **facts), plan)
             with self.subTest(part):
-                self.assertEqual(1, len(said))
-                self.assertIn(part, said[0])
+                self.assertEqual(1, len(sentences))
+                self.assertIn(part, sentences[0])
 
     def test_plan(self) -> None:
         """A plan is its names and numbers, in their order."""

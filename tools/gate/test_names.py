@@ -90,8 +90,8 @@ class Table(cases.Case):
         """A row that names a further crate is a fault, and so is one that lacks a crate."""
         for named in ("lw_base, lw_text, linked_list_allocator", "lw_base"):
             with self.subTest(named):
-                found = list(find_table_faults(read_crate_rows(TABLE.replace("lw_base, lw_text |", f"{named} |")), LINES))
-                self.assertEqual(["lw_order_tests"], [it.split()[3] for it in found])
+                faults = list(find_table_faults(read_crate_rows(TABLE.replace("lw_base, lw_text |", f"{named} |")), LINES))
+                self.assertEqual(["lw_order_tests"], [it.split()[3] for it in faults])
 
     def test_rows(self) -> None:
         """A crate without a row, and a row without a crate, are faults."""
@@ -110,17 +110,17 @@ class Paths(cases.Case):
 
     def test_paths(self) -> None:
         """A link or a path that leads to nothing is told."""
-        for what, text, wanted in PATHS:
-            with self.subTest(what):
+        for subject, text, wanted in PATHS:
+            with self.subTest(subject):
                 self.assertEqual(wanted, list(find_path_faults("docs/X.md", text)))
 
     def test_paths_below_crates(self) -> None:
         """A path that a sentence places below a crate is reported if that crate does not have it."""
         crates = Names().crates
-        for what, text, wanted in CRATE_PATHS:
-            with self.subTest(what):
-                found = list(find_crate_path_faults("docs/X.md", text, crates))
-                self.assertEqual([f"docs/X.md names {it}, which is not there" for it in wanted], found)
+        for subject, text, wanted in CRATE_PATHS:
+            with self.subTest(subject):
+                faults = list(find_crate_path_faults("docs/X.md", text, crates))
+                self.assertEqual([f"docs/X.md names {it}, which is not there" for it in wanted], faults)
 
     def test_path_with_sign(self) -> None:
         """A path with a `+` is looked at too."""
@@ -208,14 +208,14 @@ class Logic(cases.Case):
 
     def test_logic(self) -> None:
         """It is that of `rt version`, whatever the kit is called; without an `rt` it is one."""
-        for page, found, wanted in (
+        for page, expected, wanted in (
             (f"proved with\n\n    {LOGIC}\n", f"rattle-kit-13f {LOGIC}\n", 0),
             (f"proved with {LOGIC}", "", 0),
             (f"proved with {LOGIC}", "rattle-kit-13f logic 0000000000000000\n", 1),
             ("proved with rattle-kit-13b", "", 1),
         ):
-            with self.subTest(page=page, told=found):
-                self.assertEqual(wanted, len(list(find_logic_faults(page, found))))
+            with self.subTest(page=page, told=expected):
+                self.assertEqual(wanted, len(list(find_logic_faults(page, expected))))
 
 
 if __name__ == "__main__":

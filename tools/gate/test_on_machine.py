@@ -167,7 +167,7 @@ class Commands(cases.Case):
 
     def test_usage(self) -> None:
         """Wrong words end with status 2, and say why."""
-        asked: tuple[tuple[list[str], str], ...] = (
+        cases: tuple[tuple[list[str], str], ...] = (
             (["--knob", "sync=fast", "F"], "argument --knob: sync is one of none, flag, time, mixed, and not 'fast'"),
             (["--seconds", "0", "F"], "argument --seconds: '0' is no number of seconds from 0.001 to 10000000"),
             (["--seconds", "nan", "F"], "argument --seconds: 'nan' is no number of seconds from 0.001 to 10000000"),
@@ -177,7 +177,7 @@ class Commands(cases.Case):
             (["--until", "tired", "F"], "argument --until: invalid choice: 'tired'"),
             ([], "the following arguments are required: FILE"),
         )
-        for words, message in asked:
+        for words, message in cases:
             out, err, status = run(["on_machine.py", *words])
             with self.subTest(words):
                 self.assertIn(message, err.splitlines()[-1])
@@ -191,10 +191,10 @@ class Commands(cases.Case):
         with mock.patch.dict(os.environ, PATH="/nowhere"):
             _, err, status = run(["run_all.py", "--on-machine", "1", "examples/SB.litmus"])
         self.assertEqual((no_objdump.replace("on_machine", "run_all"), 5), (err.splitlines(True)[-1], status))
-        for more, path, message in (("", "/nowhere", no_objdump), ("--cc no-cc", os.environ["PATH"], no_compiler)):
+        for options, path, message in (("", "/nowhere", no_objdump), ("--cc no-cc", os.environ["PATH"], no_compiler)):
             if message is no_compiler and list_missing():
                 continue
-            ran = subprocess.run([*words, *more.split()], capture_output=True, cwd=HOME, env={**os.environ, "PATH": path}, check=False)
+            ran = subprocess.run([*words, *options.split()], capture_output=True, cwd=HOME, env={**os.environ, "PATH": path}, check=False)
             with self.subTest(message):
                 self.assertEqual((b"", message, 5), (ran.stdout, ran.stderr.decode(), ran.returncode))
         with mock.patch.object(build.platform, "machine", lambda: "aarch64"):
@@ -267,9 +267,9 @@ class Controls(cases.Case):
         text_of = assembly.format_assembly
         swapped = lambda *words: replace_once(text_of(*words), *STORES)
         with mock.patch.object(assembly, "format_assembly", swapped), mock.patch.object(runs, "run_plan", side_effect=AssertionError):
-            found = find_refusal(self.run_test, read("examples/MP-x86.litmus"))
+            refusal = find_refusal(self.run_test, read("examples/MP-x86.litmus"))
         wanted = "P0 at 0 has 'mov    DWORD PTR [r9],0x1', and the test has 'store' location 0 value ('number', 1)"
-        self.assertEqual(f"the compiled code is not the test's: {wanted}", found)
+        self.assertEqual(f"the compiled code is not the test's: {wanted}", refusal)
 
     def test_words(self) -> None:
         """Words and registers that no other thread changes are those of the test, in every run and by every kind of recipe."""
@@ -302,9 +302,9 @@ class Controls(cases.Case):
         self.assertEqual(["method"], run(["run_all.py", "--as", "csv", "examples/CoRR-x86.litmus"])[0].splitlines()[0].split(",")[-1:])
         converted = ["tools/herd/tests/SB-att.litmus", "tools/herd/tests/Cas.litmus", *["examples/from_c/TreiberStack.c"] * bool(shutil.which("gcc"))]
         out, err, status = run(["run_all.py", "--as", "json", "--on-machine", "0.3", *converted])
-        found = [it["seen"] for it in json.loads(out)]
-        self.assertEqual((True, "-", 0), (bool(re.fullmatch("[1-4] of 4", found[0])), found[1], status))
-        self.assertEqual([True] * len(converted[2:]), [bool(re.fullmatch("[12] of 2", it)) for it in found[2:]])
+        states = [it["seen"] for it in json.loads(out)]
+        self.assertEqual((True, "-", 0), (bool(re.fullmatch("[1-4] of 4", states[0])), states[1], status))
+        self.assertEqual([True] * len(converted[2:]), [bool(re.fullmatch("[12] of 2", it)) for it in states[2:]])
         self.assertIn("Cas.litmus: a test in herd's form that is converted to several, or has loops, is not run on this machine", err)
         for seconds in ("0", "x", "nan", ""):
             with self.subTest(seconds):
@@ -404,8 +404,8 @@ class Programs(cases.Case):
             with self.subTest(path):
                 self.assertEqual(([], []), (result.list_not_listed(), list(result.others)))
                 self.assertTrue(0 < counted <= result.seen.runs)
-                found = [it for it in result.notes if it.startswith("Given up")]
-                self.assertEqual([str(result.seen.runs - counted)] * (counted < result.seen.runs), [it.split()[5] for it in found])
+                given_up = [it for it in result.notes if it.startswith("Given up")]
+                self.assertEqual([str(result.seen.runs - counted)] * (counted < result.seen.runs), [it.split()[5] for it in given_up])
 
     def test_complete(self) -> None:
         """Until all states are seen, tests that list none that is missing are not run."""
@@ -418,9 +418,10 @@ class Programs(cases.Case):
     def test_herd_form(self) -> None:
         """A test of herd's language C is a program, and its states have its names."""
         result = programs.run_file(self.laboratory, "sb.litmus", HERD_C, Settings(Limits(0.2)), None, 1)
-        made: dict[str, Any] = summary.make_json(result)
-        self.assertEqual(("SB+release", 4, [], []), (made["name"], made["listed"], made["not_listed"], made["not_listed_in_tests"]))
-        self.assertTrue({it["state"] for it in made["seen"]} <= {f"0:r0={a}; 1:r0={b};" for a in (0, 1) for b in (0, 1)})
+        summary_read: dict[str, Any] = summary.make_json(result)
+        fields = [summary_read[it] for it in ("name", "listed", "not_listed", "not_listed_in_tests")]
+        self.assertEqual(["SB+release", 4, [], []], fields)
+        self.assertTrue({it["state"] for it in summary_read["seen"]} <= {f"0:r0={a}; 1:r0={b};" for a in (0, 1) for b in (0, 1)})
         self.assertIn("Condition exists (0:r0=0 /\\ 1:r0=0) is ", summary.format_result(result))
 
     def test_against(self) -> None:
@@ -448,8 +449,8 @@ class Programs(cases.Case):
         past = knobs.make_knobs([("stores", 1)])
         program = self.make_program("examples/from_c/MessagePassing.c")
         forbidden = "1:sees_data=0; 1:sees_flag=1;"
-        found = lambda seconds: [program.subject.format_state(it) for it in self.run_program(program, seconds, knobs=past).list_not_listed()]
-        self.assertTrue(any(found(it) == [forbidden] for it in SHORT_TRIES))
+        list_unlisted = lambda seconds: [program.subject.format_state(it) for it in self.run_program(program, seconds, knobs=past).list_not_listed()]
+        self.assertTrue(any(list_unlisted(it) == [forbidden] for it in SHORT_TRIES))
 
     def test_given_up(self) -> None:
         """A state of a test that its own list lacks is a contradiction, also if its run is given up. The third control."""

@@ -89,10 +89,10 @@ class Examples(cases.Case):
 class Swaps(cases.Case):
     """Tests with LOCK CMPXCHG."""
 
-    def make_fenced_test(self, seed: int, kept: Sequence[bool] = (True, True)) -> str:
+    def make_fenced_test(self, seed: int, has_fence: Sequence[bool] = (True, True)) -> str:
         """Returns a random test with a fence after the second row of each thread, or without some of these fences."""
         lines = make_random_cmpxchg(seed).splitlines(keepends=True)
-        return "".join([*lines[:5], f" {' | '.join('MFENCE' if it else '' for it in kept)} ;\n", *lines[5:]])
+        return "".join([*lines[:5], f" {' | '.join('MFENCE' if it else '' for it in has_fence)} ;\n", *lines[5:]])
 
     def test_without_a_fence(self) -> None:
         """The states without a fence are those of the text without it."""
@@ -152,8 +152,8 @@ class Printed(cases.Case):
         """A fence of the original is named by its line, whatever it is converted to, and so are those that are enough."""
         lines, status = self.run_and_filter(["fences.py"], GUARDED)
         self.assertEqual("Guarded, by its question, exists (0:ECX=0 /\\ 1:ECX=0): fences 2, states 3", lines[0])
-        needed = [f"P{thread}, line 5, mfence: needed, 1 more without it" for thread in range(2)]
-        self.assertEqual([needed[0], "  0:ECX=0; 1:ECX=0;", needed[1], "  0:ECX=0; 1:ECX=0;"], lines[1:5])
+        expected = [f"P{thread}, line 5, mfence: needed, 1 more without it" for thread in range(2)]
+        self.assertEqual([expected[0], "  0:ECX=0; 1:ECX=0;", expected[1], "  0:ECX=0; 1:ECX=0;"], lines[1:5])
         self.assertEqual("Enough, with none to spare, by its question, exists (0:ECX=0 /\\ 1:ECX=0): P0 line 5, P1 line 5", lines[5])
         last = r"Put together from 2 tests, listed by .*, of the runs that go through each loop at most once"
         self.assertTrue(re.fullmatch(last, lines[-1]))

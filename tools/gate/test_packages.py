@@ -112,10 +112,10 @@ def has_module(module: str) -> bool:
     return importlib.util.find_spec(module) is not None
 
 
-def run_command(arguments: list[str], file: str | None = None, **more: Any) -> tuple[str, int]:
+def run_command(arguments: list[str], file: str | None = None, **options: Any) -> tuple[str, int]:
     """Returns what a command prints on standard output, and its exit status. Its input is a file, or nothing."""
     with open(file or os.devnull, "rb") as stream:
-        ran = subprocess.run(arguments, stdin=stream, stdout=subprocess.PIPE, stderr=subprocess.STDOUT, check=False, **more)
+        ran = subprocess.run(arguments, stdin=stream, stdout=subprocess.PIPE, stderr=subprocess.STDOUT, check=False, **options)
     return ran.stdout.decode(), ran.returncode
 
 
@@ -209,9 +209,9 @@ class Words(cases.Case):
     def test_words(self) -> None:
         """A word after a command is its file."""
         parted = runpy.run_path(os.path.join(make_wheel.PACKAGE, "__main__.py"), run_name="words")["split_arguments"]
-        for name, words, given, file in PARTED:
+        for name, words, expected, file in PARTED:
             with self.subTest(words):
-                self.assertEqual((given.split(), file), parted(name, words.split()))
+                self.assertEqual((expected.split(), file), parted(name, words.split()))
 
 
 class Wheel(Packed):
@@ -235,11 +235,11 @@ class Wheel(Packed):
 
     def test_description(self) -> None:
         """Its description has what pip needs, and says how the gate ended and that no licence is chosen."""
-        found = email.message_from_bytes(self.inside[f"lw-{ORIGIN.version}.dist-info/METADATA"][0])
-        self.assertEqual(("lw", ORIGIN.version, ">=3.8"), (found["Name"], found["Version"], found["Requires-Python"]))
-        self.assertIn("No licence has been chosen yet", found["License"])
+        metadata = email.message_from_bytes(self.inside[f"lw-{ORIGIN.version}.dist-info/METADATA"][0])
+        self.assertEqual(("lw", ORIGIN.version, ">=3.8"), (metadata["Name"], metadata["Version"], metadata["Requires-Python"]))
+        self.assertIn("No licence has been chosen yet", metadata["License"])
         for part in (ORIGIN.commit, ORIGIN.toolchain, ORIGIN.gate):
-            self.assertIn(part, found.get_payload())
+            self.assertIn(part, metadata.get_payload())
 
     def test_record(self) -> None:
         """RECORD has each file with its checksum and its length; programs can be run, and nothing of the sources is in it."""
@@ -267,9 +267,9 @@ class Wheel(Packed):
             name = make_wheel.build_wheel(os.path.join(self.room, "by-pip"))
         with open(self.path, "rb") as first, open(os.path.join(self.room, "by-pip", name), "rb") as second:
             self.assertTrue(first.read() == second.read())
-        found = email.message_from_bytes(self.inside[f"lw-{ORIGIN.version}.dist-info/METADATA"][0])
+        metadata = email.message_from_bytes(self.inside[f"lw-{ORIGIN.version}.dist-info/METADATA"][0])
         for key, field in (("name", "Name"), ("description", "Summary"), ("requires-python", "Requires-Python")):
-            self.assertIn(f'\n{key} = "{found[field]}"\n', read("pyproject.toml"))
+            self.assertIn(f'\n{key} = "{metadata[field]}"\n', read("pyproject.toml"))
         self.assertIn('build-backend = "make_wheel"\nbackend-path = ["tools"]\n', read("pyproject.toml"))
 
     @unittest.skipUnless(has_venv(), "venv or pip is missing")

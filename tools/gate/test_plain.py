@@ -384,8 +384,8 @@ class Refusals(InRoom):
     def test_nesting(self) -> None:
         """A condition that is nested too deeply for Python is refused in words."""
         deep = "SRC A\n{}\n P0 ;\nexists " + "(" * 20000 + "true" + ")" * 20000
-        found = make_refused_output("plain: -: the condition is nested too deeply for this tool")
-        self.assertEqual(found, run_tool(["plain.py", "orders"], deep.encode()))
+        output = make_refused_output("plain: -: the condition is nested too deeply for this tool")
+        self.assertEqual(output, run_tool(["plain.py", "orders"], deep.encode()))
 
     def test_schedules(self) -> None:
         """A schedule that is none is told as lw tells it."""

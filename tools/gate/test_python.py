@@ -148,12 +148,12 @@ class Answers(cases.Case):
         for name, text in examples():
             test = plain.read_test(text)
             report = plain.make_report(test)
-            made = lw.report_of(report.encode())
+            parsed = lw.report_of(report.encode())
             lines = report.splitlines()
             with self.subTest(name):
-                self.assertEqual(lines[2:-4], list(map(str, made.states)))
-                self.assertEqual(lines[-1], f"Observation {made.name} {made.observation} {made.positive} {made.negative}")
-                self.assertEqual([lines[0], lines[-4]], [f"Test {made.name} {made.question}", made.verdict])
+                self.assertEqual(lines[2:-4], list(map(str, parsed.states)))
+                self.assertEqual(lines[-1], f"Observation {parsed.name} {parsed.observation} {parsed.positive} {parsed.negative}")
+                self.assertEqual([lines[0], lines[-4]], [f"Test {parsed.name} {parsed.question}", parsed.verdict])
             for old, new in OF_REPORTS:
                 changed = re.sub(old, new, report, count=1, flags=re.M)
                 with self.subTest(name, old=old, new=new):
@@ -163,9 +163,9 @@ class Answers(cases.Case):
         """So is a list of schedules."""
         for name in ("SB", "SB-x86", "MP", "IRIW-x86"):
             listed = plain.format_schedules(plain.read_test(read(f"examples/{name}.litmus")))
-            made = [line for it in lw.schedules_of(listed.encode()) for line in (str(it.state), f" {it.words}")]
+            lines = [line for it in lw.schedules_of(listed.encode()) for line in (str(it.state), f" {it.words}")]
             with self.subTest(name):
-                self.assertEqual(listed.splitlines()[2:], made)
+                self.assertEqual(listed.splitlines()[2:], lines)
             for old, new in OF_SCHEDULES:
                 changed = re.sub(old, new, listed, count=1, flags=re.M)
                 with self.subTest(name, old=old, new=new):
@@ -214,8 +214,8 @@ class Calls(cases.Case):
         """So does memory that is no number of bytes."""
         for memory in (-1, -20, 1.5, "1"):
             with self.subTest(memory):
-                found = ValueError, f"memory has to be a number of bytes, and not {memory!r}"
-                self.assertEqual(found, self.find_refusal(lw.Workbench, self.library, memory))
+                error = ValueError, f"memory has to be a number of bytes, and not {memory!r}"
+                self.assertEqual(error, self.find_refusal(lw.Workbench, self.library, memory))
 
     def test_answers(self) -> None:
         """Each command gets its text, a replay its schedule and protocol, and all as much room as they need."""
@@ -240,11 +240,11 @@ class Calls(cases.Case):
     def test_marks(self) -> None:
         """States with marks are values, and bytes of another form are none."""
         bench = lw.Workbench(self.library, memory=1 << 20)
-        found = [(str(it.state), it.holds) for it in bench.marks(b"+ x=1; 0:EAX=2;\n- x=2; 0:EAX=0;\n")]
-        self.assertEqual([("x=1; 0:EAX=2;", True), ("x=2; 0:EAX=0;", False)], found)
-        for made in (b"x=1;\n", b"+ x=1;", b"+x=1;\n", b"* x=1;\n", b"+ x\n"):
-            with self.subTest(made):
-                self.assertIs(ValueError, self.find_refusal(bench.marks, made)[0])
+        pairs = [(str(it.state), it.holds) for it in bench.marks(b"+ x=1; 0:EAX=2;\n- x=2; 0:EAX=0;\n")]
+        self.assertEqual([("x=1; 0:EAX=2;", True), ("x=2; 0:EAX=0;", False)], pairs)
+        for faulty in (b"x=1;\n", b"+ x=1;", b"+x=1;\n", b"* x=1;\n", b"+ x\n"):
+            with self.subTest(faulty):
+                self.assertIs(ValueError, self.find_refusal(bench.marks, faulty)[0])
 
     def test_threads(self) -> None:
         """Threads that share a workbench get their own answers."""
@@ -262,9 +262,9 @@ class Documents(cases.Case):
     def test_stack(self) -> None:
         """docs/LIBRARY.md, docs/TRUSTED.md and include/lw.h name the same bytes: less than what is called ample, more than what is too small."""
         texts = [read(it) for it in ("docs/LIBRARY.md", "docs/TRUSTED.md", "include/lw.h")]
-        found = [re.findall(r"(\d+,\d+) bytes(?:,| were)\s+measured", text) for text in texts]
-        self.assertEqual([found[0][:1]] * 3, found)
-        bytes_of_stack = int(found[0][0].replace(",", ""))
+        numbers = [re.findall(r"(\d+,\d+) bytes(?:,| were)\s+measured", text) for text in texts]
+        self.assertEqual([numbers[0][:1]] * 3, numbers)
+        bytes_of_stack = int(numbers[0][0].replace(",", ""))
         ample, too_small = map(int, require_match(re.search(r"(\d+) KiB of stack are ample for a\s+thread, and (\d+) KiB", texts[0])).groups())
         self.assertTrue(too_small << 10 < bytes_of_stack < ample << 10)
 

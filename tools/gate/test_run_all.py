@@ -123,9 +123,9 @@ def list_wanted_rows() -> dict[str, tuple[str | None, ...]]:
     return {**ANSWERED, **(PROGRAMS if HAS_GCC else {})}
 
 
-def remove_times(found: list[Row]) -> list[Row]:
+def remove_times(rows: list[Row]) -> list[Row]:
     """Returns rows without what differs from run to run."""
-    return [{key: it for key, it in row.items() if key != "milliseconds"} for row in found]
+    return [{key: it for key, it in row.items() if key != "milliseconds"} for row in rows]
 
 
 class Mixed(cases.Case):
@@ -201,9 +201,9 @@ class Mixed(cases.Case):
 
     def test_other_forms(self) -> None:
         """CSV and text have the same rows, and a further column for how files were converted and for causes."""
-        found = list(csv.DictReader(io.StringIO(run(["run_all.py", "--as", "csv", self.folder])[0])))
+        table = list(csv.DictReader(io.StringIO(run(["run_all.py", "--as", "csv", self.folder])[0])))
         keys = ("file", "verdict", "observation", "method", "converted", "cause")
-        self.assertEqual([tuple(it[key] or "" for key in keys) for it in self.rows], [tuple(it[key] for key in keys) for it in found])
+        self.assertEqual([tuple(it[key] or "" for key in keys) for it in self.rows], [tuple(it[key] for key in keys) for it in table])
         lines = run(["run_all.py", self.folder])[0].splitlines()
         self.assertEqual(["Test", "Asked", "Verdict", "Observation", "States", "ms", "Method", "Converted", "Cause"], lines[0].split())
         self.assertEqual(len(self.rows) + 1, len(lines))
@@ -329,8 +329,8 @@ class Statuses(cases.Case):
         with mock.patch.object(sys, "stderr", io.StringIO()):
             import run_all
 
-            found = [statuses.choose_status({0} | run_all.report_rows(verdicts[begin:], Expected(None, True))) for begin in (0, 1, 2, 3)]
-            self.assertEqual([7, 7, 6, 1], found)
+            chosen = [statuses.choose_status({0} | run_all.report_rows(verdicts[begin:], Expected(None, True))) for begin in (0, 1, 2, 3)]
+            self.assertEqual([7, 7, 6, 1], chosen)
             self.assertEqual(6, statuses.choose_status(run_all.report_rows(verdicts, Expected(None, False))))
             self.assertEqual(answers.NO_VERDICT, statuses.NO_VERDICT)
             self.assertEqual(3, statuses.choose_status({statuses.SEEN_AND_NOT_LISTED, 7, 6}))
@@ -425,11 +425,11 @@ class Answers(cases.Case):
 
     def test_not_built(self) -> None:
         """Without the programs of the sources nothing is said to be proved."""
-        found = io.StringIO()
-        with mock.patch.object(spawn, "is_current", lambda name="lw": False), mock.patch.object(sys, "stderr", found):
+        output = io.StringIO()
+        with mock.patch.object(spawn, "is_current", lambda name="lw": False), mock.patch.object(sys, "stderr", output):
             done = lists.answer_all([f"{HOME}/examples/SB.litmus"], lists.Choices(1, None, None), lambda _: None)
         self.assertEqual([rows.PLAIN_UNPROVED], [it.row.method for it in done])
-        self.assertIn("answered by tools/plain.py, not proved", found.getvalue())
+        self.assertIn("answered by tools/plain.py, not proved", output.getvalue())
 
     def test_faulty_conversion(self) -> None:
         """A conversion that fails, or whose process ends, makes a row that says so, and the other files are answered."""
@@ -451,8 +451,8 @@ class Answers(cases.Case):
     def test_addresses(self) -> None:
         """States of programs are compared by their addresses and by what is after the begin of a global, too."""
         states = ["0:p=&x; x+8=1; y+8=1;", "0:p=&y; x+8=1; y+8=1;", "0:p=&y; x+8=1; y+8=2;", "0:p=0; x+8=2; y+8=1;"]
-        found = logs.read_states(["Test A Allowed", "States 4", *states, "Ok"])["A"]
-        self.assertEqual({frozenset(line.rstrip(";").split("; ")) for line in states}, found)
+        states_read = logs.read_states(["Test A Allowed", "States 4", *states, "Ok"])["A"]
+        self.assertEqual({frozenset(line.rstrip(";").split("; ")) for line in states}, states_read)
 
     def test_two_names(self) -> None:
         """Two files of one name with different states are not compared."""

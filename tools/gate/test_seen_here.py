@@ -56,28 +56,28 @@ class Served(cases.Case):
     def test_run(self) -> None:
         """A test is run, and each state that was seen says whether it is listed; a source test has its own names."""
         for name, states in (("SB-x86", 4), ("MP", 3)):
-            status, found = self.ask_server({"text": read(f"examples/{name}.litmus"), "seconds": 1})
+            status, answer = self.ask_server({"text": read(f"examples/{name}.litmus"), "seconds": 1})
             with self.subTest(name):
-                self.assertEqual((200, states, [], name), (status, found["listed"], found["not_listed"], found["name"]))
-                self.assertEqual(states, len(found["seen"]) + len(found["not_seen"]))
-                self.assertTrue(found["runs"] > 0 and all(it["count"] > 0 and it["listed"] for it in found["seen"]))
+                self.assertEqual((200, states, [], name), (status, answer["listed"], answer["not_listed"], answer["name"]))
+                self.assertEqual(states, len(answer["seen"]) + len(answer["not_seen"]))
+                self.assertTrue(answer["runs"] > 0 and all(it["count"] > 0 and it["listed"] for it in answer["seen"]))
 
     def test_no_run(self) -> None:
         """Why nothing is run comes back: the text is none, or there is no compiler."""
-        status, found = self.ask_server({"text": "X86 A", "seconds": 1})
-        self.assertEqual((500, True), (status, found["error"].startswith("The test was not run on this machine: -:1:6: ")))
+        status, answer = self.ask_server({"text": "X86 A", "seconds": 1})
+        self.assertEqual((500, True), (status, answer["error"].startswith("The test was not run on this machine: -:1:6: ")))
         with tempfile.TemporaryDirectory(prefix="lw-bin-") as bin:
             for command in filter(shutil.which, ("sh", "setpriv")):
                 os.symlink(str(shutil.which(command)), f"{bin}/{command}")
             with mock.patch.dict(os.environ, PATH=bin):
-                status, found = self.ask_server({"text": SB, "seconds": 1})
-        self.assertEqual((500, True), (status, "on_machine: there is no objdump" in found["error"]))
+                status, answer = self.ask_server({"text": SB, "seconds": 1})
+        self.assertEqual((500, True), (status, "on_machine: there is no objdump" in answer["error"]))
 
     def test_refused(self) -> None:
         """What the page does not ask is refused, and nothing is run."""
         with mock.patch.object(web_runs.Runs, "run_on_machine", side_effect=AssertionError):
-            for said in ({"text": SB}, {"text": SB, "seconds": 0}, {"text": SB, "seconds": 11}, {"text": SB, "seconds": "1"}):
-                self.assertEqual(400, self.ask_server(said)[0])
+            for request in ({"text": SB}, {"text": SB, "seconds": 0}, {"text": SB, "seconds": 11}, {"text": SB, "seconds": "1"}):
+                self.assertEqual(400, self.ask_server(request)[0])
             self.assertEqual(403, self.ask_server({"text": SB, "seconds": 1}, Origin="http://another.example")[0])
             # (A compiler would quote words of the file.)
             including = 'C A\n{}\nP0 (int *x) {\n#include "/etc/passwd"\n}\nexists (x=1)\n'

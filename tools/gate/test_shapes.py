@@ -39,8 +39,8 @@ NO_CYCLES = (
 
 def read_rows() -> list[tuple[str, ...]]:
     """Returns the rows of docs/FAMILIES.md: a name, threads, a cycle, and the words of interleaving and of x86-TSO."""
-    found = re.findall(r"^\| (\S+) \| ([WR][^|]*) \| ([^|]+) \| (\w+) \| (\w+) \| \d+ \|", read("docs/FAMILIES.md"), re.M)
-    return [(name, threads, expand_cycle(cycle), *words) for name, threads, cycle, *words in found]
+    rows = re.findall(r"^\| (\S+) \| ([WR][^|]*) \| ([^|]+) \| (\w+) \| (\w+) \| \d+ \|", read("docs/FAMILIES.md"), re.M)
+    return [(name, threads, expand_cycle(cycle), *words) for name, threads, cycle, *words in rows]
 
 
 def expand_cycle(cycle: str) -> str:
@@ -147,15 +147,15 @@ def list_letter_cycles(max_letters: int) -> dict[tuple[str, ...], Shape]:
     """Returns the cycles of at most this number of letters that can be made a test, without duplicates, if no thread has two edges to
     another location.
     """
-    found = {}
+    cycles = {}
     for row in (row for count in range(2, max_letters + 1) for row in list_letter_rows(count)):
         try:
             made_shape = make_shape(make_cycle(list(row)))
         except NoCycle:
             continue
         if max(count_thread_orders(made_shape.edges)) < 2:
-            found[choose_rotation(row)] = made_shape
-    return found
+            cycles[choose_rotation(row)] = made_shape
+    return cycles
 
 
 class Letters(cases.Case):

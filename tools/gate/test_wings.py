@@ -26,10 +26,10 @@ class Lines(cases.Case):
 
     def test_broken(self) -> None:
         """A crate that depends on one that it may not name is reported, with the way to it."""
-        for crate, more, fault in BROKEN:
+        for crate, line, fault in BROKEN:
             lines = check_wings.read_dependencies()
-            with self.subTest(crate, more=more):
-                self.assertIn(fault, check_wings.find_faults({**lines, crate: [*lines[crate], more]}))
+            with self.subTest(crate, more=line):
+                self.assertIn(fault, check_wings.find_faults({**lines, crate: [*lines[crate], line]}))
 
     def test_unplaced(self) -> None:
         """A crate of no wing is reported."""

@@ -82,9 +82,9 @@ class ThreadCode:
 
 def rewrite_thread(code: list[Instruction], initial: dict[str, str], guesses: dict[int, bool]) -> ThreadCode:
     """Returns a thread's instructions of lw. Jumps lead to the numbers of the text's instructions."""
-    thread_code, held, read = ThreadCode(), compute_held_addresses(code, initial), find_read_flags(code)
+    thread_code, addresses, read = ThreadCode(), compute_held_addresses(code, initial), find_read_flags(code)
     for index, instruction in enumerate(code):
-        rewriter = Rewriter(instruction, index, held[index], read[index], guesses.get(index))
+        rewriter = Rewriter(instruction, index, addresses[index], read[index], guesses.get(index))
         statements = rewriter.rewrite_statements()
         thread_code.begins.append(len(thread_code.statements))
         thread_code.statements += statements
@@ -119,7 +119,7 @@ class Converter:
 
     def check_observed(self) -> None:
         """Refuses a question about a register that holds an address at the end."""
-        ends = [compute_held_addresses(code, held)[-1] for code, held in zip(self.codes, self.held)]
+        ends = [compute_held_addresses(code, addresses)[-1] for code, addresses in zip(self.codes, self.held)]
         for site, offset in self.sites:
             if isinstance(site, RegisterSite) and ends[site.thread].get(site.register, NUMBER) != NUMBER:
                 raise Refused(f"{site.thread}:{site.register} may end with the address of a location, and words of lw are numbers", offset)
@@ -129,7 +129,7 @@ class Converter:
         by_thread: list[dict[int, bool]] = [{} for _ in self.codes]
         for (thread, index), guess in zip(self.guessed, guesses):
             by_thread[thread][index] = guess
-        return [rewrite_thread(code, held, guesses_of_thread) for code, held, guesses_of_thread in zip(self.codes, self.held, by_thread)]
+        return [rewrite_thread(code, addresses, guesses_of_thread) for code, addresses, guesses_of_thread in zip(self.codes, self.held, by_thread)]
 
     def number_registers(self, thread: int, extremes: list[ThreadCode]) -> dict[str, int]:
         """Returns the number of each register of a thread, and of its mark where there is room for one. `extremes` is the thread's code if

@@ -25,12 +25,12 @@ def list_successors(instruction: Instruction, index: int) -> list[int]:
 
 def find_read_flags(code: list[Instruction]) -> list[bool]:
     """Returns, for each instruction, whether the zero flag that it leaves may be read by a later branch. Jumps go forward."""
-    needed, read = [False] * (len(code) + 1), [False] * len(code)
+    is_needed, is_read = [False] * (len(code) + 1), [False] * len(code)
     for index in range(len(code) - 1, -1, -1):
         instruction = code[index]
-        read[index] = any(follower != GIVE_UP and needed[follower] for follower in list_successors(instruction, index))
-        needed[index] = instruction.mnemonic in READS_FLAG or read[index] and instruction.mnemonic not in SETS_FLAG
-    return read
+        is_read[index] = any(follower != GIVE_UP and is_needed[follower] for follower in list_successors(instruction, index))
+        is_needed[index] = instruction.mnemonic in READS_FLAG or is_read[index] and instruction.mnemonic not in SETS_FLAG
+    return is_read
 
 
 def find_unset_flag_read(code: list[Instruction]) -> Instruction | None:
@@ -51,21 +51,21 @@ def find_unset_flag_read(code: list[Instruction]) -> Instruction | None:
 # Addresses.
 
 
-def find_address(operand: Operand, held: dict[str, str]) -> str | None:
-    """Returns the location whose address an operand of MOV or LEA is, if it is one: `held` says which registers hold which. `None` if it is none."""
+def find_address(operand: Operand, addresses: dict[str, str]) -> str | None:
+    """Returns the location whose address an operand of MOV or LEA is; `None` if it is none. `addresses` says which registers hold which."""
     if isinstance(operand, AddressOf):
         return operand.location
     if isinstance(operand, Register):
-        held_address = held.get(operand.register, NUMBER)
+        held_address = addresses.get(operand.register, NUMBER)
         return None if held_address in (NUMBER, EITHER) else held_address
     return None
 
 
-def find_location(operand: InMemory, held: dict[str, str]) -> str | None:
+def find_location(operand: InMemory, addresses: dict[str, str]) -> str | None:
     """Returns the location of an operand in memory, if it has one. `None` if it has none."""
     if operand.number or len(operand.registers) + bool(operand.location) != 1:
         return None
-    return operand.location or find_address(Register(operand.registers[0]), held)
+    return operand.location or find_address(Register(operand.registers[0]), addresses)
 
 
 def list_written_registers(instruction: Instruction) -> list[str]:
@@ -77,16 +77,16 @@ def list_written_registers(instruction: Instruction) -> list[str]:
     return written + ["EAX"] if instruction.mnemonic == "CMPXCHG" else written
 
 
-def update_held(instruction: Instruction, held: dict[str, str]) -> dict[str, str]:
+def update_held(instruction: Instruction, addresses: dict[str, str]) -> dict[str, str]:
     """Returns which registers hold which addresses after an instruction."""
-    written, after, location = list_written_registers(instruction), dict(held), None
+    written, after, location = list_written_registers(instruction), dict(addresses), None
     source = instruction.operands[1] if len(instruction.operands) > 1 else None
     for register in written:
         after.pop(register, None)
     if instruction.mnemonic == "MOV" and written and source:
-        location = find_address(source, held)
+        location = find_address(source, addresses)
     elif instruction.mnemonic == "LEA" and isinstance(source, InMemory):
-        location = find_location(source, held) if source.location or source.registers else None
+        location = find_location(source, addresses) if source.location or source.registers else None
     if location:
         after[written[0]] = location
     return after
@@ -102,13 +102,13 @@ def intersect_held(first: dict[str, str] | None, second: dict[str, str]) -> dict
 
 def compute_held_addresses(code: list[Instruction], initial: dict[str, str]) -> list[dict[str, str]]:
     """Returns, before each instruction and at the end, the registers that hold the address of a location. Jumps go forward."""
-    held: list[dict[str, str] | None] = [None] * (len(code) + 1)
-    held[0] = dict(initial)
+    addresses: list[dict[str, str] | None] = [None] * (len(code) + 1)
+    addresses[0] = dict(initial)
     for index, instruction in enumerate(code):
-        before = held[index]
+        before = addresses[index]
         if before is not None:
             after = update_held(instruction, before)
             for follower in list_successors(instruction, index):
                 if follower != GIVE_UP:
-                    held[follower] = intersect_held(held[follower], after)
-    return [it or {} for it in held]
+                    addresses[follower] = intersect_held(addresses[follower], after)
+    return [it or {} for it in addresses]

@@ -61,17 +61,17 @@ def format_runs(text: Text) -> dict[str, list[str]]:
 def list_visible_events(text: Text, conversion: Conversion, schedule: list[str]) -> Iterator[str]:
     """Yields the events of a schedule, without instructions that no other thread can see, and without those that set marks."""
     state, origins = plain.make_x86_start(conversion.test), find_origins(conversion)
-    kept: list[list[bool]] = [[] for _ in conversion.test.threads]
+    is_visible: list[list[bool]] = [[] for _ in conversion.test.threads]
     for event in schedule:
         thread = int(event[1])
         if event[0] == "D":
-            if kept[thread].pop(0):
+            if is_visible[thread].pop(0):
                 yield f"D{thread}: the oldest store of P{thread} reaches memory"
         else:
             position = state[0][thread].position
             code = conversion.test.threads[thread]
             if code[position].kind == "store":
-                kept[thread].append(origins[thread][position] is not None)
+                is_visible[thread].append(origins[thread][position] is not None)
             origin = origins[thread][position]
             if code[position].kind in VISIBLE and origin is not None:
                 yield f"P{thread}, line {text.find_line(origin)}: {describe_step(text, conversion, origins[thread], (thread, position))}"

@@ -48,11 +48,11 @@ class LocationNames:
     def insert_location(self, name: str, shown: str | None = None) -> None:
         """Inserts a location into the table, by a name that is free and that lw accepts, and is like its own or like the one that is shown.
         """
-        taken = re.sub(r"\W", "_", shown or name)[:28]
-        while plain.RESERVED.fullmatch(taken) or taken in self.names or taken[:1].isdigit():
-            taken = f"{taken}_"
+        candidate = re.sub(r"\W", "_", shown or name)[:28]
+        while plain.RESERVED.fullmatch(candidate) or candidate in self.names or candidate[:1].isdigit():
+            candidate = f"{candidate}_"
         self.of[name] = len(self.names)
-        self.names.append(taken)
+        self.names.append(candidate)
 
     def list_renamed(self) -> list[tuple[str, str]]:
         """Returns the locations that have another name in lw: both names."""

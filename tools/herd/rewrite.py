@@ -29,11 +29,11 @@ def as_in_memory(operand: Operand) -> InMemory:
 class Rewriter:
     """A rewriter of one instruction of a thread."""
 
-    def __init__(self, instruction: Instruction, index: int, held: dict[str, str], is_flag_read: bool, guess: bool | None) -> None:
-        """Rewrites the instruction at an index. `held` says which registers hold the address of which location."""
+    def __init__(self, instruction: Instruction, index: int, addresses: dict[str, str], is_flag_read: bool, guess: bool | None) -> None:
+        """Rewrites the instruction at an index. `addresses` says which registers hold the address of which location."""
         self.instruction = instruction
         self.index = index  # its number
-        self.held = held  # which registers hold which addresses
+        self.held = addresses  # which registers hold which addresses
         self.is_flag_read = is_flag_read
         self.guess = guess  # of a CMPXCHG
         self.notes: list[tuple[int, str]] = []

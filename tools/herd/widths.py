@@ -53,17 +53,17 @@ def merge_registers(first: Registers | None, second: Registers) -> Registers:
 class Thread:
     """The code of a thread, and what is known of its registers: which hold addresses at first, and the ranges of the others."""
 
-    def __init__(self, code: list[Instruction], held: dict[str, str], registers: Registers) -> None:
+    def __init__(self, code: list[Instruction], addresses: dict[str, str], registers: Registers) -> None:
         """Finds where the registers of a thread hold addresses."""
         self.code = code
-        self.held = compute_held_addresses(code, held)
+        self.held = compute_held_addresses(code, addresses)
         self.registers = registers
 
     def list_accesses(self) -> Iterable[tuple[Instruction, str]]:
         """Yields the instructions that access a location, each with its location. LEA accesses none."""
-        for instruction, held in zip(self.code, self.held):
+        for instruction, addresses in zip(self.code, self.held):
             for operand in instruction.operands:
-                location = find_location(operand, held) if isinstance(operand, InMemory) and instruction.mnemonic != "LEA" else None
+                location = find_location(operand, addresses) if isinstance(operand, InMemory) and instruction.mnemonic != "LEA" else None
                 if location:
                     yield instruction, location
 
@@ -94,10 +94,10 @@ class Memory:
 class Step:
     """The effect of one instruction on ranges."""
 
-    def __init__(self, instruction: Instruction, held: dict[str, str], registers: Registers, memory: Memory, wide: set[str]) -> None:
+    def __init__(self, instruction: Instruction, addresses: dict[str, str], registers: Registers, memory: Memory, wide: set[str]) -> None:
         """Prepares an instruction on these registers and this memory. `wide` are the locations of 64 bits."""
         self.instruction = instruction
-        self.held = held
+        self.held = addresses
         self.registers = dict(registers)
         self.memory = memory
         self.stored: list[tuple[str, Range]] = []
@@ -293,12 +293,12 @@ class Widths:
         """Returns a thread, with the ranges of its registers at the start."""
         of_thread = lambda site: isinstance(site, RegisterSite) and site.thread == number
         values = {it.site.register: it.value for it in self.frame.entries if isinstance(it.site, RegisterSite) and of_thread(it.site)}
-        held = {name: it.location for name, it in values.items() if isinstance(it, AddressOf)}
+        addresses = {name: it.location for name, it in values.items() if isinstance(it, AddressOf)}
         registers: Registers = {name: (it.word, it.word) if isinstance(it, Number) else None for name, it in values.items()}
         for negative in self.frame.negatives:
             if negative.is_initial and isinstance(negative.site, RegisterSite) and of_thread(negative.site) and negative.bits == 64:
                 registers[negative.site.register] = None
-        return Thread(code, held, registers)
+        return Thread(code, addresses, registers)
 
     def check_sizes(self) -> None:
         """Checks that no location of 32 bits is accessed by 64."""

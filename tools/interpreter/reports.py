@@ -48,8 +48,8 @@ def make_report(test: Test, reached: Iterable[Outcome] | None = None) -> str:
     others = len(states) - holding
     is_ok = {"exists": holding > 0, "~exists": holding == 0, "forall": others == 0}[test.quantifier]
     often = "Never" if holding == 0 else "Sometimes" if others else "Always"
-    asked = {"exists": "Allowed", "~exists": "Forbidden", "forall": "Required"}[test.quantifier]
-    lines = [f"Test {test.name} {asked}", f"States {len(states)}"]
+    question = {"exists": "Allowed", "~exists": "Forbidden", "forall": "Required"}[test.quantifier]
+    lines = [f"Test {test.name} {question}", f"States {len(states)}"]
     lines += [format_state(test, words) for words, _ in states]
     lines += ["Ok" if is_ok else "No", f"Positive: {holding} Negative: {others}", f"Condition {format_condition(test)}"]
     return join_lines(lines + [f"Observation {test.name} {often} {holding} {others}"])

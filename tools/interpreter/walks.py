@@ -59,7 +59,7 @@ def list_interleaved_moves(test: Test, state: State) -> Iterator[Move]:
 def make_outcome(state: State) -> Outcome:
     """Returns the outcome of a final state."""
     places, words = state
-    return Outcome(tuple(place.registers if isinstance(place, Processor) else place[1] for place in places), words)
+    return Outcome(tuple(thread.registers if isinstance(thread, Processor) else thread[1] for thread in places), words)
 
 
 def explore_states(test: Test, start: State, moves: Callable[[Test, State], Iterator[Move]]) -> tuple[dict[Outcome, State], Origins]:

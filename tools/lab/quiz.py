@@ -89,10 +89,10 @@ def make_source_form(text: str) -> str:
     """Returns the source test with the loads and stores of an x86 test."""
     heading, braces, threads, *rows, question = text.splitlines()
     columns = zip(*([cell.strip() for cell in row.rstrip("; ").split("|")] for row in rows))
-    kept = [[statement for statement in map(make_source_cell, column) if statement] for column in columns]
+    statements = [[statement for statement in map(make_source_cell, column) if statement] for column in columns]
     lines = [heading.replace("X86", "SRC", 1), braces, threads]
-    for index in range(max(map(len, kept))):
-        lines.append(" " + " | ".join(column[index] if index < len(column) else "" for column in kept) + " ;")
+    for index in range(max(map(len, statements))):
+        lines.append(" " + " | ".join(column[index] if index < len(column) else "" for column in statements) + " ;")
     registers = dict(zip(plain.REGISTERS["X86"], plain.REGISTERS["SRC"]))
     return re.sub("|".join(registers), lambda it: registers[it[0]], plain.join_lines([*lines, question]))
 

@@ -126,7 +126,7 @@ def make_index(has_site: bool) -> str:
     """Returns the page on which a folder or a server opens: where the sheet is, the card, and the workbench."""
     site = [("site/index.html", "The page: all examples")] if has_site else []
     links = [("sheet.html", "The sheet"), ("card.html", "The syntax, on one card"), *site]
-    return make_page("A lab", "<ul>\n" + "".join(f'<li><a href="{where}">{what}</a></li>\n' for where, what in links) + "</ul>\n", "index")
+    return make_page("A lab", "<ul>\n" + "".join(f'<li><a href="{link}">{title}</a></li>\n' for link, title in links) + "</ul>\n", "index")
 
 
 def make_timetable(lab: str) -> str:

@@ -93,18 +93,18 @@ def list_registers(code: Code) -> set[int]:
 
 def list_kept_registers(code: Code, places: Sequence[int], registers: set[int]) -> list[str]:
     """Returns the registers that a thread's function must restore: %rbp, in which it has its results' place, and those of its code."""
-    kept = ["rbp"] + ["rbx"] * (NAMES.index("ebx") in registers)
+    saved = ["rbp"] + ["rbx"] * (NAMES.index("ebx") in registers)
     addresses = {FIRST_ADDRESS + it for it in places} | ({SCRATCH} if any(it.kind == "scratch" for it in code) else set())
-    return kept + [f"r{it}" for it in KEPT_ADDRESSES if it in addresses]
+    return saved + [f"r{it}" for it in KEPT_ADDRESSES if it in addresses]
 
 
 def format_function(code: Code, first: Sequence[int], thread: int, variant: Variant) -> list[str]:
     """Returns the lines of a thread's function. The zero flag is clear when the test's code begins."""
     places = sorted({it.location for it in code if it.location is not None})
     registers = list_registers(code)
-    kept = list_kept_registers(code, places, registers)
+    saved = list_kept_registers(code, places, registers)
     targets, label = {it.target for it in code}, f".L{variant.function}{thread}_"
-    lines = [f"    pushq %{it}" for it in kept] + ["    movq %rsi,%rbp"]
+    lines = [f"    pushq %{it}" for it in saved] + ["    movq %rsi,%rbp"]
     lines += [f"    movq {8 * it}(%rdi),%r{FIRST_ADDRESS + it}" for it in places]
     lines += [f"    movl ${to_signed(first[it])},%{NAMES[it]}" for it in sorted(registers)]
     lines.append("    testq %rsp,%rsp")
@@ -115,7 +115,7 @@ def format_function(code: Code, first: Sequence[int], thread: int, variant: Vari
         lines += [f"{label}{index}:"] * (index in targets) + [f"    {format_instruction(statement, label)}"]
     lines += [f"{label}{len(code)}:"] * (len(code) in targets) + [f"{variant.end}{thread}:"]
     lines += [f"    movl %{NAMES[it]},{4 * it}(%rbp)" for it in sorted(registers)]
-    lines += [f"    popq %{it}" for it in reversed(kept)] + ["    ret"]
+    lines += [f"    popq %{it}" for it in reversed(saved)] + ["    ret"]
     return ["    .p2align 6", f"{variant.function}{thread}:", *lines]
 
 

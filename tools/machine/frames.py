@@ -20,11 +20,11 @@ SET_TRAP_FLAG = ("pushf", "or QWORD PTR [rsp],0x100", "popf", "nop")
 
 def take_leading_matches(pattern: re.Pattern[str], texts: list[str]) -> list[re.Match[str]]:
     """Removes the instructions of one kind from the front of a list, and returns their matches."""
-    taken = []
+    matches = []
     while texts and (match := pattern.fullmatch(texts[0])):
-        taken.append(match)
+        matches.append(match)
         texts.pop(0)
-    return taken
+    return matches
 
 
 def list_used_registers(code: Sequence[Statement]) -> list[int]:

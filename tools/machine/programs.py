@@ -67,8 +67,8 @@ def make_part(conversion: Conversion) -> Part:
 
 def merge_lists(parts: Sequence[Part], compiler: str) -> Listed:
     """Returns the list of a program: the states of its tests that are not given up. Its maker is the weakest of theirs."""
-    kept = (part.find_program_state(words) for part in parts for words in part.listed.states)
-    states = {it for it in kept if it is not None}
+    program_states = (part.find_program_state(words) for part in parts for words in part.listed.states)
+    states = {it for it in program_states if it is not None}
     makers = {part.listed.by for part in parts}
     count = f"{len(parts)} tests" if len(parts) != 1 else "test"
     of_tests = f"of the {count} that tools/from_c.py makes of the code of {compiler}"
@@ -123,9 +123,9 @@ def merge_seen(done: Sequence[tuple[Part, Ran]]) -> Seen:
     seconds = 0.0
     for part, ran in done:
         for words, sight in ran.seen.states.items():
-            kept, later = part.find_program_state(words), sight._replace(first=sight.first + seconds)
-            if kept is not None:
-                states[kept] = merge_sights(states[kept], later) if kept in states else later
+            state, later = part.find_program_state(words), sight._replace(first=sight.first + seconds)
+            if state is not None:
+                states[state] = merge_sights(states[state], later) if state in states else later
         seconds += ran.seen.seconds
     all_facts = [ran.seen.facts for _, ran in done]
     facts = {name: max(it[name] for it in all_facts) for name in all_facts[0]}

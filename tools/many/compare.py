@@ -77,13 +77,13 @@ def add_seen_column(
 
     try:
         texts = {it.row.file: it.tests[0][0] if it.tests else None for it in answers if can_be_run(it)}
-        made = column.run_column(texts, seconds, report, compiler, tries)
+        table = column.run_column(texts, seconds, report, compiler, tries)
     except NotRun as why:
         print(f"run_all: {why}", file=sys.stderr)
         return rows, NOT_RUN
     others = [it.row.file for it in answers if it.row.listed is not None and not can_be_run(it)]
     left_out = [f"{it}: a test in herd's form that is converted to several, or has loops, is not run on this machine" for it in others]
-    for line in [*made.faults, *left_out]:
+    for line in [*table.faults, *left_out]:
         print(line, file=sys.stderr)
-    seen = [it._replace(seen=made.cells.get(it.file, column.NOT_RUN)) for it in rows]
-    return seen, SEEN_AND_NOT_LISTED if made.is_contradicted else 0
+    seen = [it._replace(seen=table.cells.get(it.file, column.NOT_RUN)) for it in rows]
+    return seen, SEEN_AND_NOT_LISTED if table.is_contradicted else 0

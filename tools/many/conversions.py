@@ -63,8 +63,8 @@ def format_times(count: int) -> str:
 
 def describe_tests(count: int, tries: int) -> str:
     """Says how many tests a report is put together from, and how often its runs go through loops, if that has a limit."""
-    made = f"{count} tests" if count != 1 else "1 test"
-    return made + (f", loops gone through at most {format_times(tries)}" if tries else "")
+    tests = f"{count} tests" if count != 1 else "1 test"
+    return tests + (f", loops gone through at most {format_times(tries)}" if tries else "")
 
 
 def describe_no_run(tries: int) -> str:
@@ -102,25 +102,25 @@ def answer_test(file: str, text: str, choices: Choices, run: spawn.Run) -> rows.
         return rows.make_refusal(file, batch.format_fault(run))
     try:
         language = read_heading(text)[0]
-        made = convert(text, choices.tries, ORDERS[choices.order])
+        result = convert(text, choices.tries, ORDERS[choices.order])
     except given.Fault as fault:
         return rows.make_refusal(file, choose_fault(file, text, run, fault_offset, fault))
-    notes = tuple(command.format_note(file, text, at, says) for at, says in made.notes)
-    count = len(made.conversions)
-    by = "from_herd.py" if count == 1 and not made.tries else "assume.py"
-    how = f"{by}, {language}: {describe_tests(count, made.tries)}"
+    notes = tuple(command.format_note(file, text, at, says) for at, says in result.notes)
+    count = len(result.conversions)
+    by = "from_herd.py" if count == 1 and not result.tries else "assume.py"
+    how = f"{by}, {language}: {describe_tests(count, result.tries)}"
     try:
-        test_answers = collect_answers(made.conversions)
+        test_answers = collect_answers(result.conversions)
     except given.Fault as fault:
         return rows.make_refusal(file, f"{file}: {fault.args[0]}", how, notes)
-    report = merge_reports(made.conversions, test_answers)
+    report = merge_reports(result.conversions, test_answers)
     if answers.filter_state_lines(report):
-        report = translate_report(report, made)
+        report = translate_report(report, result)
     else:
-        report = answers.format_no_verdict(made.conversions[0].question, describe_no_run(choices.tries))
+        report = answers.format_no_verdict(result.conversions[0].question, describe_no_run(choices.tries))
     row = rows.make_row(file, report, clock.measure_seconds(), choose_method(it.by for it in test_answers))
-    tests = [(from_herd.write_converted_text(made, it), answer.text) for it, answer in zip(made.conversions, test_answers)]
-    return rows.Answered(row._replace(converted=how, notes=list(notes)), report, tests, made.tries)
+    tests = [(from_herd.write_converted_text(result, it), answer.text) for it, answer in zip(result.conversions, test_answers)]
+    return rows.Answered(row._replace(converted=how, notes=list(notes)), report, tests, result.tries)
 
 
 def choose_fault(file: str, text: str, run: spawn.Run, lw_offset: int, fault: given.Fault) -> str:

@@ -33,13 +33,13 @@ def make_refused_row(file: str, cause: str, converted: str | None = None, notes:
 def make_row(file: str, report: str, seconds: float, method: str | None) -> Row:
     """Returns the row of a file whose report was made by a method. If no run is left, the report says so in place of a verdict."""
     lines = report.splitlines()
-    _, name, asked = lines[0].split(" ")
+    _, name, question = lines[0].split(" ")
     states, milliseconds = int(lines[1].split()[1]), round(1000 * seconds, 1)
     if lines[2].startswith(f"{NO_VERDICT}: "):
         cause = lines[2].partition(": ")[2]
-        return Row(file, name, asked, NO_VERDICT, "no run", 0, milliseconds, method, None, None, cause, [], [])
+        return Row(file, name, question, NO_VERDICT, "no run", 0, milliseconds, method, None, None, cause, [], [])
     verdict, observation = lines[-4], lines[-1].split(" ", 2)[2]
-    return Row(file, name, asked, verdict, observation, states, milliseconds, method, None, None, None, [], lines[2 : 2 + states])
+    return Row(file, name, question, verdict, observation, states, milliseconds, method, None, None, None, [], lines[2 : 2 + states])
 
 
 def make_answer(run: spawn.Run, method: str) -> Answered | None:

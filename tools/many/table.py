@@ -36,8 +36,8 @@ def format_json(rows: list, shard: Shard | None, total: int) -> str:
 
     part = {} if shard is None else {"part": f"{shard.number}/{shard.of}", "parts": total}
     has_seen = any(it.seen is not None for it in rows)
-    made = [{**it._asdict(), **part} for it in rows]
-    return json.dumps([{key: it for key, it in row.items() if key != "seen" or has_seen} for row in made], indent=1)
+    objects = [{**it._asdict(), **part} for it in rows]
+    return json.dumps([{key: it for key, it in row.items() if key != "seen" or has_seen} for row in objects], indent=1)
 
 
 def print_table(rows: list, form: str, shard: Shard | None = None, total: int = 0) -> None:

@@ -48,9 +48,9 @@ def format_paragraph(text: str) -> str:
 def make_page(tool: str, source: str) -> str:
     """Returns the manual page of a tool, given its source."""
     command = tree.name_command(tool)
-    first, *more = NAMED.sub(name_as_command, ast.get_docstring(ast.parse(source)) or "").split("\n\n")
+    first, *paragraphs = NAMED.sub(name_as_command, ast.get_docstring(ast.parse(source)) or "").split("\n\n")
     title, _, rest = first.replace("\n", " ").partition(". ")
     title = (title[:1].lower() + title[1:]).rstrip(".")
-    body = "".join(format_paragraph(it) for it in ([rest] if rest else []) + more)
+    body = "".join(format_paragraph(it) for it in ([rest] if rest else []) + paragraphs)
     see_also = ".SH SEE ALSO\n.BR lw (1)\n.PP\nThe files that are named are in /usr/share/lw.\n"
     return f'.TH "{escape_roff(command.upper())}" 1\n.SH NAME\n{escape_roff(command)} \\- {escape_roff(title)}\n.SH DESCRIPTION\n{body}{see_also}'

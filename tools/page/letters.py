@@ -45,10 +45,10 @@ def encode(content: bytes) -> str:
         value |= byte << bits
         bits += 8
         if bits > 13:
-            taken = 13 if value & 8191 > MAX_WITH_14 else 14
-            pairs.append(encode_pair(value & ((1 << taken) - 1)))
-            value >>= taken
-            bits -= taken
+            bit_count = 13 if value & 8191 > MAX_WITH_14 else 14
+            pairs.append(encode_pair(value & ((1 << bit_count) - 1)))
+            value >>= bit_count
+            bits -= bit_count
     if bits:
         last = encode_pair(value)
         pairs.append(last if bits > 7 or value > 90 else last[:1])

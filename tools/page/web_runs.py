@@ -230,13 +230,13 @@ class Communication:
 
     def read_part(self, stream: Any) -> bool:
         """Reads what a stream has. Returns whether there may be more. Raises NoRun if it has printed too much."""
-        more = os.read(stream.fileno(), 1 << 16)
-        self.heard[stream] += more
+        data = os.read(stream.fileno(), 1 << 16)
+        self.heard[stream] += data
         if len(self.heard[stream]) > MAX_ANSWER_BYTES:
             raise NoRun(500, "The run's answer is too long.")
-        if not more:
+        if not data:
             self.ready.unregister(stream)
-        return bool(more)
+        return bool(data)
 
     def wait_for_status(self) -> int:
         """Returns the exit status of a process that prints nothing more. Raises NoRun if it does not end in time."""

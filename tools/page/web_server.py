@@ -226,12 +226,12 @@ class Reader:
             raise Refusal(408, f"The request took longer than {MAX_SECONDS} seconds.")
         self.connection.settimeout(remaining_seconds)
         try:
-            more = self.connection.recv(1 << 16)
+            data = self.connection.recv(1 << 16)
         except socket.timeout:
             raise Refusal(408, f"The request took longer than {MAX_SECONDS} seconds.") from None
-        if not more:
+        if not data:
             raise Refusal(400, "The request ends too early.") if self.read else Gone()
-        self.read += more
+        self.read += data
 
     def read_head(self) -> Head:
         """Reads the head of the request. Raises Refusal if it is too long."""
@@ -390,7 +390,7 @@ def close_connection(connection: socket.socket) -> None:
     until, remaining_bytes = time.monotonic() + 1, MAX_DISCARDED
     while remaining_bytes > 0 and time.monotonic() < until:
         connection.settimeout(max(until - time.monotonic(), 0.01))
-        more = connection.recv(1 << 16)
-        if not more:
+        data = connection.recv(1 << 16)
+        if not data:
             return
-        remaining_bytes -= len(more)
+        remaining_bytes -= len(data)

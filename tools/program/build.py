@@ -230,15 +230,15 @@ def copy_crate(crate: Crate) -> str:
     """
     top = f"{COPIES}/{crate.name}"
     shutil.rmtree(top, ignore_errors=True)
-    taken = [*crate.list_dependencies(), crate]
-    for taken_crate in taken:
+    crates = [*crate.list_dependencies(), crate]
+    for taken_crate in crates:
         for part in PARTS:
             if os.path.isdir(f"{taken_crate.folder}/{part}"):
                 shutil.copytree(f"{taken_crate.folder}/{part}", f"{top}/crates/{taken_crate.name}/{part}")
         if os.path.isdir(f"{taken_crate.folder}/out/rlib"):
             shutil.copytree(f"{taken_crate.folder}/out/rlib", f"{top}/crates/{taken_crate.name}/out/rlib", copy_function=os.link)
     with open(f"{HOME}/crates.txt", encoding="utf-8") as listed, open(f"{top}/crates.txt", "w", encoding="utf-8") as file:
-        file.writelines(line for line in listed if line.partition(":")[0] in [crate.name for crate in taken])
+        file.writelines(line for line in listed if line.partition(":")[0] in [crate.name for crate in crates])
     os.makedirs(f"{top}/crates/{crate.name}/out", exist_ok=True)
     move_folder(f"{crate.folder}/out/incremental", f"{top}/crates/{crate.name}/out/incremental")
     return f"{top}/crates/{crate.name}"
@@ -285,11 +285,11 @@ class FirstAnswer:
         """Stores what the program reads: all of standard input, but no more than it takes. If it cannot be read, there is no first answer,
         and the proved program reports that.
         """
-        data, more = b"", b" "
+        data, part = b"", b" "
         with contextlib.suppress(OSError):
-            while more and len(data) < MAX_INPUT_BYTES:
-                more = os.read(0, MAX_INPUT_BYTES - len(data))
-                data += more
+            while part and len(data) < MAX_INPUT_BYTES:
+                part = os.read(0, MAX_INPUT_BYTES - len(data))
+                data += part
             with open(self.input, "wb") as file:
                 file.write(data)
             self.is_read = True
@@ -297,8 +297,8 @@ class FirstAnswer:
     def show_when_ready(self) -> None:
         """Starts the unproved program when its input is complete, and shows its answer."""
         if self.process is None and self.is_read:
-            with open(self.input, "rb") as given, open(self.output, "wb") as output, open(self.errors, "wb") as errors:
-                how: dict[str, Any] = {"stdin": given, "stdout": output, "stderr": errors, "start_new_session": True}
+            with open(self.input, "rb") as stdin, open(self.output, "wb") as output, open(self.errors, "wb") as errors:
+                how: dict[str, Any] = {"stdin": stdin, "stdout": output, "stderr": errors, "start_new_session": True}
                 self.process = subprocess.Popen(["rt", "try", "--", *self.words], cwd=self.program.crate, **how)
         if self.process and self.status is None and self.process.poll() is not None:
             self.status = self.process.returncode
@@ -316,8 +316,8 @@ class FirstAnswer:
 
     def differs(self, arguments: list[str]) -> bool:
         """Returns whether the proved program answers otherwise."""
-        with open(self.input, "rb") as given:
-            ran = subprocess.run([self.program.path, *arguments], stdin=given, stdout=subprocess.PIPE, stderr=subprocess.DEVNULL, check=False)
+        with open(self.input, "rb") as content:
+            ran = subprocess.run([self.program.path, *arguments], stdin=content, stdout=subprocess.PIPE, stderr=subprocess.DEVNULL, check=False)
         return (read_bytes(self.output), self.status) != (ran.stdout, ran.returncode)
 
     def end_process(self) -> None:
@@ -385,8 +385,8 @@ def build_and_answer(program: Program, arguments: list[str]) -> int:
             return subprocess.run([program.path, *arguments], check=False).returncode
         if first.status is not None and first.differs(arguments):
             program.report("the first answer was another; that program was not proved, and this one is:")
-        with open(first.input, "rb") as given:
-            return subprocess.run([program.path, *arguments], stdin=given, check=False).returncode
+        with open(first.input, "rb") as content:
+            return subprocess.run([program.path, *arguments], stdin=content, check=False).returncode
 
 
 def end_build(*_signal: Any) -> NoReturn:

@@ -44,13 +44,13 @@ class Code:
     def record_needs(self, position: int, statement: Statement) -> None:
         """Computes what a position needs, from its statement and those that may follow."""
         followers = plain.list_successors(statement, position)
-        needed = frozenset().union(*(self.needed[follower] for follower in followers))
+        registers = frozenset().union(*(self.needed[follower] for follower in followers))
         if statement.kind in WRITES_REGISTER:
-            needed -= {statement.register}
+            registers -= {statement.register}
         read = {statement.register} if statement.kind in READS_REGISTER else set()
         read |= {statement.left} if statement.kind == "sum" else set()
         read |= {statement.value.register} if isinstance(statement.value, plain.Register) else set()
-        self.needed[position] = needed | read
+        self.needed[position] = registers | read
         sets_flag = statement.kind in ("add", "cmp", "xadd")
         self.flag_needed[position] = statement.kind in ("je", "jne") or not sets_flag and any(self.flag_needed[follower] for follower in followers)
         for masks, kinds in ((self.reads, READS_MEMORY), (self.writes, WRITES_MEMORY)):
@@ -91,6 +91,6 @@ class Code:
 
     def clear_unneeded(self, state: ThreadState) -> ThreadState:
         """Returns the same state with 0 in place of what no longer matters."""
-        needed = self.needed[state.position]
-        registers = tuple(word if number in needed else 0 for number, word in enumerate(state.registers))
+        needed_registers = self.needed[state.position]
+        registers = tuple(word if number in needed_registers else 0 for number, word in enumerate(state.registers))
         return ThreadState(state.position, registers, state.zero and self.flag_needed[state.position], state.buffer)

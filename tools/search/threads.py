@@ -46,12 +46,12 @@ class Thread:
         """Returns the index of the place at which a thread stops after running from a state, and the number of statements executed, added
         to `steps`.
         """
-        state, more = self.code.run_locally(state)
+        state, local_steps = self.code.run_locally(state)
         if state not in self.numbers:
             self.numbers[state] = len(self.places)
             self.places.append(Place(state, self.code))
             self.compute_moves(self.places[-1])
-        return self.numbers[state], steps + more
+        return self.numbers[state], steps + local_steps
 
     def compute_moves(self, place: Place) -> None:
         """Computes the moves of a place."""

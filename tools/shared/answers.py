@@ -92,9 +92,9 @@ def load_library() -> Any:
 
 def ask_library(bench: Any, words: list[str], text: str) -> str | None:
     """Returns the library's answer, or None if it refuses the test. `bench` is a workbench of python/lw.py."""
-    command, *more = words
+    command, *options = words
     try:
-        return bench.run(command, text.encode(), *more[:1], *more[2:])[1].decode()
+        return bench.run(command, text.encode(), *options[:1], *options[2:])[1].decode()
     except python_lw.load_lw().Fault:
         return None
 

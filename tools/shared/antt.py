@@ -65,8 +65,8 @@ class Reader:
 
     def __init__(self) -> None:
         """Starts a reader at the start of a text."""
-        self.found: list[Sentence] = []
-        self.kept: list[Sentence] = []  # lines between sentences, since the last sentence
+        self.sentences: list[Sentence] = []
+        self.lines_between: list[Sentence] = []  # lines between sentences, since the last sentence
         self.blocks = [0]  # the indents of the blocks around the next line
         self.depth = 0  # the number of open brackets
         self.opens = False  # whether the next line starts a block
@@ -88,21 +88,21 @@ class Reader:
         elif line.strip() != "where":
             while len(self.blocks) > 1 and self.blocks[-1] > indent:
                 self.blocks.pop()
-        self.found += self.kept
-        self.kept = []
-        self.found.append(Sentence(number, line))
+        self.sentences += self.lines_between
+        self.lines_between = []
+        self.sentences.append(Sentence(number, line))
 
     def read_line(self, number: int, line: str) -> None:
         """Reads a line: it is between sentences, or starts one, or continues the last one."""
         if not line.strip() or line.lstrip().startswith("--"):
-            self.kept.append(Sentence(number, line, True))
+            self.lines_between.append(Sentence(number, line, True))
             return
-        if self.starts_sentence(line) or not any(not it.is_between for it in self.found):
+        if self.starts_sentence(line) or not any(not it.is_between for it in self.sentences):
             self.start_sentence(number, line)
         else:
-            last = next(it for it in reversed(self.found) if not it.is_between)
-            last.lines += [it.lines[0] for it in self.kept] + [line]
-            self.kept = []
+            last = next(it for it in reversed(self.sentences) if not it.is_between)
+            last.lines += [it.lines[0] for it in self.lines_between] + [line]
+            self.lines_between = []
         self.depth = count_open_brackets(line, self.depth)
         tokens = read_tokens(line)
         self.opens = not self.depth and tokens[-1:] in (["where"], ["mutual"])
@@ -113,4 +113,4 @@ def read_sentences(text: str) -> list[Sentence]:
     reader = Reader()
     for number, line in enumerate(text.split("\n"), 1):
         reader.read_line(number, line)
-    return reader.found + reader.kept
+    return reader.sentences + reader.lines_between

@@ -35,7 +35,7 @@ def take_until(tokens: list[str], index: int, ends: Container[str]) -> tuple[lis
 
 def remove_types(tokens: list[str]) -> list[str]:
     """Returns some tokens, without what follows colons in their brackets."""
-    kept, depth, depth_of_type = [], 0, None
+    tokens_left, depth, depth_of_type = [], 0, None
     for token in tokens:
         depth += (token in antt.OPENING) - (token in antt.CLOSING)
         if depth_of_type is not None and depth < depth_of_type:
@@ -43,8 +43,8 @@ def remove_types(tokens: list[str]) -> list[str]:
         if depth_of_type is None and token == ":":
             depth_of_type = depth
         if depth_of_type is None:
-            kept.append(token)
-    return kept
+            tokens_left.append(token)
+    return tokens_left
 
 
 def find_pattern(tokens: list[str], end: int) -> list[str]:

@@ -32,8 +32,8 @@ def read_lines(path: str) -> list[str]:
 
 def format_difference(comparison: tuple[str, object, object]) -> str | None:
     """Returns what differs in a comparison: what is compared, what is expected, and what was found. `None` if nothing does."""
-    subject, expected, found = comparison
-    return None if expected == found else f"{subject}\n  wanted: {expected!r}\n  told:   {found!r}"[:2000]
+    subject, expected, actual = comparison
+    return None if expected == actual else f"{subject}\n  wanted: {expected!r}\n  told:   {actual!r}"[:2000]
 
 
 def close_check(

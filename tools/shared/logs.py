@@ -41,7 +41,7 @@ def format_atom(match: tuple[str, str, str]) -> str:
 
 def parse_state(line: str) -> State:
     """Returns the state that a line says, with or without the number of times that it was seen."""
-    return frozenset(format_atom(found) for found in ATOM.findall(line.rpartition(">")[2]))
+    return frozenset(format_atom(match) for match in ATOM.findall(line.rpartition(">")[2]))
 
 
 def format_state(state: State) -> str:

@@ -148,13 +148,13 @@ class Verdicts(PageCase):
     def test_sentences(self) -> None:
         """The verdict is a sentence: what threads read, what they end with, and what memory has; of what is no conjunction, the condition."""
         user = self.user
-        for name, said in (
+        for name, sentence in (
             ("MP-x86", "Forbidden. There is no run in which P1 reads y=1, then x=0."),
             ("ChaseLev-x86", "Allowed. There is a run in which P0 ends with ECX=1 and P1 ends with ECX=1; the test forbids that."),
             ("2%2B2W-x86", "Forbidden. There is no run in which memory ends with x=1 and y=1."),
         ):
             user.open_listed(f"#example={name}")
-            self.assertEqual(said, verdict(user))
+            self.assertEqual(sentence, verdict(user))
         user.run_text("SRC Or\n{}\n P0 | P1 ;\n x := 1 | r0 := x ;\nforall (1:r0=0 \\/ 1:r0=1)\n")
         self.assertSoon("Always. In every run by interleaving the condition holds.", lambda: verdict(user))
 

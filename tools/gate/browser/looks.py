@@ -291,8 +291,8 @@ class Type(PageCase):
 
     def assertNoSmaller(self, usual: list[float], where: object) -> None:
         """Checks that no size is smaller than usually."""
-        found = self.user.run(TYPE)
-        self.assertEqual([], [(wanted, actual) for wanted, actual in zip(usual, found) if actual < wanted - 0.1], where)
+        sizes = self.user.run(TYPE)
+        self.assertEqual([], [(wanted, actual) for wanted, actual in zip(usual, sizes) if actual < wanted - 0.1], where)
 
     def test_projector(self) -> None:
         """On a projector neither the verdict nor the instructions nor the list are smaller than on the page, and the verdict has two lines at most."""

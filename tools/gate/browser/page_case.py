@@ -76,8 +76,8 @@ def comparisons(
     with tempfile.TemporaryDirectory(prefix="lw-browser-") as room:
         user = User(address, room, start)
         try:
-            for subject, expected, found in tried_twice(tests_of(subjects, user), where):
-                yield f"{where}, {subject}", expected, found
+            for subject, expected, actual in tried_twice(tests_of(subjects, user), where):
+                yield f"{where}, {subject}", expected, actual
             yield f"{where}, the browser complains of nothing", [], user.complaints()
         finally:
             user.driver.quit()
@@ -93,8 +93,8 @@ def tried_twice(suite: unittest.TestSuite, where: str) -> Iterator[Comparison]:
 
 def tried_again_if_failed(test: PageCase, where: str) -> list[Comparison]:
     """Returns the comparisons of a test. If it fails, it is printed and run once more."""
-    found = list(cases.run_suite(unittest.TestSuite([test])))
-    if all(expected == found_value for _, expected, found_value in found):
-        return found
-    print(f"{where}, a test is run once more, since at first:\n" + "\n".join(subject for subject, expected, found_value in found if expected != found_value), flush=True)
+    compared = list(cases.run_suite(unittest.TestSuite([test])))
+    if all(expected == found_value for _, expected, found_value in compared):
+        return compared
+    print(f"{where}, a test is run once more, since at first:\n" + "\n".join(subject for subject, expected, found_value in compared if expected != found_value), flush=True)
     return list(cases.run_suite(unittest.TestSuite([type(test)(test._testMethodName)])))

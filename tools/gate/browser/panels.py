@@ -187,8 +187,8 @@ class Fences(PageCase):
         """Each fence with what it takes away, which is watched."""
         user = self.user
         user.open_listed("#example=SB&view=fences")
-        needed = "Every fence is needed: if any one of them is left out, the compiled program ends in more states. "
-        self.assertSays(f"{needed}With all the condition holds in none of 3 states.", "#fences .verdict")
+        sentence = "Every fence is needed: if any one of them is left out, the compiled program ends in more states. "
+        self.assertSays(f"{sentence}With all the condition holds in none of 3 states.", "#fences .verdict")
         rows = [f"P{it}, before MOV EAX,[{'yx'[it]}] adds 1 state {MISSED} Watch" for it in (0, 1)]
         self.assertEqual(rows, user.texts("#fences tbody tr"))
         user.click("#fences tbody tr:first-child .watch")
@@ -219,8 +219,8 @@ class Fences(PageCase):
         before = user.value()
         user.click(".find-fences")
         self.assertSays("The fewest fences that forbid it:", "#fences .next-step")
-        said = "An MFENCE in P0 before MOV EAX,[y] and in P1 before MOV EAX,[x]: it holds in none of 3 states. Try it"
-        self.assertEqual([said], user.texts("#fences .fence-sets li"))
+        sentence = "An MFENCE in P0 before MOV EAX,[y] and in P1 before MOV EAX,[x]: it holds in none of 3 states. Try it"
+        self.assertEqual([sentence], user.texts("#fences .fence-sets li"))
         user.click("#fences .take")
         self.assertSays("Forbidden.", "#outcome .verdict")
         self.assertEqual(before.replace(" MOV EAX", " MFENCE      | MFENCE      ;\n MOV EAX", 1), user.value())
@@ -324,14 +324,14 @@ class FenceEdits(PageCase):
             user.find(".machine")
             self.assertEqual([], user.run("return [...document.querySelectorAll('.fence-edit')]"), link)
 
-    def put(self, place: str, kind: str = "fence-edit") -> None:
+    def put(self, position: str, kind: str = "fence-edit") -> None:
         """Puts a fence, or takes one out."""
         user = self.user
-        css = f"#watching .{kind}[data-fence='{place}']"
+        css = f"#watching .{kind}[data-fence='{position}']"
         user.wait(lambda: user.run("return document.querySelector(arguments[0])", css), css)
         user.run("document.querySelector(arguments[0]).click()", css)
         other = "take-out" if kind == "fence-edit" else "fence-edit:not(.take-out)"
-        user.wait(lambda: user.run("return document.querySelector(arguments[0])", f"#watching .{other}[data-fence='{place}']"), place)
+        user.wait(lambda: user.run("return document.querySelector(arguments[0])", f"#watching .{other}[data-fence='{position}']"), position)
 
 
 SUBJECTS = (WhyNot, Compiling, Fences, FenceEdits)

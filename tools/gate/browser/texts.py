@@ -35,7 +35,7 @@ class Faults(PageCase):
         user = self.user
         user.open_listed()
         rows = lambda row: f"X86 A\n{{}}\n P0 ;\n {row} ;\nexists (0:EAX=1)\n"
-        for text, token, said in (
+        for text, token, sentence in (
             (rows("INC EAX"), "INC", "lw has no instruction of this name."),
             (rows("MOV [x],[y]"), "[", "An instruction has one location at most: load it into a register first."),
             (rows("MOV EAX,flag"), "flag", "flag is no register, and one is needed here: EAX, EBX, ECX, EDX, ESI or EDI."),
@@ -44,7 +44,7 @@ class Faults(PageCase):
             (rows("MOV [x],$1").replace("exists", "exist"), "", "lw has no question of the name exist. Did you mean exists?"),
         ):
             user.run_text(text)
-            self.assertSays(said, "#fault")
+            self.assertSays(sentence, "#fault")
             self.assertEqual(token, user.run("return document.querySelector('.marks mark').textContent").strip())
             self.assertIn("lw: ", user.text("#fault .fault-line"))
 
@@ -53,7 +53,7 @@ class Faults(PageCase):
         user = self.user
         user.open_listed()
         rows = lambda row: f"X86 A\n{{}}\n P0 ;\n {row} ;\n LATER: MOV EAX,$1 ;\nexists (0:EAX=1)\n"
-        for text, said in (
+        for text, sentence in (
             (rows("MFENC"), "lw has no instruction of this name. Did you mean MFENCE?"),
             (rows("FIRST: MVO EAX,$1"), "Did you mean MOV?"),
             (rows("LOCK XDD [x],EAX"), "LOCK comes before XADD or XCHG. Did you mean XADD?"),
@@ -62,7 +62,7 @@ class Faults(PageCase):
             (rows("MFENCE").replace("exists", "exist"), "lw has no question of the name exist. Did you mean exists?"),
         ):
             user.run_text(text)
-            self.assertSays(said, "#fault")
+            self.assertSays(sentence, "#fault")
         user.run_text(rows("INC EAX"))
         self.assertSays("lw has no instruction of this name. An instruction is", "#fault")
 
@@ -72,7 +72,7 @@ class Faults(PageCase):
         user.open_listed()
         text = "X86 A\n{}\n P0 | P1 ;\n MOV [x],$1 | MOV EAX,[x] ;\nexists (x=1 /\\ 1:EAX=0)\n"
         source = "SRC A\n{}\n P0 | P1 ;\n x := 1 | r0 := x ;\nexists (x=1 /\\ 1:r0=0)\n"
-        for right, part, wrong, said in (
+        for right, part, wrong, sentence in (
             (text, "/\\", "&&", "Did you mean /\\?"),
             (text, "/\\", "and", "Did you mean /\\?"),
             (text, "/\\", "&", "Did you mean /\\?"),
@@ -88,7 +88,7 @@ class Faults(PageCase):
             (source, "x := 1", "x = 1", "Write := in place of it."),
         ):
             user.run_text(right.replace(part, wrong, 1))
-            self.assertSays(said, "#fault")
+            self.assertSays(sentence, "#fault")
             user.click("#fault .apply")
             self.assertSoon(right, user.value)
             self.assertSays("The condition holds in", "#outcome .asked")
@@ -99,13 +99,13 @@ class Faults(PageCase):
         user = self.user
         user.open_listed()
         rows = "X86 A\n{}\n P0 | P1 ;\n MOV [x],$1 | MOV EAX,[x] ;\nexists "
-        for question, said in (
+        for question, sentence in (
             ("(x=1 /\\ 1:EAX=0", "The question lacks a ) at its end."),
             ("(x=1 /\\", "The question is not complete."),
             ("(x=1 /\\\n 2:EAX=0)", "There is no thread 2: the test has P0 and P1."),
         ):
             user.run_text(f"{rows}{question}\n")
-            self.assertSays(said, "#fault")
+            self.assertSays(sentence, "#fault")
             self.assertFalse("perhaps" in user.text("#fault"))
 
     def test_end_of_row(self) -> None:
@@ -367,7 +367,7 @@ class Gallery(PageCase):
         user = self.user
         user.open_listed()
         user.click("#open-gallery")
-        for word, said in (
+        for word, sentence in (
             ("CAS", "lw reads no compare-and-swap. TryLock and Consensus have a swap in its place."),
             ("deadlock", "No run waits for ever: jumps go forward only."),
             ("volatile", "The format has no volatile: each load and store is carried out once, as it is written."),
@@ -375,7 +375,7 @@ class Gallery(PageCase):
             field = user.find("#search")
             field.clear()
             field.send_keys(word)
-            self.assertSays(said, "#gallery .search-note")
+            self.assertSays(sentence, "#gallery .search-note")
             self.assertTrue(bool(user.all("#gallery .example")))
 
     def test_words(self) -> None:

@@ -187,8 +187,8 @@ class User:
         until = time.monotonic() + SECONDS
         while time.monotonic() < until:
             try:
-                if found := condition():
-                    return found
+                if value := condition():
+                    return value
             except Exception as why:
                 if "stale" not in str(why).lower() and "no longer" not in str(why).lower():
                     raise
