@@ -11,7 +11,7 @@ import sys
 import unittest
 from collections.abc import Callable, Iterator
 from types import ModuleType
-from typing import Any, Tuple
+from typing import Tuple
 
 import given
 from shared import command
@@ -52,10 +52,11 @@ class Count(unittest.TestResult):
 
     held_count = 0
 
-    def stopTest(self, test: Any) -> None:
+    def stopTest(self, test: unittest.TestCase) -> None:
         """Adds the assertions of a test that has ended."""
         super().stopTest(test)
-        self.held_count += test.held_count
+        if isinstance(test, Case):
+            self.held_count += test.held_count
 
 
 def comparisons(module: ModuleType) -> Iterator[Comparison]:

@@ -96,7 +96,7 @@ def list_scheduled_states(listed: str) -> list[str]:
     return listed.splitlines()[:2] + [state for state, _ in split_schedules(listed)]
 
 
-def check_within(name: str, text: str) -> Iterator[Any]:
+def check_within(name: str, text: str) -> Iterator[Comparison]:
     """Checks a test within the limits: the bytes of `lw`; and the same states by a search."""
     for lw_command in ("states", "schedules"):
         yield f"beyond {lw_command}, {name}", run_tool([PROGRAM, lw_command], text), run_tool([BEYOND, lw_command], text)
@@ -105,7 +105,8 @@ def check_within(name: str, text: str) -> Iterator[Any]:
     searched = run_tool([BEYOND, "--search", "--budget", str(EXAMPLE_BUDGET), "states"], text)
     yield f"beyond --search states, {name}", run_tool([PROGRAM, "states"], text), searched
     schedules = [run_tool(words, text)[0] for words in ([PROGRAM, "schedules"], [BEYOND, "--search", "schedules"])]
-    yield f"beyond --search schedules, {name}: the states", *map(list_scheduled_states, schedules)
+    by_orders, by_search = map(list_scheduled_states, schedules)
+    yield f"beyond --search schedules, {name}: the states", by_orders, by_search
     yield from check_schedules(name, text)
     for words in ([BEYOND, "marks"], [BEYOND, "--search", "marks"]):
         yield f"{' '.join(words[1:])}, {name}", (list_marks(plain.read_test(text)), "", 0), run_tool(words, text)

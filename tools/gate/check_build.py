@@ -18,7 +18,7 @@ import sys
 import tempfile
 import time
 from collections.abc import Iterator, Sequence
-from typing import Any
+from typing import Any, BinaryIO
 
 from gate.cases import Comparison
 from program import build
@@ -203,7 +203,7 @@ def check_failures(place: Place) -> Iterator[Comparison]:
     yield "two calls at once build each crate once", list_dependents(CHANGED), list_begun_crates(place.take_record())
 
 
-def run_on_terminal(place: Place, output: Any) -> tuple[str, bytes | None, int]:
+def run_on_terminal(place: Place, output: BinaryIO | int) -> tuple[str, bytes | None, int]:
     """Returns what a call shows on a terminal, standard error, and what it writes to standard output."""
     ours, theirs = pty.openpty()
     ran = place.start_command(stdin=subprocess.PIPE, stdout=output, stderr=theirs)

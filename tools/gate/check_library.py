@@ -94,7 +94,7 @@ def load_python_module(folder: str) -> Answer:
     return answer_command
 
 
-def compare_limits(answer_with: Callable[..., Any]) -> Iterator[Any]:
+def compare_limits(answer_with: Callable[..., tuple[int, bytes, bytes]]) -> Iterator[Comparison]:
     """Compares what is reported if memory or room is short: an answer, that memory ran out, and nothing else."""
     with open(f"{HOME}/examples/SB-x86.litmus", "rb") as file:
         text = file.read()
@@ -123,7 +123,7 @@ def compare_python_example(folder: str) -> Iterator[Comparison]:
     yield "the example in Python tells a fault's place", True, bool(re.search(r"\(line \d+, column \d+\)$", lines[-1] if lines else ""))
 
 
-def compare_c_ends(folder: str) -> Iterator[Any]:
+def compare_c_ends(folder: str) -> Iterator[Comparison]:
     """Compares how calls from C end with how the program ends: words that are no command, a schedule that is no UTF-8, an input that is a folder,
     and an output that is full.
     """
@@ -135,8 +135,8 @@ def compare_c_ends(folder: str) -> Iterator[Any]:
     for words in others:
         yield f"the library from C: {words}", run_command([PROGRAM, *words], text), run_command([program, *words], text)
     for redirection in ("<.", ">/dev/full"):
-        printed = [run_command(["sh", "-c", f'exec "$0" states {redirection}', it], text) for it in (PROGRAM, program)]
-        yield f"the library from C: states {redirection}", *printed
+        by_program, by_library = (run_command(["sh", "-c", f'exec "$0" states {redirection}', it], text) for it in (PROGRAM, program))
+        yield f"the library from C: states {redirection}", by_program, by_library
 
 
 def compare_versions(folder: str) -> Iterator[Comparison]:
@@ -259,11 +259,11 @@ def all_comparisons() -> Iterator[Comparison]:
     with tempfile.TemporaryDirectory(prefix="lw-library-") as folder, ThreadPoolExecutor(2) as pool:
         cases = list(list_cases())
         wanted = list(pool.map(lambda it: run_command([PROGRAM, *it[1]], it[2]), cases))
-        for way, answer in (("C", build_c_example(folder)), ("Python", load_python_module(folder))):
+        for language, answer in (("C", build_c_example(folder)), ("Python", load_python_module(folder))):
             for (name, words, _), want, got in zip(cases, wanted, pool.map(lambda it: answer(it[1], it[2]), cases)):
-                yield f"the library from {way}: {name}, {' '.join(words)}", want, got
-        for subject, want, got in compare_limits(lambda text, **settings: run_command([f"{folder}/lw-in-c", "states"], text, **settings)):
-            yield f"the library: {subject}", want, got
+                yield f"the library from {language}: {name}, {' '.join(words)}", want, got
+        for subject, expected, actual in compare_limits(lambda text, **settings: run_command([f"{folder}/lw-in-c", "states"], text, **settings)):
+            yield f"the library: {subject}", expected, actual
         yield from compare_c_ends(folder)
         yield from compare_versions(folder)
         yield from check_stack(folder)

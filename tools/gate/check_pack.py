@@ -17,7 +17,7 @@ import tarfile
 import tempfile
 import urllib.request
 from collections.abc import Iterator
-from typing import Any
+from typing import Any, Union
 from unittest import mock
 
 import pack
@@ -73,12 +73,16 @@ class HostSystem:
         return subprocess.Popen(words, cwd=folder, env={"PATH": PATH}, **streams)
 
 
+# What a pack is run in.
+System = Union[HostSystem, container.Container]
+
+
 def make_script_command(folder: str, text: str, *arguments: str) -> list[str]:
     """Returns the command that runs a script of Python, which imports the modules of a folder."""
     return ["sh", "-c", f'PYTHONPATH={folder} exec python3 -c "$@"', "sh", text, *arguments]
 
 
-def run_command(arguments: list[str], path: str, home: str, system: Any) -> tuple[int, bytes]:
+def run_command(arguments: list[str], path: str, home: str, system: System) -> tuple[int, bytes]:
     """Runs a command with a file of the repository as its input. Returns its exit status, and what it prints."""
     with open(f"{HOME}/{path}", "rb") as file:
         with system.start_command(arguments, home, stdin=file, stdout=subprocess.PIPE, stderr=subprocess.STDOUT) as ran:
@@ -121,7 +125,7 @@ print(*read_origin())
 """
 
 
-def check_calls(home: str, system: Any) -> Iterator[Comparison]:
+def check_calls(home: str, system: System) -> Iterator[Comparison]:
     """Compares what commands of a pack print with what they print here."""
     for words, text in CALLS:
         yield " ".join(words), run_command(words, text, HOME, HostSystem()), run_command(words, text, home, system)
@@ -133,11 +137,12 @@ def check_calls(home: str, system: Any) -> Iterator[Comparison]:
     yield "the library from Python", run_command(["./lw", "states"], TEST, HOME, HostSystem()), run_command(words, TEST, home, system)
 
 
-def check_server(home: str, system: Any) -> Iterator[Comparison]:
+def check_server(home: str, system: System) -> Iterator[Comparison]:
     """Compares what the page of a pack answers."""
     with system.start_command(["./page"], home, stdout=subprocess.PIPE, text=True) as server:
         try:
-            address = require_match(re.search(r"http://\S+", server.stdout.readline()))[0]
+            line = server.stdout.readline() if server.stdout else ""
+            address = require_match(re.search(r"http://\S+", line))[0]
             with urllib.request.urlopen(f"{address}lw.wasm") as answer:
                 yield "its page has the module", True, answer.read() == web_files.read_module()
         finally:

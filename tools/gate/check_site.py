@@ -30,7 +30,6 @@ import tempfile
 import threading
 import urllib.parse
 from collections.abc import Iterator
-from typing import Any
 from unittest import mock
 
 import make_site
@@ -38,7 +37,7 @@ import make_slides
 from gate import check_library, check_page, firefox
 from gate.browser import graphs, lists, page_case, reading, subjects
 from gate.browser.page_case import PageCase
-from gate.browser.user import User, browsers, is_there
+from gate.browser.user import Start, User, browsers, is_there
 from gate.cases import Comparison
 from page import commands, documents, letters, origin, web_files
 from shared import command
@@ -296,7 +295,9 @@ def format_answer(ran: tuple[int, bytes, bytes]) -> list[object]:
     return [status, bool(errors), (errors[:-1] or out).decode()]
 
 
-def compare_module_answers(address: str, modules: list[bytes], questions: Any, start: Any) -> Iterator[Comparison]:
+def compare_module_answers(
+    address: str, modules: list[bytes], questions: list[tuple[str, list[str], bytes, list[object]]], start: Start
+) -> Iterator[Comparison]:
     """Compares all answers of each module on each example, in a browser."""
     with tempfile.TemporaryDirectory(prefix="lw-browser-") as folder:
         user = User(address, folder, start)

@@ -353,7 +353,7 @@ class Jumps(cases.Case):
         text = "X86 A\n{}\n P0 ;\n L: MOV EAX,[x] ;\n CMP EAX,1 ;\n JNE L ;\nexists (x=1)\n"
         for tries in (0, -1):
             try:
-                result: Any = convert(text, tries)
+                result: object = convert(text, tries)
             except Refused as why:
                 result = why.args
             with self.subTest(tries=tries):

@@ -21,7 +21,6 @@ import sys
 import tempfile
 import unittest
 from collections.abc import Callable, Iterable
-from typing import Any
 from unittest import mock
 
 import from_c
@@ -34,7 +33,7 @@ from c.convert import Converter
 from c.layout import Layout
 from c.operands import Memory, Number, Other, Register, parse_operand, parse_sum
 from c.refused import Refused
-from c.report import make_answer
+from c.report import Answer, make_answer
 from c.shown import format_fences, format_schedules, format_tests, render_film
 from c.source import read_source
 from c.weaker import weaken_rust
@@ -107,7 +106,7 @@ def make_program(*threads: str, data: str = DATA, after: str = "") -> str:
     return f".text\n{code}{after}\n{data}"
 
 
-def answer_assembly(text: str, condition: str, tries: int = 1) -> Any:
+def answer_assembly(text: str, condition: str, tries: int = 1) -> Answer:
     """Returns the answer on assembly."""
     count = len(set(re.findall(r"^P\d(?=:|\s*=)", text, re.M))) + len(re.findall(r"^\.set P\d", text, re.M))
     return make_answer(Converter(text, read_condition(condition, 0, len(condition)), "T", count, tries))

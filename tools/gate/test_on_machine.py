@@ -374,7 +374,7 @@ class Programs(cases.Case):
         """Returns the program of a file."""
         return programs.compile_program(path, read(path), compiler, tries)
 
-    def run_program(self, program: Any, seconds: float = 0.2, **settings: Any) -> Result:
+    def run_program(self, program: programs.Program, seconds: float = 0.2, **settings: Any) -> Result:
         """Returns what the runs of a program show."""
         return programs.run_program(self.laboratory, "F", program, Settings(Limits(seconds), **settings))
 
