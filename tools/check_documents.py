@@ -242,8 +242,8 @@ def check_fault(kind: str, number: int, name: str, example: str, language: str =
         stdin, schedule = TWO_THREADS, stdin.decode()
     out, err, status = run_command([PROGRAM, "replay", schedule], stdin)
     line = re.sub(rb"\d+\n$", b"", err) if position is None else err
-    wanted = f"lw: {kind} {number} {name} at {position or ''}" + ("\n" if position else "")
-    yield f"docs/FORMAT.md, {kind} fault {number}", (b"", wanted.encode(), 1), (out, line, status)
+    expected = f"lw: {kind} {number} {name} at {position or ''}" + ("\n" if position else "")
+    yield f"docs/FORMAT.md, {kind} fault {number}", (b"", expected.encode(), 1), (out, line, status)
 
 
 def check_limit(number: int, name: str, example: str) -> Iterator[Comparison]:
@@ -257,8 +257,8 @@ def check_end(number: str, name: str, schedule: str, test: str) -> Iterator[Comp
     """Compares a row of the table of ends: the schedule's last event is refused."""
     with open(f"{HOME}/examples/{test}.litmus", "rb") as file:
         out, _, status = run_command([PROGRAM, "replay", schedule], file.read())
-    wanted = f"End Stopped at {len(schedule.split()) - 1} by {number} {name}"
-    yield f"docs/FORMAT.md, end {number}", ([wanted], 1), (out.decode().splitlines()[2:3], status)
+    expected = f"End Stopped at {len(schedule.split()) - 1} by {number} {name}"
+    yield f"docs/FORMAT.md, end {number}", ([expected], 1), (out.decode().splitlines()[2:3], status)
 
 
 def check_mistake(text: str, line: str) -> Iterator[Comparison]:
@@ -310,7 +310,7 @@ def check_x86_form(name: str) -> Iterator[Comparison]:
     """Compares the x86 form of a source test, if it has one, with what the test is compiled to, without fences."""
     form = f"examples/{name}-x86.litmus"
     if os.path.exists(form):
-        program = plain.compile_test(plain.read_test(read_file(f"examples/{name}.litmus")), with_fences=False)
+        program = plain.compile_test(plain.read_test(read_file(f"examples/{name}.litmus")), has_fences=False)
         program.name = f"{os.path.basename(name)}-x86"
         yield f"{form} is the x86 form of {name}", plain.format_canonical_text(program), plain.format_canonical_text(plain.read_test(read_file(form)))
 
@@ -441,16 +441,16 @@ def wait_for_no_reader(writing: int) -> None:
 
 def check_output_stream(program: str, command: Sequence[str]) -> Iterator[Comparison]:
     """Runs a command whose standard output is closed or full, and one whose output nobody reads."""
-    wanted, name = (b"lw: write failed\n", 4), format_command(program, command)
+    expected, name = (b"lw: write failed\n", 4), format_command(program, command)
     with open(f"{HOME}/examples/SB.litmus", "rb") as example:
-        yield f"{name}, standard output closed", wanted, run_with_streams(wrap_with_closed_stream(">&-", program, command), stdin=example)
+        yield f"{name}, standard output closed", expected, run_with_streams(wrap_with_closed_stream(">&-", program, command), stdin=example)
     with open(f"{HOME}/examples/SB.litmus", "rb") as example, open("/dev/full", "wb") as output:
-        yield f"{name}, standard output is full", wanted, run_with_streams([program, *command], stdin=example, stdout=output)
+        yield f"{name}, standard output is full", expected, run_with_streams([program, *command], stdin=example, stdout=output)
     reading, writing = os.pipe()
     os.close(reading)
     wait_for_no_reader(writing)
     with open(f"{HOME}/examples/SB.litmus", "rb") as example, open(writing, "wb") as output:
-        yield f"{name}, nobody reads standard output", wanted, run_with_streams([program, *command], stdin=example, stdout=output)
+        yield f"{name}, nobody reads standard output", expected, run_with_streams([program, *command], stdin=example, stdout=output)
 
 
 def check_input_stream(program: str, command: Sequence[str]) -> Iterator[Comparison]:
@@ -483,8 +483,8 @@ def check_usage(program: str, usage: str, command: Sequence[str], others: Sequen
     """Runs a program with words that are no command, which leave their input unread, and with a command, which reads it."""
     stdin = read_file("examples/SB.litmus").encode()
     for words in others:
-        wanted = stdin, b"", usage.encode(), 2
-        yield f"{format_command(program, words)} leaves its input unread", wanted, run_and_read_rest([program, *words], stdin)
+        expected = stdin, b"", usage.encode(), 2
+        yield f"{format_command(program, words)} leaves its input unread", expected, run_and_read_rest([program, *words], stdin)
     yield f"{format_command(program, command)} reads its input", (b"", 0), run_and_read_rest([program, *command], stdin)[::3]
 
 
@@ -504,11 +504,11 @@ def check_words() -> Iterator[Comparison]:
     yield "lw replay --protocol mesi", by_default, run_command([PROGRAM, "replay", "P0 P0 D0 P1 P1 D1", "--protocol", "mesi"], stdin)
 
 
-def check_measured(name: str, wanted: str) -> Iterator[Comparison]:
+def check_measured(name: str, expected: str) -> Iterator[Comparison]:
     """Compares the number of states of a test of bench/ with that of its table."""
     printed = run_command([PROGRAM, "states"], read_file(f"bench/{name}.litmus").encode())[0]
     number = re.search(rb"^States (\d+)$", printed, re.M)
-    yield f"the states of bench/{name}.litmus", wanted, number[1].decode() if number else "-"
+    yield f"the states of bench/{name}.litmus", expected, number[1].decode() if number else "-"
 
 
 def check_bench() -> Iterator[Comparison]:

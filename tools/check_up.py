@@ -44,11 +44,11 @@ def list_dependents(names: list[str], below: dict[str, list[str]]) -> list[str]:
     return sorted(wanted, key=lambda it: len(list_dependencies(it, below)))
 
 
-def make_command(name: str, below: dict[str, list[str]], tests: bool) -> list[str]:
+def make_command(name: str, below: dict[str, list[str]], runs_tests: bool) -> list[str]:
     """Returns the command that checks a crate."""
     if any(name in it for it in below.values()):
         return ["rt", "lib"]
-    return ["rt", "test"] if tests and name.endswith("_tests") else ["rt", "check"]
+    return ["rt", "test"] if runs_tests and name.endswith("_tests") else ["rt", "check"]
 
 
 def remove_notes(text: str) -> str:

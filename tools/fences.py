@@ -136,9 +136,9 @@ def format_place(test: plain.Test, fence: Place) -> str:
     return f"P{thread} at {position}" + (f", before {after[0]}" if after else "")
 
 
-def format_fence(row: Row, spare: bool, question: str) -> list[str]:
+def format_fence(row: Row, is_spare: bool, question: str) -> list[str]:
     """Returns what is said of a fence that is left out alone, and whether it is spare. Advice names what was asked, since it is read by itself."""
-    if spare:
+    if is_spare:
         return [f"{row['place']}: spare: can be left out by a proved law, whatever is asked"]
     if not row["added"]:
         return [f"{row['place']}: can be left out alone, by {question}"]

@@ -236,11 +236,11 @@ def compare_mistaken(subject: str, text: str) -> Iterator[Comparison]:
     """Compares both on a text that may be no test: whether they accept it, and its first page."""
     out, err, status = run_program(["replay", ""], text)
     try:
-        wanted = replay_by_plain(plain.read_test(text), "", "mesi")
+        expected = replay_by_plain(plain.read_test(text), "", "mesi")
     except plain.NoTest:
         # plain.py does not say which fault of docs/FORMAT.md it is.
-        wanted = Printed("", err if re.fullmatch(r"lw: (text|cell) \d+ \w+ at \d+\n", err) else "a fault", 1)
-    yield f"{subject}, with mistakes\n{text}", wanted, (out, err, status)
+        expected = Printed("", err if re.fullmatch(r"lw: (text|cell) \d+ \w+ at \d+\n", err) else "a fault", 1)
+    yield f"{subject}, with mistakes\n{text}", expected, (out, err, status)
 
 
 def find_end(test: plain.Test, schedule: str) -> tuple[bool, plain.Outcome]:
@@ -257,8 +257,8 @@ def compare_schedules(
     """Compares the program's list of schedules: its states, and the state that each schedule reaches."""
     out, err, status = run_program(["schedules"], text)
     lines = out.splitlines()
-    wanted = [plain.format_state(test, words) for words, _ in states]
-    yield f"{subject}, the states of its schedules\n{text}", (wanted, "", 0), (lines[2::2], err, status)
+    expected = [plain.format_state(test, words) for words, _ in states]
+    yield f"{subject}, the states of its schedules\n{text}", (expected, "", 0), (lines[2::2], err, status)
     program = plain.compile_test(test)
     program_text = plain.format_canonical_text(program)
     for (_, outcome), line in zip(states, lines[3::2]):

@@ -3,7 +3,7 @@ from __future__ import annotations
 
 from typing import Any
 
-from c.flags import Source, check_readable, evaluate_condition, parse_condition
+from c.flags import Source, evaluate_condition, parse_condition, require_readable
 from c.layout import CODE, HEAP, HEAP_OF_THREAD, LARGEST_BLOCK
 from c.locked import Locked
 from c.operands import Label, Operand, Through
@@ -25,8 +25,8 @@ class Control(Locked):
     def evaluate_condition(self, letters: str) -> bool:
         """Returns whether a condition holds."""
         name, wanted = parse_condition(letters)
-        flags, way = self.way.flags, self.way
-        check_readable(flags, name)
+        way = self.way
+        flags = require_readable(way.flags, name)
         if flags.source in (Source.EXCHANGE, Source.BIT):
             return way.require_number(flags.left) == wanted
         if name == "e" and flags.source is Source.DIFFERENCE:

@@ -56,12 +56,13 @@ def parse_condition(letters: str) -> tuple[str, bool]:
     return name, wanted
 
 
-def check_readable(flags: Flags, name: str) -> None:
-    """Refuses a condition that the flags do not determine."""
+def require_readable(flags: Flags | None, name: str) -> Flags:
+    """Returns the flags. Raises Refused if they do not determine a condition."""
     if flags is None:
         raise Refused("flags are read that nothing here has set")
     if name not in READABLE[flags.source] or name in ("b", "be") and not flags.has_carry:
         raise Refused(f"a flag is read that {flags.source.value} before leaves alone or undefined")
+    return flags
 
 
 def evaluate_condition(name: str, source: Source, left: int, right: int, size: int) -> bool:

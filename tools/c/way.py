@@ -5,6 +5,7 @@ from collections.abc import Callable, Iterable
 from dataclasses import dataclass, field, fields
 from typing import Any
 
+from c.flags import Flags
 from c.refused import Refused
 from c.values import MASK, UNSET, Ask, Clock, IsOneOf, IsSame, Question, Symbol, Value, earliest_clock, later_clock
 
@@ -31,7 +32,8 @@ class Way:
     past: Clock
     registers: dict[str, tuple[Value, int]] = field(default_factory=dict)
     memory: dict[int, tuple[int, Value]] = field(default_factory=dict)
-    flags: Any = None  # Flags, if an instruction has set them
+    # The flags, if an instruction has set them.
+    flags: Flags | None = None
     words: dict[int, frozenset[int]] = field(default_factory=dict)
     clocks: dict[int, dict[int, Clock]] = field(default_factory=dict)
     facts: dict[Question, bool] = field(default_factory=dict)

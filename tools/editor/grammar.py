@@ -46,9 +46,9 @@ def include_rules(*names: str) -> list[Rule]:
     return [{"include": f"#{name}"} for name in names]
 
 
-def make_word_pattern(alternatives: Iterable[str], in_any_case: bool = False) -> str:
+def make_word_pattern(alternatives: Iterable[str], ignores_case: bool = False) -> str:
     """Returns the pattern of a word that is one of some."""
-    return f"\\b{'(?i:' if in_any_case else '(?:'}{words.make_pattern(alternatives)})\\b"
+    return f"\\b{'(?i:' if ignores_case else '(?:'}{words.make_pattern(alternatives)})\\b"
 
 
 def make_statement_rules(language: str) -> list[Rule]:

@@ -89,8 +89,8 @@ class Place:
 
     def start_command(self, arguments: Sequence[str] = ("lw", "states"), **options: Any) -> Any:
         """Starts ./lw, or a command."""
-        how: dict[str, Any] = {"stdin": subprocess.PIPE, "stdout": subprocess.PIPE, "stderr": subprocess.PIPE, "env": self.environment}
-        return subprocess.Popen([f"{self.home}/{arguments[0]}", *arguments[1:]], start_new_session=True, **{**how, **options})
+        defaults: dict[str, Any] = {"stdin": subprocess.PIPE, "stdout": subprocess.PIPE, "stderr": subprocess.PIPE, "env": self.environment}
+        return subprocess.Popen([f"{self.home}/{arguments[0]}", *arguments[1:]], start_new_session=True, **{**defaults, **options})
 
     def run_command(self, *arguments: str) -> tuple[bytes, str, list[str]]:
         """Returns what ./lw, or a command, prints on both streams, and what it has asked the stand-in to do."""
@@ -161,16 +161,16 @@ def check_copies(place: Place, folder: str) -> Iterator[Comparison]:
     subprocess.run(["chmod", "-R", "go-rwx", place.home], check=True)
     yield "other modes have nothing built", (ANSWER, "", []), place.run_command()
     without_rt = {**place.environment, "PATH": os.environ["PATH"].replace(os.path.dirname(shutil.which("rt") or "/none/rt"), "/none")}
-    for how in ("-a", "-r"):
-        copy = f"{folder}/copy{how}"
-        subprocess.run(["cp", how, place.home, copy], check=True)
+    for flag in ("-a", "-r"):
+        copy = f"{folder}/copy{flag}"
+        subprocess.run(["cp", flag, place.home, copy], check=True)
         subprocess.run(["chmod", "-R", "a+rX", folder], check=True)
         nobody: dict[str, Any] = {"user": 65534, "group": 65534, "extra_groups": []}
         users: list[dict[str, Any]] = [{}, nobody] if os.geteuid() == 0 else [{}]
         for who in users:
             ran = subprocess.run([f"{copy}/lw", "states"], input=b"text\n", capture_output=True, env=without_rt, check=False, **who)
             printed = ran.stdout, ran.stderr, ran.returncode
-            yield f"a copy by cp {how} answers without rt{', read only' if who else ''}", (ANSWER, b"", 3), printed
+            yield f"a copy by cp {flag} answers without rt{', read only' if who else ''}", (ANSWER, b"", 3), printed
     place.change_source(CHANGED)
     os.utime(f"{place.home}/crates/{CHANGED}/src/lib.rt", (0, 0))
     yield "a changed file of an old time has those above it built", list_dependents(CHANGED), list_begun_crates(place.run_command()[2])
@@ -247,11 +247,11 @@ def check_other_program(place: Place, folder: str) -> Iterator[Comparison]:
     yield "./beyond builds what ./lw has not built, and nothing else", sorted(place.further), list_begun_crates(record)
     yield "the second ./beyond builds nothing", (ANSWER, "", []), place.run_command("beyond", "states")
     for words in (["states"], ["--budget", "7", "--method", "schedules"], ["--search", "--budget", "states", "states"]):
-        wanted: tuple[bytes, str, list[str]] = f"proved: {' '.join(words)}\nin a file\n".encode(), "", []
-        yield f"./beyond {' '.join(words)} FILE", wanted, place.run_command("beyond", *words, file)
+        expected: tuple[bytes, str, list[str]] = f"proved: {' '.join(words)}\nin a file\n".encode(), "", []
+        yield f"./beyond {' '.join(words)} FILE", expected, place.run_command("beyond", *words, file)
     for words in (["states", file, file], ["--budget", "states"], [file], ["states", ""]):
-        wanted = f"proved: {' '.join(words)}\ntext\n".encode(), "", []
-        yield f"./beyond {' '.join(words)}, which names no file", wanted, place.run_command("beyond", *words)
+        expected = f"proved: {' '.join(words)}\ntext\n".encode(), "", []
+        yield f"./beyond {' '.join(words)}, which names no file", expected, place.run_command("beyond", *words)
     printed = place.run_command("beyond", "states", f"{folder}/none")
     yield "./beyond of a file that isn't there", (b"", f"beyond: {folder}/none can't be opened\n", []), printed
     place.change_source("lw_search")

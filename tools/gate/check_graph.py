@@ -218,18 +218,18 @@ def list_asked_words(proposition: plain.Proposition) -> dict[plain.Site, int]:
 def make_bare_program(name: str) -> plain.Test:
     """Returns the x86 form of a source test: what it is compiled to, without fences."""
     with open(f"{HOME}/examples/{name}.litmus", encoding="utf-8") as file:
-        return plain.compile_test(plain.read_test(file.read()), with_fences=False)
+        return plain.compile_test(plain.read_test(file.read()), has_fences=False)
 
 
 def check_family(name: str, relations: list[str], verdict: str) -> Iterator[Comparison]:
     """Compares the execution that a test of a family asks about with its row. Reads that go against coherence are left out."""
     test = make_bare_program(name)
-    wanted = list_asked_words(test.proposition)
+    expected = list_asked_words(test.proposition)
     matching = []
     for execution in executions.list_candidates(test, MAX_CANDIDATES):
         outcome = execution.make_outcome()
         if all(
-            plain.read_word(site, outcome) == word for site, word in wanted.items()
+            plain.read_word(site, outcome) == word for site, word in expected.items()
         ) and not executions.find_shortest_cycle(execution.list_coherence_edges()):
             matching.append(execution)
     yield f"{name}: candidate executions with its outcome", 1, len(matching)
@@ -247,14 +247,14 @@ def check_tool() -> Iterator[Comparison]:
         ran = run(*words)
         yield f"graph.py {' '.join(words)}", (status, True), (ran.returncode, bool(ran.stderr if status == 2 or not ran.stdout else ran.stdout))
     ran = run("--why-not", "all", f"{HOME}/examples/MP-x86.litmus")
-    wanted = "x86-TSO forbids 1:EAX=1; 1:EBX=0;\n  1 candidate execution breaks global happens-before: "
-    yield "why MP does not end so", (0, True), (ran.returncode, ran.stdout.startswith(wanted + "a -po-> b -rf-> c -po-> d -fr-> a\n"))
+    expected = "x86-TSO forbids 1:EAX=1; 1:EBX=0;\n  1 candidate execution breaks global happens-before: "
+    yield "why MP does not end so", (0, True), (ran.returncode, ran.stdout.startswith(expected + "a -po-> b -rf-> c -po-> d -fr-> a\n"))
     ran = run("--why-not", "0:r0=0; 1:r0=0;", SOURCE)
     front = "x86-TSO forbids 0:r0=0; 1:r0=0;\n"
     yield "why SB does not end so, in its own names", (0, True), (ran.returncode, ran.stdout.startswith(front))
     ran = run("--why-not", "0:r0=7; 1:r0=0;", SOURCE)
-    wanted = "No thread reads or writes such values: no candidate execution ends in 0:r0=7; 1:r0=0;\n"
-    yield "a state of words that no thread has", (0, wanted), (ran.returncode, ran.stdout)
+    expected = "No thread reads or writes such values: no candidate execution ends in 0:r0=7; 1:r0=0;\n"
+    yield "a state of words that no thread has", (0, expected), (ran.returncode, ran.stdout)
     ran = run("--why-not", "0:r0=0;", SOURCE)
     yield "a source test shows its own names", True, "the test shows 0:r0=..; 1:r0=..;" in ran.stderr
     text = run("--text", "P0 P0 P1 P1 D0 D1", SB).stdout

@@ -102,8 +102,9 @@ def check_tests(lab: str, tests: dict[str, str]) -> Iterator[Comparison]:
     """Compares the tests with their examples."""
     yield "how many tests the lab has", True, len(tests) >= MIN_TESTS
     rows = re.findall(r"^\| ([A-Z]\d) \| \S+ \| ([\d, ]+) \|$", find_section(lab, "For the teacher"), re.M)
-    used = {name: [int(number) for number, *_, text in read_tasks(find_section(lab, "The sheet")) if name in find_tests(text)] for name in tests}
-    yield "tasks name the tests that the table says", used, {name: [int(it) for it in numbers.split(", ")] for name, numbers in rows}
+    tasks = read_tasks(find_section(lab, "The sheet"))
+    tasks_by_test = {name: [int(number) for number, *_, text in tasks if name in find_tests(text)] for name in tests}
+    yield "tasks name the tests that the table says", tasks_by_test, {name: [int(it) for it in numbers.split(", ")] for name, numbers in rows}
     for name, example in list_examples(lab).items():
         text = tests[name]
         yield f"{name} is read by the program", 0, ask_program(["compile"], text)[1]
@@ -152,10 +153,10 @@ def check_links(tests: dict[str, str]) -> Iterator[Comparison]:
     """
     lab = read_file("docs/LAB.md")
     page = sheets.make_sheet(lab, tests, "site/index.html")
-    shown = [it for *_, text in read_tasks(find_section(lab, "The sheet")) for it in find_tests(text).items()]
+    tests_shown = [it for *_, text in read_tasks(find_section(lab, "The sheet")) for it in find_tests(text).items()]
     links = re.findall(r'<figcaption>(\w+) <a class="screen" target="lw" href="site/index\.html#([^"]*)">', page)
-    yield "each test has a link where it is used", [name for name, _ in shown], [name for name, _ in links]
-    for (name, by_hand), (_, link) in zip(shown, links):
+    yield "each test has a link where it is used", [name for name, _ in tests_shown], [name for name, _ in links]
+    for (name, by_hand), (_, link) in zip(tests_shown, links):
         view = {"view": ["hand"]} if by_hand else {}
         yield f"the link of {name}", {"predict": ["1"], **view, "text": [tests[name]]}, parse_qs(unescape(link))
     yield "the card has a link", 1, page.count('<a href="card.html" target="_blank">')

@@ -242,8 +242,8 @@ def check_own_store(student: Student, answers: Solutions) -> Iterator[Comparison
     differing = [index for index, (buffers, words) in enumerate(steps) if len({find_x(it, words) for it in buffers}) > 1]
     first, last = map(int, require_match(re.search(r"From step (\d+) to step (\d+)", actual)).groups())
     yield "4.2: where they disagree", [*range(first, last + 1)], differing
-    shown = {name: words.split() for name, words in re.findall(r"^(P\d buffer|Content)(.*)$", actual, re.M)}
-    yield "4.2: before the last drain", [[shown["P0 buffer"], shown["P1 buffer"]], shown["Content"]], steps[last]
+    words_by_row = {name: words.split() for name, words in re.findall(r"^(P\d buffer|Content)(.*)$", actual, re.M)}
+    yield "4.2: before the last drain", [[words_by_row["P0 buffer"], words_by_row["P1 buffer"]], words_by_row["Content"]], steps[last]
     student.open_test(4, "D3")
     yield "4.3", answers.true_of["n7-x86"], student.guess_and_count_states("yes")
     student.type_row_after(4, " MFENCE | MFENCE | ;")
@@ -262,10 +262,10 @@ def check_repair_shop(student: Student, answers: Solutions) -> Iterator[Comparis
     for name, (example, *rows) in tests.items():
         student.open_test(5, name)
         yield f"5, {name} as it is", answers.true_of[example], student.guess_and_count_states(None if name == "A4" else "yes")
-        for line, row, wanted in rows:
+        for line, row, expected in rows:
             student.open_test(5, name)
             student.type_row_after(line, row)
-            positive, number = answers.true_of[wanted]
+            positive, number = answers.true_of[expected]
             yield f"5, {name} with {row} behind line {line}, and no second guess", [positive, number], student.guess_and_count_states()
             fences, verdict = student.list_fences()
             is_it = f"the condition holds in none of {number} states." if not positive else f"in the same {number} states, and the condition holds in 1 of them."
@@ -299,9 +299,9 @@ def check_caches(student: Student, answers: Solutions) -> Iterator[Comparison]:
     student.choose("#protocol", "moesi")
     student.wait(lambda: student.run("return document.querySelector('#protocol')?.value") == "moesi", "MOESI")
     for step_number, (_, letters) in reversed([*enumerate(rows, 1)]):
-        wanted = letters.split(" | ")[3:]
-        student.is_soon(lambda: student.run(LINES) == wanted)
-        yield f"6.2, row {step_number}", wanted, student.run(LINES)
+        expected = letters.split(" | ")[3:]
+        student.is_soon(lambda: student.run(LINES) == expected)
+        yield f"6.2, row {step_number}", expected, student.run(LINES)
         student.click("#back")
         student.wait(lambda: student.done() == " ".join(schedule[: step_number - 1]), "a step back")
     yield "6.3: the list", [1, 3], student.guess_and_count_states()

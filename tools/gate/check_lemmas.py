@@ -91,8 +91,8 @@ class Named:
             around = file.sentences
         else:
             around = list_sentences(declaration)
-        own = {id(it) for it in (declaration.head, *declaration.parts)}
-        return any(is_in(name, it) for it in around if id(it) not in own)
+        own_ids = {id(it) for it in (declaration.head, *declaration.parts)}
+        return any(is_in(name, it) for it in around if id(it) not in own_ids)
 
 
 def is_in(name: str, sentence: Sentence) -> bool:
@@ -140,10 +140,10 @@ def split_path(crate: str, path: str) -> tuple[str, str]:
 
 def list_unnamed(files: Files) -> Iterator[Declaration]:
     """Returns what nothing names."""
-    named = Named(files)
+    names_in_use = Named(files)
     for file in filter(is_proof, files.all):
         for declaration in file.declarations:
-            if not is_answer(declaration) and not named.is_named(declaration):
+            if not is_answer(declaration) and not names_in_use.is_named(declaration):
                 yield declaration
 
 
@@ -227,16 +227,16 @@ def list_names(nodes: list[Node]) -> Iterator[str]:
 def list_module_binders(declaration: Declaration, nodes: list[Node]) -> list[Group]:
     """Returns the binders of modules on which a statement depends: those whose names it has, and premises about these."""
     groups = list_parameters(declaration)
-    wanted = set(list_names(nodes))
+    names_bound = set(list_names(nodes))
     count = None
-    while count != len(wanted):
-        count = len(wanted)
+    while count != len(names_bound):
+        count = len(names_bound)
         for group in groups:
             kind = set(list_names(group.inner[require_index(group.inner, "a binder", ":") + 1 :])) if list_binder_names(group) else set()
             bound = {name for it in groups for name in list_binder_names(it)}
-            if wanted & (set(list_binder_names(group)) | kind & bound):
-                wanted |= set(list_binder_names(group)) | kind
-    return [it for it in groups if wanted & set(list_binder_names(it))]
+            if names_bound & (set(list_binder_names(group)) | kind & bound):
+                names_bound |= set(list_binder_names(group)) | kind
+    return [it for it in groups if names_bound & set(list_binder_names(it))]
 
 
 def is_definition(declaration: Declaration) -> bool:
@@ -263,8 +263,8 @@ def make_statement(files: Files, declaration: Declaration) -> tuple[str, ...]:
 
 def bind_patterns(declaration: Declaration, statement: Statement) -> None:
     """Numbers the variables of a definition's clauses."""
-    own = {name for part in declaration.parts for name in list_names(list_patterns(part))}
-    free = [it for it in statement.words if it in own and "." not in it]
+    pattern_names = {name for part in declaration.parts for name in list_names(list_patterns(part))}
+    free = [it for it in statement.words if it in pattern_names and "." not in it]
     numbers = {it: f"?{len(statement.bound) + index}" for index, it in enumerate(dict.fromkeys(free))}
     statement.words = [numbers.get(it.split(".")[0], it.split(".")[0]) + it[len(it.split(".")[0]) :] for it in statement.words]
 

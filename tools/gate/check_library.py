@@ -98,14 +98,14 @@ def compare_limits(answer_with: Callable[..., tuple[int, bytes, bytes]]) -> Iter
     """Compares what is reported if memory or room is short: an answer, that memory ran out, and nothing else."""
     with open(f"{HOME}/examples/SB-x86.litmus", "rb") as file:
         text = file.read()
-    whole = run_command([PROGRAM, "states"], text)
+    unlimited = run_command([PROGRAM, "states"], text)
     short = (4, b"", b"lw: memory\n")
     results = [answer_with(text, LW_MEMORY=str(size)) for size in (0, 1, 15, 16, 100, *range(512, 40000, 1024))]
-    first = results.index(whole) if whole in results else len(results)
-    yield "small memory", [short] * first + [whole] * (len(results) - first), results
-    yield "32 KiB for the states of SB", whole, answer_with(text, LW_MEMORY=str(32 << 10))
-    for size in (0, 1, len(whole[1]) - 1, len(whole[1])):
-        yield f"room of {size} bytes", whole, answer_with(text, LW_ROOM=str(size))
+    first = results.index(unlimited) if unlimited in results else len(results)
+    yield "small memory", [short] * first + [unlimited] * (len(results) - first), results
+    yield "32 KiB for the states of SB", unlimited, answer_with(text, LW_MEMORY=str(32 << 10))
+    for size in (0, 1, len(unlimited[1]) - 1, len(unlimited[1])):
+        yield f"room of {size} bytes", unlimited, answer_with(text, LW_ROOM=str(size))
 
 
 def compare_python_example(folder: str) -> Iterator[Comparison]:

@@ -72,12 +72,12 @@ def read_page_observation(name: str) -> tuple[str, str]:
 
 def check_tables() -> Iterator[Comparison]:
     """Checks the tables of run_all.py."""
-    wanted = {name: read_page_observation(name) for name, _ in examples()}
+    expected = {name: read_page_observation(name) for name, _ in examples()}
     printed, _, status = run(["run_all.py", "examples", "--as", "csv"])
     rows = list(csv.DictReader(io.StringIO(printed)))
-    yield "run_all.py --as csv", (wanted, 0), ({it["name"]: (it["states"], it["observation"]) for it in rows}, status)
+    yield "run_all.py --as csv", (expected, 0), ({it["name"]: (it["states"], it["observation"]) for it in rows}, status)
     rows = json.loads(run(["run_all.py", "--as", "json", "examples"])[0])
-    yield "run_all.py --as json", wanted, {it["name"]: (str(it["states"]), it["observation"]) for it in rows}
+    yield "run_all.py --as json", expected, {it["name"]: (str(it["states"]), it["observation"]) for it in rows}
     method = methods.ENUMERATED if spawn.is_current() else methods.PLAIN_UNPROVED
     yield "run_all.py, by which method", {method}, {it["method"] for it in rows}
     text = run(["run_all.py"], "examples/SB.litmus\nexamples/MP-x86.litmus\n")[0].splitlines()
@@ -96,17 +96,17 @@ def check_past_limits() -> Iterator[Comparison]:
         errors = io.StringIO()
         with mock.patch.object(spawn, "is_current", lambda name="lw": is_built or name == "lw"), mock.patch.object(sys, "stderr", errors):
             rows = [it.row for it in lists.answer_all(files, lists.Choices(1, None, None), lambda _file: None)]
-        wanted = [(name, *page, method) for name, page in zip(names, pages)]
-        yield f"run_all.py past the limits, {method}", wanted, [(it.name, str(it.states), it.observation, it.method) for it in rows]
+        expected = [(name, *page, method) for name, page in zip(names, pages)]
+        yield f"run_all.py past the limits, {method}", expected, [(it.name, str(it.states), it.observation, it.method) for it in rows]
         yield f"run_all.py past the limits, {method}: said", not is_built, "listed by tools/beyond.py, not proved\n" in errors.getvalue()
 
 
 def check_faults() -> Iterator[Comparison]:
     """Checks files without a report."""
     out, err, status = run(["run_all.py", "tools/herd/tests/Less.litmus", "nowhere", "examples/SB.litmus"])
-    wanted = "tools/herd/tests/Less.litmus:6:2: 'JL' is no instruction that is read"
+    expected = "tools/herd/tests/Less.litmus:6:2: 'JL' is no instruction that is read"
     fault_lines = [line.partition(";")[0] for line in err.splitlines() if not line.startswith("run_all:")]
-    yield "run_all.py, faults", (4, [wanted, "nowhere: No such file or directory"], 1), (len(out.splitlines()), fault_lines, status)
+    yield "run_all.py, faults", (4, [expected, "nowhere: No such file or directory"], 1), (len(out.splitlines()), fault_lines, status)
     out, err, status = run(["run_all.py", "--as", "csv", "tools/search/tests/TryLock3.litmus"])
     fault_lines = out.splitlines()[-1].split(",")
     yield "run_all.py, a limit", (["TryLock3", "Never 0 7"], False, 0), ([fault_lines[1], fault_lines[4]], "TooManyOrders" in err, status)
@@ -139,15 +139,15 @@ def measure_seconds(arguments: list[str], text: str = "") -> tuple[float, float]
     before = resource.getrusage(resource.RUSAGE_CHILDREN)
     ran = subprocess.run([sys.executable, "-S", *arguments], input=text.encode(), capture_output=True, cwd=TOOLS)
     after = resource.getrusage(resource.RUSAGE_CHILDREN)
-    used = after.ru_utime + after.ru_stime - before.ru_utime - before.ru_stime
-    return used, sum(float(line.split()[7]) for line in ran.stdout.decode().splitlines()[1:]) / 1000
+    seconds = after.ru_utime + after.ru_stime - before.ru_utime - before.ru_stime
+    return seconds, sum(float(line.split()[7]) for line in ran.stdout.decode().splitlines()[1:]) / 1000
 
 
 def measure_time_ratio(arguments: list[str], text: str = "") -> float:
     """Returns how many times the processor time of the programs a command takes, at the best of several tries."""
     start = "import sys; from shared import spawn; spawn.is_current()"
     look = min(measure_seconds(["-c", start])[0] - measure_seconds(["-c", "import sys"])[0] for _ in range(TRIES))
-    return min(used / (programs + max(0.0, look)) for used, programs in (measure_seconds(arguments, text) for _ in range(TRIES)))
+    return min(seconds / (programs + max(0.0, look)) for seconds, programs in (measure_seconds(arguments, text) for _ in range(TRIES)))
 
 
 def check_times() -> Iterator[Comparison]:
@@ -171,14 +171,14 @@ def check_search() -> Iterator[Comparison]:
     tests = [(f"random {language} {seed}", random_tests.Writer(language, seed).draw_test()) for language, seed in random_tests.list_jobs(60)]
     for name, text in [*examples(), *tests]:
         test = plain.read_test(text)
-        for variant in [test] if test.language == "X86" else [test, plain.compile_test(test), plain.compile_test(test, with_fences=False)]:
+        for variant in [test] if test.language == "X86" else [test, plain.compile_test(test), plain.compile_test(test, has_fences=False)]:
             exploration = Search(variant).explore(answers.MAX_STATES, beyond.show_progress)
             yield f"the search on {name}", [
                 words for words, _ in plain.collect_states(variant, plain.list_outcomes(variant))
             ], sorted(exploration.schedules)
             ends = [random_tests.find_end(variant, schedule) for schedule in exploration.schedules.values()]
-            shown = [tuple(plain.read_word(site, outcome) for site in plain.list_observed_sites(variant)) for is_final, outcome in ends if is_final]
-            yield f"the schedules of the search on {name}", list(exploration.schedules), shown
+            rows = [tuple(plain.read_word(site, outcome) for site in plain.list_observed_sites(variant)) for is_final, outcome in ends if is_final]
+            yield f"the schedules of the search on {name}", list(exploration.schedules), rows
 
 
 def check_beyond() -> Iterator[Comparison]:

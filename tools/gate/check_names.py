@@ -93,12 +93,12 @@ class Names:
         opening = re.compile(rf"^(?:pub(?:\(crate\))? )?(?:impl|trait|enum|struct)\b[^\n]*\b{name}\b")
         lines = []
         for text in (text for texts in self.code.values() for text in texts):
-            inside = False
+            is_inside = False
             for line in text.split("\n"):
-                inside = inside or bool(opening.match(line))
-                if inside:
+                is_inside = is_inside or bool(opening.match(line))
+                if is_inside:
                     lines.append(line)
-                inside = inside and not line.startswith("}")
+                is_inside = is_inside and not line.startswith("}")
         return "\n".join(lines)
 
     def has_call(self, crate: str | None, parts: list[str]) -> bool:
@@ -112,7 +112,7 @@ class Names:
         whole = "\n".join(self.code[crate or ""])
         return re.search(rf"(?:fn|struct|enum|trait|const) {last}\b|pub use [^;]*\b{last}\b", whole) is not None
 
-    def exists(self, name: str, in_contracts: bool) -> bool | None:
+    def exists(self, name: str, is_in_contracts: bool) -> bool | None:
         """Returns whether a name exists; `None` if it is no name that is checked."""
         if name in self.crates or PLACEHOLDER.search(name):
             return True
@@ -128,7 +128,7 @@ class Names:
         if name.startswith("lw_"):
             return name in self.words
         if re.fullmatch(r"[^\W\d][\w']*", name) and len(name) > 2:
-            return name in (self.declared if in_contracts else self.words) or name in self.files
+            return name in (self.declared if is_in_contracts else self.words) or name in self.files
         return None
 
 
@@ -186,10 +186,10 @@ def find_linked_name_faults(page: str, text: str, read_file: Callable[[str], str
 
 def is_below(crate: str, path: str) -> bool:
     """Returns whether a crate has a file or folder, or a file with a declaration whose name follows a dot."""
-    whole = f"{HOME}/crates/{crate}/{path}"
-    if any(os.path.exists(f"{whole}{it}") for it in (*ENDINGS, ".edit")):
+    path_in_crate = f"{HOME}/crates/{crate}/{path}"
+    if any(os.path.exists(f"{path_in_crate}{it}") for it in (*ENDINGS, ".edit")):
         return True
-    file, _, name = whole.rpartition(".")
+    file, _, name = path_in_crate.rpartition(".")
     return os.path.isfile(f"{file}.antt") and declares(read_file(f"{file}.antt"), name)
 
 
@@ -200,9 +200,9 @@ def find_crate_path_faults(page: str, text: str, crates: list[str]) -> Iterator[
         for before, path, after, crate in BELOW_CRATE.findall(block):
             if before or crate in crates:
                 last = before or crate
-            where = after or last
-            if path and not PLACEHOLDER.search(path) and not any(is_below(it, path) for it in ([where] if where else crates)):
-                yield f"{page} names {path} of {where or 'a crate'}, which is not there"
+            suffix = after or last
+            if path and not PLACEHOLDER.search(path) and not any(is_below(it, path) for it in ([suffix] if suffix else crates)):
+                yield f"{page} names {path} of {suffix or 'a crate'}, which is not there"
 
 
 def read_repository_file(path: str) -> str | None:

@@ -118,12 +118,12 @@ class Page:
         connection = socket.create_connection(("127.0.0.1", self.port), timeout=60)
         return connection
 
-    def send_request(self, request: bytes, end: bool = False) -> HttpAnswer:
+    def send_request(self, request: bytes, closes_after: bool = False) -> HttpAnswer:
         """Returns what is answered to some bytes: the status, the headers, and the content."""
         with self.connect() as connection:
             with contextlib.suppress(BrokenPipeError, ConnectionResetError):
                 connection.sendall(request)
-                if end:
+                if closes_after:
                     connection.shutdown(socket.SHUT_WR)
             return read_answer(connection)
 
@@ -244,8 +244,8 @@ def check_bodies(page: Page) -> Iterator[Comparison]:
     yield "a body that is too long, and sent", 413, page.post_bytes(b" " * (600 << 10))[0]
     yield "a body that is said to be too long", 413, page.post_bytes(b"", Content_Length="99999999")[0]
     posted = make_head("POST", "/run", page.make_fields("100"))
-    yield "a body that is cut off", 400, page.send_request(posted + body, end=True)[0]
-    yield "a head that is cut off", 400, page.send_request(b"GET / HTTP/1.1\r\nHost:", end=True)[0]
+    yield "a body that is cut off", 400, page.send_request(posted + body, closes_after=True)[0]
+    yield "a head that is cut off", 400, page.send_request(b"GET / HTTP/1.1\r\nHost:", closes_after=True)[0]
     yield "a body with more behind it", 400, page.post_bytes(body + b"GET / HTTP/1.1\r\n\r\n", Content_Length=str(len(body)))[0]
     yield "GET with a body", 400, page.send_request(make_head("GET", "/", {"Host": page.host, "Content-Length": "3"}) + b"abc")[0]
     yield "a head that is too long", 431, page.get_file("/", Cookie="x" * (2 << 20))[0]
@@ -329,8 +329,8 @@ def check_files(page: Page) -> Iterator[Comparison]:
     kinds = {".svg": "image/svg+xml", **{ending: f"{kind}; charset=utf-8" for ending, kind in texts.items()}}
     for name in sorted(os.listdir(f"{HOME}/web")):
         status, fields, content = page.get_file(f"/{name}")
-        wanted = (200, kinds[os.path.splitext(name)[1]], read_file(f"web/{name}"))
-        yield f"GET /{name}", wanted, (status, fields["content-type"], content.decode())
+        expected = (200, kinds[os.path.splitext(name)[1]], read_file(f"web/{name}"))
+        yield f"GET /{name}", expected, (status, fields["content-type"], content.decode())
     for path in ("/", "/?x", "/index.html?x=/README.md"):
         yield f"GET {path} is index.html", page.get_file("/index.html")[2], page.get_file(path)[2]
     status, fields, content = page.get_file("/lw.wasm")
@@ -398,9 +398,9 @@ def check_answers(page: Page) -> Iterator[Comparison]:
         ("a list of 4,096 states", MANY, ["states"], 0, None),
         ("their schedules", MANY, ["schedules"], 0, None),
     ):
-        wanted, printed = ask_lw(text, *words), page.ask_run(text, *words)
-        yield f"the answer to {subject}", wanted, printed
-        yield f"the line on {subject}", (status, line or wanted["fault"]), (printed["status"], printed["fault"])
+        expected, printed = ask_lw(text, *words), page.ask_run(text, *words)
+        yield f"the answer to {subject}", expected, printed
+        yield f"the line on {subject}", (status, line or expected["fault"]), (printed["status"], printed["fault"])
 
 
 def check_searches(page: Page) -> Iterator[Comparison]:
@@ -605,12 +605,12 @@ def check_too_long(copy: Copy, page: Page) -> Iterator[Comparison]:
         started = copy.wait_for_processes(7)
         answer = page.get_file("/")[0], page.is_current()
         yield "files are there while four runs hang, and whether the program is current", (200, {"is_current": True}), answer
-        waiting = pool.submit(page.post_question, {"words": ["states"], "text": "SRC A"})
-        wanted = [(504, "The run took longer than 20 seconds, and was ended.")] * 4
-        yield "runs that take too long are told", wanted, [it.result() for it in hanging]
+        future = pool.submit(page.post_question, {"words": ["states"], "text": "SRC A"})
+        expected = [(504, "The run took longer than 20 seconds, and was ended.")] * 4
+        yield "runs that take too long are told", expected, [it.result() for it in hanging]
         yield "runs are ended after twenty seconds", True, 19 < time.monotonic() - began < 20 + 4 * measure_patience()
         yield "runs that take too long are ended, with all below them", True, wait_until_gone(started)
-        yield "one that waited is answered", True, waiting.result()[0] in (200, 503)
+        yield "one that waited is answered", True, future.result()[0] in (200, 503)
 
 
 def check_stale(copy: Copy, page: Page) -> Iterator[Comparison]:
@@ -646,9 +646,9 @@ def check_start(page: Page) -> Iterator[Comparison]:
     yield "the line that tells the address", f"The workbench is at http://127.0.0.1:{page.port}/ (Ctrl-C ends it)\n", page.line
     took = min(measure_first_report() for _ in range(3))
     yield "from ./page to the first report in two seconds, the best of three", True, took < 2 * measure_patience()
-    used = run(str(page.port))
+    printed = run(str(page.port))
     message = f"page: port {page.port} is in use, or may not be listened on; ./page PORT takes another\n"
-    yield "a port that is in use", (1, "", message), (used.returncode, used.stdout.decode(), used.stderr.decode())
+    yield "a port that is in use", (1, "", message), (printed.returncode, printed.stdout.decode(), printed.stderr.decode())
     for words in (("0",), ("65536",), ("x",), ("8017", "8018"), ("-x",)):
         yield f"./page {' '.join(words)}", 2, run(*words).returncode
     for address in ("127.0.0.2", find_own_address()):
@@ -662,14 +662,14 @@ def check_ports() -> Iterator[Comparison]:
     command = importlib.import_module("page.__main__")
     yield "./page may take one of a hundred ports", (8017, 100), (command.PORTS[0], len(command.PORTS))
     with socket.socket() as first, socket.socket() as second, contextlib.redirect_stderr(io.StringIO()) as actual:
-        used = []
+        ports = []
         for port in (first, second):
             port.bind(("127.0.0.1", 0))
             port.listen()
-            used.append(port.getsockname()[1])
-        listener = command.listen(used)
-    wanted = f"page: ports {used[0]} to {used[1]} are in use, or may not be listened on; ./page PORT takes another\n"
-    yield "where all ports are in use", (None, wanted), (listener, actual.getvalue())
+            ports.append(port.getsockname()[1])
+        listener = command.listen(ports)
+    expected = f"page: ports {ports[0]} to {ports[1]} are in use, or may not be listened on; ./page PORT takes another\n"
+    yield "where all ports are in use", (None, expected), (listener, actual.getvalue())
 
 
 def check_no_program() -> Iterator[Comparison]:
@@ -679,8 +679,8 @@ def check_no_program() -> Iterator[Comparison]:
         shutil.copy(f"{HOME}/crates.txt", folder)
         words = [sys.executable, f"{folder}/tools/picture.py", "P0", f"{HOME}/examples/SB-x86.litmus"]
         ran = subprocess.run(words, capture_output=True, text=True, check=False)
-    wanted = "picture: there is no program of the sources as they are: ./lw builds it\n"
-    yield "a picture where there is no program", (1, "", wanted), (ran.returncode, ran.stdout, ran.stderr)
+    expected = "picture: there is no program of the sources as they are: ./lw builds it\n"
+    yield "a picture where there is no program", (1, "", expected), (ran.returncode, ran.stdout, ran.stderr)
 
 
 def check_port_of_http() -> Iterator[Comparison]:

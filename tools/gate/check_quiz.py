@@ -97,7 +97,7 @@ def check_reasons(data: quiz.Data, tests: list[quiz.Asked]) -> Iterator[Comparis
         yield f"the reasons on test {index} have events", True, all(len(reason.get("steps") or reason["events"]) > 1 for reason in reason_read)
         test = plain.read_test(other_reason.text)
         ways = [reasons.list_asked_schedules(test, plain.make_x86_start, moves) for moves in (plain.list_interleaved_moves, plain.list_x86_moves)]
-        yield f"runs by tools/plain.py that end as test {index} asks", [other_reason.interleaved, other_reason.on_x86], [bool(way) for way in ways]
+        yield f"runs by tools/plain.py that end as test {index} asks", [other_reason.interleaved, other_reason.on_x86], [bool(runs) for runs in ways]
     words = ("store buffer", "steps", "events", "memory")
     yield "no reason is in plain sight", [], [word for word in words if word in json.dumps(data)]
 
@@ -218,8 +218,8 @@ def check_browser(page: str, folder: str) -> Iterator[Comparison]:
         user.click("#done")
         printed = user.text("#fault"), user.focused().get_attribute("name")
         yield "what is missing is told", ('Test 1 has no answer to "Can it end this way by interleaving?"', "interleaving1"), printed
-        seen = "const { top, bottom } = document.getElementById('fault').getBoundingClientRect(); return top >= 0 && bottom <= innerHeight"
-        yield "what is missing is told where it is seen", True, user.run(seen)
+        is_in_sight = "const { top, bottom } = document.getElementById('fault').getBoundingClientRect(); return top >= 0 && bottom <= innerHeight"
+        yield "what is missing is told where it is seen", True, user.run(is_in_sight)
         for index, answer in enumerate(make_answers(quiz.read_answers(read_data(page)), WRONG), 1):
             for kind, bit in (("interleaving", 1), ("x86", 2)):
                 user.click(f"input[name={kind}{index}][value={'yes' if answer & bit else 'no'}]")
@@ -248,15 +248,15 @@ def check_browser(page: str, folder: str) -> Iterator[Comparison]:
 
 def check_commands(folder: str) -> Iterator[Comparison]:
     """Runs the commands, and looks at their statuses."""
-    for words, wanted in (
+    for words, expected in (
         (["make_quiz.py"], 2), (["make_quiz.py", "--help"], 0), (["read_codes.py"], 2), (["read_codes.py", "--help"], 0),
         (["make_quiz.py", f"{folder}/nowhere/quiz.html"], 1), (["make_quiz.py", f"{folder}/no.html", "--tests", "0"], 1),
         (["make_quiz.py", f"{folder}/no.html", "--tests", "41"], 1), (["make_quiz.py", f"{folder}/no.html", "--seed", "A"], 1),
         (["read_codes.py", f"{folder}/nowhere.html"], 1), (["read_codes.py", "README.md"], 1), (["read_codes.py", "1", f"{folder}/nowhere.txt"], 1),
     ):
         _, err, status = run(words)
-        shown = " ".join(words).replace(folder, "ROOM")
-        yield shown, (wanted, wanted != 1 or 1), (status, wanted != 1 or err.count("\n"))
+        command_text = " ".join(words).replace(folder, "ROOM")
+        yield command_text, (expected, expected != 1 or 1), (status, expected != 1 or err.count("\n"))
     yield "no file is left of what is refused", False, os.path.exists(f"{folder}/no.html")
 
 

@@ -141,8 +141,8 @@ def check_files() -> Iterator[Comparison]:
         names = sorted(os.listdir(f"{folder}/site"))
         page = ["icon.svg", "index.html", "offline.js", "page.js", "style.css", "tables.js", "workbench1.js"]
         slides = [documents.SLIDES] if make_slides.make_page_if_built() else []
-        wanted = sorted([*page, *documents.DOCUMENTS, documents.SHEET, *slides, documents.STYLE, documents.SCRIPT])
-        yield "the files of a site", wanted, names
+        expected = sorted([*page, *documents.DOCUMENTS, documents.SHEET, *slides, documents.STYLE, documents.SCRIPT])
+        yield "the files of a site", expected, names
         for name in ("one.html", *(f"site/{it}" for it in names)):
             with open(f"{folder}/{name}", encoding="utf-8") as stream:
                 text = stream.read()
@@ -184,8 +184,8 @@ def check_commands() -> Iterator[Comparison]:
         views = [it.fields for it in commands.list_views(f"{text_command} | {lw_command}")]
         yield f"the link of {text_command} | {lw_command}", [{"text": text, **fields}], views
     loop = 'for schedule in "P0" "P0 P1"; do ./lw replay "$schedule" < examples/SB-x86.litmus | grep at; done'
-    wanted = [("run SB-x86 so: P0", "P0"), ("run SB-x86 so: P0 P1", "P0 P1")]
-    yield "a command for each of some words", wanted, [(it.words, it.fields["schedule"]) for it in commands.list_views(loop)]
+    expected = [("run SB-x86 so: P0", "P0"), ("run SB-x86 so: P0 P1", "P0 P1")]
+    yield "a command for each of some words", expected, [(it.words, it.fields["schedule"]) for it in commands.list_views(loop)]
     faulty = "printf 'SRC Mine\\n{}\\n P0 ;\\n x = 1 ;\\nexists (x=1)\\n'"
     shown_fault = [it.words for it in commands.list_views(f"{faulty} | ./lw states")]
     yield "a command that asks about a text with a fault shows the fault", [commands.FAULT], shown_fault
@@ -311,9 +311,9 @@ def compare_module_answers(
                     yield f"the module {module_name}", "it is taken", "it is refused"
                     continue
                 for name, cases in itertools.groupby(questions, lambda it: it[0]):
-                    _, words, texts, wanted = zip(*cases)
+                    _, words, texts, expected = zip(*cases)
                     got = user.run("return answers(arguments[0])", list(zip(words, (it.decode() for it in texts))))
-                    yield f"the module {module_name}: {name}", list(wanted), got
+                    yield f"the module {module_name}: {name}", list(expected), got
         finally:
             user.driver.quit()
 

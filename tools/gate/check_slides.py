@@ -65,11 +65,11 @@ def check_page(page: str) -> Iterator[Comparison]:
     yield "the same bytes again", True, page == make_slides.make_page()
     prediction, by_hand = titles.index("Predict") + 1, titles.index("Now by hand") + 1
     lines = re.findall(r"^\| \d+ to \d+ \| Slides (\d+) to (\d+): ", read_file("docs/LAB.md"), re.M)
-    wanted = [(1, prediction), (prediction + 1, by_hand), (by_hand + 1, COUNT)]
-    yield "the timetable has the slides, those up to the prediction first", wanted, [(int(first), int(last)) for first, last in lines]
+    expected = [(1, prediction), (prediction + 1, by_hand), (by_hand + 1, COUNT)]
+    yield "the timetable has the slides, those up to the prediction first", expected, [(int(first), int(last)) for first, last in lines]
     front = page.split('<section class="slide">')[: by_hand + 1]
-    shown = set(re.findall(r'data-kind="(\w+)" data-test="([\w-]+)"', "".join(front)))
-    yield "before the tasks no slide shows what they ask for", set(), shown - BEFORE
+    shown_kinds = set(re.findall(r'data-kind="(\w+)" data-test="([\w-]+)"', "".join(front)))
+    yield "before the tasks no slide shows what they ask for", set(), shown_kinds - BEFORE
     yield "each slide has a note", COUNT, page.count("<aside>")
     yield "no slide shows cache lines", [], re.findall(r">lines [^<]*<", page)
     yield "sheet and slide ask the same of task 1", (True, True), (SAID in page, SAID in " ".join(read_file("docs/LAB.md").split()))
@@ -79,9 +79,9 @@ def check_lists(page: str, tests: dict[str, bytes]) -> Iterator[Comparison]:
     """Checks the texts and the lists."""
     lists = LIST.findall(page)
     yield "how many lists there are", True, sum(kind == "states" for kind, _, _ in lists) >= 2
-    for kind, name, shown in lists:
-        wanted = tests[name].decode() if kind == "code" else ask_program(["states"], tests[name])
-        yield f"the {kind} of {name}", wanted, unescape(shown)
+    for kind, name, text in lists:
+        expected = tests[name].decode() if kind == "code" else ask_program(["states"], tests[name])
+        yield f"the {kind} of {name}", expected, unescape(text)
 
 
 def parse_picture(svg: str) -> tuple[list[list[str]], list[str] | None]:
@@ -105,9 +105,9 @@ def format_words(pairs: list[tuple[str, int]]) -> list[str]:
     return [f"{name}={word}" for name, word in pairs]
 
 
-def find_buffer(shown: list[str]) -> int:
+def find_buffer(words: list[str]) -> int:
     """Returns where the store buffer starts in what is shown of a thread."""
-    return shown.index("store buffer") if "store buffer" in shown else len(shown)
+    return words.index("store buffer") if "store buffer" in words else len(words)
 
 
 def compare_state(subject: str, svg: str, state: State) -> Iterator[Comparison]:

@@ -73,9 +73,9 @@ def find_function_faults(log: str, page: str) -> Iterator[str]:
     """Yields how the functions of the report differ from the page's rows."""
     rows = ROW.findall(page)
     for crate, (names, count) in read_reached(log).items():
-        own = [it for it in rows if it.startswith(f"{crate}::")]
-        if len(own) != count or own[: len(names)] != names:
-            yield f"docs/TRUSTED.md lists {len(own)} functions of {crate}, {', '.join(own)}; the verdict reaches {count}, {', '.join(names)} first"
+        rows_of_crate = [it for it in rows if it.startswith(f"{crate}::")]
+        if len(rows_of_crate) != count or rows_of_crate[: len(names)] != names:
+            yield f"docs/TRUSTED.md lists {len(rows_of_crate)} functions of {crate}, {', '.join(rows_of_crate)}; the verdict reaches {count}, {', '.join(names)} first"
     for crate in sorted({it.partition("::")[0] for it in rows} - set(read_reached(log))):
         yield f"docs/TRUSTED.md lists functions of {crate}, of which the verdict reaches none"
 
@@ -89,9 +89,9 @@ def list_linked_files(text: str) -> list[list[str]]:
 
 def find_link_faults(log: str, page: str) -> Iterator[str]:
     """Yields how the linked files differ from the page's, if the log says what was linked."""
-    linked, shown = list_linked_files(log), list_linked_files(page)
-    if linked and shown[:1] != linked[:1]:
-        yield f"docs/TRUSTED.md has linked {', '.join(shown[0] if shown else ['nothing'])}, and the verdict {', '.join(linked[0])}"
+    linked, documented = list_linked_files(log), list_linked_files(page)
+    if linked and documented[:1] != linked[:1]:
+        yield f"docs/TRUSTED.md has linked {', '.join(documented[0] if documented else ['nothing'])}, and the verdict {', '.join(linked[0])}"
 
 
 def find_differences(log: str, page: str) -> list[str] | None:

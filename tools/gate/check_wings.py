@@ -66,12 +66,12 @@ def find_named_crates(text: str) -> set[str]:
 def find_dependency_paths(crate: str, below: dict[str, list[str]]) -> dict[str, list[str]]:
     """Returns the crates on which a crate depends, each with the crates on the way to it."""
     paths = {}
-    waiting = [(it, [crate, it]) for it in below.get(crate, [])]
-    while waiting:
-        name, way = waiting.pop(0)
+    queue = [(it, [crate, it]) for it in below.get(crate, [])]
+    while queue:
+        name, path = queue.pop(0)
         if name not in paths:
-            paths[name] = way
-            waiting += [(it, [*way, it]) for it in below.get(name, [])]
+            paths[name] = path
+            queue += [(it, [*path, it]) for it in below.get(name, [])]
     return paths
 
 

@@ -118,20 +118,20 @@ def count_edits(crate: str) -> int:
     return sum(it.endswith(".edit") for it in os.listdir(folder)) if os.path.isdir(folder) else 0
 
 
-def format_minutes(minutes: dict[Work, float], whole: float) -> Iterator[str]:
+def format_minutes(minutes: dict[Work, float], total: float) -> Iterator[str]:
     """Returns a line for each crate: its minutes by part, if there are any, and the number of its wrong bodies; and one for the rest."""
-    shown = lambda taken: "-" if taken is None else f"{taken:.1f}"
+    format_seconds = lambda taken: "-" if taken is None else f"{taken:.1f}"
     for crate in read_crates():
-        proof, wrong, tests = (shown(minutes.get((crate, part))) for part in PARTS)
+        proof, wrong, tests = (format_seconds(minutes.get((crate, part))) for part in PARTS)
         yield f"{crate} {proof} {wrong} {count_edits(crate) or '-'} {tests}"
-    yield f"other {whole - sum(minutes.values()):.1f}"
+    yield f"other {total - sum(minutes.values()):.1f}"
 
 
 def describe_commit() -> str:
     """Returns the commit that is checked, and whether files differ from it."""
-    how: dict[str, Any] = {"cwd": HOME, "capture_output": True, "text": True, "check": False}
-    name = subprocess.run(["git", "rev-parse", "--short", "HEAD"], **how).stdout.strip() or "no commit"
-    changed = subprocess.run(["git", "status", "--porcelain", "--untracked-files=no"], **how).stdout
+    options: dict[str, Any] = {"cwd": HOME, "capture_output": True, "text": True, "check": False}
+    name = subprocess.run(["git", "rev-parse", "--short", "HEAD"], **options).stdout.strip() or "no commit"
+    changed = subprocess.run(["git", "status", "--porcelain", "--untracked-files=no"], **options).stdout
     return f"{name} with changes" if changed else name
 
 
@@ -145,8 +145,8 @@ def run_and_measure(arguments: list[str]) -> tuple[int, dict[Work, float], float
         for line in ran.stdout or ():
             print(line, end="", flush=True)
     after = os.times()
-    whole = after.children_user + after.children_system - before.children_user - before.children_system
-    return ran.returncode, watch.measure_minutes(), whole / 60, (time.monotonic() - began) / 60
+    total = after.children_user + after.children_system - before.children_user - before.children_system
+    return ran.returncode, watch.measure_minutes(), total / 60, (time.monotonic() - began) / 60
 
 
 def main() -> int:
@@ -158,14 +158,14 @@ def main() -> int:
     arguments = reader.parse_args()
     if not arguments.command:
         reader.error("a COMMAND is missing")
-    status, minutes, whole, passed = run_and_measure(arguments.command)
+    status, minutes, total, passed = run_and_measure(arguments.command)
     with open(arguments.into, "w" if arguments.row is None else "a", encoding="utf-8") as file:
         if arguments.row is None:
             processors = len(os.sched_getaffinity(0))
             file.write(f"# The gate of {describe_commit()} on {processors} processors, of which rt ci took {passed:.0f} minutes by the clock.\n")
-            file.writelines(f"{line}\n" for line in format_minutes(minutes, whole))
+            file.writelines(f"{line}\n" for line in format_minutes(minutes, total))
         else:
-            file.write(f"{arguments.row} {whole:.1f}\n")
+            file.write(f"{arguments.row} {total:.1f}\n")
     return status
 
 

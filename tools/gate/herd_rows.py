@@ -109,24 +109,24 @@ class WideRow:
 
     def make_with_memory(self, a: str, register: str, word: int, _: str) -> str:
         """Returns an instruction with the location."""
-        old, kind = self.x % WORDS[self.bits], self.random.randint(0, 5)
+        old_word, kind = self.x % WORDS[self.bits], self.random.randint(0, 5)
         if kind == 0:
-            self.set_register(a, old)
+            self.set_register(a, old_word)
             return f"mov (x),{register}"
         if kind == 1:
             self.store_word(word)
             return f"mov {register},(x)"
         if kind == 2:
-            self.store_word(self.set_flag(old + 1))
+            self.store_word(self.set_flag(old_word + 1))
             return "inc (x)"
         if kind == 3:
-            self.store_word(self.set_flag(old - 1))
+            self.store_word(self.set_flag(old_word - 1))
             return "lock_dec (x)"
         if kind == 4:
-            self.set_register(a, old)
-            self.store_word(self.set_flag(old + word))
+            self.set_register(a, old_word)
+            self.store_word(self.set_flag(old_word + word))
             return f"lock_xadd {register},(x)"
-        self.set_register(a, old)
+        self.set_register(a, old_word)
         self.store_word(word)
         return f"xchg {register},(x)"
 
@@ -206,8 +206,8 @@ class SpelledRow:
         """Returns a location as an operand."""
         if self.is_att:
             return self.random.choice([f"({name})", f"{name}(%rip)", name] + [f"[{name}]"] * self.is_mixed)
-        own = [f"[{name}]", f"DWORD PTR [{name}]", f"dword ptr {name}[rip]", f"[rip+{name}]"]
-        return self.random.choice(own + [f"({name})"] * self.is_mixed)
+        spellings = [f"[{name}]", f"DWORD PTR [{name}]", f"dword ptr {name}[rip]", f"[rip+{name}]"]
+        return self.random.choice(spellings + [f"({name})"] * self.is_mixed)
 
     def spell_number(self, number: int) -> str:
         """Returns a number as an operand."""

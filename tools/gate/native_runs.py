@@ -148,9 +148,9 @@ def make_declarations(converter: Converter, sites: list[Seen | Global]) -> str:
     copies = lambda to_name, from_name: "".join(f" memcpy({to_name}_{n}, {from_name}_{n}, {size});" for n, size in stored)
     lines += [f"static void keep(void) {{{copies('kept', 'object')} }}", f"static void reset(void) {{{copies('object', 'kept')} }}"]
     zeros = "".join(f" lw_seen_{name} = 0;" for name in names)
-    shown = "".join(f" into[{index}] = lw_seen_{name};" for index, name in enumerate(names))
+    statements = "".join(f" into[{index}] = lw_seen_{name};" for index, name in enumerate(names))
     switch = "".join(f" case {thread}: returned = P{thread}(); break;" for thread in range(count))
-    body = f"unsigned returned = 0;{zeros} switch (thread) {{{switch} }}{shown} into[{len(names)}] = returned;"
+    body = f"unsigned returned = 0;{zeros} switch (thread) {{{switch} }}{statements} into[{len(names)}] = returned;"
     lines.append(f"static void run(long thread, uint64_t *into) {{ {body} }}")
     looks = "".join(f" state[{index}] = {make_expression(converter, site, names, objects)};" for index, site in enumerate(sites))
     lines.append(f"static uint64_t results[THREADS][{max(len(sites), len(names)) + 1}];\nstatic void look(uint64_t *state) {{{looks} }}")
@@ -194,9 +194,9 @@ def parse_native(printed: str, sites: list[Seen | Global]) -> Native:
     counts: dict[str, int] = {}
     for line in re.findall(r"^state (.*)$", printed, re.M):
         count, *words = map(int, line.split())
-        shown = [f"&{strip_prefix(objects[word % 2**32])}" if word > 65535 and word % 2**32 in objects else str(word) for word in words]
+        values = [f"&{strip_prefix(objects[word % 2**32])}" if word > 65535 and word % 2**32 in objects else str(word) for word in words]
         names = [f"{site.thread}:{site.name}" if isinstance(site, Seen) else strip_prefix(site.name) for site in sites]
-        key = " ".join(sorted(f"{name}={word};" for name, word in zip(names, shown)))
+        key = " ".join(sorted(f"{name}={word};" for name, word in zip(names, values)))
         counts[key] = counts.get(key, 0) + count
     return Native(counts)
 
@@ -210,8 +210,8 @@ def compare_with_list(path: str, compiler: str, seconds: float, tries: int) -> t
     answer = make_answer(converter)
     native = run_native(converter, demangle_assembly(raw), compiler, seconds)
     lines = answers.filter_state_lines(answer.report)
-    shown: set[str] = {it.partition("=")[0] for line in lines for it in line.replace(";", "").split()}
-    reduced = lambda line: " ".join(it for it in line.split() if it.partition("=")[0] in shown)
+    names: set[str] = {it.partition("=")[0] for line in lines for it in line.replace(";", "").split()}
+    reduced = lambda line: " ".join(it for it in line.split() if it.partition("=")[0] in names)
     seen: set[str] = {reduced(it) for it in native.counts}
     listed = {" ".join(sorted(it.split())) for it in lines}
     return sorted(seen - listed), len(seen & listed), len(listed), native.runs, bool(answer.bounded)
@@ -236,8 +236,8 @@ def main() -> int:
                 print(f"{os.path.basename(path)} by {compiler}: {why.args[0] if why.args else why}", flush=True)
                 continue
             count, faults = count + 1, faults + bool(beyond and not is_bounded)
-            mark = f" (the list has runs with at most {arguments.tries} passes of a loop)" if is_bounded else ""
-            print(f"{os.path.basename(path)} by {compiler}: {seen} of {listed} states seen in {runs} runs, beyond {beyond[:3]}{mark}", flush=True)
+            limit = f" (the list has runs with at most {arguments.tries} passes of a loop)" if is_bounded else ""
+            print(f"{os.path.basename(path)} by {compiler}: {seen} of {listed} states seen in {runs} runs, beyond {beyond[:3]}{limit}", flush=True)
     print(f"{count} programs, {faults} beyond")
     return 1 if faults or not count else 0
 

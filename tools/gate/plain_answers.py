@@ -153,10 +153,10 @@ def make_ending(text: bytes, state: State) -> Answer | None:
     return {"line": line, "condition": condition, "holds": make_marker(text)(line)}
 
 
-def find_schedule(text: bytes, wanted: str) -> str:
+def find_schedule(text: bytes, state: str) -> str:
     """Returns the schedule that the program lists to a state. Raises NoAnswer if there is none."""
     lines = ask(["schedules"], text).splitlines()[2:]
-    schedule = dict(zip(lines[::2], lines[1::2])).get(wanted)
+    schedule = dict(zip(lines[::2], lines[1::2])).get(state)
     if schedule is None:
         raise NoAnswer("The test does not end in that state.")
     return schedule.strip()
@@ -206,10 +206,10 @@ def answer_film(text: bytes, state: str, protocol: str) -> Answer:
     schedule = find_schedule(text, state)
     is_source = read_language(text) == "SRC"
     film = make_film(ask(["compile"], text).encode() if is_source else text, schedule, protocol)
-    shown: dict[str, Film | None] = {"x86": film}
+    films: dict[str, Film | None] = {"x86": film}
     if is_source:
-        shown["source"] = make_source_film(text, film, state)
-    return {"state": state, "schedule": schedule, "films": shown}
+        films["source"] = make_source_film(text, film, state)
+    return {"state": state, "schedule": schedule, "films": films}
 
 
 def answer_moves(text: bytes, schedule: str, protocol: str, whole: bool = False) -> Answer:

@@ -93,7 +93,7 @@ class Page:
 
 def fits(term: Term, columns: int, tail: int = 0) -> bool:
     """Returns whether a term, and this number of columns after it, fit on a line."""
-    return not term.chained and len(term.flat) + tail <= columns
+    return not term.is_chained and len(term.flat) + tail <= columns
 
 
 def is_apart(term: Term | None, page: Page) -> bool:
@@ -112,9 +112,9 @@ def find_opening(term: Term) -> str | None:
         return join_before(f"{term.opening}{term.before}", find_opening(term.inner))
     if isinstance(term, Lambda):
         return join_before(f"{term.head} ", find_opening(term.body)) or term.head
-    if isinstance(term, Application) and not any(it.chained for it in term.parts[:-1]):
+    if isinstance(term, Application) and not any(it.is_chained for it in term.parts[:-1]):
         return join_before("".join(f"{it.flat} " for it in term.parts[:-1]), find_opening(term.parts[-1]))
-    if isinstance(term, Chain) and not (term.first.chained or any(it.chained for _, it in term.others[:-1])):
+    if isinstance(term, Chain) and not (term.first.is_chained or any(it.is_chained for _, it in term.others[:-1])):
         first = " ".join([term.first.flat, *(f"{operator} {it.flat}" for operator, it in term.others[:-1]), term.others[-1][0], ""])
         return join_before(first, find_opening(term.others[-1][1]))
     return None
@@ -122,7 +122,7 @@ def find_opening(term: Term) -> str | None:
 
 def find_rows_opening(rows: Rows) -> str | None:
     """Returns what precedes the first item of some rows, or `None`."""
-    if not rows.items or rows.head and rows.head.chained:
+    if not rows.items or rows.head and rows.head.is_chained:
         return None
     return f"{rows.head.flat} {rows.opening}" if rows.head else rows.opening
 
@@ -342,11 +342,11 @@ def lay_out_text(text: str) -> str:
 def check_texts() -> int:
     """Checks that the texts of layout_texts.py are laid out as they say, and stay so. Prints what differs, and returns how many pass."""
     passed = 0
-    for text, wanted in TEXTS:
-        layouts = lay_out_text(text), lay_out_text(wanted)
-        passed += layouts == (wanted, wanted)
-        if layouts != (wanted, wanted):
-            print(f"a text is laid out so:\n{layouts[0] if layouts[0] != wanted else layouts[1]}\nwanted:\n{wanted}")
+    for text, expected in TEXTS:
+        layouts = lay_out_text(text), lay_out_text(expected)
+        passed += layouts == (expected, expected)
+        if layouts != (expected, expected):
+            print(f"a text is laid out so:\n{layouts[0] if layouts[0] != expected else layouts[1]}\nwanted:\n{expected}")
     return passed
 
 
@@ -367,8 +367,8 @@ def check_file(path: str, is_writing: bool) -> bool:
 
 def comparisons() -> Iterator[Comparison]:
     """Returns how each text of layout_texts.py is laid out, and the proofs that are not in this layout: for tools/check_documents.py."""
-    for text, wanted in TEXTS:
-        yield "a proof's layout (tools/gate/proof_layout.py)", (wanted, wanted), (lay_out_text(text), lay_out_text(wanted))
+    for text, expected in TEXTS:
+        yield "a proof's layout (tools/gate/proof_layout.py)", (expected, expected), (lay_out_text(text), lay_out_text(expected))
     paths = antt.list_files("proofs/**/*.antt")
     yield "there are proofs to lay out", True, len(paths) > 500
     others = [os.path.relpath(it, HOME) for it in paths if lay_out_text(read_text(it)) != read_text(it)]

@@ -274,17 +274,17 @@ class Interpreter:
         """Returns the values of variables and locations at the ends of all runs."""
         count = len(self.program.threads)
         first = Place((0,) * count, ((0,) * (ADDRESS + 1),) * count, ((),) * count, tuple(self.program.first))
-        seen, waiting = {first}, [first]
+        seen, queue = {first}, [first]
         ends: set[End] = set()
-        while waiting:
-            state = waiting.pop()
+        while queue:
+            state = queue.pop()
             following = [it for thread in range(count) for it in self.list_successors(state, thread)]
             if not following:
                 ends.add((state.registers, state.memory))
             for successor in following:
                 if successor not in seen:
                     seen.add(successor)
-                    waiting.append(successor)
+                    queue.append(successor)
         return ends
 
     def list_successors(self, state: Place, thread: int) -> list[Place]:
@@ -368,10 +368,10 @@ def compare_program(program: Program, compiler: str) -> str:
     except (Refused, given.Fault) as why:
         return f"refused: {why.args[0]}"
     shown = {it.partition("=")[0] for line in states for it in line.replace(";", "").split()}
-    wanted = list_expected(program, shown)
-    if states == wanted:
+    expected = list_expected(program, shown)
+    if states == expected:
         return "same"
-    return f"differs: listed only {sorted(states - wanted)[:2]}, expected only {sorted(wanted - states)[:2]}"
+    return f"differs: listed only {sorted(states - expected)[:2]}, expected only {sorted(expected - states)[:2]}"
 
 
 def compare_random_program(seed: int, compilers: list[str], count: int) -> list[tuple[str, str, str]]:

@@ -133,8 +133,8 @@ class Sentences(cases.Case):
 
     def test_on_machine(self) -> None:
         """tools/on_machine.py: whether its list is proved."""
-        wanted = ["lw, proved complete", f"{STALE}, not proved"]
-        self.assertEqual(wanted, list(self.list_sentences(lambda: make_list(make_subject(read(SB), False)).describe_maker())))
+        expected = ["lw, proved complete", f"{STALE}, not proved"]
+        self.assertEqual(expected, list(self.list_sentences(lambda: make_list(make_subject(read(SB), False)).describe_maker())))
 
     def test_methods(self) -> None:
         """tools/run_all.py: each maker has a method, which says `not proved` if that is so."""

@@ -66,9 +66,9 @@ def extend_with_cmpxchg(instruction_step: Step) -> Step:
             return instruction_step(instruction, cpu, processor, memory)
         if processor.buffer:
             raise plain.Refused(5, "SwapWaits")
-        wanted, new = processor.registers[0], processor.registers[instruction.register]
-        old = memory.exchange(cpu, instruction.location, lambda old: new if old == wanted else old)
-        return processor.set_register(0, old)._replace(zero=old == wanted)
+        expected_word, new = processor.registers[0], processor.registers[instruction.register]
+        old = memory.exchange(cpu, instruction.location, lambda old: new if old == expected_word else old)
+        return processor.set_register(0, old)._replace(zero=old == expected_word)
 
     return step
 
@@ -159,11 +159,11 @@ class Loops(cases.Case):
     def test_tries(self) -> None:
         """Each number of tries has the states of the loop itself."""
         for text in LOOPS:
-            wanted = plain.make_report(restore_loops(text))
+            expected = plain.make_report(restore_loops(text))
             spelled = text.replace("{0}", "LOOP: ").replace("{1}", "LOOP")
             for tries in (1, 2, 3):
                 with self.subTest(spelled, tries=tries):
-                    self.assertEqual(wanted, make_merged_report(convert(spelled, tries).conversions)[0])
+                    self.assertEqual(expected, make_merged_report(convert(spelled, tries).conversions)[0])
 
 
 # Jumps backward, by copies of a whole thread, one for each time that the thread may jump backward.
@@ -216,22 +216,22 @@ def list_successors(cells: list[JumpCell], index: int) -> set[int]:
 
 def is_on_cycle(cells: list[JumpCell], index: int) -> bool:
     """Returns whether a run may come to a cell twice, as far as its branches say."""
-    seen, waiting = set(), [index]
-    while waiting:
-        for follower in list_successors(cells, waiting.pop()):
+    seen, queue = set(), [index]
+    while queue:
+        for follower in list_successors(cells, queue.pop()):
             if follower < len(cells) and follower not in seen:
                 seen.add(follower)
-                waiting.append(follower)
+                queue.append(follower)
     return index in seen
 
 
 def list_reachable(cells: list[JumpCell]) -> set[int]:
     """Returns the cells that some way leads to from the first."""
-    seen, waiting = {0}, [0]
-    while waiting:
-        new = {it for it in list_successors(cells, waiting.pop()) if it < len(cells)} - seen
+    seen, queue = {0}, [0]
+    while queue:
+        new = {it for it in list_successors(cells, queue.pop()) if it < len(cells)} - seen
         seen |= new
-        waiting += new
+        queue += new
     return seen
 
 
@@ -326,10 +326,10 @@ class Jumps(cases.Case):
 
     def test_no_loops(self) -> None:
         """Jumps backward that close no loop need no number of tries, and no state is missing."""
-        for seed, threads, wanted in islice(list_random_threads(False), RANDOM_JUMPS):
+        for seed, threads, expected in islice(list_random_threads(False), RANDOM_JUMPS):
             for tries in (0, 1):
                 with self.subTest(seed=seed, tries=tries):
-                    self.assertEqual(wanted, list_states_by_assumption(threads, tries))
+                    self.assertEqual(expected, list_states_by_assumption(threads, tries))
 
     def test_loops(self) -> None:
         """Loops, in one another too: no state of a run that jumps backward less often than there are tries is missing, and each state is

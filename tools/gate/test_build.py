@@ -55,11 +55,11 @@ def list_moments(pace: float) -> Iterator[tuple[Bounds, float]]:
     estimate, end = Estimate(plan, list(RECORD)), max(row[3] for row in RECORD.values())
     for now in sorted({0, *(row[3] for row in RECORD.values())} - {end}):
         proved = [name for name, row in RECORD.items() if row[3] <= now]
-        waiting = [name for name, row in RECORD.items() if row[2] >= now]
-        running = [it for it in RECORD if it not in proved and it not in waiting]
+        waiting_crates = [name for name, row in RECORD.items() if row[2] >= now]
+        running = [it for it in RECORD if it not in proved and it not in waiting_crates]
         shares = {it: Running((RECORD[it][3] - now) / (RECORD[it][3] - RECORD[it][2]), jobs[it]) for it in running}
-        yield estimate.find_bounds(waiting, shares, now * pace / 60), (end - now) * pace / 60
-        jobs.update(plan.choose_next_jobs(waiting, running))
+        yield estimate.find_bounds(waiting_crates, shares, now * pace / 60), (end - now) * pace / 60
+        jobs.update(plan.choose_next_jobs(waiting_crates, running))
 
 
 def are_within(bounds: Bounds, minutes: float) -> bool:
@@ -97,9 +97,9 @@ class Minutes(cases.Case):
 
     def test_processors(self) -> None:
         """More processors take less, and never less than the longest chain of crates with as many jobs as help."""
-        whole = [make_plan(RECORD, processors).estimate_minutes(list(RECORD), {}) for processors in (1, 2, 4, 8, 64)]
-        self.assertEqual(sorted(whole, reverse=True), whole)
-        self.assertTrue(round(whole[-1], 6) >= round(make_plan(RECORD).find_chain_minutes("lw_base") / find_speed(MAX_JOBS), 6))
+        minutes = [make_plan(RECORD, processors).estimate_minutes(list(RECORD), {}) for processors in (1, 2, 4, 8, 64)]
+        self.assertEqual(sorted(minutes, reverse=True), minutes)
+        self.assertTrue(round(minutes[-1], 6) >= round(make_plan(RECORD).find_chain_minutes("lw_base") / find_speed(MAX_JOBS), 6))
 
     def test_spelling(self) -> None:
         """Bounds in words: whole minutes, at least one, and one number if both are the same."""

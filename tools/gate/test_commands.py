@@ -46,11 +46,11 @@ def run_module(*arguments: str) -> subprocess.CompletedProcess:
     return subprocess.run([sys.executable, TOOLS, *arguments], capture_output=True, text=True, cwd=os.path.sep, check=False)
 
 
-def run_without_reader(arguments: list[str], text: str = "", both: bool = False) -> tuple[str, int]:
+def run_without_reader(arguments: list[str], text: str = "", closes_both: bool = False) -> tuple[str, int]:
     """Returns what a command prints on standard error, and its exit status, when nobody reads its standard output; or neither stream."""
     reading, writing = os.pipe()
     os.close(reading)
-    errors = writing if both else subprocess.PIPE
+    errors = writing if closes_both else subprocess.PIPE
     command = [sys.executable, os.path.join(TOOLS, arguments[0]), *arguments[1:]]
     ran = subprocess.run(command, input=text.encode(), stdout=writing, stderr=errors, cwd=HOME, check=False)
     os.close(writing)
@@ -143,7 +143,7 @@ class Pipes(cases.Case):
         for words in QUICK:
             if words[0] != "cycles.py":
                 with self.subTest(words[0]):
-                    self.assertEqual(("", start.CLOSED), run_without_reader([*words[:-1], "no-such-file"], both=True))
+                    self.assertEqual(("", start.CLOSED), run_without_reader([*words[:-1], "no-such-file"], closes_both=True))
 
     def test_full_disk(self) -> None:
         """An output that can't be written is told, with status 1."""

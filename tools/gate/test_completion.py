@@ -116,9 +116,9 @@ class Shells(cases.Case):
 
     def compare(self, offered: Callable[[str], list[str]]) -> None:
         """Compares what a shell offers with the table. `offered` returns it for some words."""
-        for words, wanted in COMPLETED:
+        for words, expected in COMPLETED:
             with self.subTest(words):
-                self.assertEqual(sorted(wanted.split()), sorted(offered(words)))
+                self.assertEqual(sorted(expected.split()), sorted(offered(words)))
 
     @unittest.skipIf("bash" in list_missing_shells(), "bash is missing")
     def test_bash(self) -> None:
@@ -133,11 +133,11 @@ class Shells(cases.Case):
     @unittest.skipIf("zsh" in list_missing_shells(), "zsh is missing")
     def test_zsh_in_terminal(self) -> None:
         """zsh finds the function by its first line, and completes a word in a terminal."""
-        for words, whole in (("lw sch", "lw schedules "), ("lw-fences --ev", "lw-fences --everything "), ("beyond --search sta", "beyond --search states ")):
+        for words, completed in (("lw sch", "lw schedules "), ("lw-fences --ev", "lw-fences --everything "), ("beyond --search sta", "beyond --search states ")):
             with self.subTest(words):
-                self.assertIn(whole, self.type_in_zsh(words, whole))
+                self.assertIn(completed, self.type_in_zsh(words, completed))
 
-    def type_in_zsh(self, words: str, whole: str) -> str:
+    def type_in_zsh(self, words: str, completed: str) -> str:
         """Returns what a terminal shows in which zsh runs and words are typed, with a tab after them, until it shows the whole."""
         child, terminal = pty.fork()
         if not child:
@@ -147,7 +147,7 @@ class Shells(cases.Case):
             os.write(terminal, f"fpath=({folder} $fpath); autoload -U compinit; compinit -u -d {self.room}/dump; print ready $((1+1))\n".encode())
             self.read_terminal_until(terminal, "ready 2")
             os.write(terminal, f"{words}\t".encode())
-            return self.read_terminal_until(terminal, whole)
+            return self.read_terminal_until(terminal, completed)
         finally:
             os.kill(child, 9)
             os.waitpid(child, 0)

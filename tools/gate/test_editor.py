@@ -156,8 +156,8 @@ def list_patterns(value: object) -> list[str]:
         return [it for each in value for it in list_patterns(each)]
     if not isinstance(value, dict):
         return []
-    own = [it for key, it in value.items() if key in ("match", "begin", "end", "while")]
-    return own + [it for each in value.values() for it in list_patterns(each)]
+    patterns = [it for key, it in value.items() if key in ("match", "begin", "end", "while")]
+    return patterns + [it for each in value.values() for it in list_patterns(each)]
 
 
 def list_wanted_scopes(language: str, kind: str, token: str, is_address: bool) -> tuple[str, ...]:
@@ -167,7 +167,7 @@ def list_wanted_scopes(language: str, kind: str, token: str, is_address: bool) -
     if is_address and token.upper() not in plain.REGISTERS[language]:
         return NAMES
     upper = token.upper() if language == "X86" else token
-    named = {
+    words_by_scope = {
         "keyword.control.question": words.QUESTIONS,
         "constant.language": words.CONSTANTS,
         "keyword.operator.logical": words.NEGATION,
@@ -175,7 +175,7 @@ def list_wanted_scopes(language: str, kind: str, token: str, is_address: bool) -
         "keyword.control": words.X86 if language == "X86" else words.SOURCE,
         "keyword.other.fence": words.X86_WAITING if language == "X86" else words.SOURCE_WHOLE,
     }
-    return tuple(scope for scope, these in named.items() if upper in these or token in these) or NAMES
+    return tuple(scope for scope, these in words_by_scope.items() if upper in these or token in these) or NAMES
 
 
 def read_table_words(heading: str) -> set[str]:
@@ -267,8 +267,8 @@ class Page(cases.Case):
 
     def test_examples(self) -> None:
         """Each word of each example has a scope of the kind that the page shows it as, except in a test's name, which the page takes for words."""
-        colours, named = Colours(grammar.make_grammar()), examples()
-        for (name, text), pieces in zip(named, self.color_texts([text for _, text in named])):
+        colours, tests = Colours(grammar.make_grammar()), examples()
+        for (name, text), pieces in zip(tests, self.color_texts([text for _, text in tests])):
             wrong = []
             scopes = colours.find_scopes(text)
             offset = 0

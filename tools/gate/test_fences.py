@@ -114,9 +114,9 @@ class Sets(BySearch):
         for name, text in examples():
             test = plain.compile_test(plain.read_test(text))
             places = fences.list_fences(test)
-            for shown in (test, fences.show_everything(test)) if 1 < len(places) <= 6 else ():
-                whole = list_states_with(shown, places, frozenset(places))
-                is_enough = lru_cache(None)(lambda kept: list_states_with(shown, places, kept) == whole)
+            for variant in (test, fences.show_everything(test)) if 1 < len(places) <= 6 else ():
+                fewest = list_states_with(variant, places, frozenset(places))
+                is_enough = lru_cache(None)(lambda kept: list_states_with(variant, places, kept) == fewest)
                 with self.subTest(name):
                     self.assertEqual(find_all_smallest(places, is_enough), find_smallest_sets(places, is_enough))
 
@@ -203,11 +203,11 @@ class Command(cases.Case):
             ("--everything", read("examples/SB.litmus"), f"Enough, with none to spare, {everything}: P0 at 1, P1 at 1"),
             ("--everything", read("examples/MP.litmus"), f"Enough, with none to spare, {everything}: no fence"),
         )
-        for words, text, wanted in rows:
+        for words, text, expected in rows:
             lines = [it for it in run(["fences.py", *words.split()], text)[0].splitlines() if "with none to spare" in it]
             with self.subTest(words=words, text=text):
-                self.assertEqual(wanted is not None, len(lines) == 1)
-                self.assertTrue(wanted is None or wanted == lines[0] or re.fullmatch(wanted, lines[0]), lines)
+                self.assertEqual(expected is not None, len(lines) == 1)
+                self.assertTrue(expected is None or expected == lines[0] or re.fullmatch(expected, lines[0]), lines)
 
     def test_help(self) -> None:
         """`--help` is answered."""
@@ -216,13 +216,13 @@ class Command(cases.Case):
     def test_exchanges(self) -> None:
         """With `--exchanges`: of each, how many states more there are with a plain store in its place, by the question and by everything."""
         printed = run(["fences.py", "--exchanges", "examples/Peterson+xchg-x86.litmus"])[0].splitlines()
-        wanted = [
+        expected = [
             "P0 at 1, XCHG [turn],EDX, without its lock:",
             "  by its question, ~exists (0:ECX=1 /\\ 1:ECX=1): 1 state more as a plain store",
             "    0:ECX=1; 1:ECX=1;",
             "  by all registers and locations: 3 states more as a load and a plain store",
         ]
-        self.assertEqual(wanted, printed[2:6])
+        self.assertEqual(expected, printed[2:6])
 
     def test_both_questions(self) -> None:
         """A lock that a question does not need, and the algorithm does: no line says that it can go without saying by what, and what

@@ -171,9 +171,9 @@ class Reading(cases.Case):
             ("use a::Ordering::{SeqCst, Relaxed}; f(SeqCst)", None, None),
             ("// X.load(SeqCst)", None, None),
         ):
-            for weaker, wanted in ((1, released), (2, relaxed)):
+            for weaker, expected in ((1, released), (2, relaxed)):
                 with self.subTest(text, weaker=weaker):
-                    self.assertEqual((wanted or text).replace("{}", "::core::sync::atomic::Ordering::"), weaken_rust(text, weaker))
+                    self.assertEqual((expected or text).replace("{}", "::core::sync::atomic::Ordering::"), weaken_rust(text, weaker))
 
     def test_lost_thread(self) -> None:
         """A thread that the assembly lacks is reported."""
@@ -257,7 +257,7 @@ class Values(cases.Case):
     def test_computed(self) -> None:
         """What is computed from a load, word by word."""
         load = "movl x(%rip), %eax"
-        for instructions, wanted in (
+        for instructions, expected in (
             (("addl $3, %eax",), [3, 4, 8]), (("subl $1, %eax",), [0, 4, 2**32 - 1]), (("negl %eax",), [0, 2**32 - 5, 2**32 - 1]),
             (("notl %eax",), [2**32 - 6, 2**32 - 2, 2**32 - 1]), (("andl $4, %eax",), [0, 4]), (("orl $2, %eax",), [2, 3, 7]),
             (("xorl $1, %eax",), [0, 1, 4]), (("shll $2, %eax",), [0, 4, 20]), (("sarl %eax",), [0, 2]), (("imull $3, %eax",), [0, 3, 15]),
@@ -268,25 +268,25 @@ class Values(cases.Case):
             (("btl $2, %eax", "setc %al", "movzbl %al, %eax"), [0, 1]),
         ):
             with self.subTest(instructions):
-                self.assertEqual(wanted, self.list_values(load, *instructions))
+                self.assertEqual(expected, self.list_values(load, *instructions))
 
     def test_conditions(self) -> None:
         """Each condition, after a comparison with 1."""
-        for letters, wanted in (
+        for letters, expected in (
             ("e", [0, 1]), ("ne", [0, 1]), ("b", [0, 1]), ("a", [0, 1]), ("l", [0, 1]), ("ge", [0, 1]), ("s", [0, 1]), ("o", [0]), ("no", [1]),
         ):
             with self.subTest(letters):
-                self.assertEqual(wanted, self.list_values("movl x(%rip), %eax", "cmpl $1, %eax", f"set{letters} %al", "movzbl %al, %eax"))
+                self.assertEqual(expected, self.list_values("movl x(%rip), %eax", "cmpl $1, %eax", f"set{letters} %al", "movzbl %al, %eax"))
 
     def test_signs(self) -> None:
         """An order with signs is another one than an order without."""
         start = ("movl x(%rip), %eax", "subl $1, %eax", "cmpl $3, %eax")
         self.assertEqual([0, 1], self.list_values(*start, "setl %al", "movzbl %al, %eax"))
         writer = "movl $-1, x(%rip)"
-        for letters, wanted in (("l", ["1:r0=1"]), ("b", ["1:r0=0", "1:r0=1"])):
+        for letters, expected in (("l", ["1:r0=1"]), ("b", ["1:r0=0", "1:r0=1"])):
             text = make_program(writer, make_thread("movl x(%rip), %eax", "cmpl $1, %eax", f"set{letters} %al", "movzbl %al, %eax"))
             with self.subTest(letters):
-                self.assertEqual(wanted, list_states(text, "exists (1:r0=0)"))
+                self.assertEqual(expected, list_states(text, "exists (1:r0=0)"))
 
     def test_flags_unknown(self) -> None:
         """Flags that an instruction leaves alone or undefined are refused where they are read."""
@@ -698,8 +698,8 @@ class Compiled(cases.Case):
             for number, (body, waits) in enumerate(bodies.items()):
                 code = require_match(re.search(rf"^f{number}:[^\n]*\n(.*?)^\s*ret", preprocessed, re.M | re.S))[1]
                 with self.subTest(body, compiler=compiler):
-                    wanted = compiler.startswith("gcc") if waits is None else waits
-                    self.compare("from_c", compiler, body, wanted, bool(re.search(r"\b(?:lock|xchg\w*|mfence)\b", code)))
+                    expected = compiler.startswith("gcc") if waits is None else waits
+                    self.compare("from_c", compiler, body, expected, bool(re.search(r"\b(?:lock|xchg\w*|mfence)\b", code)))
 
     def test_documents(self) -> None:
         """docs/FROM-C.md and docs/FENCES.md show what their commands print, if gcc is there and of the version that the lists have."""
@@ -753,8 +753,8 @@ class Compiled(cases.Case):
         text = read("examples/from_c/EventCount.c")
         answer = from_c.convert_source(read_source("a.c", text), list_compilers(".c")[0].split()[0] + " -O2", 1)
         drawn = render_film(*answer, 1, text.splitlines())
-        wanted = [it.strip() for it in format_schedules(*answer).splitlines()[1:5]]
-        for line in {int(require_match(re.search(r"line (\d+)", it))[1]) for it in wanted}:
+        expected = [it.strip() for it in format_schedules(*answer).splitlines()[1:5]]
+        for line in {int(require_match(re.search(r"line (\d+)", it))[1]) for it in expected}:
             self.assertIn(f"line {line}: ", drawn)
         self.assertIn("XCHG [work],EAX  (line 16)", drawn)
         try:

@@ -93,11 +93,11 @@ class BothForms(cases.Case):
         """What is written in a form, and read back, has its own canonical text."""
         for name, text in [*examples(), *list_random_x86_tests()]:
             program = plain.compile_test(plain.read_test(text))
-            wanted = plain.format_canonical_text(program)
+            expected = plain.format_canonical_text(program)
             for form in FORMS:
                 with self.subTest(name, form=form):
                     back = convert(write_herd_text(program, form)).conversions
-                    self.assertEqual([wanted], [plain.format_canonical_text(it.test) for it in back])
+                    self.assertEqual([expected], [plain.format_canonical_text(it.test) for it in back])
 
     def test_own(self) -> None:
         """An x86 test of lw is a test in herd's form."""
@@ -192,9 +192,9 @@ class Rows(cases.Case):
                 lines = plain.make_report(convert(row.make_text()).conversions[0].test).splitlines()[1:3]
             except given.Fault as fault:
                 lines = ["LEA" if fault.args[0].startswith("LEA leaves the flags alone") else fault.args[0]]
-            wanted = ["LEA"] if lines == ["LEA"] and any("LEA" in cell for cell in row.cells) else ["States 1", row.format_state()]
+            expected = ["LEA"] if lines == ["LEA"] and any("LEA" in cell for cell in row.cells) else ["States 1", row.format_state()]
             with self.subTest(row.make_text()):
-                self.assertEqual(wanted, lines)
+                self.assertEqual(expected, lines)
 
 
 def list_only_state(conversion: Converted) -> list[str]:
@@ -287,8 +287,8 @@ class Orders(cases.Case):
         no_mark = "no mark says the order of operands: {} is taken, the destination {}, as in herd's tests of {}"
         of_registers = lambda language: test_of("mov eax,ebx", language=language, condition="exists (0:eax=1)")
         notes = [list_order_notes(of_registers(language)) for language in ("X86", "X86_64")]
-        wanted = [["4:2 " + no_mark.format("Intel's", "first", "X86")], ["4:2 " + no_mark.format("AT&T's", "last", "X86_64")]]
-        self.assertEqual(wanted, notes)
+        expected = [["4:2 " + no_mark.format("Intel's", "first", "X86")], ["4:2 " + no_mark.format("AT&T's", "last", "X86_64")]]
+        self.assertEqual(expected, notes)
         self.assertEqual([["MOV EAX,EBX"], ["MOV EBX,EAX"]], [list_cells(of_registers(language)) for language in ("X86", "X86_64")])
         of_one = test_of("lock incl [z]", "incl (x)", "xchg (x),eax")
         for text in (test_of("MOV [x],$1", language="X86"), test_of("xchg eax,ebx"), test_of("je L", "L:"), of_one):
@@ -564,8 +564,8 @@ class Files(cases.Case):
             second = self.write_file(folder, "second", test_of("mov [x],2", language="X86"))
             out, err, status = run(["from_herd.py", "--into", into, first, second])
             path = os.path.join(into, "Cells.litmus")
-            wanted = f"{second}:1:5: 'Cells' of {second} and a test of {first} have one file name, {path}: "
-            self.assertEqual((wanted, "", 1), (err[: len(wanted)], out, status))
+            expected = f"{second}:1:5: 'Cells' of {second} and a test of {first} have one file name, {path}: "
+            self.assertEqual((expected, "", 1), (err[: len(expected)], out, status))
             self.assertIn("MOV [x],$1", read(path))
             self.assertEqual(("", "", 0), run(["from_herd.py", "--into", into, first]))
             _, err, status = run(["from_herd.py", "--into", into, second])
@@ -574,9 +574,9 @@ class Files(cases.Case):
 
     def test_run_all(self) -> None:
         """run_all.py converts tests in herd's form, and says by which tool; one that is refused says why as a test of both forms."""
-        for name, wanted in (("SB-att", "from_herd.py, X86_64: 1 test"), ("MP+xor", "from_herd.py, X86: 1 test")):
+        for name, expected in (("SB-att", "from_herd.py, X86_64: 1 test"), ("MP+xor", "from_herd.py, X86: 1 test")):
             out, _, status = run(["run_all.py", "--as", "csv", f"tools/herd/tests/{name}.litmus"])
-            self.assertEqual((True, 0), (out.rstrip("\n").endswith(wanted + '"'), status))
+            self.assertEqual((True, 0), (out.rstrip("\n").endswith(expected + '"'), status))
         _, err, status = run(["run_all.py", "tools/herd/tests/Less.litmus"])
         self.assertEqual((True, 1), ("; in herd's form: 'JL' is not converted: it reads another flag" in err, status))
 
@@ -661,8 +661,8 @@ class Logs(cases.Case):
     def test_differences(self) -> None:
         """A difference is told in the original's names."""
         lines, status = self.compare_with_log("--against", self.make_log("SB-addresses").replace("1:r9=0", "1:r9=7", 1), ("SB-addresses",))
-        wanted = ["SB-addresses: missing 1, too much 1", "  missing: 0:R8=0; 1:R9=7;", "  too much: 0:R8=0; 1:R9=0;"]
-        self.assertEqual(([*wanted, "1 tests against 1 of LOG: 1 differ"], 1), (lines, status))
+        expected = ["SB-addresses: missing 1, too much 1", "  missing: 0:R8=0; 1:R9=7;", "  too much: 0:R8=0; 1:R9=0;"]
+        self.assertEqual(([*expected, "1 tests against 1 of LOG: 1 differ"], 1), (lines, status))
 
     def test_missing_guesses(self) -> None:
         """A test some of whose guesses have no file is not compared."""
@@ -685,9 +685,9 @@ class Logs(cases.Case):
         summary = "1 of 2 tests are in the machine's log LOG: {} showed states that are not listed, {} did not show all, 0 are not compared"
         self.assertEqual(([summary.format(0, 1)], 0), (lines, status))
         lines, status = self.compare_with_log("--machine-log", some.replace("1:r9=0", "1:r9=2"), ("SB-addresses", "MP+filter"))
-        wanted = ["SB-addresses: 1 states were seen that are not listed, 4 are listed and were not seen"]
-        wanted.append("  seen and not listed: 0:R8=0; 1:R9=2;")
-        self.assertEqual(([*wanted, summary.format(1, 1)], 3), (lines, status))
+        expected = ["SB-addresses: 1 states were seen that are not listed, 4 are listed and were not seen"]
+        expected.append("  seen and not listed: 0:R8=0; 1:R9=2;")
+        self.assertEqual(([*expected, summary.format(1, 1)], 3), (lines, status))
 
     def test_large_words(self) -> None:
         """A word of more than 32 bits is not the word of its lower half."""

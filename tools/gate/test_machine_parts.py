@@ -204,10 +204,10 @@ class Assembly(cases.Case):
         text = assembly.format_assembly(list_codes(test), test.registers)
         begin, end = text.index("lw_begin_0:\n"), text.index("lw_end_0:\n")
         lines = [it.strip() for it in text[begin:end].splitlines()[1:]]
-        wanted = ["movl $-1,(%r9)", "movl %eax,(%r10)", "movl (%r11),%ebx", "movl $5,%ecx", "movl %edi,%esi", "addl $-1,%eax", "addl %ebx,%eax"]
-        wanted += ["cmpl $0,%edx", "je .Llw_run_0_12", "cmpl %ecx,%edx", "jne .Llw_run_0_12", "jmp .Llw_run_0_13", ".Llw_run_0_12:"]
-        wanted += ["xchgl %edi,(%r12)", ".Llw_run_0_13:", "lock xaddl %eax,(%r13)", "movl $1,(%r14)", "xchgl %eax,(%r15)", "movl (%r8),%eax"]
-        self.assertEqual([*wanted, "jmp .Llw_run_0_18", ".Llw_run_0_18:"], lines)
+        expected = ["movl $-1,(%r9)", "movl %eax,(%r10)", "movl (%r11),%ebx", "movl $5,%ecx", "movl %edi,%esi", "addl $-1,%eax", "addl %ebx,%eax"]
+        expected += ["cmpl $0,%edx", "je .Llw_run_0_12", "cmpl %ecx,%edx", "jne .Llw_run_0_12", "jmp .Llw_run_0_13", ".Llw_run_0_12:"]
+        expected += ["xchgl %edi,(%r12)", ".Llw_run_0_13:", "lock xaddl %eax,(%r13)", "movl $1,(%r14)", "xchgl %eax,(%r15)", "movl (%r8),%eax"]
+        self.assertEqual([*expected, "jmp .Llw_run_0_18", ".Llw_run_0_18:"], lines)
         before = text[:begin].splitlines()
         self.assertEqual("    testq %rsp,%rsp", before[-1])
         self.assertIn("    movl $7,%edx", before)
@@ -230,14 +230,14 @@ class Assembly(cases.Case):
             plain.Statement("store", location=1, value=plain.Register(2)),
             plain.Statement("mfence"),
         )
-        wanted = (
+        expected = (
             plain.Statement("jmp", target=4),
             plain.Statement("scratch", value=plain.Number(1)),
             plain.Statement("movnti", location=0),
             plain.Statement("movnti", location=1, value=plain.Register(2)),
             plain.Statement("mfence"),
         )
-        self.assertEqual(wanted, assembly.make_stores_nontemporal(code))
+        self.assertEqual(expected, assembly.make_stores_nontemporal(code))
         eight = plain.read_test(ALL)
         subject = subjects.Subject(eight, eight, [])
         message = "stores=nontemporal needs a free register, and a test of 8 locations has none"
@@ -257,9 +257,9 @@ class Disassembly(cases.Case):
 
     def test_instructions(self) -> None:
         """Each instruction of a test is read, and no other."""
-        for text, wanted in LINES:
+        for text, expected in LINES:
             with self.subTest(text):
-                self.assertEqual(wanted, disassembly.parse_statement(text, NUMBERS))
+                self.assertEqual(expected, disassembly.parse_statement(text, NUMBERS))
 
     def test_kinds(self) -> None:
         """Those that are read are all that a test has."""
@@ -280,9 +280,9 @@ class Scripts(cases.Case):
             ("P0 D0 P1 D1 P0 P1", ((0, 1), (1, 1), (0, 1), (1, 1))),
             ("P0 D0 P1 P0 D1 P1", ((0, 1), (1, 1))),
         )
-        for schedule, wanted in cut:
+        for schedule, expected in cut:
             with self.subTest(schedule):
-                self.assertEqual(wanted, scripts.make_script(test, schedule))
+                self.assertEqual(expected, scripts.make_script(test, schedule))
 
     def test_all(self) -> None:
         """All scripts of examples do what their threads can do, and lead something."""
@@ -398,9 +398,9 @@ class Logs(cases.Case):
 
     def test_read(self) -> None:
         """tools/shared/logs.py reads the states of a log, and of several in sequence, and nothing else."""
-        wanted = {"SB-x86": {frozenset({f"0:EAX={a}", f"1:EAX={b}"}) for a, b in ((0, 0), (0, 1), (1, 0))}}
-        self.assertEqual(wanted, readers.read_states(LOG.splitlines()))
-        self.assertEqual({**wanted, "B": wanted["SB-x86"]}, readers.read_states((LOG + LOG.replace("SB-x86", "B")).splitlines()))
+        expected = {"SB-x86": {frozenset({f"0:EAX={a}", f"1:EAX={b}"}) for a, b in ((0, 0), (0, 1), (1, 0))}}
+        self.assertEqual(expected, readers.read_states(LOG.splitlines()))
+        self.assertEqual({**expected, "B": expected["SB-x86"]}, readers.read_states((LOG + LOG.replace("SB-x86", "B")).splitlines()))
         result = make_result({(1, 1): 1})
         nothing = subjects.make_subject("X86 N\n{}\n P0 ;\n MOV [x],$1 ;\nexists (true)\n", everything=False)
         log = summary.format_result(result._replace(subject=nothing, listed=result.listed._replace(states=[()]), seen=make_seen({(): 3})))
@@ -414,7 +414,7 @@ class Logs(cases.Case):
                 text = read("examples/SB-x86.litmus").replace("exists (", f"{quantifier} (")
                 lines = logs.format_log(subjects.make_subject(text, everything=False), make_seen(counts))
                 sentences[quantifier, len(counts), (0, 0) in counts] = (lines[-7], lines[-3].endswith(" is NOT validated"), lines[-2].split()[2])
-        wanted = {
+        expected = {
             ("exists", 1, True): ("Ok", False, "Always"),
             ("exists", 1, False): ("No", True, "Never"),
             ("exists", 2, True): ("Ok", False, "Sometimes"),
@@ -425,12 +425,12 @@ class Logs(cases.Case):
             ("forall", 1, False): ("No", True, "Never"),
             ("forall", 2, True): ("No", True, "Sometimes"),
         }
-        self.assertEqual(wanted, sentences)
+        self.assertEqual(expected, sentences)
 
     def test_compared(self) -> None:
         """tools/run_all.py compares a log with the lists, by --machine-log and by --against."""
         not_listed = LOG.replace("0:EAX=1; 1:EAX=0;", "0:EAX=2; 1:EAX=0;")
-        for option, log, seen, wanted in (
+        for option, log, seen, expected in (
             ("--machine-log", LOG, "0 showed states that are not listed, 1 did not show all", 0),
             ("--machine-log", not_listed, "  seen and not listed: 0:EAX=2; 1:EAX=0;", 3),
             ("--against", LOG, "  too much: 0:EAX=1; 1:EAX=1;", 1),
@@ -439,9 +439,9 @@ class Logs(cases.Case):
                 file.write(log)
                 file.flush()
                 _, err, status = run(["run_all.py", "examples/SB-x86.litmus", option, file.name])
-            with self.subTest(option, wanted=wanted):
+            with self.subTest(option, wanted=expected):
                 self.assertIn(seen, err)
-                self.assertEqual(wanted, status)
+                self.assertEqual(expected, status)
 
     def test_not_listed(self) -> None:
         """A state that is not listed is reported, and whose list that is."""
@@ -462,9 +462,9 @@ class Logs(cases.Case):
     def test_json(self) -> None:
         """JSON has the same."""
         summary_read = json.loads(json.dumps(summary.make_json(make_log_result())))
-        seen = [(it["state"], it["count"], it["how"], it["holds"], it["listed"]) for it in summary_read["seen"]]
-        wanted = [("0:EAX=0; 1:EAX=0;", 7, "by a halt", True, True), ("0:EAX=0; 1:EAX=1;", 12345678, "by a race", False, True)]
-        self.assertEqual([*wanted, ("0:EAX=1; 1:EAX=0;", 123456789, "by a race", False, True)], seen)
+        rows = [(it["state"], it["count"], it["how"], it["holds"], it["listed"]) for it in summary_read["seen"]]
+        expected = [("0:EAX=0; 1:EAX=0;", 7, "by a halt", True, True), ("0:EAX=0; 1:EAX=1;", 12345678, "by a race", False, True)]
+        self.assertEqual([*expected, ("0:EAX=1; 1:EAX=0;", 123456789, "by a race", False, True)], rows)
         rest = {name: summary_read[name] for name in ("name", "listed", "not_seen", "not_listed", "runs", "notes", "against")}
         others: dict[str, object] = {"against": None, "name": "SB-x86", "listed": 4, "not_seen": ["0:EAX=1; 1:EAX=1;"], "not_listed": [], "runs": 135802474, "notes": ["A note."]}
         self.assertEqual(others, rest)
@@ -482,8 +482,8 @@ class Runs(cases.Case):
         """Counts of several threads are added, and the first sight is the earliest."""
         facts = "facts runs 9 batches 1 microseconds 2500000 traps 1 clocks_differ 0 is_full 0 is_pinned 1 switches 4"
         seen = runs.parse_seen(["state 3 0.500000 1 0 4294967295", "state 2 0.250000 2 0 4294967295", "state 4 0.1 0 1 1", facts])
-        wanted = {(0, 4294967295): Sighting(5, 0.25, "by a schedule"), (1, 1): Sighting(4, 0.1, "by a race")}
-        self.assertEqual((wanted, 9, 2.5, 3.6), (seen.states, seen.runs, seen.seconds, seen.rate))
+        expected = {(0, 4294967295): Sighting(5, 0.25, "by a schedule"), (1, 1): Sighting(4, 0.1, "by a race")}
+        self.assertEqual((expected, 9, 2.5, 3.6), (seen.states, seen.runs, seen.seconds, seen.rate))
         self.assertEqual({"batches": 1, "traps": 1, "clocks_differ": 0, "is_full": 0, "is_pinned": 1, "switches": 4}, seen.facts)
         self.assertEqual("the harness ends without its line of facts", find_refusal(runs.parse_seen, ["state 1 0.1 0 1"]))
 
@@ -516,9 +516,9 @@ class Runs(cases.Case):
         subject = subjects.make_subject(MP, everything=True)
         plan = plans.Plan(subject, list_codes(subject.x86), [(0, 1, 1, 1)], [((0, 1), (1, 2))], [(0, 1), (1, 0)], True, False, Limits(1.5, 7, True))
         lines = plans.format_plan(plan).splitlines()
-        wanted = ["threads 2", "locations 2", "words 0 0", "registers 0 0 0 0 0 0 3 4294967295 0 0 0 0", "lengths 2 2", "sites 4 1 0 1 1 -1 0 -1 1"]
-        wanted += ["listed 1 0 1 1 1", "scripts 1", "script 2 0 1 1 2", "placements 2 0 1 1 0", "sync 3", "prepare 1"]
-        self.assertEqual(wanted, lines[: len(wanted)])
+        expected = ["threads 2", "locations 2", "words 0 0", "registers 0 0 0 0 0 0 3 4294967295 0 0 0 0", "lengths 2 2", "sites 4 1 0 1 1 -1 0 -1 1"]
+        expected += ["listed 1 0 1 1 1", "scripts 1", "script 2 0 1 1 2", "placements 2 0 1 1 0", "sync 3", "prepare 1"]
+        self.assertEqual(expected, lines[: len(expected)])
         self.assertEqual(["clock 1", "scarce 0", "complete 1", "instances 1024", "runs 7", "milliseconds 1500", "end"], lines[-7:])
 
 

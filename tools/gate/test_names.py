@@ -110,17 +110,17 @@ class Paths(cases.Case):
 
     def test_paths(self) -> None:
         """A link or a path that leads to nothing is told."""
-        for subject, text, wanted in PATHS:
+        for subject, text, expected in PATHS:
             with self.subTest(subject):
-                self.assertEqual(wanted, list(find_path_faults("docs/X.md", text)))
+                self.assertEqual(expected, list(find_path_faults("docs/X.md", text)))
 
     def test_paths_below_crates(self) -> None:
         """A path that a sentence places below a crate is reported if that crate does not have it."""
         crates = Names().crates
-        for subject, text, wanted in CRATE_PATHS:
+        for subject, text, expected in CRATE_PATHS:
             with self.subTest(subject):
                 faults = list(find_crate_path_faults("docs/X.md", text, crates))
-                self.assertEqual([f"docs/X.md names {it}, which is not there" for it in wanted], faults)
+                self.assertEqual([f"docs/X.md names {it}, which is not there" for it in expected], faults)
 
     def test_path_with_sign(self) -> None:
         """A path with a `+` is looked at too."""
@@ -139,7 +139,7 @@ class LinkedNames(cases.Case):
     def test_declared(self) -> None:
         """A name that the linked file does not declare is reported; a name in a comment is not declared."""
         files = {"crates/a/proofs/X.antt": PROOF, "crates/a/src/x.rt": CODE}
-        for path, names, wanted in (
+        for path, names, expected in (
             ("crates/a/proofs/X.antt", ("IsFound", "run-found", "Expansion", "one"), 0),
             ("crates/a/proofs/X.antt", ("gone", "run", "found", "reach"), 4),
             ("crates/a/src/x.rt", ("reach", "made"), 0),
@@ -148,7 +148,7 @@ class LinkedNames(cases.Case):
         ):
             with self.subTest(path=path, names=names):
                 text = " ".join(f"[`{it}`](../{path})" for it in names)
-                self.assertEqual(wanted, len(list(find_linked_name_faults("docs/X.md", text, files.get))))
+                self.assertEqual(expected, len(list(find_linked_name_faults("docs/X.md", text, files.get))))
 
 
 class Trusted(cases.Case):
@@ -208,14 +208,14 @@ class Logic(cases.Case):
 
     def test_logic(self) -> None:
         """It is that of `rt version`, whatever the kit is called; without an `rt` it is one."""
-        for page, expected, wanted in (
+        for page, printed, fault_count in (
             (f"proved with\n\n    {LOGIC}\n", f"rattle-kit-13f {LOGIC}\n", 0),
             (f"proved with {LOGIC}", "", 0),
             (f"proved with {LOGIC}", "rattle-kit-13f logic 0000000000000000\n", 1),
             ("proved with rattle-kit-13b", "", 1),
         ):
-            with self.subTest(page=page, told=expected):
-                self.assertEqual(wanted, len(list(find_logic_faults(page, expected))))
+            with self.subTest(page=page, told=printed):
+                self.assertEqual(fault_count, len(list(find_logic_faults(page, printed))))
 
 
 if __name__ == "__main__":

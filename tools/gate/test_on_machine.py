@@ -268,8 +268,8 @@ class Controls(cases.Case):
         swapped = lambda *words: replace_once(text_of(*words), *STORES)
         with mock.patch.object(assembly, "format_assembly", swapped), mock.patch.object(runs, "run_plan", side_effect=AssertionError):
             refusal = find_refusal(self.run_test, read("examples/MP-x86.litmus"))
-        wanted = "P0 at 0 has 'mov    DWORD PTR [r9],0x1', and the test has 'store' location 0 value ('number', 1)"
-        self.assertEqual(f"the compiled code is not the test's: {wanted}", refusal)
+        expected = "P0 at 0 has 'mov    DWORD PTR [r9],0x1', and the test has 'store' location 0 value ('number', 1)"
+        self.assertEqual(f"the compiled code is not the test's: {expected}", refusal)
 
     def test_words(self) -> None:
         """Words and registers that no other thread changes are those of the test, in every run and by every kind of recipe."""

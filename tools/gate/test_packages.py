@@ -276,7 +276,7 @@ class Wheel(Packed):
     def test_installed(self) -> None:
         """Installed in a venv without a network, it answers as the program."""
         bin = self.install()
-        for words, wanted in (
+        for words, expected in (
             (["lw", "states"], run_program("states")),
             (["lw", "states", "x"], run_program("states", "x")),
             (["python", "-m", "lw", "states"], run_program("states")),
@@ -291,17 +291,17 @@ class Wheel(Packed):
             (["python", "-m", "lw", "fences", FENCED], run_command([sys.executable, f"{HOME}/tools/fences.py", FENCED])),
         ):
             with self.subTest(words):
-                self.assertEqual(wanted, run_command([f"{bin}/{words[0]}", *words[1:]], TEST, **self.settings))
+                self.assertEqual(expected, run_command([f"{bin}/{words[0]}", *words[1:]], TEST, **self.settings))
         if tree.BEYOND in self.files:
-            wanted = run_command([f"{HOME}/{tree.BEYOND}", "states"], PAST_LIMITS)
-            self.assertEqual(wanted, run_command([f"{bin}/beyond", "states"], PAST_LIMITS, **self.settings))
-            self.assertEqual(wanted, run_command([f"{bin}/python", "-m", "lw", "beyond", "states", PAST_LIMITS], **self.settings))
+            expected = run_command([f"{HOME}/{tree.BEYOND}", "states"], PAST_LIMITS)
+            self.assertEqual(expected, run_command([f"{bin}/beyond", "states"], PAST_LIMITS, **self.settings))
+            self.assertEqual(expected, run_command([f"{bin}/python", "-m", "lw", "beyond", "states", PAST_LIMITS], **self.settings))
         self.check_commands(bin)
 
     def check_commands(self, bin: str) -> None:
         """Checks that each tool is a command that leads to a module, and that `python -m lw --help` has its name."""
-        wanted = "".join(f"{tree.name_command(it)} {it} True\n" for it in tree.TOOLS)
-        self.assertEqual((wanted, 0), run_command([f"{bin}/python", "-c", ENTRY_POINTS], **self.settings))
+        expected = "".join(f"{tree.name_command(it)} {it} True\n" for it in tree.TOOLS)
+        self.assertEqual((expected, 0), run_command([f"{bin}/python", "-c", ENTRY_POINTS], **self.settings))
         listed = run_command([f"{bin}/python", "-m", "lw", "--help"], **self.settings)
         self.assertTrue(listed[0].endswith("".join(f"    {tree.name_command(it)[3:]}\n" for it in tree.TOOLS)))
         closed, writing = os.pipe()
@@ -380,9 +380,9 @@ class Debian(Packed):
             flags = dict(re.findall(r"^(Cflags|Libs): (.*)$", file.read(), re.M))
         self.assertEqual({"Cflags": "-I${includedir}", "Libs": "-L${libdir} -llw"}, flags)
         if shutil.which("pkg-config"):
-            where = {"PKG_CONFIG_LIBDIR": f"{self.unpacked_folder}/{make_deb.LIB}/pkgconfig", "PATH": os.environ["PATH"]}
-            self.assertEqual((f"{ORIGIN.version}\n", 0), run_command(["pkg-config", "--modversion", "lw"], env=where))
-            self.assertEqual(("", 0), run_command(["pkg-config", f"--atleast-version={tree.read_library_version()}", "lw"], env=where))
+            environment = {"PKG_CONFIG_LIBDIR": f"{self.unpacked_folder}/{make_deb.LIB}/pkgconfig", "PATH": os.environ["PATH"]}
+            self.assertEqual((f"{ORIGIN.version}\n", 0), run_command(["pkg-config", "--modversion", "lw"], env=environment))
+            self.assertEqual(("", 0), run_command(["pkg-config", f"--atleast-version={tree.read_library_version()}", "lw"], env=environment))
         lib, program = f"{self.unpacked_folder}/{make_deb.LIB}", os.path.join(self.room, "lw-in-c")
         words = ["cc", "-I", f"{self.unpacked_folder}/usr/include", f"{HOME}/examples/c/use.c", "-L", lib, "-llw", "-o", program]
         subprocess.run(words, check=True)
@@ -394,7 +394,7 @@ class Debian(Packed):
             self.skipTest("a container can't be made")
         with container.Container() as system:
             subprocess.run(["dpkg-deb", "-x", self.path, system.room], check=True)
-            for words, wanted in (
+            for words, expected in (
                 (["lw", "states"], run_program("states")),
                 (["lw-plain", "states", "/usr/share/lw/examples/SB-x86.litmus"], run_program("states")),
                 (["lw-fences"], run_command([sys.executable, f"{HOME}/tools/fences.py"], TEST)),
@@ -402,7 +402,7 @@ class Debian(Packed):
                 with self.subTest(words), open(TEST, "rb") as text:
                     with system.start_command(words, "/", stdin=text, stdout=subprocess.PIPE, stderr=subprocess.STDOUT) as ran:
                         out = ran.communicate(timeout=60)[0].decode()
-                    self.assertEqual(wanted, (out, ran.returncode))
+                    self.assertEqual(expected, (out, ran.returncode))
 
     def test_manual(self) -> None:
         """Each command has a manual page, which groff takes without a warning."""

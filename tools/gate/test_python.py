@@ -224,9 +224,9 @@ class Calls(cases.Case):
             for text in (TEXT, b"", long, bytearray(TEXT)):
                 with self.subTest(command, length=len(text)):
                     self.assertEqual((0, bytes(text)), bench.run(command, text))
-        for schedule, protocol, wanted in ((b"P0", None, (0, b"P0")), ("P0 é", "moesi", (1, "P0 é".encode())), (b"", "mesi", (0, b""))):
+        for schedule, protocol, expected in ((b"P0", None, (0, b"P0")), ("P0 é", "moesi", (1, "P0 é".encode())), (b"", "mesi", (0, b""))):
             with self.subTest(schedule):
-                self.assertEqual(wanted, bench.run("replay", TEXT, schedule, protocol))
+                self.assertEqual(expected, bench.run("replay", TEXT, schedule, protocol))
 
     def test_films(self) -> None:
         """A film gets its schedule and protocol, and is taken apart at its empty lines."""

@@ -158,9 +158,9 @@ class Mixed(cases.Case):
     def test_rows(self) -> None:
         """Each file has a row, sorted by names, with its verdict, how it was converted, and why it is refused; other endings are left out."""
         self.assertEqual(sorted(list_wanted_rows()), [os.path.basename(it["file"]) for it in self.rows])
-        for name, wanted in list_wanted_rows().items():
+        for name, expected in list_wanted_rows().items():
             with self.subTest(name):
-                self.assertEqual(wanted, tuple(self.find_row(name)[key] for key in ("verdict", "observation", "converted", "cause")))
+                self.assertEqual(expected, tuple(self.find_row(name)[key] for key in ("verdict", "observation", "converted", "cause")))
 
     def test_status(self) -> None:
         """A file without a verdict comes before a refused one."""
@@ -395,10 +395,10 @@ class Parts(cases.Case):
         """A state that a machine showed and that is not listed gives the table that has it the status of the run."""
         row = rows.make_refused_row("a", "why")._replace(verdict="Ok", cause=None)
         with tempfile.TemporaryDirectory(prefix="lw-run-all-") as folder:
-            for seen, wanted in (("4 of 4", 0), ("4 of 4, and 1 not listed", 3)):
+            for seen, expected in (("4 of 4", 0), ("4 of 4, and 1 not listed", 3)):
                 path = write_file(folder, "table", json.dumps([row._replace(seen=seen)._asdict()]))
                 out, _, status = run(["run_all.py", "--as", "json", "--merge", path])
-                self.assertEqual((seen, wanted), (json.loads(out)[0]["seen"], status))
+                self.assertEqual((seen, expected), (json.loads(out)[0]["seen"], status))
 
     def test_no_tables(self) -> None:
         """What is no table, or was cut off, is refused by name, and nothing is printed; so are tables of two splits."""
@@ -412,8 +412,8 @@ class Parts(cases.Case):
                 path = write_file(folder, "faulty", text)
                 with self.subTest(text):
                     out, err, status = run(["run_all.py", "--merge", whole, path])
-                    wanted = f"run_all: {path}: it is {why} of --as json"
-                    self.assertEqual(("", 1, wanted), (out, status, err[: len(wanted)]))
+                    expected = f"run_all: {path}: it is {why} of --as json"
+                    self.assertEqual(("", 1, expected), (out, status, err[: len(expected)]))
             path = write_file(folder, "other", other)
             for names in ([whole, path], [path, third]):
                 self.assertEqual(("", "run_all: the tables are not of shards of one split\n", 1), run(["run_all.py", "--merge", *names]))

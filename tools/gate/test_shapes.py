@@ -90,8 +90,8 @@ class Families(cases.Case):
             for language, form in ((SRC, name), (X86, f"{name}-x86")):
                 if os.path.exists(os.path.join(HOME, "examples", f"{form}.litmus")):
                     with self.subTest(form):
-                        wanted = find_observation(read(f"examples/{form}.litmus"))
-                        self.assertEqual(wanted, find_observation(format_test(parse_shape(cycle), form, language)))
+                        expected = find_observation(read(f"examples/{form}.litmus"))
+                        self.assertEqual(expected, find_observation(format_test(parse_shape(cycle), form, language)))
 
 
 class CriticalCycles(cases.Case):
@@ -118,9 +118,9 @@ class CriticalCycles(cases.Case):
         for max_edges, orders, _ in self.SIZES:
             for cycle in list_critical_cycles(max_edges, 4, orders):
                 with self.subTest(" ".join(cycle)):
-                    wanted = "allowed" if list_unpreserved_edges(list(cycle)) else "forbidden"
+                    expected = "allowed" if list_unpreserved_edges(list(cycle)) else "forbidden"
                     text = format_test(parse_shape(" ".join(cycle)), make_name(make_cycle(list(cycle))), X86)
-                    self.assertEqual(("forbidden", wanted), plain.find_verdicts(plain.read_test(text)))
+                    self.assertEqual(("forbidden", expected), plain.find_verdicts(plain.read_test(text)))
 
 
 LETTERS = ("PodWW", "PodWR", "PodRW", "PodRR", "Rfe", "Rfi", "Fre", "Coe")
@@ -177,9 +177,9 @@ class Letters(cases.Case):
         """Interleaving forbids each, and x86-TSO allows those with PodWR, or with Rfi and then PodRR, and no others."""
         for names, made_shape in self.cycles.items():
             with self.subTest(" ".join(names)):
-                wanted = "allowed" if list_unpreserved_edges(list(names)) else "forbidden"
+                expected = "allowed" if list_unpreserved_edges(list(names)) else "forbidden"
                 text = format_test(made_shape, make_name(made_shape.edges), X86)
-                self.assertEqual(("forbidden", wanted), plain.find_verdicts(plain.read_test(text)))
+                self.assertEqual(("forbidden", expected), plain.find_verdicts(plain.read_test(text)))
 
     def test_own_load_before_store(self) -> None:
         """A load of the own store and then a store relax nothing: they hold as two stores do."""
@@ -203,13 +203,13 @@ class Between(cases.Case):
 
     def test_locked_accesses(self) -> None:
         """Locked stores, and locked loads, forbid store buffering where they are on both sides, and not on one."""
-        for cycle, wanted in (
+        for cycle, expected in (
             ("PodWRAP FrePA PodWRAP FrePA", "Never 0 3"),
             ("PodWRPA FreAP PodWRPA FreAP", "Never 0 3"),
             ("PodWRAP Fre PodWR FrePA", "Sometimes 1 3"),
         ):
             with self.subTest(cycle):
-                self.assertEqual(wanted, find_observation(format_test(parse_shape(cycle), "A", X86)))
+                self.assertEqual(expected, find_observation(format_test(parse_shape(cycle), "A", X86)))
 
 
 class Quizzes(cases.Case):
@@ -291,8 +291,8 @@ class Command(cases.Case):
 
     def test_wse(self) -> None:
         """Wse, the name in other tools, is Coe."""
-        wanted = format_test(parse_shape("PodWW Coe PodWW Coe"), "2+2W", X86)
-        self.assertEqual(wanted, run(["cycles.py", *"PodWW Wse PodWW Wse".split()])[0])
+        expected = format_test(parse_shape("PodWW Coe PodWW Coe"), "2+2W", X86)
+        self.assertEqual(expected, run(["cycles.py", *"PodWW Wse PodWW Wse".split()])[0])
 
 
 if __name__ == "__main__":

@@ -55,9 +55,9 @@ def compile_statement(statement: Statement) -> list[Statement]:
     return [Statement("cmp", statement.register, value=statement.value), Statement(jump, target=statement.target)]
 
 
-def compile_thread(statements: Sequence[Statement], with_fences: bool) -> tuple[Statement, ...]:
+def compile_thread(statements: Sequence[Statement], has_fences: bool) -> tuple[Statement, ...]:
     """Returns the instructions of a source thread. Jumps target instructions."""
-    fenced = find_fenced_loads(statements) if with_fences else set()
+    fenced = find_fenced_loads(statements) if has_fences else set()
     program: list[Statement] = []
     begins: list[int] = []
     for index, statement in enumerate(statements):
@@ -67,11 +67,11 @@ def compile_thread(statements: Sequence[Statement], with_fences: bool) -> tuple[
     return tuple(instruction if instruction.target is None else replace(instruction, target=begins[instruction.target]) for instruction in program)
 
 
-def compile_test(test: Test, with_fences: bool = True) -> Test:
+def compile_test(test: Test, has_fences: bool = True) -> Test:
     """Returns the x86 program of a source test, with the fences that it needs or with none; an x86 test is its own program."""
     if test.language == "X86":
         return test
-    return replace(test, language="X86", threads=[compile_thread(it, with_fences) for it in test.threads])
+    return replace(test, language="X86", threads=[compile_thread(it, has_fences) for it in test.threads])
 
 
 def format_value(value: Value) -> str:

@@ -68,7 +68,7 @@ def format_schedules(test: Test) -> str:
 
 def find_verdicts(test: Test) -> tuple[str, str]:
     """Returns what interleaving and x86-TSO say of a test's condition. A source test is taken without fences, each store a plain store."""
-    program = compile_test(test, with_fences=False)
+    program = compile_test(test, has_fences=False)
     interleaved = explore_states(program, make_x86_start(program), list_interleaved_moves)[0]
     return find_verdict(test, interleaved), find_verdict(test, list_outcomes(program))
 

@@ -75,11 +75,11 @@ def list_pipeline_views(command: str) -> Iterator[View]:
             yield from list_text_views(title.format(os.path.basename(path)[: -len(".litmus")]), {"text": read_file(path), **fields}, asks)
 
 
-def list_text_views(words: str, fields: dict[str, str], asks: bool) -> Iterator[View]:
+def list_text_views(words: str, fields: dict[str, str], asks_lw: bool) -> Iterator[View]:
     """Yields the view of a text that is a test; of another text its fault, if the command asks lw about it."""
     if is_read(fields["text"]):
         yield View(words, fields)
-    elif asks:
+    elif asks_lw:
         yield View(FAULT, fields)
 
 

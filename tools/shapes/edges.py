@@ -25,7 +25,7 @@ class Edge:
     source: str
     target: str
     is_external: bool
-    same_location: bool
+    is_same_location: bool
     between: str | None = None  # what stands between the two in one thread
     marks: str = "PP"  # of each access: plain, or by a locked instruction
 
@@ -60,7 +60,7 @@ def make_cycle(names: list[str]) -> list[Edge]:
             raise NoCycle(f"'{first.name}' leads to {arrival}, and '{second.name}' from {departure}")
     if sum(it.is_external for it in edges) < 2:
         raise NoCycle("a cycle has at least two edges that lead to another thread")
-    if sum(not it.same_location for it in edges) < 2:
+    if sum(not it.is_same_location for it in edges) < 2:
         raise NoCycle("a cycle has at least two edges that lead to another location")
     while not edges[-1].is_external:
         edges = [*edges[1:], edges[0]]

@@ -84,9 +84,9 @@ def make_question(names: tuple[str, ...], number: int, random: Random) -> Questi
     return Question(find_level(names), cycle, make_name(shape.edges), test, text, is_allowed)
 
 
-def take_question(cycles: list[tuple[str, ...]], wanted: bool, number: int, random: Random) -> Question:
+def take_question(cycles: list[tuple[str, ...]], is_allowed: bool, number: int, random: Random) -> Question:
     """Returns a question of the next cycle with the wanted answer, or of the next one if there is none; the cycle is removed."""
-    index = next((index for index, names in enumerate(cycles) if bool(list_unpreserved_edges(list(names))) == wanted), 0)
+    index = next((index for index, names in enumerate(cycles) if bool(list_unpreserved_edges(list(names))) == is_allowed), 0)
     return make_question(cycles.pop(index), number, random)
 
 

@@ -47,7 +47,7 @@ def make_shape(edges: list[Edge]) -> Shape:
         access.is_locked = "A" in (edge.marks[:1], before.marks[1:])
         access.before = before.between or "" if index else ""
         thread += edge.is_external
-        location += not edge.same_location
+        location += not edge.is_same_location
     assign_locations(accesses, edges, location)
     if thread > 4:
         raise NoCycle("the cycle has more than four threads, and lw has four at most")
@@ -68,14 +68,14 @@ def assign_locations(accesses: list[Access], edges: list[Edge], places: int) -> 
 def assign_words(shape: Shape) -> None:
     """Assigns words to stores and loads: each store to a location has the next number. Raises NoCycle if a test could not ask for them."""
     edges, accesses = shape.edges, shape.accesses
-    begins = [index for index in range(len(edges)) if not edges[index - 1].same_location]
+    begins = [index for index in range(len(edges)) if not edges[index - 1].is_same_location]
     for begin in begins:
         index, count = begin, 0
         while True:
             access = accesses[index % len(accesses)]
             count += access.kind == "W"
             access.word = count
-            if not edges[index % len(edges)].same_location:
+            if not edges[index % len(edges)].is_same_location:
                 break
             index += 1
         shape.stores[access.location] = count

@@ -66,7 +66,7 @@ class Term:
     """A term, with its text on one line, and whether two lets follow one another in it: such terms are never on one line."""
 
     flat: str
-    chained: bool
+    is_chained: bool
 
 
 # What precedes a term in a list of items, and the term.
@@ -76,7 +76,7 @@ Item = Tuple[str, Term]
 class Word(Term):
     """A word, which is never broken."""
 
-    chained = False
+    is_chained = False
 
     def __init__(self, flat: str) -> None:
         self.flat = flat
@@ -89,7 +89,7 @@ class Bracket(Term):
         """Makes a bracket. `suffix` is a field's name after the closing bracket."""
         self.opening, self.before, self.inner, self.closing = opening, before, inner, CLOSED_BY[opening] + suffix
         self.flat = f"{opening}{before}{inner.flat}{self.closing}"
-        self.chained = inner.chained
+        self.is_chained = inner.is_chained
 
 
 class Rows(Term):
@@ -105,7 +105,7 @@ class Rows(Term):
         inner = between.join(f"{before} {it.flat}".strip() for before, it in items)
         before = head.flat + " " if head else ""
         self.flat = f"{before}{opening}{inside}{inner}{inside if inner else ''}{closing}"
-        self.chained = any(it.chained for _, it in items) or head is not None and head.chained
+        self.is_chained = any(it.is_chained for _, it in items) or head is not None and head.is_chained
 
 
 class Application(Term):
@@ -115,7 +115,7 @@ class Application(Term):
         """Makes a term of a function and its arguments."""
         self.parts = parts
         self.flat = " ".join(it.flat for it in parts)
-        self.chained = any(it.chained for it in parts)
+        self.is_chained = any(it.is_chained for it in parts)
 
 
 class Chain(Term):
@@ -125,7 +125,7 @@ class Chain(Term):
         """Makes a chain of a first term, and of others with their operators."""
         self.first, self.others = first, others
         self.flat = " ".join([first.flat, *(f"{operator} {it.flat}" for operator, it in others)])
-        self.chained = first.chained or any(it.chained for _, it in others)
+        self.is_chained = first.is_chained or any(it.is_chained for _, it in others)
 
 
 class Lambda(Term):
@@ -133,7 +133,7 @@ class Lambda(Term):
 
     def __init__(self, head: str, body: Term) -> None:
         self.head, self.body = head, body
-        self.flat, self.chained = f"{head} {body.flat}", body.chained
+        self.flat, self.is_chained = f"{head} {body.flat}", body.is_chained
 
 
 class Let(Term):
@@ -144,7 +144,7 @@ class Let(Term):
         self.name, self.kind, self.value, self.body = name, kind, value, body
         typed = f" : {kind.flat}" if kind else ""
         self.flat = f"let {name}{typed} = {value.flat} in {body.flat}"
-        self.chained = isinstance(body, Let) or body.chained or value.chained
+        self.is_chained = isinstance(body, Let) or body.is_chained or value.is_chained
 
 
 # Reading.

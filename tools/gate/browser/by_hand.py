@@ -230,8 +230,8 @@ class Schedules(PageCase):
         begin(user, "#example=SB-x86&view=hand&schedule=P0+P1")
         open_menu(user)
         user.click("#save-picture")
-        drawn = run(sys.executable, f"{HOME}/tools/picture.py", "P0 P1", text=read("examples/SB-x86.litmus"))
-        self.assertEqual(drawn, user.saved("machine.svg"))
+        picture = run(sys.executable, f"{HOME}/tools/picture.py", "P0 P1", text=read("examples/SB-x86.litmus"))
+        self.assertEqual(picture, user.saved("machine.svg"))
 
 
 class Sources(PageCase):

@@ -203,10 +203,10 @@ class Pointed(PageCase):
         user = self.user
         user.open_listed("#example=SB-x86")
         user.find("svg.graph")
-        wanted = {"g a: W x=1", "span MOV [x],$1", "button P0", "button D0"}
+        expected = {"g a: W x=1", "span MOV [x],$1", "button P0", "button D0"}
         for css in ("svg.graph g[data-at='0:0']", "#watching .code [data-at='0:0']", "#schedule [data-at='0:0']"):
             user.run(POINT, css)
-            self.assertEqual(wanted, set(user.run(POINTED)), css)
+            self.assertEqual(expected, set(user.run(POINTED)), css)
         user.run(POINT, "h1")
         self.assertEqual([], user.run(POINTED))
 

@@ -150,8 +150,8 @@ class Hostile(PageCase):
         self.assertSoon("refused", lambda: user.run("return document.body.dataset.sent"))
         self.assertEqual(None, user.run("return document.body.dataset.ran ?? null"))
         loaded = user.run("return performance.getEntriesByType('resource').map((it) => it.name)")
-        own = (user.address.rsplit("/", 1)[0], "data:", "blob:", "http://192.0.2.1/")
-        self.assertEqual([], [it for it in loaded if not it.startswith(own)])
+        allowed = (user.address.rsplit("/", 1)[0], "data:", "blob:", "http://192.0.2.1/")
+        self.assertEqual([], [it for it in loaded if not it.startswith(allowed)])
         user.complaints()
 
 

@@ -85,16 +85,16 @@ class AllExamples(PageCase):
         user.resize(1280, 720)
         user.open_listed()
         names = [name for name, _ in examples()]
-        seen = []
+        counts = []
         for name in names:
             user.run("location.hash = arguments[0]", f"#example={quote(name)}")
             user.wait(lambda: user.text("#example-name") == name, name)
             user.find("#watching .machine .memory")
             user.wait(lambda: not user.run("return document.querySelector('.asking')"), name)
             if user.run(IN_SIGHT, "#text, #outcome .verdict, #outcome .states-place, #watching .thread, #watching .memory"):
-                seen.append(name)
+                counts.append(name)
         self.assertTrue(len(names) >= MIN_EXAMPLES, len(names))
-        self.assertTrue(len(seen) >= 0.9 * len(names), sorted(set(names) - set(seen)))
+        self.assertTrue(len(counts) >= 0.9 * len(names), sorted(set(names) - set(counts)))
 
 
 class Verdicts(PageCase):

@@ -219,8 +219,8 @@ class Reading(PageCase):
             user.press(user.keys.TAB)
             seen.append(user.focused().get_attribute("id") or f"without an id, {len(seen)}")
         front = ["skip", "open-gallery", "open-about", "predict", "caches", "large", "theme", "set-beside", "present"]
-        wanted = [*front, "text", "run-it", "file", "save", "link"]
-        self.assertEqual(wanted, [it for it in seen if it in wanted][: len(wanted)])
+        expected = [*front, "text", "run-it", "file", "save", "link"]
+        self.assertEqual(expected, [it for it in seen if it in expected][: len(expected)])
         for key in ("tab-states", "back", "forward", "play", "graph-switch"):
             self.assertIn(key, seen)
 
@@ -292,7 +292,7 @@ class Type(PageCase):
     def assertNoSmaller(self, usual: list[float], where: object) -> None:
         """Checks that no size is smaller than usually."""
         sizes = self.user.run(TYPE)
-        self.assertEqual([], [(wanted, actual) for wanted, actual in zip(usual, sizes) if actual < wanted - 0.1], where)
+        self.assertEqual([], [(expected, actual) for expected, actual in zip(usual, sizes) if actual < expected - 0.1], where)
 
     def test_projector(self) -> None:
         """On a projector neither the verdict nor the instructions nor the list are smaller than on the page, and the verdict has two lines at most."""

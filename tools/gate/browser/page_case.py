@@ -36,17 +36,17 @@ class PageCase(cases.Case):
         """Waits until the text about the step contains some words."""
         self.assertIn(words, self.user.says(words))
 
-    def assertSoon(self, wanted: object, current: Callable[[], object]) -> None:
+    def assertSoon(self, expected: object, current: Callable[[], object]) -> None:
         """Waits until a function returns the expected value."""
         last: list[object] = [None]
 
         def is_wanted() -> bool:
             """Returns whether the value is the expected one now."""
             last[0] = current()
-            return last[0] == wanted
+            return last[0] == expected
 
         self.user.is_soon(is_wanted)
-        self.assertEqual(wanted, last[0])
+        self.assertEqual(expected, last[0])
 
     def has_devtools(self) -> bool:
         """Returns whether the browser reports more than what a user sees."""
@@ -76,22 +76,22 @@ def comparisons(
     with tempfile.TemporaryDirectory(prefix="lw-browser-") as room:
         user = User(address, room, start)
         try:
-            for subject, expected, actual in tried_twice(tests_of(subjects, user), where):
+            for subject, expected, actual in try_twice(tests_of(subjects, user), where):
                 yield f"{where}, {subject}", expected, actual
             yield f"{where}, the browser complains of nothing", [], user.complaints()
         finally:
             user.driver.quit()
 
 
-def tried_twice(suite: unittest.TestSuite, where: str) -> Iterator[Comparison]:
+def try_twice(suite: unittest.TestSuite, where: str) -> Iterator[Comparison]:
     """Returns the comparisons of tests. A test that fails is printed and run once more."""
     tests = list(suite)
     for test in tests:
         assert isinstance(test, PageCase)
-        yield from tried_again_if_failed(test, where)
+        yield from try_again_if_failed(test, where)
 
 
-def tried_again_if_failed(test: PageCase, where: str) -> list[Comparison]:
+def try_again_if_failed(test: PageCase, where: str) -> list[Comparison]:
     """Returns the comparisons of a test. If it fails, it is printed and run once more."""
     compared = list(cases.run_suite(unittest.TestSuite([test])))
     if all(expected == found_value for _, expected, found_value in compared):

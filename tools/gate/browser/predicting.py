@@ -14,7 +14,7 @@ def open_anew(user: User, link: str) -> None:
     user.open(link)
 
 
-def asked(user: User, place: str) -> str:
+def read_question(user: User, place: str) -> str:
     """Returns the question that is asked in a place."""
     return f"{user.text(f'{place} .predict strong')} {user.text(f'{place} .predict .asked')}"
 
@@ -26,7 +26,7 @@ class Guess(PageCase):
         """What is known is folded, titles are names, and no state is shown; the machine is shown before its run."""
         user = self.user
         open_anew(user, "#example=SB-x86&predict=1")
-        self.assertEqual(QUESTION, asked(user, "#outcome"))
+        self.assertEqual(QUESTION, read_question(user, "#outcome"))
         self.assertEqual(["About it"], user.texts("#known summary"))
         self.assertEqual([], user.texts("#about p"))
         self.assertEqual([], user.all("#outcome table, #outcome .verdicts p"))
@@ -97,7 +97,7 @@ class Guess(PageCase):
         """What must not be is asked about without a no; and the guess on what is, though it must not be."""
         user = self.user
         open_anew(user, "#example=MP-x86&predict=1&state=0%3AEAX%3D0%3B")
-        self.assertEqual("Can a run on x86-TSO end this way? P1 reads y=1, then x=0. (1:EAX=1 /\\ 1:EBX=0)", asked(user, "#outcome"))
+        self.assertEqual("Can a run on x86-TSO end this way? P1 reads y=1, then x=0. (1:EAX=1 /\\ 1:EBX=0)", read_question(user, "#outcome"))
         user.click("#no")
         self.assertSays("✓ As you said.", "#outcome .said")
         open_anew(user, "#example=Hyman&predict=1")
@@ -127,7 +127,7 @@ class Kept(PageCase):
         open_anew(user, "#example=SB-x86&predict=1")
         user.click("#just-show")
         user.click(".again")
-        self.assertEqual(QUESTION, asked(user, "#outcome"))
+        self.assertEqual(QUESTION, read_question(user, "#outcome"))
         user.click("#no")
         self.assertSays("✗ Not as you said.", "#outcome .said")
         user.click(".again")
@@ -135,7 +135,7 @@ class Kept(PageCase):
         self.assertSays("✓ As you said.", "#outcome .said")
         user.click("#predict")
         user.click("#predict")
-        self.assertEqual(QUESTION, asked(user, "#outcome"))
+        self.assertEqual(QUESTION, read_question(user, "#outcome"))
 
     def test_by_hand(self) -> None:
         """Who looks for the states by hand is not shown the verdict with the guess; Watch shows it."""
@@ -143,8 +143,8 @@ class Kept(PageCase):
         open_anew(user, "#example=SB-x86&predict=1&view=hand")
         user.click("#yes")
         self.assertSays("Found 0 of 4 states.", "#outcome .found")
-        shown = f"{user.text('#outcome .verdict > span:last-child')} {user.text('#outcome .asked code')}"
-        self.assertEqual((QUESTION, []), (shown, user.texts("table.strip .holds")))
+        verdict = f"{user.text('#outcome .verdict > span:last-child')} {user.text('#outcome .asked code')}"
+        self.assertEqual((QUESTION, []), (verdict, user.texts("table.strip .holds")))
         self.assertSays("Your guess is kept.", "#outcome .by")
         user.click("#tab-states")
         self.assertSays("The condition holds in 1 of 4 final states.", "#outcome .asked")

@@ -193,7 +193,7 @@ class InSight(PageCase):
         user = self.user
         self.open_at("ChaseLev-x86", 1280, 720)
         self.assertSoon(True, lambda: any(it.startswith("lines ") for it in user.texts("#watching .lines-in-sight")))
-        seen = """
+        script = """
         const isIn = (it) => {
           const [line, box] = [it, it.closest(".code")].map((one) => one.getBoundingClientRect());
           return line.top >= box.top - 1 && line.bottom <= box.bottom + 1;
@@ -202,7 +202,7 @@ class InSight(PageCase):
         """
         for _ in range(12):
             user.click("#forward")
-            self.assertTrue(user.run(seen), user.step())
+            self.assertTrue(user.run(script), user.step())
 
     def test_step_is_announced(self) -> None:
         """What has happened in a step is said in a live sentence above the machine, with the number of the step."""
@@ -244,19 +244,19 @@ class Phone(PageCase):
         """Of a list of 15 states most are in sight, and so is the chosen one; it is scrolled sideways, below the titles of its rows."""
         user = self.user
         user.open_listed("#example=IRIW-x86")
-        seen = """
+        script = """
         const box = document.querySelector("#outcome .states-place .wide").getBoundingClientRect();
         const titles = document.querySelector("#outcome th").getBoundingClientRect().right;
         const isIn = (it) => it.left >= titles - 1 && it.right <= box.right + 1;
         return [...document.querySelectorAll(`#outcome thead .watch${arguments[0]}`)].filter((it) => isIn(it.getBoundingClientRect())).length;
         """
-        self.assertTrue(user.run(seen, "") >= 10, user.run(seen, ""))
-        self.assertEqual(1, user.run(seen, "[aria-pressed=true]"))
+        self.assertTrue(user.run(script, "") >= 10, user.run(script, ""))
+        self.assertEqual(1, user.run(script, "[aria-pressed=true]"))
         self.assertTrue(bool(user.all("#outcome .wide.more-right")))
         user.run("document.querySelectorAll('#outcome thead .watch')[14].click()")
-        self.assertSoon(1, lambda: user.run(seen, "[aria-pressed=true]"))
+        self.assertSoon(1, lambda: user.run(script, "[aria-pressed=true]"))
         user.run("document.querySelectorAll('#outcome thead .watch')[0].click()")
-        self.assertSoon(1, lambda: user.run(seen, "[aria-pressed=true]"))
+        self.assertSoon(1, lambda: user.run(script, "[aria-pressed=true]"))
 
     def test_sideways(self) -> None:
         """On a phone that is held sideways memory covers nothing of the machine."""

@@ -196,11 +196,11 @@ class Slips(PageCase):
         self.assertSays("Allowed.", "#outcome .verdict")
         self.assertSoon([], lambda: user.texts("#slips p"))
 
-    def mend(self, name: str, wanted: str) -> None:
+    def mend(self, name: str, expected: str) -> None:
         """Has a hint put a name into the text, and waits for the text and its answer."""
         button = self.user.wait(lambda: next((it for it in self.user.all("#slips .apply") if it.text == f"Change it to {name}"), None))
         button.click()
-        self.assertSoon(wanted, self.user.value)
+        self.assertSoon(expected, self.user.value)
         self.assertSoon(False, lambda: "stale" in self.user.run("return document.getElementById('answers').className"))
 
 
@@ -354,8 +354,8 @@ class Gallery(PageCase):
     def test_language(self) -> None:
         """Enter opens the x86 test of a name if an x86 test is shown, and the source test if a source test is."""
         user = self.user
-        for shown, name in (("SB-x86", "MP-x86"), ("SB", "MP")):
-            user.open_listed(f"#example={shown}")
+        for example, name in (("SB-x86", "MP-x86"), ("SB", "MP")):
+            user.open_listed(f"#example={example}")
             user.click("#open-gallery")
             user.find("#search").send_keys("mp")
             self.assertSoon(name, lambda: (user.texts("#gallery .example b") or [""])[0])

@@ -154,17 +154,17 @@ class Together(PageCase):
         self.assertSoon(["Step 0 of 6", "Step 0 of 8"], lambda: user.run(STEPS))
         user.press(user.keys.ARROW_RIGHT)
         self.assertSoon(["Step 1 of 6", "Step 1 of 8"], lambda: user.run(STEPS))
-        seen = []
+        steps = []
         for _ in range(20):
             if user.run("return document.getElementById('both-forward').disabled"):
                 break
             before = user.text(".lockstep .count")
             user.click("#both-forward")
             user.wait(lambda: user.text(".lockstep .count") != before, "a step of both")
-            seen.append(tuple(int(it.split()[1]) for it in user.run(STEPS)))
-        self.assertEqual((6, 8), seen[-1])
-        self.assertTrue(all(0 <= second[at] - first[at] <= 1 for first, second in zip(seen, seen[1:]) for at in (0, 1)))
-        self.assertTrue(any(first[0] < second[0] and first[1] < second[1] for first, second in zip(seen, seen[1:])))
+            steps.append(tuple(int(it.split()[1]) for it in user.run(STEPS)))
+        self.assertEqual((6, 8), steps[-1])
+        self.assertTrue(all(0 <= second[at] - first[at] <= 1 for first, second in zip(steps, steps[1:]) for at in (0, 1)))
+        self.assertTrue(any(first[0] < second[0] and first[1] < second[1] for first, second in zip(steps, steps[1:])))
 
     def test_one_alone(self) -> None:
         """One side can still be stepped alone; the count of both follows."""
