@@ -46,8 +46,8 @@ def print_report(arguments: Namespace, name: str, text: str) -> int:
         print("".join(f"{state}\n" + "".join(f"  {event}\n" for event in shown[state]) for state in answers.filter_state_lines(report)), end="")
     count = len(conversion.conversions)
     runs = f", of the runs that go through each loop at most {arguments.tries} times" if conversion.tries else ""
-    mark = "" if answers.are_proved(makers) else ", not proved"
-    print(f"Put together from {count} test{'s' * (count != 1)}, listed by {answers.format_makers(makers)}{mark}{runs}")
+    suffix = "" if answers.are_proved(makers) else ", not proved"
+    print(f"Put together from {count} test{'s' * (count != 1)}, listed by {answers.format_makers(makers)}{suffix}{runs}")
     return 0 if has_run else answers.NO_VERDICT
 
 

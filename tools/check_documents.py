@@ -399,18 +399,18 @@ def check_refused_memory(program: str, test: str, *arguments: str) -> Iterator[C
     """Refuses every call for memory of a run in turn, up to the first run that makes fewer calls."""
     stdin = open(f"{HOME}/examples/{test}.litmus", "rb").read()
     name = f"{os.path.basename(program)} on {test}, {' '.join(arguments)}"
-    refused, whole = (b"", b"lw: memory\n", 4), run_command([program, *arguments], stdin)
+    refused, unlimited = (b"", b"lw: memory\n", 4), run_command([program, *arguments], stdin)
     with tempfile.TemporaryDirectory() as folder:
-        library, mark = f"{folder}/refuse_memory.so", f"{folder}/mark"
+        library, mark_file = f"{folder}/refuse_memory.so", f"{folder}/mark"
         subprocess.run(["cc", "-O1", "-shared", "-fPIC", "-o", library, f"{HOME}/tools/gate/refuse_memory.c"], check=True)
         for nth in range(1, 10000):
-            refusing = {"LD_PRELOAD": library, "REFUSED_CALL": str(nth), "REFUSED_MARK": mark}
+            refusing = {"LD_PRELOAD": library, "REFUSED_CALL": str(nth), "REFUSED_MARK": mark_file}
             printed = run_command([program, *arguments], stdin, env={**os.environ, **refusing})
-            if not os.path.exists(mark):
+            if not os.path.exists(mark_file):
                 break
-            os.remove(mark)
+            os.remove(mark_file)
             yield f"{name}: call {nth} for memory is refused", refused, printed
-        yield f"{name}: behind the last call none is refused", whole, printed
+        yield f"{name}: behind the last call none is refused", unlimited, printed
 
 
 def run_with_streams(command: Sequence[str | bytes], **streams: Any) -> tuple[bytes, int]:

@@ -40,8 +40,8 @@ def list_dependencies(name: str, below: dict[str, list[str]]) -> set[str]:
 
 def list_dependents(names: list[str], below: dict[str, list[str]]) -> list[str]:
     """Returns the crates of these names and all that depend on them, each after those on which it depends."""
-    wanted = [it for it in below if it in names or list_dependencies(it, below) & set(names)]
-    return sorted(wanted, key=lambda it: len(list_dependencies(it, below)))
+    dependents = [it for it in below if it in names or list_dependencies(it, below) & set(names)]
+    return sorted(dependents, key=lambda it: len(list_dependencies(it, below)))
 
 
 def make_command(name: str, below: dict[str, list[str]], runs_tests: bool) -> list[str]:

@@ -116,9 +116,9 @@ def describe_store(step: Step, location: str, value: str) -> Effect:
 
 def describe_load(step: Step, register: str, location: str) -> Effect:
     """Returns the effect of a load of a location into a register."""
-    own = [(entry, word) for entry, (name, word) in enumerate(step.place.get("buffer", [])) if name == location]
-    if own:
-        entry, word = own[-1]
+    own_entries = [(entry, word) for entry, (name, word) in enumerate(step.place.get("buffer", [])) if name == location]
+    if own_entries:
+        entry, word = own_entries[-1]
         effect = step.describe_put(register, word, f"{step.name} reads `{location}={word}` from its own store buffer into `{register}`")
         effect["entry"] = entry
         return effect
@@ -178,8 +178,8 @@ def describe_conditional_jump(step: Step, register: str, sign: str, number: str,
     word = step.read_value(register)
     jumps = (word == step.read_value(number)) == (sign == "=")
     step.require(jumps or step.left["at"] == step.place["at"] + 1)
-    where = f"goes to `{label}`" if jumps else "does not jump"
-    return {"words": f"{step.name} {where}, since `{register}={word}`"}
+    what_follows = f"goes to `{label}`" if jumps else "does not jump"
+    return {"words": f"{step.name} {what_follows}, since `{register}={word}`"}
 
 
 def describe_exchange(step: Step, register: str, location: str, value: str) -> Effect:

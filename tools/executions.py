@@ -255,15 +255,15 @@ def is_acyclic(targets: dict[Event, set[Event]]) -> bool:
 def find_cycle_through(start: Event, leaving: dict[Event, dict[Event, Edge]]) -> list[Edge] | None:
     """Returns a shortest cycle through an event, or `None`."""
     came_by: dict[Event, Edge] = {}
-    waiting = deque([start])
-    while waiting:
-        event = waiting.popleft()
+    queue = deque([start])
+    while queue:
+        event = queue.popleft()
         for target, edge in leaving.get(event, {}).items():
             if target == start:
                 return trace_cycle(start, edge, came_by)
             if target not in came_by:
                 came_by[target] = edge
-                waiting.append(target)
+                queue.append(target)
     return None
 
 
@@ -317,7 +317,7 @@ def make_execution(test: plain.Test, schedule: str) -> Execution:
     final, or an event is not enabled.
     """
     processors, memory = list(plain.make_x86_start(test)[0]), plain.OneMemory(test.words)
-    waiting: list[list[Event]] = [[] for _ in processors]
+    buffers: list[list[Event]] = [[] for _ in processors]
     last: dict[int, Event | None] = dict.fromkeys(range(len(test.locations)))
     paths: list[list[int]] = [[] for _ in processors]
     rf: dict[Event, Event | None] = {}
@@ -331,7 +331,7 @@ def make_execution(test: plain.Test, schedule: str) -> Execution:
     for kind, cpu, _ in plain.read_schedule(schedule, test.locations):
         if kind == "D":
             processors[cpu] = plain.drain_oldest(cpu, processors[cpu], memory)
-            event = waiting[cpu].pop(0)
+            event = buffers[cpu].pop(0)
             record_write(event, test.threads[event.thread][event.position].location)
         elif kind == "P":
             event = Event(cpu, processors[cpu].position)
@@ -339,12 +339,12 @@ def make_execution(test: plain.Test, schedule: str) -> Execution:
             statement = test.threads[cpu][event.position]
             paths[cpu].append(event.position)
             if statement.kind in READS:
-                own = [each for each in waiting[cpu] if test.threads[cpu][each.position].location == statement.location]
-                rf[event] = own[-1] if own else last[statement.location]
+                own_stores = [each for each in buffers[cpu] if test.threads[cpu][each.position].location == statement.location]
+                rf[event] = own_stores[-1] if own_stores else last[statement.location]
             if statement.kind == "store":
-                waiting[cpu].append(event)
+                buffers[cpu].append(event)
             elif statement.kind in WRITES:
                 record_write(event, statement.location)
-    if any(waiting) or any(it.position != len(code) for it, code in zip(processors, test.threads)):
+    if any(buffers) or any(it.position != len(code) for it, code in zip(processors, test.threads)):
         raise plain.Refused(0, "NotFinal")
     return Execution(test, [tuple(it) for it in paths], rf, {location: tuple(row) for location, row in co.items()})

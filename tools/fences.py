@@ -287,8 +287,8 @@ def print_fences(choices: Choices, text: str, name: str = given.STANDARD_INPUT) 
         lines += format_helping_places(test, number, table["states"])
     if choices.exchanges:
         lines += format_exchanges(test, by_everything)
-    mark = "" if answers.are_proved(list_makers()) else " (not proved)"
-    head = f"{test.name}, by {question}: fences {len(table['rows'])}, states {table['states']}{mark}"
+    suffix = "" if answers.are_proved(list_makers()) else " (not proved)"
+    head = f"{test.name}, by {question}: fences {len(table['rows'])}, states {table['states']}{suffix}"
     print("\n".join([head, *lines, *format_makers()]))
     return 0
 

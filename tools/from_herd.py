@@ -51,8 +51,8 @@ class Folder:
     def check_file(self, path: str, text: str, conversion: Converted, name: str, offset: int) -> None:
         """Looks whether a file may be written: no other input of this run has its name, and no other text is there. Raises Fault if not."""
         if path in self.origins:
-            where = f"'{conversion.frame.name}' of {name} and a test of {self.origins[path]} have one file name, {path}"
-            raise given.Fault(f"{where}: nothing is written for the second, name one of them otherwise", offset)
+            fault = f"'{conversion.frame.name}' of {name} and a test of {self.origins[path]} have one file name, {path}"
+            raise given.Fault(f"{fault}: nothing is written for the second, name one of them otherwise", offset)
         try:
             with open(path, encoding="utf-8", errors="replace", newline="") as file:
                 present = file.read()

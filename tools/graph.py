@@ -302,7 +302,7 @@ class Way:
 
 
 def list_forbidden_states(
-    test: plain.Test, wanted: dict[plain.Site, int] | None, max_candidates: int
+    test: plain.Test, state: dict[plain.Site, int] | None, max_candidates: int
 ) -> tuple[set[Words], dict[Words, dict[WayKey, Way]]]:
     """Returns the states that the axioms allow; and of each state that candidate executions have, and the axioms allow in none, its ways.
 
@@ -314,7 +314,7 @@ def list_forbidden_states(
     for execution in executions.list_candidates(test, max_candidates):
         outcome = execution.make_outcome()
         words = tuple(plain.read_word(site, outcome) for site in sites)
-        if words in allowed or wanted is not None and any(None is not a != wanted[site] for a, site in zip(words, sites)):
+        if words in allowed or state is not None and any(None is not a != state[site] for a, site in zip(words, sites)):
             continue
         broken_axiom = execution.find_broken_axiom()
         if not broken_axiom:
@@ -347,16 +347,16 @@ def explain_state(test: plain.Test, words: Words, ways: list[Way]) -> list[str]:
 
 def explain_states(test: plain.Test, state: str) -> WhyNot:
     """Returns the lines on a state, or on all; the exit status; and the cycles that are printed first, each as a picture with its words."""
-    wanted = None if state == "all" else parse_state(test, state)
+    state_words = None if state == "all" else parse_state(test, state)
     try:
-        allowed, broken = list_forbidden_states(test, wanted, MAX_CANDIDATES)
+        allowed, broken = list_forbidden_states(test, state_words, MAX_CANDIDATES)
     except executions.TooMany:
         return WhyNot([f"More than {MAX_CANDIDATES} candidate executions: that is too many for this tool."], 1, [])
-    if wanted is not None and tuple(wanted[site] for site in plain.list_observed_sites(test)) in allowed:
+    if state_words is not None and tuple(state_words[site] for site in plain.list_observed_sites(test)) in allowed:
         return WhyNot(["x86-TSO allows this state: `lw schedules` lists it with a schedule."], 1, [])
     if not broken:
         no_state = f"No thread reads or writes such values: no candidate execution ends in {state}"
-        return WhyNot([no_state if wanted else NONE_FORBIDDEN], 0, [])
+        return WhyNot([no_state if state_words else NONE_FORBIDDEN], 0, [])
     states = sort_forbidden_states(broken)
     drawn = [it for _, ways in states for it in ways[:MAX_DRAWN_CYCLES]][:MAX_DRAWN_CYCLES]
     cycles = [(draw_execution(it.execution, f"{test.name}: {it.cycle}", it.broken), f"{it.axiom}: {it.cycle}") for it in drawn]

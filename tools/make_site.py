@@ -114,8 +114,8 @@ def add_module(name: str, web: str, done: dict[str, str], importers: tuple[str, 
 
 def rewrite_import(statement: re.Match[str]) -> str:
     """Returns what replaces an import."""
-    whole, names, name = statement.groups()
-    return f"const {whole} = from_{name};\n" if whole else f"const {{{names}}} = from_{name};\n"
+    namespace, names, name = statement.groups()
+    return f"const {namespace} = from_{name};\n" if namespace else f"const {{{names}}} = from_{name};\n"
 
 
 def format_in_script(value: object) -> str:

@@ -101,13 +101,13 @@ def read_licences() -> dict[str, bytes]:
     """Returns the licence texts of the crates of others that the program is linked with: of each name its bytes. Raises NoPack if one is missing."""
     ours = {os.path.basename(it) for it in glob.glob(f"{HOME}/crates/*")}
     tests = re.compile(r"\w+_tests|lw_test_reader")
-    named = {it for name, (_, below) in read_crates().items() if not tests.fullmatch(name) for it in below}
+    crates = {it for name, (_, below) in read_crates().items() if not tests.fullmatch(name) for it in below}
     doc = run_command("rt", "doc")
     if not doc:
         raise NoPack("the toolchain's command rt does not run")
     kit = os.path.dirname(doc[0])
     licences = {}
-    for crate in sorted(named - ours):
+    for crate in sorted(crates - ours):
         texts = glob.glob(f"{kit}/rattle/{crate}/LICEN[CS]E*")
         if not texts:
             raise NoPack(f"the crate {crate} comes without a licence text")

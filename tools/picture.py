@@ -64,8 +64,8 @@ class Drawing:
 
     def draw_text(self, x: float, y: float, text: str, kind: str = "") -> None:
         """Draws a text, of a class of the style if one is named."""
-        named = f' class="{kind}"' if kind else ""
-        self.elements.append(f'<text x="{x:g}" y="{y:g}"{named}>{escape(text, quote=False)}</text>')
+        attributes = f' class="{kind}"' if kind else ""
+        self.elements.append(f'<text x="{x:g}" y="{y:g}"{attributes}>{escape(text, quote=False)}</text>')
 
     def draw_box(self, x: float, y: float, width: float, height: float, kind: str = "box") -> None:
         """Draws a box."""
@@ -83,9 +83,9 @@ class Drawing:
         """Returns the picture."""
         ground = f'<rect width="{width:g}" height="{height:g}" class="ground"/>'
         size = f'width="{width:g}" height="{height:g}" viewBox="0 0 {width:g} {height:g}"'
-        named = f"<title>{escape(title, quote=False)}</title>\n<style>{STYLE}</style>"
+        title_element = f"<title>{escape(title, quote=False)}</title>\n<style>{STYLE}</style>"
         head = f'<svg xmlns="http://www.w3.org/2000/svg" {size} role="img">'
-        return "\n".join([head, named, ground, *self.elements, "</svg>\n"])
+        return "\n".join([head, title_element, ground, *self.elements, "</svg>\n"])
 
 
 # What there is to be drawn.
@@ -93,9 +93,9 @@ class Drawing:
 
 def list_used_registers(film: Film, thread: int) -> list[str]:
     """Returns the registers that a thread's code names, or that have a word other than 0 at some time."""
-    named = set(re.findall(r"\w+", " ".join(it["text"] for it in film["cells"][thread])))
+    names = set(re.findall(r"\w+", " ".join(it["text"] for it in film["cells"][thread])))
     rows = [state["threads"][thread]["registers"] for state in film["states"]]
-    return [name for name, _ in rows[0] if name in named or any(dict(row)[name] for row in rows)]
+    return [name for name, _ in rows[0] if name in names or any(dict(row)[name] for row in rows)]
 
 
 def format_title(film: Film, step: int) -> str:

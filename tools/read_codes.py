@@ -70,8 +70,8 @@ class Quizzes:
         if handed_in.mark != data["mark"]:
             raise codes.BadCode("the code is of other tests with this seed", begin)
         wrong = [answer ^ right for answer, right in zip(handed_in.answers, quiz.read_answers(data))]
-        points = sum(2 - (which & 1) - (which >> 1) for which in wrong)
-        mistakes = ", ".join(f"{number} {WRONG[which]}" for number, which in enumerate(wrong, 1) if which)
+        points = sum(2 - (wrong_answers & 1) - (wrong_answers >> 1) for wrong_answers in wrong)
+        mistakes = ", ".join(f"{number} {WRONG[wrong_answers]}" for number, wrong_answers in enumerate(wrong, 1) if wrong_answers)
         return handed_in.student, f"{points}/{2 * len(wrong)}", mistakes or "-"
 
 

@@ -214,8 +214,8 @@ def make_rows(answers: list[rows.Answered], arguments: argparse.Namespace) -> tu
 def run_files(arguments: argparse.Namespace) -> int:
     """Runs the files, and prints what is requested. Returns the exit status."""
     expected = read_expected(arguments)
-    named = files.list_files(arguments.names)
-    chosen = files.select_shard(named, arguments.shard) if arguments.shard else named
+    paths = files.list_files(arguments.names)
+    chosen = files.select_shard(paths, arguments.shard) if arguments.shard else paths
     progress = Progress(len(chosen))
     done = lists.answer_all(chosen, lists.Choices(arguments.tries, arguments.order, arguments.cc), progress.count_run)
     progress.remove_line()
@@ -223,7 +223,7 @@ def run_files(arguments: argparse.Namespace) -> int:
     reported = [it for it in done if it.report]
     if arguments.form == "log":
         sys.stdout.write("".join(f"{it.report}\n" for it in reported))
-    print_table(table, arguments.form, arguments.shard, len(set(named)))
+    print_table(table, arguments.form, arguments.shard, len(set(paths)))
     sys.stdout.flush()
     report_notes(done)
     return choose_status({here} | report_rows(table, expected) | compare_with_logs(reported, arguments))

@@ -257,7 +257,8 @@ const SENTENCES = {
     `${place.meantRegister()} ` +
     (place.isX86 ? "A location has brackets: `[x]`." : "A location is loaded into a register first: `r0 := y`."),
   "cell LabelMissing": (place) =>
-    `The thread has no label ${place.tokenWords} to jump to.${place.meant([...place.text.matchAll(/([A-Za-z_]\w*)\s*:(?!=)/g)].map(([, label]) => label))}`,
+    `The thread has no label ${place.tokenWords} to jump to.` +
+    place.meant([...place.text.matchAll(/([A-Za-z_]\w*)\s*:(?!=)/g)].map(([, label]) => label)),
   "cell LabelTwice": ({ tokenWords }) => `The thread has the label ${tokenWords} already.`,
   "cell Backward": ({ tokenWords }) => `The jump to ${tokenWords} goes back. Jumps go forward only: a loop is written out as often as it is tried.`,
   "cell TooMany": ({ isX86 }) =>

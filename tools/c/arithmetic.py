@@ -20,34 +20,34 @@ SHIFTS = {
 
 def add_values(way: Way, left: Value, right: Value, size: int) -> Value:
     """Returns a sum. A symbol and a number stay a symbol, even if its word is known, so that it is equal on ways on which it is not."""
-    known = way.resolve(left), way.resolve(right)
-    if known[1] is None or isinstance(right, Symbol) and not isinstance(left, Symbol):
-        left, right, known = right, left, (known[1], known[0])
-    if known[1] is None:
+    numbers = way.resolve(left), way.resolve(right)
+    if numbers[1] is None or isinstance(right, Symbol) and not isinstance(left, Symbol):
+        left, right, numbers = right, left, (numbers[1], numbers[0])
+    if numbers[1] is None:
         return way.apply_both(left, right, lambda x, y: x + y & MASK[size])
     if not isinstance(left, Symbol):
-        return known[0] + known[1] & MASK[size]
-    if not known[1] & MASK[size] and (left.size if left.added else left.width) <= size:
+        return numbers[0] + numbers[1] & MASK[size]
+    if not numbers[1] & MASK[size] and (left.size if left.added else left.width) <= size:
         return left
     if left.width == left.size == size >= 4:
-        return Symbol(left.id, left.width, left.added + known[1] & MASK[size], size)
-    return way.apply(left, lambda it: it + known[1] & MASK[size])
+        return Symbol(left.id, left.width, left.added + numbers[1] & MASK[size], size)
+    return way.apply(left, lambda it: it + numbers[1] & MASK[size])
 
 
 def subtract_values(way: Way, left: Value, right: Value, size: int) -> Value:
     """Returns a difference."""
-    known = way.resolve(right)
-    if known is not None:
-        return add_values(way, left, -known & MASK[size], size)
+    subtrahend = way.resolve(right)
+    if subtrahend is not None:
+        return add_values(way, left, -subtrahend & MASK[size], size)
     return way.apply_both(left, right, lambda x, y: x - y & MASK[size])
 
 
 def compute_logical(way: Way, base: str, left: Value, right: Value, size: int) -> Result:
     """Returns the result of AND, OR, XOR or TEST. An operation that preserves all words of a symbol preserves the symbol."""
     if left is None or right is None:
-        known = [way.resolve(it) for it in (left, right) if it is not None]
-        if base == "and" and known == [0] or base == "or" and known == [MASK[size]]:
-            return known[0], Flags(Source.LOGIC, known[0], None, size)
+        numbers = [way.resolve(it) for it in (left, right) if it is not None]
+        if base == "and" and numbers == [0] or base == "or" and numbers == [MASK[size]]:
+            return numbers[0], Flags(Source.LOGIC, numbers[0], None, size)
     if left == right and isinstance(left, Symbol) and base != "xor":
         return left, Flags(Source.LOGIC, left, None, size)
     for operand, other in ((left, right), (right, left)):
@@ -97,13 +97,13 @@ def compute_result(way: Way, base: str, left: Value, right: Value, size: int) ->
 
 def divide(way: Way, high: Value, low: Value, divisor: Value, size: int, is_signed: bool) -> tuple[int, int]:
     """Returns the quotient and the remainder of a division. Raises Refused if the divisor may be 0, or a quotient too large."""
-    whole, number = way.require_number(high) << 8 * size | way.require_number(low), way.require_number(divisor)
+    dividend, number = way.require_number(high) << 8 * size | way.require_number(low), way.require_number(divisor)
     if is_signed:
-        whole, number = to_signed(whole, 2 * size), to_signed(number, size)
+        dividend, number = to_signed(dividend, 2 * size), to_signed(number, size)
     if number == 0:
         raise Refused("a division by 0 may be")
-    quotient = abs(whole) // abs(number) * (1 if (whole < 0) == (number < 0) else -1)
+    quotient = abs(dividend) // abs(number) * (1 if (dividend < 0) == (number < 0) else -1)
     minimum, maximum = (-(1 << 8 * size - 1), (1 << 8 * size - 1) - 1) if is_signed else (0, MASK[size])
     if not minimum <= quotient <= maximum:
         raise Refused("a quotient may be too large")
-    return quotient & MASK[size], whole - quotient * number & MASK[size]
+    return quotient & MASK[size], dividend - quotient * number & MASK[size]

@@ -24,15 +24,15 @@ class Control(Locked):
 
     def evaluate_condition(self, letters: str) -> bool:
         """Returns whether a condition holds."""
-        name, wanted = parse_condition(letters)
+        name, expected = parse_condition(letters)
         way = self.way
         flags = require_readable(way.flags, name)
         if flags.source in (Source.EXCHANGE, Source.BIT):
-            return way.require_number(flags.left) == wanted
+            return way.require_number(flags.left) == expected
         if name == "e" and flags.source is Source.DIFFERENCE:
-            return way.are_equal(flags.left, flags.right, flags.size) == wanted
-        if name == "e" and flags.source is Source.SUM and (known := way.resolve(flags.right)) is not None:
-            return way.are_equal(flags.left, -known & MASK[flags.size], flags.size) == wanted
+            return way.are_equal(flags.left, flags.right, flags.size) == expected
+        if name == "e" and flags.source is Source.SUM and (right_number := way.resolve(flags.right)) is not None:
+            return way.are_equal(flags.left, -right_number & MASK[flags.size], flags.size) == expected
         mask, right = MASK[flags.size], 0 if flags.right is None else flags.right
 
         def work(left: int, right: int) -> bool:
@@ -42,8 +42,8 @@ class Control(Locked):
             return evaluate_condition(name, flags.source, left & mask, right & mask, flags.size)
 
         if flags.source in (Source.LOGIC, Source.SHIFT) and name == "e":
-            return way.are_equal(flags.left, 0, flags.size) == wanted
-        return way.apply_both(flags.left, right, work) == wanted
+            return way.are_equal(flags.left, 0, flags.size) == expected
+        return way.apply_both(flags.left, right, work) == expected
 
     # Jumps and calls.
 

@@ -62,19 +62,19 @@ class Converter:
         """Refuses a condition with a name that no way shows."""
         for number, names in self.condition.collect_names().items():
             nodes = [thread.ways.nodes[index] for thread in self.threads[number] for index in thread.ways.list_reachable()]
-            seen = {name for node in nodes if isinstance(node, End) for name, _ in node.seen}
-            for name in sorted(names - seen):
-                if seen or any(isinstance(node, End) for node in nodes):
+            shown_names = {name for node in nodes if isinstance(node, End) for name, _ in node.seen}
+            for name in sorted(names - shown_names):
+                if shown_names or any(isinstance(node, End) for node in nodes):
                     raise Refused(f"the condition asks about {number}:{name}, and no run of P{number} comes to lw_see({name}, ..)")
 
     def assign_seen_registers(self, thread: int) -> dict[str, int]:
         """Returns the registers of what the condition asks of a thread, the last ones first. A global of the thread's own has an `&`. Raises Refused
         if they are more than six.
         """
-        wanted = {*self.condition.collect_names().get(thread, ()), *(f"&{name}" for name, _ in self.program.list_own_asked(thread))}
-        if len(wanted) > SIX:
+        names = {*self.condition.collect_names().get(thread, ()), *(f"&{name}" for name, _ in self.program.list_own_asked(thread))}
+        if len(names) > SIX:
             raise Refused(f"the condition asks about more than {SIX} values of P{thread}")
-        return {name: SIX - len(wanted) + index for index, name in enumerate(sorted(wanted))}
+        return {name: SIX - len(names) + index for index, name in enumerate(sorted(names))}
 
     # Locations.
 
@@ -109,8 +109,8 @@ class Converter:
         """Refuses words that lw can't tell apart. Words of lw have 32 bits; those of a location may have more, unless two of them have the same 32
         lowest bits.
         """
-        named = [(self.program.layout.name_address(address), self.program.locations.words[address]) for address in self.locations]
-        for name, words in [*named, *self.program.own_words.items()]:
+        named_words = [(self.program.layout.name_address(address), self.program.locations.words[address]) for address in self.locations]
+        for name, words in [*named_words, *self.program.own_words.items()]:
             if len({it % 2**32 for it in words}) != len(words):
                 raise Refused(f"words of '{name}' have the same 32 lowest bits and differ above them")
 
@@ -183,10 +183,10 @@ class Converter:
         lines, begins = [], []
         marks: list[plain.Site] = []
         for number, thread in enumerate(threads):
-            seen = self.assign_seen_registers(number)
-            mark = self.choose_mark(number, seen) if thread.ways.can_reach(GiveUp) else None
+            seen_registers = self.assign_seen_registers(number)
+            mark = self.choose_mark(number, seen_registers) if thread.ways.can_reach(GiveUp) else None
             marks += [] if mark is None else [plain.RegisterSite(number, mark)]
-            writer = Writer(thread.ways, seen, mark, self.locations, number)
+            writer = Writer(thread.ways, seen_registers, mark, self.locations, number)
             columns.append(writer.write_statements())
             lines.append([thread.ways.lines[index] for index in writer.origins])
             begins.append([index for index, (before, node) in enumerate(zip([None, *writer.origins], writer.origins)) if before != node])
@@ -205,9 +205,9 @@ class Converter:
         """Returns whether the program is more than one test."""
         return any(len(it) > 1 for it in self.threads)
 
-    def choose_mark(self, thread: int, seen: dict[str, int]) -> int:
+    def choose_mark(self, thread: int, seen_registers: dict[str, int]) -> int:
         """Returns the register that says at the end that a thread's run is not given up. Raises Refused if none is left."""
-        free = [it for it in range(SIX) if it not in seen.values()]
+        free = [it for it in range(SIX) if it not in seen_registers.values()]
         if not free:
             raise Refused(f"P{thread} has no register that says whether its run is given up: ask about fewer values")
         return free[-1]

@@ -50,10 +50,10 @@ READABLE = {
 def parse_condition(letters: str) -> tuple[str, bool]:
     """Returns the condition that the letters of a mnemonic name, and whether it must hold. Raises Refused if the letters name none."""
     name = SAME_NAMES.get(letters, letters)
-    name, wanted = (OPPOSITE[name], False) if name in OPPOSITE else (name, True)
+    name, expected = (OPPOSITE[name], False) if name in OPPOSITE else (name, True)
     if name not in READABLE[Source.SUM]:
         raise Refused(f"the condition '{letters}' is not followed")
-    return name, wanted
+    return name, expected
 
 
 def require_readable(flags: Flags | None, name: str) -> Flags:

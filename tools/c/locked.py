@@ -191,8 +191,8 @@ class Locked(Vectors):
         """Does LOCK CMPXCHG with a guess of whether it succeeds: then it is an XCHG, and otherwise an addition of 0."""
         way = self.way
         expected = self.read_register("rax", size)
-        words, wanted = self.list_words_now(address, size), way.list_words(expected)
-        can_succeed, can_fail = bool(words & wanted), not (len(words) == 1 and words == wanted)
+        words, expected_words = self.list_words_now(address, size), way.list_words(expected)
+        can_succeed, can_fail = bool(words & expected_words), not (len(words) == 1 and words == expected_words)
         succeeds = can_succeed and (not can_fail or self.take_guess(2) == 0)
         question = self.make_question(expected, words, size)
         stored = way.list_clocked_words(new)
@@ -218,10 +218,10 @@ class Locked(Vectors):
 
     def make_question(self, expected: Value, words: frozenset[int], size: int) -> Callable[[int], Question]:
         """Returns the question that a CMPXCHG asks of the symbol of what it finds."""
-        known = self.way.resolve(expected)
-        if known is not None:
-            others = tuple(sorted(words - {known}))
-            return lambda symbol: IsOneOf(symbol, (known,), others)
+        expected_word = self.way.resolve(expected)
+        if expected_word is not None:
+            others = tuple(sorted(words - {expected_word}))
+            return lambda symbol: IsOneOf(symbol, (expected_word,), others)
         union = {it % 2**32 for it in words | self.way.list_words(expected)}
         if size < 4 or expected.width != size or len(union) != len(words | self.way.list_words(expected)):
             self.way.require_number(expected)

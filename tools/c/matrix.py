@@ -39,8 +39,8 @@ def print_matrix(name: str, source: Source, compilers: list[str] | None, by: Cal
     if not compilers:
         return given.refuse(f"from_c: no compiler for '{source.ending}' is there: name one by --cc")
     as_written = collect_answers(name, compilers, by)
-    for report, which in group_compilers(as_written).items():
-        print(f"By {', '.join(which)}:\n{report}", end="")
+    for report, compiler_names in group_compilers(as_written).items():
+        print(f"By {', '.join(compiler_names)}:\n{report}", end="")
     refused = [it for it, answer in as_written.items() if not answer]
     for weaker, says in WEAKER.items():
 
@@ -63,5 +63,5 @@ def print_changes(says: str, before: dict[str, Answer | None], after: dict[str, 
         if old and answer:
             is_same = old.observation == answer.observation
             changes.setdefault(f"{old.observation} stays" if is_same else f"{old.observation} becomes {answer.observation}", []).append(compiler)
-    for change, which in changes.items():
-        print(f"With {says}: {change}, by {', '.join(which)}")
+    for change, compiler_names in changes.items():
+        print(f"With {says}: {change}, by {', '.join(compiler_names)}")

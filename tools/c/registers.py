@@ -12,9 +12,9 @@ SIX = 6
 class Registers:
     """The registers of a thread's symbols. What the condition mentions has registers of its own at the end; the mark's is used last."""
 
-    def __init__(self, ways: Ways, seen: dict[str, int], mark: int | None, thread: int) -> None:
+    def __init__(self, ways: Ways, seen_registers: dict[str, int], mark: int | None, thread: int) -> None:
         """Chooses registers for the symbols of a thread's ways."""
-        self.ways, self.seen, self.mark, self.thread = ways, seen, mark, thread
+        self.ways, self.seen, self.mark, self.thread = ways, seen_registers, mark, thread
         self.live: dict[int, frozenset[int]] = {}
         self.of: dict[int, int] = {}
         for node_index in ways.list_reachable():

@@ -86,13 +86,13 @@ def translate_report(report: str, converter: Converter, question: plain.Test) ->
 
 def describe_answer(answer: Answer, compiler: str, tries: int) -> str:
     """Returns which compiler made the code, how many tests there are, who listed them, and which runs are left out."""
-    count, mark = len(answer.tests), "" if answers.are_proved(answer.makers) else ", not proved"
+    count, suffix = len(answer.tests), "" if answers.are_proved(answer.makers) else ", not proved"
     tests = f"{count} tests" if count != 1 else "one test"
     makers = answers.format_makers(answer.makers)
-    sentence = f"Compiled by {compiler}: {tests} of lw, of {answer.instructions} instructions at most, listed by {makers}{mark}"
+    sentence = f"Compiled by {compiler}: {tests} of lw, of {answer.instructions} instructions at most, listed by {makers}{suffix}"
     if answer.bounded:
-        where = ", ".join(str(it) if it else "elsewhere" for it in answer.bounded)
+        lines = ", ".join(str(it) if it else "elsewhere" for it in answer.bounded)
         often = "once" if tries == 1 else f"{tries} times"
-        loops = f"the loops at lines {where}" if len(answer.bounded) > 1 else f"the loop at line {where}"
+        loops = f"the loops at lines {lines}" if len(answer.bounded) > 1 else f"the loop at line {lines}"
         sentence += f"; of the runs that go through {loops} at most {often}"
     return sentence

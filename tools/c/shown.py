@@ -72,10 +72,10 @@ def format_fences_together(answer: Answer, converter: Converter) -> str:
     """Returns the same of a program that is several tests. What is of one line is one place."""
     origin = lambda lines: tuple(sorted(lines))
     parts = [Part(it.conversion, [list(map(origin, lines)) for lines in it.lines], it.begins) for it in answer.tests]
-    named = lambda place: f"P{place[0]} {format_lines(place[1])}"
+    format_place = lambda place: f"P{place[0]} {format_lines(place[1])}"
     everything: set[plain.Site] = {plain.LocationSite(number) for number in converter.locations.values()}
     names = Names(converter, answer.tests[0].conversion.question)
-    original = Original(converter.name, converter.condition.text, named, named, everything, all_shown="its question and all locations")
+    original = Original(converter.name, converter.condition.text, format_place, format_place, everything, all_shown="its question and all locations")
     # (Who lists the tests, and how often loops are gone through, is said of the whole answer.)
     return plain.join_lines(format_answer(CombinedTest(parts, names.translate_line, True), original, False, True)[:-1])
 

@@ -102,11 +102,11 @@ def insert_sees(text: str, names_by_thread: dict[int, set[str]], is_rust: bool) 
         if thread not in bodies:
             raise given.Fault(f"the condition asks about P{thread}, which is not there", 0)
         begin, end = bodies[thread]
-        own = code[begin:end] + blank_bodies(code, bodies)
-        missing = [it for it in sorted(names) if it != "return" and not re.search(rf"\blw_see!?\s*\(\s*{it}\b", own)]
+        code_of_thread = code[begin:end] + blank_bodies(code, bodies)
+        missing = [it for it in sorted(names) if it != "return" and not re.search(rf"\blw_see!?\s*\(\s*{it}\b", code_of_thread)]
         if missing and (match := re.search(r"\breturn\b", code[begin:end])):
-            where = f"lw_see({missing[0]}, ..) says where {missing[0]} is known"
-            raise given.Fault(f"P{thread} has a return, so its end is not the only one: {where}", begin + match.start())
+            advice = f"lw_see({missing[0]}, ..) says where {missing[0]} is known"
+            raise given.Fault(f"P{thread} has a return, so its end is not the only one: {advice}", begin + match.start())
         added |= set(missing)
         places += [(end, "".join(f" lw_see{'!' if is_rust else ''}({it}, {it}); " for it in missing))]
     for end, sees in sorted(places, reverse=True):

@@ -174,19 +174,19 @@ class Step(Control):
 
     def copy_register(self, source: Register, target: Any, size: int) -> None:
         """Copies a register. If only its lowest bytes are known these are copied, and not to where other threads look."""
-        value, known = self.way.registers[source.name]
-        if known >= size + source.offset or not known or source.offset:
+        value, known_bytes = self.way.registers[source.name]
+        if known_bytes >= size + source.offset or not known_bytes or source.offset:
             value = self.read_register_or_number(source, size)
             if isinstance(target, Memory):
                 self.store(self.compute_address(target), size, value)
             else:
                 self.write_register(target, size, value)
         elif isinstance(target, Register):
-            self.way.registers[target.name] = (value, known) if size >= 4 else (None, 0)
+            self.way.registers[target.name] = (value, known_bytes) if size >= 4 else (None, 0)
         else:
             address = self.compute_address(target)
             self.store(address, size, None)
-            store_own(self.way, address, known, value)
+            store_own(self.way, address, known_bytes, value)
 
     def execute_imul(self, size: int) -> None:
         """Does IMUL with two or three operands."""
@@ -251,9 +251,9 @@ class Step(Control):
         """Does an AND with a number that has only the lowest bytes, which are known: then all bytes of the result are. Returns whether it
         is one.
         """
-        value, known = self.way.registers[target.name]
+        value, known_bytes = self.way.registers[target.name]
         number = self.way.resolve(mask)
-        if target.offset or known not in MASK or number is None or number > MASK[known]:
+        if target.offset or known_bytes not in MASK or number is None or number > MASK[known_bytes]:
             return False
         result, self.way.flags = compute_result(self.way, "and", value, number, size)
         self.write_register(target, size, result)
@@ -263,11 +263,11 @@ class Step(Control):
         """Does an operation on registers of which only the lowest bytes are known, if those of the result depend only on these. Returns
         whether it is one. Its flags are unknown.
         """
-        known = [self.way.registers[it.name][1] for it in (source, target) if isinstance(it, Register)]
+        known_bytes = [self.way.registers[it.name][1] for it in (source, target) if isinstance(it, Register)]
         has_offset = any(it.offset for it in (source, target) if isinstance(it, Register))
-        if base not in LOW_BYTES or isinstance(source, Memory) or not min(known) or has_offset:
+        if base not in LOW_BYTES or isinstance(source, Memory) or not min(known_bytes) or has_offset:
             return False
-        size = 1 << min(known).bit_length() - 1
+        size = 1 << min(known_bytes).bit_length() - 1
         right = 1 if source is None else self.read_register_or_number(source, 1 if base in SHIFTS else size)
         count = self.way.require_number(right) & 31 if base in SHIFTS else 0
         value = self.read_register_or_number(target, size)

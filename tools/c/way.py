@@ -84,9 +84,9 @@ class Way:
 
     def require_number(self, value: Value) -> int:
         """Returns a value as a number. If it can be several, the way forks. Raises Ask then."""
-        known = self.resolve(value)
-        if known is not None:
-            return known
+        number = self.resolve(value)
+        if number is not None:
+            return number
         first, *others = sorted(self.require_few_words(value))
         raise Ask(IsOneOf(value.id, (first,), tuple(others)))
 
@@ -101,9 +101,9 @@ class Way:
         """Returns the result of an operation on a value. Only words with different results are distinguished: Ask is raised if there are
         several results.
         """
-        known = self.resolve(value)
-        if known is not None:
-            return work(known)
+        number = self.resolve(value)
+        if number is not None:
+            return work(number)
         words_by_result: dict[object, list] = {}
         for word in sorted(self.require_few_words(value)):
             words_by_result.setdefault(work(word + value.added & MASK[value.size]), []).append(word)
@@ -129,16 +129,16 @@ class Way:
     def are_equal(self, left: Value, right: Value, size: int) -> bool:
         """Returns whether two values have the same bytes."""
         left, right = self.extract_bytes(left, size), self.extract_bytes(right, size)
-        known = self.resolve(left), self.resolve(right)
-        if None not in known:
-            return known[0] == known[1]
+        numbers = self.resolve(left), self.resolve(right)
+        if None not in numbers:
+            return numbers[0] == numbers[1]
         if left == right:
             return True
         if not self.list_words(left) & self.list_words(right):
             return False
-        if known[0] is None and known[1] is None:
+        if numbers[0] is None and numbers[1] is None:
             return self.are_symbols_equal(left, right)
-        return self.apply(*((left, lambda it: it == known[1]) if known[0] is None else (right, lambda it: it == known[0])))
+        return self.apply(*((left, lambda it: it == numbers[1]) if numbers[0] is None else (right, lambda it: it == numbers[0])))
 
     def are_symbols_equal(self, left: Symbol, right: Symbol) -> bool:
         """Returns whether two symbols, of which neither is known, have the same word. lw compares 32 bits: that must give the same result. Raises Ask
@@ -174,11 +174,11 @@ class Way:
 
     def snapshot(self) -> tuple[Any, ...]:
         """Returns all that determines how the way continues, if nothing is asked and no other thread stores anything."""
-        shown = lambda value: value if value is None or self.resolve(value) is None else self.resolve(value)
-        registers = tuple((name, shown(value), size) for name, (value, size) in sorted(self.registers.items()))
-        memory = tuple((address, size, shown(value)) for address, (size, value) in sorted(self.memory.items()))
-        last = tuple((address, shown(value)) for address, value in sorted(self.last_stored.items()))
-        flags = self.flags and (self.flags.source, shown(self.flags.left), shown(self.flags.right), self.flags.size, self.flags.has_carry)
+        simplify = lambda value: value if value is None or self.resolve(value) is None else self.resolve(value)
+        registers = tuple((name, simplify(value), size) for name, (value, size) in sorted(self.registers.items()))
+        memory = tuple((address, size, simplify(value)) for address, (size, value) in sorted(self.memory.items()))
+        last = tuple((address, simplify(value)) for address, value in sorted(self.last_stored.items()))
+        flags = self.flags and (self.flags.source, simplify(self.flags.left), simplify(self.flags.right), self.flags.size, self.flags.has_carry)
         return registers, memory, last, flags, tuple(sorted(self.shown_values.items(), key=lambda it: it[0]))
 
 

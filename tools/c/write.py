@@ -21,10 +21,10 @@ class Writer:
     """A writer of one thread. `locations` are the indices of locations, `seen` the registers of what the condition mentions, by its name.
     """
 
-    def __init__(self, ways: Ways, seen: dict[str, int], mark: int | None, locations: dict[int, int], thread: int) -> None:
+    def __init__(self, ways: Ways, seen_registers: dict[str, int], mark: int | None, locations: dict[int, int], thread: int) -> None:
         """Chooses the registers of a thread's symbols, and an order of its nodes."""
-        self.ways, self.seen, self.mark, self.locations = ways, seen, mark, locations
-        self.registers = Registers(ways, seen, mark, thread)
+        self.ways, self.seen, self.mark, self.locations = ways, seen_registers, mark, locations
+        self.registers = Registers(ways, seen_registers, mark, thread)
         self.order = sort_nodes(ways)
         self.statements: list[Statement] = []
         self.origins: list[int] = []

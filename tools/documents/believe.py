@@ -100,12 +100,12 @@ def list_std_names(definitions_reached: Iterable[Definition]) -> set[str]:
     std_names = set()
     for definition in definitions_reached:
         if definition.path.endswith(".antt"):
-            named = OF_STD.findall("\n".join(definitions.read_lines(definition.path)))
-            for name in re.split(r",\s*", ", ".join(named)):
+            names = OF_STD.findall("\n".join(definitions.read_lines(definition.path)))
+            for name in re.split(r",\s*", ", ".join(names)):
                 name = name.partition(" as ")[0].strip()
                 parts = [re.escape(part) for part in name.split("◌") if part]
-                whole = parts if "◌" in name else [rf"(?<![\w'.]){re.escape(name)}(?![\w'])"]
-                if name and all(re.search(part, definition.text) for part in whole):
+                patterns = parts if "◌" in name else [rf"(?<![\w'.]){re.escape(name)}(?![\w'])"]
+                if name and all(re.search(part, definition.text) for part in patterns):
                     std_names.add(name)
     return std_names
 

@@ -132,18 +132,18 @@ class Names:
         crate down, since what a Common takes from a lower crate's, that one must export. `in_std` has the names of std's Common.
         """
         self.crates, self.in_std, self.opened = crates, in_std, find_unfoldable_definitions(crates)
-        wanted = {it: self.count_imports(it) for it in crates.order}
+        imports = {it: self.count_imports(it) for it in crates.order}
         # Of each crate the names that its Common exports, each with its module.
         self.passed: dict[str, dict[str, str]] = {}
         for crate in reversed(crates.order):
             best: dict[str, str] = {}
-            for module, name in sorted(wanted[crate], key=lambda it: (-wanted[crate][it], it)):
+            for module, name in sorted(imports[crate], key=lambda it: (-imports[crate][it], it)):
                 best.setdefault(name, module)
             self.passed[crate] = best
             for name, module in best.items():
                 below = find_passing_crate(module)
                 if below != crate and crates.has_common(below):
-                    wanted[below].setdefault((module, name), 1)
+                    imports[below].setdefault((module, name), 1)
 
     def find_module(self, module: str, name: str) -> str:
         """Returns the module that declares a name, or std's Common if that exports it."""
@@ -159,16 +159,16 @@ class Names:
 
     def count_imports(self, crate: str) -> dict[tuple[str, str], int]:
         """Counts the imports of each module and name in a crate's proofs."""
-        wanted: dict[tuple[str, str], int] = Counter()
+        counts: dict[tuple[str, str], int] = Counter()
         for path in self.crates.list_proofs(crate) if self.crates.has_common(crate) else ():
             text = self.crates.read_proof(path)
             unfolded = find_unfolded_names(text)
             for module, name in self.list_imports(text):
                 module = self.find_module(module, name)
-                own = module.startswith(f"Rattle.{crate}.proofs")
-                if " as " not in name and name not in unfolded and not own and (module, name) not in self.opened:
-                    wanted[module, name] += 1
-        return wanted
+                is_own = module.startswith(f"Rattle.{crate}.proofs")
+                if " as " not in name and name not in unfolded and not is_own and (module, name) not in self.opened:
+                    counts[module, name] += 1
+        return counts
 
     def make_common(self, crate: str) -> str:
         """Returns the text of a crate's Common."""

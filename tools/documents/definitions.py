@@ -182,10 +182,10 @@ class Definitions:
 
     def list_reached(self, starts: Iterable[Definition], excluded: Sequence[str] = ()) -> list[Definition]:
         """Returns all definitions on which some depend, themselves among them; not those reached only through the excluded names."""
-        reached, waiting = {}, [*starts]
-        while waiting:
-            definition = waiting.pop(0)
+        reached, queue = {}, [*starts]
+        while queue:
+            definition = queue.pop(0)
             if definition.key() not in reached and definition.name not in excluded:
                 reached[definition.key()] = definition
-                waiting += self.list_cited(definition)
+                queue += self.list_cited(definition)
         return [*reached.values()]

@@ -35,8 +35,8 @@ def read_first_sentence(path: str) -> str:
             if not comment or not comment[2]:
                 break
             words.append(comment[2].strip())
-    whole = " ".join(words)
-    return re.split(r"(?<=[.:])\s+(?=[A-Z0-9`])", whole)[0].rstrip(".:")
+    text = " ".join(words)
+    return re.split(r"(?<=[.:])\s+(?=[A-Z0-9`])", text)[0].rstrip(".:")
 
 
 def list_files(crate: str, folder: str, suffix: str) -> Iterator[tuple[str, str]]:
@@ -105,11 +105,11 @@ def declares(text: str, name: str) -> bool:
 def find_link_faults(crate: str, text: str) -> Iterator[str]:
     """Yields the names of a README.md whose file does not declare them."""
     for name, path in NAME_LINK.findall(text):
-        whole = f"{HOME}/crates/{crate}/{path}"
-        if not os.path.exists(whole):
+        path_in_crate = f"{HOME}/crates/{crate}/{path}"
+        if not os.path.exists(path_in_crate):
             yield f"{crate}/README.md links to {path}"
             continue
-        with open(whole, encoding="utf-8") as file:
+        with open(path_in_crate, encoding="utf-8") as file:
             if not declares(file.read(), name):
                 yield f"{crate}/README.md links {name} to {path}, which does not declare it"
 

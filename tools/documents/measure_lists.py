@@ -43,13 +43,13 @@ def main() -> None:
     """Runs the command that the arguments describe."""
     reader = command.Reader(__doc__)
     reader.add_argument("names", nargs="*", metavar="NAME")
-    names, wanted = reader.read().names, dict(list_tests())
+    names, paths = reader.read().names, dict(list_tests())
     print("| Test | States | `lw states`, millions of instructions |\n|---|---|---|")
-    for name in names or wanted:
+    for name in names or paths:
         millions, states = measure_report(name)
         print(f"| {name} | {states} | {millions:,.3f} |", flush=True)
-        if states != wanted.get(name):
-            sys.exit(f"{name}: {wanted.get(name)} states are wanted")
+        if states != paths.get(name):
+            sys.exit(f"{name}: {paths.get(name)} states are wanted")
 
 
 if __name__ == "__main__":

@@ -88,14 +88,14 @@ class Missing:
     def imports_file(self, upper: File, lower: File) -> bool:
         """Returns whether a file imports another, directly or not."""
         seen: set[str] = set()
-        waiting = [upper]
-        while waiting:
-            file = waiting.pop()
+        queue = [upper]
+        while queue:
+            file = queue.pop()
             if file is lower:
                 return True
             for module in {*file.modules.values(), *(module for module, _ in file.brings.values())} - seen:
                 seen.add(module)
-                waiting += [self.files.by_module[module]] if module in self.files.by_module else []
+                queue += [self.files.by_module[module]] if module in self.files.by_module else []
         return False
 
     def find_modules(self, file: File, word: str) -> set[tuple[str, str]]:
@@ -142,8 +142,9 @@ class Missing:
         lines, added = list(self.remove_false_imports(file)), []
         for word in list_free_names(file):
             modules = sorted(self.find_modules(file, word))
-            where = ", ".join(module for module, _ in modules)
-            says = f"is imported from {where}" if len(modules) == 1 else f"stands in several modules: {where}" if modules else "stands nowhere"
+            module_names = ", ".join(module for module, _ in modules)
+            several = f"stands in several modules: {module_names}" if modules else "stands nowhere"
+            says = f"is imported from {module_names}" if len(modules) == 1 else several
             self.reports.append((len(modules) == 1, f"{os.path.relpath(path, HOME)}: {word} {says}"))
             added += ["use {}.{{{}}}".format(*it) for it in modules if len(modules) == 1]
         first = next((index for index, line in enumerate(lines) if USE.match(line)), None)

@@ -20,12 +20,12 @@ WAITS = ("mfence", "xchg", "xadd")
 def find_positions_after_stores(code: Sequence[Statement]) -> set[int]:
     """Returns the positions that some way reaches from a store, with nothing between that waits for it."""
     seen: set[int] = set()
-    waiting = [after for position, it in enumerate(code) if it.kind == "store" for after in plain.list_successors(it, position)]
-    while waiting:
-        position = waiting.pop()
+    queue = [after for position, it in enumerate(code) if it.kind == "store" for after in plain.list_successors(it, position)]
+    while queue:
+        position = queue.pop()
         if position < len(code) and position not in seen:
             seen.add(position)
-            waiting += plain.list_successors(code[position], position) if code[position].kind not in WAITS else []
+            queue += plain.list_successors(code[position], position) if code[position].kind not in WAITS else []
     return seen
 
 

@@ -19,13 +19,13 @@ WRITES = ("store", "xchg", "xadd")
 
 def find_loads_after(code: Sequence[Statement], position: int) -> set[int]:
     """Returns the loads that some way reaches from a position, with nothing between that waits."""
-    loads_after, seen, waiting = set(), set(), list(plain.list_successors(code[position], position))
-    while waiting:
-        reached = waiting.pop()
+    loads_after, seen, queue = set(), set(), list(plain.list_successors(code[position], position))
+    while queue:
+        reached = queue.pop()
         if reached < len(code) and reached not in seen and code[reached].kind not in WAITS:
             seen.add(reached)
             loads_after |= {reached} if code[reached].kind == "load" else set()
-            waiting += plain.list_successors(code[reached], reached)
+            queue += plain.list_successors(code[reached], reached)
     return loads_after
 
 

@@ -190,7 +190,7 @@ def format_fences(tests: CombinedTest, original: Original, question: str, are_en
     yield from format_sets([list(map(original.short, it)) for it in sets], question, are_enough)
 
 
-def format_helping_places(tests: CombinedTest, named: Callable[[Place], str]) -> Iterator[str]:
+def format_helping_places(tests: CombinedTest, format_place: Callable[[Place], str]) -> Iterator[str]:
     """Yields where further fences would answer the question, if what it is against is present."""
     number, states = tests.count_unwanted_states(), len(tests.list_states())
     if not number:
@@ -199,13 +199,13 @@ def format_helping_places(tests: CombinedTest, named: Callable[[Place], str]) ->
     sets = tests.find_helping_sets()
     end = "an MFENCE more before these instructions changes that" if sets else "no MFENCE changes that"
     yield f"{presence}, in {number} of {states} states: {end}"
-    yield from (f"  {'; '.join(map(named, it))}" for it in sets)
+    yield from (f"  {'; '.join(map(format_place, it))}" for it in sets)
 
 
-def format_exchanges(shown: list[tuple[str, CombinedTest]], named: Callable[[Place], str]) -> Iterator[str]:
+def format_exchanges(shown: list[tuple[str, CombinedTest]], format_place: Callable[[Place], str]) -> Iterator[str]:
     """Yields what is said of each exchange: by the question, and by everything."""
     for place in shown[0][1].list_exchanges():
-        yield f"{named(place)}, without its lock:"
+        yield f"{format_place(place)}, without its lock:"
         for shown_by, tests in shown:
             before, states = {*tests.list_states()}, tests.list_states_without_lock(place)
             added = [line for line in states or [] if line not in before]
@@ -217,23 +217,23 @@ def format_exchanges(shown: list[tuple[str, CombinedTest]], named: Callable[[Pla
 def format_tests_and_makers(tests: CombinedTest, makers: set[answers.Maker], tries: int) -> str:
     """Returns the line that says from how many tests a report is put together, and who lists them."""
     count, often = len(tests.parts), "once" if tries == 1 else f"{tries} times"
-    mark = "" if answers.are_proved(makers) else ", not proved"
+    suffix = "" if answers.are_proved(makers) else ", not proved"
     runs = f", of the runs that go through each loop at most {often}" if tries else ""
-    return f"Put together from {count} test{'s' * (count != 1)}, listed by {answers.format_makers(makers)}{mark}{runs}"
+    return f"Put together from {count} test{'s' * (count != 1)}, listed by {answers.format_makers(makers)}{suffix}{runs}"
 
 
 def format_answer(tests: CombinedTest, original: Original, by_everything: bool, with_exchanges: bool) -> list[str]:
     """Returns all that is said of the fences of a test of which some run is left."""
     everything = tests.show_sites(original.everything)
     question = original.all_shown if by_everything else f"its question, {original.condition}"
-    shown, named = everything if by_everything else tests, original.named
+    shown, format_place = everything if by_everything else tests, original.named
     lines = list(format_fences(shown, original, question, not by_everything and not tests.count_unwanted_states()))
     if not by_everything:
-        lines += format_helping_places(tests, named)
+        lines += format_helping_places(tests, format_place)
     if with_exchanges:
         asks = [] if by_everything else [(f"by its question, {original.condition}", tests)]
-        lines += format_exchanges([*asks, (f"by {original.all_shown}", everything)], named)
+        lines += format_exchanges([*asks, (f"by {original.all_shown}", everything)], format_place)
     makers = tests.makers | everything.makers
-    mark = "" if answers.are_proved(makers) else " (not proved)"
-    head = f"{original.name}, by {question}: fences {len(shown.list_fences())}, states {len(shown.list_states())}{mark}"
+    suffix = "" if answers.are_proved(makers) else " (not proved)"
+    head = f"{original.name}, by {question}: fences {len(shown.list_fences())}, states {len(shown.list_states())}{suffix}"
     return [head, *lines, format_tests_and_makers(tests, makers, original.tries)]

@@ -121,7 +121,8 @@ def compare_state(subject: str, svg: str, state: State) -> Iterator[Comparison]:
         begin = find_buffer(shown)
         registers = [it for it in shown[:begin] if re.fullmatch(r"\w+=\d+", it)]
         yield f"{subject}: the registers of P{number}", [], sorted(set(registers) - set(format_words(thread_state["registers"])))
-        yield f"{subject}: the store buffer of P{number}", format_words(thread_state.get("buffer", [])) or ["(empty)"], shown[begin + 1 :] or ["(empty)"]
+        entries = format_words(thread_state.get("buffer", []))
+        yield f"{subject}: the store buffer of P{number}", entries or ["(empty)"], shown[begin + 1 :] or ["(empty)"]
 
 
 def check_figures(page: str, tests: dict[str, bytes]) -> Iterator[Comparison]:

@@ -72,14 +72,14 @@ def find_loops(nodes: list[Node]) -> Iterator[tuple[set[int], int]]:
     for first in reversed(reached):
         if first in seen:
             continue
-        loop, waiting = {first}, [first]
+        loop, stack = {first}, [first]
         seen.add(first)
-        while waiting:
-            for predecessor in before[waiting.pop()]:
+        while stack:
+            for predecessor in before[stack.pop()]:
                 if predecessor not in seen:
                     seen.add(predecessor)
                     loop.add(predecessor)
-                    waiting.append(predecessor)
+                    stack.append(predecessor)
         if len(loop) > 1 or first in nodes[first].list_successors():
             entries = [it for it in loop if it == 0 or any(other not in loop for other in before[it])]
             yield loop, min(entries, key=lambda entry: (nodes[entry].origin, entry))

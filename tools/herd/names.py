@@ -9,7 +9,7 @@ from herd.text import Refused
 SIX = plain.REGISTERS["X86"]
 
 
-def number_registers(thread: int, names: dict[str, int], mark: str | None) -> dict[str, int]:
+def number_registers(thread: int, names: dict[str, int], mark_name: str | None) -> dict[str, int]:
     """Returns an index for each register of a thread, whose names have the first ones; and for its mark, if one is left. Raises Refused if six are
     not enough.
     """
@@ -19,8 +19,8 @@ def number_registers(thread: int, names: dict[str, int], mark: str | None) -> di
         if not free:
             raise Refused(f"P{thread} needs more than six registers, and lw has six: one is needed here", names[name])
         numbers[name] = free.pop(0)
-    if mark and free:
-        numbers[mark] = free[0]
+    if mark_name and free:
+        numbers[mark_name] = free[0]
     return numbers
 
 

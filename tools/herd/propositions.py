@@ -78,10 +78,10 @@ class PropositionReader(Reader):
 
 def make_conjunction(parts: Sequence[Proposition]) -> Proposition:
     """Returns the conjunction of some propositions."""
-    whole = parts[0]
+    conjunction = parts[0]
     for part in parts[1:]:
-        whole = And(whole, part)
-    return whole
+        conjunction = And(conjunction, part)
+    return conjunction
 
 
 def restrict(quantifier: str, conditions: Sequence[Proposition], proposition: Proposition) -> Proposition:

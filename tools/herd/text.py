@@ -92,11 +92,11 @@ class Reader:
         """Returns whether the next token is one of these."""
         return self.token.kind != "end" and self.token.text in texts
 
-    def make_misplaced_refusal(self, wanted: str) -> Refused:
+    def make_misplaced_refusal(self, expected: str) -> Refused:
         """Returns the fault of the next token if something else is expected."""
         token = self.token
         shown = plain.quote(token.text) if token.kind != "end" else "the end of the text" if not token.text else "the end of the cell"
-        return Refused(f"{shown} stands where {wanted} should", token.offset)
+        return Refused(f"{shown} stands where {expected} should", token.offset)
 
     def take_token(self, *texts: str) -> Token:
         """Reads the next token, which must be one of the texts, if there are any. Raises Refused if it is not."""
@@ -112,9 +112,9 @@ class Reader:
             return True
         return False
 
-    def read_signed(self, wanted: str = "a number") -> int:
-        """Reads a number, which may have a sign. Raises Refused, which says what is `wanted`, if there is none."""
+    def read_signed(self, expected: str = "a number") -> int:
+        """Reads a number, which may have a sign. Raises Refused, which says what is `expected`, if there is none."""
         sign = -1 if self.take_token_if("-") else 1
         if self.token.kind != "number":
-            raise self.make_misplaced_refusal(wanted)
+            raise self.make_misplaced_refusal(expected)
         return sign * parse_number(self.take_token())

@@ -57,8 +57,8 @@ def make_renamer(original: Converted) -> Callable[[str], str]:
 
 def translate_report(report: str, original: Converted) -> str:
     """Returns a report in the names of the original test."""
-    named, lines = make_renamer(original), report.splitlines()
+    rename, lines = make_renamer(original), report.splitlines()
     end = 2 + len(answers.filter_state_lines(report))
-    lines[2:end] = map(named, lines[2:end])
-    lines[-2] = named(lines[-2])
+    lines[2:end] = map(rename, lines[2:end])
+    lines[-2] = rename(lines[-2])
     return "".join(f"{line}\n" for line in lines)

@@ -227,10 +227,10 @@ class Step:
     def execute_cmpxchg(self) -> None:
         """Executes CMPXCHG: the location may get the new word, and EAX the old one."""
         target, new = self.instruction.operands
-        old, wanted = self.read_operand(target), Register("EAX")
-        self.read_operand(wanted)
-        self.write_operand(target, merge_optional_ranges(self.read_operand(new), old))
-        self.write_operand(wanted, merge_optional_ranges(self.registers.get("EAX", (0, 0)), old))
+        old_word, expected = self.read_operand(target), Register("EAX")
+        self.read_operand(expected)
+        self.write_operand(target, merge_optional_ranges(self.read_operand(new), old_word))
+        self.write_operand(expected, merge_optional_ranges(self.registers.get("EAX", (0, 0)), old_word))
 
     def execute_cmov(self) -> None:
         """Executes a move that may be skipped; in 32 bits the upper half becomes 0 then too."""

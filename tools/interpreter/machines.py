@@ -160,8 +160,8 @@ def execute_instruction(instruction: Statement, cpu: int, processor: Processor, 
         jumps = instruction.kind == "jmp" or processor.zero == (instruction.kind == "je")
         return processor._replace(position=instruction.target if jumps else processor.position + 1)
     if instruction.kind == "load":
-        own = [word for location, word in processor.buffer if location == instruction.location]
-        return processor.set_register(instruction.register, own[-1] if own else memory.load(cpu, instruction.location))
+        own_words = [word for location, word in processor.buffer if location == instruction.location]
+        return processor.set_register(instruction.register, own_words[-1] if own_words else memory.load(cpu, instruction.location))
     word = read_value(instruction.value, processor.registers)
     if instruction.kind == "store":
         return processor._replace(position=processor.position + 1, buffer=processor.buffer + ((instruction.location, word),))

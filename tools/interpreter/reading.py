@@ -60,17 +60,17 @@ class Reader:
         """Returns the fault at the token that was read last."""
         return self.make_fault(cause, self.index - 1)
 
-    def make_misplaced_fault(self, wanted: str) -> NoTest:
+    def make_misplaced_fault(self, expected: str) -> NoTest:
         """Returns the fault of the next token if something else is expected."""
         end, text = "the end of the text" if self.index == len(self.tokens) else "the end of the cell", self.peek_text()
-        return self.make_fault(f"{end if text is None else quote(text)} stands where {wanted} should")
+        return self.make_fault(f"{end if text is None else quote(text)} stands where {expected} should")
 
-    def take_token(self, wanted: str | None = None) -> str:
+    def take_token(self, expected: str | None = None) -> str:
         """Reads the next token, which must be the wanted one, if one is. Returns its text, which is empty at the end. Raises NoTest if it is another.
         """
         text = self.peek_text()
-        if wanted is not None and text != wanted:
-            raise self.make_misplaced_fault(quote(wanted))
+        if expected is not None and text != expected:
+            raise self.make_misplaced_fault(quote(expected))
         self.index += 1
         return text or ""
 
@@ -85,10 +85,10 @@ class Reader:
             raise self.make_fault_at_last(f"the number is larger than {WORD - 1}")
         return value
 
-    def read_name(self, wanted: str = "a name") -> str:
-        """Reads a name. `wanted` says in a fault what is missing. Raises NoTest if it is none, or too long."""
+    def read_name(self, expected: str = "a name") -> str:
+        """Reads a name. `expected` says in a fault what is missing. Raises NoTest if it is none, or too long."""
         if self.peek_kind() != "name":
-            raise self.make_misplaced_fault(wanted)
+            raise self.make_misplaced_fault(expected)
         if len(self.peek_text() or "") > 32:
             raise self.make_fault("the name has more than 32 letters")
         return self.take_token()
@@ -98,9 +98,9 @@ class Reader:
         text = text.upper() if self.test.language == "X86" else text
         return self.names.index(text) if text in self.names else None
 
-    def read_register(self, wanted: str = "a register") -> int:
+    def read_register(self, expected: str = "a register") -> int:
         """Reads a register. Returns its index. Raises NoTest if it is none."""
-        register = self.find_register(self.read_name(wanted))
+        register = self.find_register(self.read_name(expected))
         if register is None:
             kind = "a source test" if self.test.language == "SRC" else "an x86 test"
             raise self.make_fault_at_last(f"{self.quote_last()} is no register of {kind}")
@@ -302,8 +302,8 @@ class Reader:
         mnemonic = self.read_name("'XCHG' or 'XADD'").upper() if locked else mnemonic
         if mnemonic == "XCHG" or mnemonic == "XADD" and locked:
             return self.read_exchange(mnemonic.lower())
-        where = " after LOCK" if locked else " without LOCK" if mnemonic == "XADD" else ""
-        raise self.make_fault_at_last(f"{self.quote_last()} is no instruction that is read{where}")
+        prefix_words = " after LOCK" if locked else " without LOCK" if mnemonic == "XADD" else ""
+        raise self.make_fault_at_last(f"{self.quote_last()} is no instruction that is read{prefix_words}")
 
     def read_move(self) -> Statement:
         """Reads the operands of MOV."""

@@ -68,15 +68,15 @@ def explore_states(test: Test, start: State, moves: Callable[[Test, State], Iter
     """
     origins: Origins = {start: None}
     finals: dict[Outcome, State] = {}
-    waiting = deque([start])
-    while waiting:
-        state = waiting.popleft()
+    queue = deque([start])
+    while queue:
+        state = queue.popleft()
         is_final = True
         for event, after in moves(test, state):
             is_final = False
             if after not in origins:
                 origins[after] = (event, state)
-                waiting.append(after)
+                queue.append(after)
         if is_final:
             finals.setdefault(make_outcome(state), state)
     return finals, origins

@@ -87,8 +87,8 @@ def make_stores_nontemporal(code: Code) -> Code:
 
 def list_registers(code: Code) -> set[int]:
     """Returns the registers that a thread uses."""
-    named = {it.register for it in code if it.register is not None}
-    return named | {it.value.register for it in code if isinstance(it.value, Register)}
+    registers = {it.register for it in code if it.register is not None}
+    return registers | {it.value.register for it in code if isinstance(it.value, Register)}
 
 
 def list_kept_registers(code: Code, places: Sequence[int], registers: set[int]) -> list[str]:

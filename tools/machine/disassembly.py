@@ -125,9 +125,9 @@ def compare_code(thread: int, code: Sequence[Statement], listing: Listing, begin
     """Refuses instructions that are not those of a thread."""
     texts = list_instructions(listing, begin, end)
     numbers = {address: number for number, address in enumerate([*texts, end])}
-    for index, (wanted, text) in enumerate(zip(code, texts.values())):
-        if parse_statement(text, numbers) != wanted:
-            raise NotRun(f"the compiled code is not the test's: P{thread} at {index} has '{text}', and the test has {format_statement(wanted)}")
+    for index, (expected, text) in enumerate(zip(code, texts.values())):
+        if parse_statement(text, numbers) != expected:
+            raise NotRun(f"the compiled code is not the test's: P{thread} at {index} has '{text}', and the test has {format_statement(expected)}")
     if len(texts) != len(code):
         raise NotRun(f"the compiled code is not the test's: P{thread} has {len(texts)} instructions, and the test has {len(code)}")
 
@@ -136,8 +136,8 @@ def format_statement(statement: Statement) -> str:
     """Names an instruction of a test, for a message."""
     of_statement = statement.value
     value = ("number", of_statement.word) if isinstance(of_statement, Number) else of_statement and ("register", of_statement.register)
-    named = (("register", statement.register), ("location", statement.location), ("value", value), ("target", statement.target))
-    return f"'{statement.kind}'" + "".join(f" {name} {value}" for name, value in named if value is not None)
+    parts = (("register", statement.register), ("location", statement.location), ("value", value), ("target", statement.target))
+    return f"'{statement.kind}'" + "".join(f" {name} {value}" for name, value in parts if value is not None)
 
 
 def compare_threads(threads: Sequence[Sequence[Statement]], first: Sequence[Sequence[int]], listing: Listing) -> None:

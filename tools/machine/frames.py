@@ -46,9 +46,9 @@ def find_fault_before(texts: list[str], code: Sequence[Statement], first: Sequen
         return "the place of the results is not taken"
     texts = texts[1:]
     addresses = {int(it[1]) - 8: int(it[2] or "0", 16) for it in take_leading_matches(ADDRESS, texts)}
-    wanted = {it.location: 8 * it.location for it in code if it.location is not None}
-    if addresses != wanted:
-        return f"the addresses of locations are taken from {addresses}, and not from {wanted}"
+    expected = {it.location: 8 * it.location for it in code if it.location is not None}
+    if addresses != expected:
+        return f"the addresses of locations are taken from {addresses}, and not from {expected}"
     words = {it[1]: int(it[2], 16) for it in take_leading_matches(WORD, texts)}
     begins = {REGISTERS[it]: first[it] for it in list_used_registers(code)}
     if words != begins:
@@ -60,9 +60,9 @@ def find_fault_before(texts: list[str], code: Sequence[Statement], first: Sequen
 def find_fault_after(texts: list[str], code: Sequence[Statement], saved: list[str]) -> str | None:
     """Returns what is wrong with the instructions after the test's, or None."""
     results: dict[str, int] = {it[2]: int(it[1], 16) for it in take_leading_matches(RESULT, texts)}
-    wanted = {REGISTERS[it]: 4 * it for it in list_used_registers(code)}
-    if results != wanted:
-        return f"results are {results}, and not {wanted}"
+    expected = {REGISTERS[it]: 4 * it for it in list_used_registers(code)}
+    if results != expected:
+        return f"results are {results}, and not {expected}"
     restored = [it[1] for it in take_leading_matches(RESTORED, texts)]
     if restored != saved[::-1] or texts[:1] != ["ret"]:
         return f"{', '.join(saved)} are saved, and {', '.join(restored)} are restored"

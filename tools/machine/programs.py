@@ -88,8 +88,8 @@ def compile_program(file: str, text: str, compiler: str | None, tries: int) -> P
         raise NotRun(f"no run goes through every loop within {tries} tr{'ies' if tries != 1 else 'y'}")
     parts = [make_part(it.conversion) for it in answer.tests]
     question = parts[0].conversion.question
-    named, listed = Names(converter, question).translate_line, merge_lists(parts, compiler)
-    subject = Subject(question, question, plain.list_observed_sites(question), named=named, asked=converter.condition.text, listed=listed)
+    names, listed = Names(converter, question).translate_line, merge_lists(parts, compiler)
+    subject = Subject(question, question, plain.list_observed_sites(question), named=names, asked=converter.condition.text, listed=listed)
     return Program(subject, parts, list_program_notes(answer, compiler, tries))
 
 

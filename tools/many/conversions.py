@@ -108,11 +108,11 @@ def answer_test(file: str, text: str, choices: Choices, run: spawn.Run) -> rows.
     notes = tuple(command.format_note(file, text, at, says) for at, says in result.notes)
     count = len(result.conversions)
     by = "from_herd.py" if count == 1 and not result.tries else "assume.py"
-    how = f"{by}, {language}: {describe_tests(count, result.tries)}"
+    description = f"{by}, {language}: {describe_tests(count, result.tries)}"
     try:
         test_answers = collect_answers(result.conversions)
     except given.Fault as fault:
-        return rows.make_refusal(file, f"{file}: {fault.args[0]}", how, notes)
+        return rows.make_refusal(file, f"{file}: {fault.args[0]}", description, notes)
     report = merge_reports(result.conversions, test_answers)
     if answers.filter_state_lines(report):
         report = translate_report(report, result)
@@ -120,7 +120,7 @@ def answer_test(file: str, text: str, choices: Choices, run: spawn.Run) -> rows.
         report = answers.format_no_verdict(result.conversions[0].question, describe_no_run(choices.tries))
     row = rows.make_row(file, report, clock.measure_seconds(), choose_method(it.by for it in test_answers))
     tests = [(from_herd.write_converted_text(result, it), answer.text) for it, answer in zip(result.conversions, test_answers)]
-    return rows.Answered(row._replace(converted=how, notes=list(notes)), report, tests, result.tries)
+    return rows.Answered(row._replace(converted=description, notes=list(notes)), report, tests, result.tries)
 
 
 def choose_fault(file: str, text: str, run: spawn.Run, lw_offset: int, fault: given.Fault) -> str:
@@ -152,18 +152,18 @@ def answer_program(file: str, text: str, choices: Choices) -> rows.Answered:
     sys.setrecursionlimit(from_c.RECURSION)
     source = read_source(file, text)
     compiler = choices.compiler if choices.compiler and not source.is_rust else choose_compiler(source.ending)
-    how = f"from_c.py, {compiler}"
+    description = f"from_c.py, {compiler}"
     try:
         answer, _ = from_c.convert_source(source, compiler, choices.tries, include=os.path.dirname(os.path.abspath(file)))
     except NoRun as why:
         report = from_c.format_no_run(source, why.cause)
         row = rows.make_row(file, report, clock.measure_seconds(), None)
-        return rows.Answered(row._replace(converted=how), report, [], choices.tries)
+        return rows.Answered(row._replace(converted=description), report, [], choices.tries)
     except Refused as why:
-        return rows.make_refusal(file, why.format_line(file), how)
+        return rows.make_refusal(file, why.format_line(file), description)
     tries = choices.tries if answer.bounded else 0
     report = answer.report if answer.has_run else from_c.format_no_run(source, describe_no_run(choices.tries))
     row = rows.make_row(file, report, clock.measure_seconds(), choose_method(answer.makers))
-    how = f"{how}: {describe_tests(len(answer.tests), tries)}"
+    description = f"{description}: {describe_tests(len(answer.tests), tries)}"
     notes = [f"{file}: note: {note}" for note in answer.notes]
-    return rows.Answered(row._replace(converted=how, notes=notes), report, [], tries)
+    return rows.Answered(row._replace(converted=description, notes=notes), report, [], tries)

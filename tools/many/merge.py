@@ -44,11 +44,11 @@ def check_shards(rows: list[dict]) -> None:
 def merge_tables(names: list[str]) -> list[Row]:
     """Returns the rows of several tables of JSON, sorted by their files. Refuses tables that are incomplete, or have a file twice."""
     tables = [(name, row) for name in names for row in read_table(name)]
-    where: Dict[str, str] = {}
+    file_of_part: Dict[str, str] = {}
     for name, row in tables:
-        if row["file"] in where:
-            raise NoTable(f"{name}: {row['file']} is in {where[row['file']]} too")
-        where[row["file"]] = name
+        if row["file"] in file_of_part:
+            raise NoTable(f"{name}: {row['file']} is in {file_of_part[row['file']]} too")
+        file_of_part[row["file"]] = name
     check_shards([row for _, row in tables])
     rows = [Row(**{field: row.get(field) for field in Row._fields}) for _, row in tables]
     return sorted(rows, key=lambda it: it.file)

@@ -39,8 +39,8 @@ def listen(ports: Sequence[int]) -> socket.socket | None:
             return listening
         except OSError:
             listening.close()
-    which = f"port {ports[0]} is" if len(ports) == 1 else f"ports {ports[0]} to {ports[-1]} are"
-    print(f"page: {which} in use, or may not be listened on; ./page PORT takes another", file=sys.stderr)
+    ports_words = f"port {ports[0]} is" if len(ports) == 1 else f"ports {ports[0]} to {ports[-1]} are"
+    print(f"page: {ports_words} in use, or may not be listened on; ./page PORT takes another", file=sys.stderr)
     return None
 
 

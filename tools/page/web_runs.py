@@ -115,11 +115,11 @@ class Runs:
     def start_process(self, arguments: list[str]) -> subprocess.Popen:
         """Starts a command in a process group of its own. Raises Gone once the server ends."""
         pipe = subprocess.PIPE
-        how: dict[str, Any] = {"stdin": pipe, "stdout": pipe, "stderr": pipe, "start_new_session": True, "cwd": "/"}
+        options: dict[str, Any] = {"stdin": pipe, "stdout": pipe, "stderr": pipe, "start_new_session": True, "cwd": "/"}
         with self.lock:
             if self.is_over:
                 raise Gone
-            process = subprocess.Popen([*self.front, *arguments], env={"PATH": os.environ.get("PATH", os.defpath)}, **how)
+            process = subprocess.Popen([*self.front, *arguments], env={"PATH": os.environ.get("PATH", os.defpath)}, **options)
             self.running.add(process)
         return process
 

@@ -169,7 +169,7 @@ def parse_machine_run(body: bytes) -> tuple[bytes, int]:
     return encode_text(fields["text"]), fields["seconds"]
 
 
-def are_words(words: list[Any]) -> bool:
+def are_words(words: list[object]) -> bool:
     """Returns whether words are a command of lw, or a list of beyond within a budget."""
     if words in COMMANDS:
         return True
@@ -180,7 +180,7 @@ def are_words(words: list[Any]) -> bool:
     return len(words) == 2 and words[0] == "replay" and type(words[1]) is str and is_schedule(words[1])
 
 
-def is_budget(word: Any) -> bool:
+def is_budget(word: object) -> bool:
     """Returns whether a word is a budget that a run may have."""
     return type(word) is str and re.fullmatch(r"[0-9]{1,8}", word) is not None and int(word) <= MAX_BUDGET
 
@@ -198,7 +198,7 @@ def encode_text(text: str) -> bytes:
         raise Refusal(400, "The body has half of a pair of surrogates.") from None
 
 
-def make_object(pairs: list[tuple[str, Any]]) -> dict[str, Any]:
+def make_object(pairs: list[tuple[str, object]]) -> dict[str, object]:
     """Returns an object of JSON, whose keys must differ. Raises ValueError if they do not."""
     if len(dict(pairs)) != len(pairs):
         raise ValueError("a key stands twice")

@@ -100,8 +100,8 @@ class Crate:
 
     def find_newest_change(self) -> float:
         """Returns when the crate was last changed, or one on which it depends."""
-        own = [f"{folder}/{name}" for part in PARTS for folder, _, names in os.walk(f"{self.folder}/{part}") for name in names]
-        return max([os.path.getctime(it) for it in own] + [it.find_newest_change() for it in self.below])
+        paths = [f"{folder}/{name}" for part in PARTS for folder, _, names in os.walk(f"{self.folder}/{part}") for name in names]
+        return max([os.path.getctime(it) for it in paths] + [it.find_newest_change() for it in self.below])
 
     def seems_built(self) -> bool:
         """Returns whether its library is younger than its sources; a guess, for how long the build takes."""
@@ -187,9 +187,9 @@ class Build:
 
     def show_progress(self) -> None:
         """Shows on a terminal how far the build is, and how long it has taken."""
-        whole = sum(self.weight.values()) or 1
+        total = sum(self.weight.values()) or 1
         running = sum(self.weight[it] * it.measure_share_done() for it in self.running)
-        done = (sum(self.weight[it] for it in self.proved) + running) / whole
+        done = (sum(self.weight[it] for it in self.proved) + running) / total
         functions = sum(it.count_functions()[1] for it in self.proved if self.weight[it]) + sum(it.count_functions()[0] for it in self.running)
         seconds = int(time.monotonic() - self.began)
         names = ", ".join(it.name for it in self.running)
@@ -220,8 +220,8 @@ def start_build(crate: Crate, jobs: int, is_program: bool) -> subprocess.Popen:
     os.makedirs(f"{crate.folder}/out", exist_ok=True)
     verb, folder = ("run", crate.folder) if is_program else ("lib", copy_crate(crate))
     with open(crate.log, "wb") as log:
-        how: dict[str, Any] = {"cwd": folder, "stdin": subprocess.DEVNULL, "stdout": log, "stderr": log, "start_new_session": True}
-        return subprocess.Popen(["rt", verb, "--jobs", str(jobs)], **how)
+        options: dict[str, Any] = {"cwd": folder, "stdin": subprocess.DEVNULL, "stdout": log, "stderr": log, "start_new_session": True}
+        return subprocess.Popen(["rt", verb, "--jobs", str(jobs)], **options)
 
 
 def copy_crate(crate: Crate) -> str:
@@ -298,8 +298,8 @@ class FirstAnswer:
         """Starts the unproved program when its input is complete, and shows its answer."""
         if self.process is None and self.is_read:
             with open(self.input, "rb") as stdin, open(self.output, "wb") as output, open(self.errors, "wb") as errors:
-                how: dict[str, Any] = {"stdin": stdin, "stdout": output, "stderr": errors, "start_new_session": True}
-                self.process = subprocess.Popen(["rt", "try", "--", *self.words], cwd=self.program.crate, **how)
+                options: dict[str, Any] = {"stdin": stdin, "stdout": output, "stderr": errors, "start_new_session": True}
+                self.process = subprocess.Popen(["rt", "try", "--", *self.words], cwd=self.program.crate, **options)
         if self.process and self.status is None and self.process.poll() is not None:
             self.status = self.process.returncode
             self.show_answer()
@@ -389,7 +389,7 @@ def build_and_answer(program: Program, arguments: list[str]) -> int:
             return subprocess.run([program.path, *arguments], stdin=content, check=False).returncode
 
 
-def end_build(*_signal: Any) -> NoReturn:
+def end_build(*_signal: object) -> NoReturn:
     """Ends the build on a signal; further signals are ignored. Raises Failed."""
     for signal_number in SIGNALS:
         signal.signal(signal_number, signal.SIG_IGN)

@@ -9,7 +9,8 @@ from __future__ import annotations
 from collections.abc import Sequence
 from typing import Any, NamedTuple
 
-Crate = Any  # hashable: a crate, or its name
+# A crate, or its name: what is hashable.
+Crate = Any
 # What a check gains by each further job: less than it does on a crate by itself, since a build has several in parallel.
 GAIN = 0.1
 MAX_JOBS = 4
@@ -62,8 +63,8 @@ class Plan:
 
     def choose_next_jobs(self, waiting_crates: Sequence[Crate], running: Sequence[Crate]) -> dict[Crate, int]:
         """Returns the crates that can start now, and the jobs of each. The one with the longest chain gets the processors that are left."""
-        waiting = {*waiting_crates, *running}
-        ready = [it for it in waiting_crates if not waiting & {*self.below[it]}]
+        unfinished = {*waiting_crates, *running}
+        ready = [it for it in waiting_crates if not unfinished & {*self.below[it]}]
         ready.sort(key=self.find_chain_minutes, reverse=True)
         others = len(ready) - 1 + len(running)
         max_jobs = min(MAX_JOBS, self.processors)

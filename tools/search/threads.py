@@ -64,10 +64,10 @@ class Thread:
         statement = self.code.statements[state.position]
         place.location = statement.location
         if statement.kind == "load":
-            own = [word for location, word in state.buffer if location == statement.location]
-            place.kind = FORWARD if own else LOAD
-            if own:
-                place.end = self.find_end(self.make_end(state, statement.register, own[-1]), 1)
+            own_words = [word for location, word in state.buffer if location == statement.location]
+            place.kind = FORWARD if own_words else LOAD
+            if own_words:
+                place.end = self.find_end(self.make_end(state, statement.register, own_words[-1]), 1)
         elif statement.kind == "store":
             place.kind, place.word = STORE, read_value(statement.value, state.registers)
             place.end = self.find_end(state._replace(position=state.position + 1), 1)

@@ -58,8 +58,8 @@ def make_name(edges: list[Edge]) -> str:
     family = find_family(names)
     if not family:
         return "-".join(choose_rotation(names))
-    wanted = tuple(FAMILIES[family].split())
-    ways = [way for way in list_rotations(names) if tuple(strip_middle(name) for name in way) == wanted]
+    family_edges = tuple(FAMILIES[family].split())
+    ways = [rotation for rotation in list_rotations(names) if tuple(strip_middle(name) for name in rotation) == family_edges]
     return family + make_suffix(min(ways))
 
 

@@ -51,14 +51,14 @@ def run_all(
     """
     import select
 
-    waiting = iter(range(len(jobs)))
+    indices = iter(range(len(jobs)))
     done = [Run(file, "", None, 0.0) for file, _ in jobs]
     poll = select.poll()
     running: dict[int, tuple[int, int, list[bytes]]] = {}
 
     def start_next() -> None:
         """Starts the next job that starts."""
-        for index in waiting:
+        for index in indices:
             file, words = jobs[index]
             try:
                 process, end = spawn_command(file, [program, *words])

@@ -55,8 +55,8 @@ def guard_output(stream: Any, mode: int) -> Output:
     """
     if stream is None:
         return Output(io.BufferedWriter(io.FileIO(os.open(os.devnull, mode), "w")), encoding="utf-8")
-    how = {"encoding": stream.encoding, "errors": stream.errors, "line_buffering": stream.line_buffering}
-    return Output(stream.detach(), **how)
+    options = {"encoding": stream.encoding, "errors": stream.errors, "line_buffering": stream.line_buffering}
+    return Output(stream.detach(), **options)
 
 
 def drop_output() -> None:
