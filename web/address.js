@@ -9,7 +9,7 @@ const KEY = "address";
 // What names an example, whose name has no blank.
 const NAMES = ["example", "beside"];
 
-let fields = parsed(keptForReload() ?? location.hash.slice(1));
+let fields = parseFields(keptForReload() ?? location.hash.slice(1));
 let timer = null;
 // The address as it was written or followed last. Where it is another, a link is about to be followed, and is not written over.
 let known = location.hash;
@@ -21,7 +21,7 @@ addEventListener("pageshow", keep);
  * @param {string} text
  * @returns {URLSearchParams}
  */
-function parsed(text) {
+function parseFields(text) {
   const parameters = new URLSearchParams(text);
   for (const name of NAMES) if (parameters.has(name)) parameters.set(name, parameters.get(name).replaceAll(" ", "+"));
   return parameters;
@@ -98,7 +98,7 @@ export function onLink(act) {
     timer = null;
     const before = read();
     known = location.hash;
-    fields = parsed(location.hash.slice(1));
+    fields = parseFields(location.hash.slice(1));
     keep();
     act(before);
   });

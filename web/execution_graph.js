@@ -78,14 +78,14 @@ function nameOf({ dataset: { from, to }, classList }) {
  * @returns {Element}
  */
 export function legend(...graphs) {
-  const drawn = graphs.flatMap((it) => [...it.querySelectorAll("path[data-to]")]);
-  const names = new Set(drawn.map(nameOf));
+  const paths = graphs.flatMap((it) => [...it.querySelectorAll("path[data-to]")]);
+  const names = new Set(paths.map(nameOf));
   const shown = ([kind, words]) => {
     const here = Object.keys(words).filter((it) => names.has(it));
     const inner = here.map((it, index) => [index ? ", " : "", el("b", {}, it), ` ${words[it]}`]);
     return here.length > 0 && el("span", { class: `relation ${kind}` }, arrow(), inner);
   };
-  const cycle = drawn.some((it) => it.classList.contains("marked"));
+  const cycle = paths.some((it) => it.classList.contains("marked"));
   const bold = cycle && el("span", { class: "relation cycle" }, arrow(), el("b", {}, "bold"), " the cycle");
   return el("p", { class: "legend" }, ARROWS.map(shown), bold);
 }

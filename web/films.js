@@ -104,11 +104,11 @@ export function compiledSchedule(program, compiled, test, schedule) {
  */
 function sourceSchedule(test, film) {
   const begins = test.threads.map((statements) => new Set(beginsOf(statements)));
-  const isBegin = (event, at) => {
+  const beginsStatement = (event, at) => {
     const thread = Number(event[1]);
     return event[0] === "P" && begins[thread].has(film.states[at].threads[thread].at);
   };
-  return film.events.filter(isBegin).join(" ");
+  return film.events.filter(beginsStatement).join(" ");
 }
 
 /**

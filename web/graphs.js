@@ -70,13 +70,13 @@ export class Names {
  * @param {Edge[]} edges
  * @returns {Edge[]}
  */
-function near(edges) {
+function nearEdges(edges) {
   const leads = (a, b) => edges.some((it) => it.source === a && it.target === b);
   return edges.filter(({ source, target }) => !edges.some(({ target: mid }) => leads(source, mid) && leads(mid, target)));
 }
 
 /** Returns of each read the edge to the first write after the one that it reads from. */
-function nearFr(execution) {
+function nearFromReads(execution) {
   const edges = new Map();
   for (const it of execution.frEdges()) if (!edges.has(it.source)) edges.set(it.source, it);
   return [...edges.values()];
@@ -108,7 +108,7 @@ export function wordsOf(execution) {
   const [names, cycle] = [new Names(execution), execution.cycle()];
   const letter = (event) => names.letters.get(event);
   const lines = execution.events().map((it) => names.line(it));
-  const relations = [["rf", execution.rfEdges()], ["co", near(execution.coEdges())], ["fr", nearFr(execution)]];
+  const relations = [["rf", execution.rfEdges()], ["co", nearEdges(execution.coEdges())], ["fr", nearFromReads(execution)]];
   for (const [kind, edges] of relations) {
     const pairs = edges.map((it) => `${letter(it.source)} -> ${letter(it.target)}`).join(", ");
     lines.push(`${NAMES[kind]} (${kind}): ${pairs || "none"}`);
@@ -136,13 +136,13 @@ function verdictOf(execution, names) {
 // The picture.
 
 /** Rounds a number to a tenth. */
-function rounded(number) {
+function roundToTenth(number) {
   return Math.floor(number * 10 + 0.5) / 10;
 }
 
 /** Returns a point as a path has it. */
 function spot([x, y]) {
-  return `${digits(rounded(x))} ${digits(rounded(y))}`;
+  return `${digits(roundToTenth(x))} ${digits(roundToTenth(y))}`;
 }
 
 /** Returns the place of an event in its test, by which a page finds its instruction. */
@@ -168,7 +168,7 @@ function drawEdge(drawing, layout, route, isMarked) {
 /** Writes the name of a relation at its arrow. */
 function drawLabel(drawing, layout, route, name) {
   const [x, y] = layout.placeLabel(route, name.length);
-  drawing.text(rounded(x - (name.length * LETTER) / 2), rounded(y + 4), name, "relation");
+  drawing.text(roundToTenth(x - (name.length * LETTER) / 2), roundToTenth(y + 4), name, "relation");
 }
 
 /** Returns the heads of the arrows, by relation. */
@@ -195,7 +195,7 @@ function drawEvents(drawing, layout, execution, texts, inCycle) {
 
 /** Returns the edges of a picture: those of the relations, and those of a marked cycle. */
 function drawnEdges(execution, cycle) {
-  const edges = [...near(execution.po()), ...execution.rfEdges(), ...near(execution.coEdges()), ...nearFr(execution)];
+  const edges = [...nearEdges(execution.po()), ...execution.rfEdges(), ...nearEdges(execution.coEdges()), ...nearFromReads(execution)];
   return [...edges, ...cycle.filter((it) => !edges.some(isSameEdge(it)))];
 }
 

@@ -135,10 +135,10 @@ export function change(before, after) {
 
 /** Does what has waited for a guess or its answer, once none is waited for. What is not shown any more is forgotten. */
 export function follow() {
-  const shown = pending.filter((it) => it.shown.isConnected);
-  pending = shown.filter((it) => isAwaited(it.text) || (it.isUntilAnswered && isOpen(it.text)));
+  const visible = pending.filter((it) => it.shown.isConnected);
+  pending = visible.filter((it) => isAwaited(it.text) || (it.isUntilAnswered && isOpen(it.text)));
   for (const it of pending) if (it.isUntilAnswered) it.shown.textContent = isOpen(it.text) ? OPEN : FIRST;
-  for (const it of shown) if (!pending.includes(it)) it.show();
+  for (const it of visible) if (!pending.includes(it)) it.show();
 }
 
 /**
@@ -163,11 +163,11 @@ export function wait(text, place, notice, show, isUntilAnswered = false) {
  * @param {function(): void} show
  */
 export function question(text, place, { report, words }, id, show) {
-  const settled = (guess) => () => {
+  const settleAs = (guess) => () => {
     settle(text, guess);
     if (document.activeElement === document.body) place.focus();
   };
-  const choice = (title, guess, name) => button(title, settled(guess), { id: id(name) });
+  const choice = (title, guess, name) => button(title, settleAs(guess), { id: id(name) });
   const yes = choice("Yes", true, "yes");
   const asked = el("p", { class: "verdict" }, el("span", { class: "sign", "aria-hidden": "true" }, "?"), el("strong", {}, words.question));
   const tints = tintsOf(text);

@@ -28,7 +28,7 @@ text { fill: #ececec } .faint { fill: #b0b0b0 } .changed { fill: #ffb27a } .read
 }
 `;
 
-function escaped(text) {
+function escapeMarkup(text) {
   return text.replaceAll("&", "&amp;").replaceAll("<", "&lt;").replaceAll(">", "&gt;");
 }
 
@@ -49,7 +49,7 @@ export class Drawing {
 
   text(x, y, text, kind = "") {
     const attributes = kind ? ` class="${kind}"` : "";
-    this.elements.push(`<text x="${digits(x)}" y="${digits(y)}"${attributes}>${escaped(text)}</text>`);
+    this.elements.push(`<text x="${digits(x)}" y="${digits(y)}"${attributes}>${escapeMarkup(text)}</text>`);
   }
 
   box(x, y, width, height, kind = "box") {
@@ -68,7 +68,7 @@ export class Drawing {
   svg(width, height, title) {
     const [w, h] = [digits(width), digits(height)];
     const head = `<svg xmlns="http://www.w3.org/2000/svg" width="${w}" height="${h}" viewBox="0 0 ${w} ${h}" role="img">`;
-    const named = `<title>${escaped(title)}</title>\n<style>${STYLE}</style>`;
+    const named = `<title>${escapeMarkup(title)}</title>\n<style>${STYLE}</style>`;
     return [head, named, `<rect width="${w}" height="${h}" class="ground"/>`, ...this.elements, "</svg>\n"].join("\n");
   }
 }

@@ -101,8 +101,8 @@ function answerMoves(program, text, { schedule, protocol, whole = false }) {
   });
   const cells = cellsOf(program, text);
   const ending = endingOf(text, state);
-  const put = whole ? registersPut(program, text, { schedule, protocol }, cells) : null;
-  return { state, ...lastOf(program, text, { schedule, protocol }, cells, state), put, ending, moves, cells, language };
+  const registers = whole ? registersPut(program, text, { schedule, protocol }, cells) : null;
+  return { state, ...lastOf(program, text, { schedule, protocol }, cells, state), put: registers, ending, moves, cells, language };
 }
 
 /**
@@ -215,7 +215,7 @@ function answerWhyNot(program, text, { state }) {
   const test = readTest(program.ask(["compile"], text));
   if (language === "X86") return { ...whyNot(test, state), language };
   try {
-    const { lines, cycles } = whyNot(test, renamed(state, REGISTERS.SRC, REGISTERS.X86));
+    const { lines, cycles } = whyNot(test, renameRegisters(state, REGISTERS.SRC, REGISTERS.X86));
     return { lines: lines.map(inSource), cycles, language };
   } catch (error) {
     if (error instanceof NoAnswer) error.message = inSource(error.message);
@@ -223,7 +223,7 @@ function answerWhyNot(program, text, { state }) {
   }
 }
 
-const inSource = (words) => renamed(words, REGISTERS.X86, REGISTERS.SRC);
+const inSource = (words) => renameRegisters(words, REGISTERS.X86, REGISTERS.SRC);
 
 /**
  * Returns words in which registers have their names of another language, by their numbers.
@@ -232,7 +232,7 @@ const inSource = (words) => renamed(words, REGISTERS.X86, REGISTERS.SRC);
  * @param {string[]} to
  * @returns {string}
  */
-function renamed(words, from, to) {
+function renameRegisters(words, from, to) {
   return words.replace(/\b([0-3]):([A-Za-z]\w*)\b/g, (name, thread, register) => {
     const number = from.indexOf(register);
     return number < 0 ? name : `${thread}:${to[number]}`;

@@ -30,7 +30,7 @@ function makeSlip(words, written, name, isInQuestion) {
  * @param {{written: string, name: string, isInQuestion: boolean}} change
  * @returns {string}
  */
-export function mended(text, { written, name, isInQuestion }) {
+export function applyChange(text, { written, name, isInQuestion }) {
   const index = text.search(QUESTION);
   const pattern = new RegExp(`(?<![\\w:])${written.replace(":", "\\s*:\\s*")}\\b`, "g");
   const [rest, question] = [text.slice(0, index), text.slice(index)];
@@ -100,7 +100,7 @@ export function slipsIn(text) {
 export function slipNotes(text, mend) {
   const slips = slipsIn(text).slice(0, MAX_SHOWN);
   return slips.map(({ words, change }) => {
-    const apply = change && button(`Change it to ${change.name}`, () => mend(mended(text, change)), { class: "apply" });
+    const apply = change && button(`Change it to ${change.name}`, () => mend(applyChange(text, change)), { class: "apply" });
     return el("p", { class: "slip" }, el("b", {}, "A hint of the page: "), sentence(words), " ", plainMark(), " ", apply);
   });
 }

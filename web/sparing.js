@@ -88,13 +88,13 @@ export function tableOfFences(test, listOf) {
     const added = lists.of(without(test, [fence])).filter((line) => !known.has(line));
     return { place: placeOf(test, fence), added };
   });
-  const leftOut = spared(test, fences, states, lists);
+  const leftOut = findSpareFences(test, fences, states, lists);
   const enough = fences.filter((fence) => !leftOut.includes(fence)).map(([thread, at]) => `P${thread} at ${at}`);
   return { rows, enough, states: states.length, positive, answered_by: [...lists.answeredBy].sort() };
 }
 
 /** Returns fences that can be left out together, taken one after another as long as no state is added. */
-function spared(test, fences, states, lists) {
+function findSpareFences(test, fences, states, lists) {
   const leftOut = [];
   for (const fence of fences) {
     if (lists.of(without(test, [...leftOut, fence])).join() === states.join()) leftOut.push(fence);

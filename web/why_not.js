@@ -114,8 +114,8 @@ export function whyNot(test, state) {
     return { lines: [wanted ? `No thread reads or writes such values: no candidate execution ends in ${state}` : NONE_FORBIDDEN], cycles: [] };
   }
   const states = inOrder(byAxioms.forbidden);
-  const drawn = states.flatMap(({ ways }) => ways.slice(0, MAX_DRAWN)).slice(0, MAX_DRAWN);
-  const cycles = drawn.map(({ execution, violation, cycle, axiom }) => {
+  const shownWays = states.flatMap(({ ways }) => ways.slice(0, MAX_DRAWN)).slice(0, MAX_DRAWN);
+  const cycles = shownWays.map(({ execution, violation, cycle, axiom }) => {
     return { graph: graphOf(execution, `${test.name}: ${cycle}`, violation), words: `${axiom}: ${cycle}` };
   });
   return { lines: states.flatMap((it) => sayWhy(test, it)), cycles };

@@ -53,7 +53,7 @@ class Thread:
         return way
 
     def enter_loop(self, way: Way) -> None:
-        """Starts to count passes, if a loop starts at a way's place."""
+        """Starts to count passes, if a loop starts at a way's position."""
         if way.position in self.program.back_targets:
             way.passes[(way.call, way.position)] = Pass(questions_before=way.question_count, question_count=way.question_count, stores=way.stores)
 
@@ -95,7 +95,7 @@ class Thread:
         return last
 
     def fetch_instruction(self, way: Way) -> Instruction | None:
-        """Returns the instruction at a way's place; `None` if the way is too long. Before it is known which locations are shared, that is no fault.
+        """Returns the instruction at a way's position; `None` if the way is too long. Before it is known which locations are shared, that is no fault.
         Raises Refused if a jump leads out of the code, or there are too many ways.
         """
         code = self.program.assembly.code

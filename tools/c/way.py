@@ -15,7 +15,7 @@ TOO_MANY_WORDS = f"an operation depends on a word that can be one of more than {
 
 @dataclass(frozen=True)
 class Pass:
-    """How often a call has passed a loop since it was entered, how much was asked before that, and the state at the last pass."""
+    """How often a call has passed a loop since it was entered, how many questions were asked before that, and the state at the last pass."""
 
     count: int = 0
     questions_before: int = 0
@@ -26,7 +26,7 @@ class Pass:
 
 @dataclass
 class Way:
-    """The place of a thread, and what it knows there. A register has a value and the number of its lowest bytes that are known."""
+    """The position of a thread in the code, and what it knows there. A register has a value and the number of its lowest bytes that are known."""
 
     position: int
     past: Clock

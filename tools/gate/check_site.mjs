@@ -48,9 +48,9 @@ class Native {
   static answers = new Map();
 
   run(words, text) {
-    const asked = JSON.stringify([words, Buffer.from(text).toString("latin1")]);
-    if (!Native.answers.has(asked)) Native.answers.set(asked, this.ask(words, text));
-    return Native.answers.get(asked);
+    const key = JSON.stringify([words, Buffer.from(text).toString("latin1")]);
+    if (!Native.answers.has(key)) Native.answers.set(key, this.ask(words, text));
+    return Native.answers.get(key);
   }
 
   ask(words, text) {
@@ -108,13 +108,13 @@ class Tally {
   passed = 0;
   failed = 0;
 
-  compare(what, wanted, told) {
-    if (isDeepStrictEqual(wanted, told)) {
+  compare(what, expected, actual) {
+    if (isDeepStrictEqual(expected, actual)) {
       this.passed += 1;
       return;
     }
     this.failed += 1;
-    console.log(`${what}\n  wanted: ${JSON.stringify(wanted)}\n  told:   ${JSON.stringify(told)}`.slice(0, 3000));
+    console.log(`${what}\n  wanted: ${JSON.stringify(expected)}\n  told:   ${JSON.stringify(actual)}`.slice(0, 3000));
   }
 }
 
@@ -225,8 +225,8 @@ function refusalsOf(text, states) {
   const compiled = new Native().run(["compile"], text);
   const isSmall = !compiled.isFault && (compiled.out.toString().match(/\[|MFENCE/g) ?? []).length <= FEW;
   if (!isSmall || !states.length) return [];
-  const asked = ["all", states[0], states[0].replace(/\d+;$/, "77;"), "y", ""];
-  return asked.map((state) => ["why not", { state }]);
+  const lines = ["all", states[0], states[0].replace(/\d+;$/, "77;"), "y", ""];
+  return lines.map((state) => ["why not", { state }]);
 }
 
 /** Questions on runs: of a source test a schedule of the source, step by step, with events that are refused. */
@@ -325,12 +325,12 @@ function shown(answer) {
 async function compareText(page, program, plain, tally, name, text) {
   for (const [question, more] of questionsOn(text)) {
     const fields = { text, ...more };
-    const told = page.questions.answerTo(program, question, fields);
-    tally.compare(`${name}: ${question} ${JSON.stringify(more)}`, shown(await plain.ask(question, fields)), shown(told));
-    for (const film of Object.values(told.films ?? {}).filter(Boolean)) compareEffects(tally, name, film);
-    if (told.films) compareCondition(page, tally, name, text, told);
-    for (const kind of ["compiled", "bare"].filter((it) => told[it])) {
-      const list = { text: told[kind] };
+    const answered = page.questions.answerTo(program, question, fields);
+    tally.compare(`${name}: ${question} ${JSON.stringify(more)}`, shown(await plain.ask(question, fields)), shown(answered));
+    for (const film of Object.values(answered.films ?? {}).filter(Boolean)) compareEffects(tally, name, film);
+    if (answered.films) compareCondition(page, tally, name, text, answered);
+    for (const kind of ["compiled", "bare"].filter((it) => answered[it])) {
+      const list = { text: answered[kind] };
       const answer = page.questions.answerTo(program, "states", list);
       tally.compare(`${name}: the states of what is ${kind}`, shown(await plain.ask("states", list)), shown(answer));
     }
@@ -345,11 +345,11 @@ function compareCondition(page, tally, name, text, { films, state }) {
   const { isAsked } = page.condition_words.questionOf(decoded);
   if (!words || !films.x86 || /^\s*\(?\*?.*forall/ms.test(decoded) || !isAsked(state)) return;
   for (const [, thread, listed] of words.matchAll(/P(\d) reads ((?:`\w+=\d+`(?:, then )?)+)/g)) {
-    const wanted = [...listed.matchAll(/`(\w+=\d+)`/g)].map(([, it]) => it);
+    const expected = [...listed.matchAll(/`(\w+=\d+)`/g)].map(([, it]) => it);
     const read = films.x86.effects.filter((it) => it.thread === Number(thread)).flatMap((it) => /reads `(\w+=\d+)`/.exec(it.words)?.[1] ?? []);
     let at = 0;
-    for (const it of read) if (it === wanted[at]) at += 1;
-    tally.compare(`${name}: P${thread} reads ${wanted.join(", ")} in the run to ${state}`, wanted.length, at);
+    for (const it of read) if (it === expected[at]) at += 1;
+    tally.compare(`${name}: P${thread} reads ${expected.join(", ")} in the run to ${state}`, expected.length, at);
   }
 }
 
@@ -415,13 +415,13 @@ function compareRefused(page, tally) {
   const right = "Test A\nSteps 0\nEnd NotFinal\nP0 at 0 r0=0 r1=0 r2=0 r3=0 r4=0 r5=0\nMemory x=0\n";
   tally.compare("a replay is read", right, asPrinted(page.replays.readState(right)));
   for (const [from, to] of [["End NotFinal\n", ""], ["End NotFinal", "End Soon"], ["P0 at", "P0 on"], ["Steps 0", "Steps"], ["x=0", "x=y"]]) {
-    let told = "read";
+    let outcome = "read";
     try {
       page.replays.readState(right.replace(from, to));
     } catch (error) {
-      told = error instanceof page.replays.NoReplay ? "refused" : String(error);
+      outcome = error instanceof page.replays.NoReplay ? "refused" : String(error);
     }
-    tally.compare(`a replay with ${JSON.stringify(to)} for ${JSON.stringify(from)}`, "refused", told);
+    tally.compare(`a replay with ${JSON.stringify(to)} for ${JSON.stringify(from)}`, "refused", outcome);
   }
 }
 
@@ -447,21 +447,21 @@ function compareArguments(page, tally) {
     [["--budget", "18446744073709551616", "states"], text],
   ];
   for (const [words, given] of wrong) {
-    let told = "called";
+    let outcome = "called";
     try {
       new page.module.Workbench(null).run(words, given);
     } catch (error) {
-      told = error.constructor.name;
+      outcome = error.constructor.name;
     }
-    tally.compare(`the module by ${JSON.stringify(words)}`, "TypeError", told);
+    tally.compare(`the module by ${JSON.stringify(words)}`, "TypeError", outcome);
   }
-  let told = null;
+  let outcome = null;
   try {
     new page.module.Workbench(null).run(["replay", "", "--protocol", "moesi"], text);
   } catch (error) {
-    told = error instanceof page.module.Trap;
+    outcome = error instanceof page.module.Trap;
   }
-  tally.compare("a command reaches the module", true, told);
+  tally.compare("a command reaches the module", true, outcome);
 }
 
 /** Lists by a search: within the limits they are those by orders, and past them those of the program beyond, with runs that end in them. */
@@ -512,8 +512,8 @@ function compareDifferences(page, tally) {
     ["words of two digits", report(["x=10;"]), report(["x=1;"]), { both: 0, alone: [["x=10;"], ["x=1;"]] }],
     ["nothing is shown", report([""]), report([""]), { both: 1, alone: [[], []] }],
   ];
-  for (const [what, one, other, wanted] of cases) {
-    tally.compare(`states of two lists: ${what}`, wanted, page.differences.differenceOf(one, other));
+  for (const [what, one, other, expected] of cases) {
+    tally.compare(`states of two lists: ${what}`, expected, page.differences.differenceOf(one, other));
   }
   const refused = [["1:r0=0; x=1;"], ["0:EBX=0; x=1;"], ["0:r0=0; y=1;"], ["0:r0=0;"], [""]];
   for (const lines of refused) {
@@ -555,8 +555,8 @@ function compareOwnRuns(page, program, tally, texts) {
     for (const film of Object.values(films)) compareEffects(tally, name, film);
     const other = listed.find((it) => /=\d+;/.test(it) && it !== state);
     if (!other) continue;
-    const told = ask("film", { own, state: other, protocol: "mesi" });
-    tally.compare(`${name}: a run to another state is that which is listed`, [other, undefined], [told.state, told.isOwn]);
+    const answer = ask("film", { own, state: other, protocol: "mesi" });
+    tally.compare(`${name}: a run to another state is that which is listed`, [other, undefined], [answer.state, answer.isOwn]);
   }
 }
 
@@ -575,24 +575,24 @@ function compareFenceEdits(page, tally, texts) {
   const code = " MOV [x],$1 | MOV EAX,[x] ;\n MOV [y],$1 | L: JE L2    ;\n  | L2: MOV EBX,[y] ;\n";
   const text = `X86 A\n(* P0 | ; *)\n{}\n P0         | P1          ;\n${code}exists (x=1)\n`;
   const rows = [[[1, 1]], [[0, 1], [1, 1]], [[1, 2]]];
-  const wanted = [
+  const expected = [
     "            | L: MFENCE   ;\n MOV [y],$1 | JE L2       ;\n", " MFENCE     | L: MFENCE   ;\n MOV [y],$1 | JE L2       ;\n",
     "  | L2: MFENCE      ;\n  | MOV EBX,[y]     ;\n",
   ];
   for (const [at, places] of rows.entries()) {
-    tally.compare(`fences at ${JSON.stringify(places)}`, true, textWithFences(text, places)?.includes(wanted[at]) ?? null);
+    tally.compare(`fences at ${JSON.stringify(places)}`, true, textWithFences(text, places)?.includes(expected[at]) ?? null);
   }
   tally.compare("no fence at a place that is none", null, textWithFences(text, [[0, 9]]));
 }
 
 /** Which examples are found by which words, the first of them, and how many at most; and which words are near to which. */
 function compareFinding(page, tally, families) {
-  const found = (text) => page.finding.findTests(families, text, false).map((it) => it.name);
+  const namesFor = (text) => page.finding.findTests(families, text, false).map((it) => it.name);
   for (const [text, first] of FOUND) {
-    tally.compare(`what is found by ${text}`, first, found(text).slice(0, first.length));
+    tally.compare(`what is found by ${text}`, first, namesFor(text).slice(0, first.length));
   }
-  tally.compare("MP is in no jump", [], found("MP").filter((it) => !it.startsWith("MP")));
-  tally.compare("nothing is found by a word that is none", [], found("zebra"));
+  tally.compare("MP is in no jump", [], namesFor("MP").filter((it) => !it.startsWith("MP")));
+  tally.compare("nothing is found by a word that is none", [], namesFor("zebra"));
   tally.compare("x86 tests first", ["MP-x86", "MP"], page.finding.findTests(families, "mp", false, true).map((it) => it.name).slice(0, 2));
   const first = (text) => page.finding.findTests(families, text, false, true)[0]?.name;
   const fullNames = ["load buffering", "Store buffer", "message passing", "independent reads of independent writes", "stale"];
@@ -634,11 +634,11 @@ function example(name) {
 /** Compares some answers with what is typed in here. */
 function compareTyped(page, program, tally) {
   const ask = (question, text, more = {}) => page.questions.answerTo(program, question, { text, ...more });
-  const compare = (what, wanted, told) => tally.compare(what, wanted, JSON.parse(JSON.stringify(told)));
+  const compare = (what, expected, actual) => tally.compare(what, expected, JSON.parse(JSON.stringify(actual)));
   for (const [name, question, isSo, telling, ...verdict] of VERDICTS) {
     const { words, report, language } = ask("states", example(name));
-    const said = page.verdicts.headlineOf(language, report, page.condition_words.conditionWords(example(name)));
-    compare(`the words on ${name}`, [question, isSo, telling, ...verdict], [words.question, words.is_so, words.telling, ...said]);
+    const headline = page.verdicts.headlineOf(language, report, page.condition_words.conditionWords(example(name)));
+    compare(`the words on ${name}`, [question, isSo, telling, ...verdict], [words.question, words.is_so, words.telling, ...headline]);
   }
   compare("in how many states a condition holds", COUNTS.map(([, , words]) => words),
     COUNTS.map(([positive, number]) => page.verdicts.countWords({ positive, number })));
@@ -656,8 +656,8 @@ function compareTyped(page, program, tally) {
   const { source } = ask("film", example("SB"), { state: "0:r0=1; 1:r0=1;", protocol: "mesi" }).films;
   compare("a source run has one step for each statement", ["P0", "P1", "P0", "P1"], source.events);
   compare("the code of a source run", [{ text: "x := 1", at: 0 }, { text: "r0 := y", at: 1 }], source.cells[0]);
-  const told = ask("film", example("SB"), { state: "0:r0=7; 1:r0=0;", protocol: "mesi" });
-  compare("a state that is none", { error: "The test does not end in that state." }, told);
+  const answer = ask("film", example("SB"), { state: "0:r0=7; 1:r0=0;", protocol: "mesi" });
+  compare("a state that is none", { error: "The test does not end in that state." }, answer);
   const faulty = "SRC Mine (* é𝄞 *)\n{}\n P0 ;\n(* é𝄞 *) x = 1 ;\nexists (x=1)\n";
   const { kind, number, name, row, column, index } = ask("states", faulty).fault;
   compare("a fault, with a column that counts characters", ["cell", 1, "Form", 4, 12, "= 1"],
@@ -666,8 +666,8 @@ function compareTyped(page, program, tally) {
   const hasMarks = Boolean(program.workbench.hasFilmsAndMarks);
   for (const [word, isProved] of [[1, hasMarks], [7, true]]) {
     const { report } = ask("states", deep(word));
-    const wanted = [["Test A Allowed", "States 2"], isProved, isProved];
-    compare("a test that lw alone reads has its report, and marks only if they are proved", wanted, [report.head, report.is_marked, report.is_proved]);
+    const expected = [["Test A Allowed", "States 2"], isProved, isProved];
+    compare("a test that lw alone reads has its report, and marks only if they are proved", expected, [report.head, report.is_marked, report.is_proved]);
   }
   const named = "X86 <b>\n{}\n P0 ;\n MOV [x],$1 ;\nexists (x=1)\n";
   const { picture } = ask("picture", named, { schedule: "P0", protocol: "mesi", strip: true });
@@ -695,14 +695,14 @@ const MOVES = [
 /** A module that has trapped says so, and answers the next question, by another instance. */
 function compareTrapped(page, tally, workbench) {
   const ask = () => page.questions.answerTo(new page.program.Program(workbench), "compile", { text: example("SB") });
-  const wanted = ask();
+  const expected = ask();
   const trap = () => {
     throw new WebAssembly.RuntimeError("unreachable");
   };
   workbench.kept = { ...workbench.kept, lw_compile: trap };
   const { error, isBeyond } = ask();
   tally.compare("a trap is told", ["The module was ended by the browser: RuntimeError: unreachable.", true], [error, isBeyond]);
-  tally.compare("behind a trap the module answers", wanted, ask());
+  tally.compare("behind a trap the module answers", expected, ask());
 }
 
 /** The workbench that is asked: the program, or in place of it a module or a server. */
