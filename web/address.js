@@ -70,7 +70,7 @@ export function put(changes, isNew = false) {
   keep();
   if (!isNew) timer ??= setTimeout(write, PAUSE);
   else {
-    history.pushState(null, "", written());
+    history.pushState(null, "", addressOfFields());
     known = location.hash;
   }
 }
@@ -80,11 +80,12 @@ function write() {
   clearTimeout(timer);
   timer = null;
   if (location.hash !== known) return;
-  history.replaceState(null, "", written());
+  history.replaceState(null, "", addressOfFields());
   known = location.hash;
 }
 
-function written() {
+/** Returns the address with the present fields. */
+function addressOfFields() {
   return String(fields) ? `#${fields}` : location.href.split("#")[0];
 }
 

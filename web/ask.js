@@ -69,12 +69,14 @@ class Asked {
     return line;
   }
 
+  /** Returns how far the answer is, and since how many seconds it is waited for. */
   waitingWords() {
     const seconds = Math.floor((performance.now() - this.begun) / SECOND);
     return `… ${this.progress ? `${this.progress}, ` : ""}${seconds} s`;
   }
 }
 
+/** Returns the questions that are asked on the test of an editor, by their names. */
 function askedOn(editor) {
   if (!askedByEditor.has(editor)) askedByEditor.set(editor, new Map());
   return askedByEditor.get(editor);

@@ -14,6 +14,7 @@ import { nameOf } from "./tokens.js";
 // What the second test can be besides an example: made of the first, by the names that an answer has for them.
 const MADE = { compiled: "what it is compiled to", bare: "that without its fences" };
 
+/** The view of two tests side by side. */
 export class Beside {
   /**
    * Makes both sides. `choose` puts an example into the editor, or with no name the reader's own test; `copyLink` copies the address; `onDraw` is
@@ -154,6 +155,7 @@ export class Beside {
   }
 }
 
+/** Returns a notice that is read out at once. */
 function notice(text) {
   return el("p", { class: "notice", role: "alert" }, text);
 }

@@ -14,6 +14,7 @@ import { showError, clearFault } from "./errors.js";
 // Of how many rows and threads at most a code is shown large.
 const [MAX_ROWS, MAX_THREADS] = [6, 2];
 
+/** The panel that shows what a test is compiled to, with the lists of states. */
 export class Compile {
   constructor(panel, editor, take) {
     this.editor = editor;

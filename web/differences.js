@@ -28,6 +28,7 @@ export function keyOf(line) {
   return String(pairsOf(line));
 }
 
+/** Returns a key of the names that the states of a report have: the same for two reports if they show the same. */
 function namesOf({ states }) {
   return String(pairsOf(states[0]?.line ?? "").map(([name]) => name));
 }

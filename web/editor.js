@@ -10,8 +10,9 @@ const [MIN_LINES, MAX_LINES] = [6, 40];
 // The lines that are to be seen whole, if that can be: rows of several threads, and the question.
 const WIDE = /^ .*\||^\s*(?:~?\s*exists|forall)\b/;
 
+/** The editor of a test. */
 export class Editor {
-  constructor(place, changed) {
+  constructor(place, onChange) {
     this.numbers = el("pre", { class: "numbers", "aria-hidden": "true" });
     this.colours = el("pre", { class: "colours", "aria-hidden": "true" });
     this.marks = el("pre", { class: "marks", "aria-hidden": "true" });
@@ -23,7 +24,7 @@ export class Editor {
       autocomplete: "off",
       autocapitalize: "off",
       wrap: "off",
-      input: () => this.change(changed),
+      input: () => this.change(onChange),
       scroll: () => this.follow(),
     });
     this.printed = el("pre", { class: "printed", "aria-hidden": "true" });

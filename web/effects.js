@@ -183,6 +183,7 @@ function load(step, register, location) {
   return { words: `${read} from memory into \`${register}\`${step.waiting(location)}`, register, location, ...step.cache(location) };
 }
 
+/** Returns the effect of a step that sets a register, or null. */
 function put(step, register, word) {
   return step.leaves(register, word) ? { words: `${step.name} sets \`${register}=${word}\``, register } : null;
 }
@@ -235,6 +236,7 @@ function exchange(step, register, location, word) {
   return { words: `${read} and writes \`${location}=${word}\` in one step${step.waiting(location)}`, register, location, ...step.cache(location) };
 }
 
+/** Returns the effect of a step that adds a value to a location and reads the old word into a register, or null. */
 function fetchAdd(step, register, location, value) {
   return exchange(step, register, location, (step.memory(location) + step.value(value)) % WORD);
 }

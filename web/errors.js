@@ -47,6 +47,7 @@ export function showError(answer, panel, editor) {
   } else panel.append(el("p", { class: "notice", role: "alert" }, fault ? wordsOf(fault, editor.text) : errorWords(answer)));
 }
 
+/** Returns whether a fault is one of the text of a test. */
 function isInText(fault) {
   return fault?.kind === "text" || fault?.kind === "cell";
 }

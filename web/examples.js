@@ -43,6 +43,7 @@ function fencesWords({ name, text, known }, tests) {
   return ` On x86 the compiler's fences forbid this outcome; without them it is allowed${tests.has(bare) ? `: \`${bare}\`` : ""}.`;
 }
 
+/** The examples, and what is said of the one in the editor. */
 export class Examples {
   /** Takes the examples by family. It calls `choose` with the name of one that the reader follows from another's comment. */
   constructor(families, choose) {
@@ -106,6 +107,7 @@ export class Examples {
     return others.reduce((best, it) => (commonLetters(name, it) > commonLetters(name, best) ? it : best));
   }
 
+  /** Returns the text of an example, aligned; undefined if there is none of the name. */
   textOf(name) {
     return this.tests.get(name)?.text;
   }

@@ -20,6 +20,7 @@ const edgeOf = (kind) => ([source, target]) => ({ kind, source, target });
 /** There are more candidate executions than the caller allows. */
 export class TooMany extends Error {}
 
+/** A candidate execution of an x86 test: its paths, reads-from and coherence order, and the words that follow from them. */
 export class Execution {
   constructor(test, paths, rf, co) {
     Object.assign(this, { test, paths, rf, co, read: new Map(), written: new Map() });
@@ -257,6 +258,7 @@ function isSame(first, second) {
   return first === null || second === null ? null : first === second;
 }
 
+/** Returns a list with one item replaced. */
 function replaceItem(list, at, item) {
   return list.map((it, number) => (number === at ? item : it));
 }

@@ -89,6 +89,7 @@ function placeOf(rows, [thread, number]) {
   return filled[number];
 }
 
+/** Returns a text in which another text takes the place of a cell. */
 function replaceCell(text, { begin, end }, inner) {
   return text.slice(0, begin) + inner + text.slice(end);
 }

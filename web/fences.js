@@ -13,6 +13,7 @@ import { showError, clearFault } from "./errors.js";
 const MAX_SHOWN = 4;
 const BY_CLICK = "In Watch and By hand “+ fence” puts a fence between two instructions, where the pointer is, and “✕ fence” takes it out.";
 
+/** The panel that shows which fences matter. */
 export class Fences {
   /** Fills the panel. It calls `take` with a text for the editor. */
   constructor(panel, editor, take) {
@@ -98,6 +99,7 @@ export class Fences {
     if (isTooLong(answer)) this.place.append(this.offer());
   }
 
+  /** Returns the button that asks again, by a search. */
   offer() {
     return searchOffer(() => this.show(null, true), this.editor.id("search-fences"));
   }
@@ -140,6 +142,7 @@ function placeIn(words) {
   return [Number(thread), Number(at)];
 }
 
+/** Returns a number of states in words. */
 function statesOf(number) {
   return number === 1 ? "1 state" : `${number} states`;
 }
@@ -173,6 +176,7 @@ function verdictOf({ table, language }, names) {
   return [`${needed} ${program} ends in more states. With ${isOne ? "it" : "all"}${holding}${statesOf(states)}.`];
 }
 
+/** Returns the first states of some lines, each with its button to watch a run, and how many others there are. */
 function shownOf(lines, watch) {
   const shown = lines.slice(0, MAX_SHOWN).map((it) => el("div", {}, el("code", {}, it), " ", watch(it)));
   return lines.length > MAX_SHOWN ? [...shown, `and ${lines.length - MAX_SHOWN} others`] : shown;

@@ -14,14 +14,15 @@ export function watchButton(state, act) {
   return button("Watch", act, { class: "watch", "aria-label": `Watch a run to ${state}` });
 }
 
+/** A run of another text than that in the editor. */
 export class Film extends Run {
   constructor(editor) {
     super(editor, { isLinked: false });
   }
 
   /** Shows a run from its start, which plays, and brings it into sight. */
-  async show(state, more) {
-    await super.show(state, { play: true, ...more });
+  async show(state, options) {
+    await super.show(state, { play: true, ...options });
     this.place.scrollIntoView({ block: "nearest", behavior: isStill() ? "auto" : "smooth" });
   }
 }

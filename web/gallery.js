@@ -15,6 +15,7 @@ const PICKS = [
   ["SB", "Source code, and what it is compiled to"],
 ];
 
+/** The dialog that lists all examples. */
 export class Gallery {
   /** Fills the dialog. It calls `onChoose` with the name of an example, or with none for the reader's own test. */
   constructor(examples, onChoose) {
@@ -80,6 +81,7 @@ export class Gallery {
     return !this.examples.textOf(this.examples.name)?.startsWith("SRC");
   }
 
+  /** Closes the dialog, and reports the choice. */
   take(name) {
     this.place.close();
     this.onChoose(name);

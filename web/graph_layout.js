@@ -50,6 +50,7 @@ function onCurve([a, b, c, d], part) {
   return [coordinate(0), coordinate(1)];
 }
 
+/** The layout of an execution: boxes of events, curves of edges, and places of labels. */
 export class GraphLayout {
   /** Lays out an execution. `texts` are those of the events, `edges` what is drawn, `initial` the reads of the initial word. */
   constructor(execution, texts, edges, initial) {
@@ -117,6 +118,7 @@ export class GraphLayout {
     return route;
   }
 
+  /** Adds an end of a route to a side of an event. */
   addEnd(event, side, end) {
     const key = `${event} ${side}`;
     this.ends.set(key, [...(this.ends.get(key) ?? []), end]);
@@ -156,6 +158,7 @@ export class GraphLayout {
     this.size = this.turned([across, along]);
   }
 
+  /** Returns a point as x and y, from its coordinates along the two axes. */
   turned([across, along]) {
     return this.isTurned ? [along, across] : [across, along];
   }
@@ -165,6 +168,7 @@ export class GraphLayout {
     return [this.lefts[threadOf(event)], this.begin + this.rows.get(event) * this.pitch];
   }
 
+  /** Returns the upper left corner of the box of an event. */
   corner(event) {
     return this.turned(this.spot(event));
   }
@@ -174,6 +178,7 @@ export class GraphLayout {
     return this.isTurned ? [EDGE, this.lefts[thread] + BASE] : [this.lefts[thread], EDGE + LINE - 4];
   }
 
+  /** Returns the box of the name of a thread, which no label may cover. */
   titleBox(thread) {
     const [x, y] = this.titleAt(thread);
     return [x, y - LABEL, 3 * LETTER, LABEL + 4];
@@ -203,6 +208,7 @@ export class GraphLayout {
     }
   }
 
+  /** Returns where the two ends of a route are: each across the threads, and along the side of its box. */
   endsOf({ edge, sides, ports }) {
     const at = (event, side) => this.lefts[threadOf(event)] + (side ? this.wide + 2 : -2);
     return [[at(edge.source, sides[0]), ports[0]], [at(edge.target, sides[1]), ports[1]]];
@@ -210,6 +216,7 @@ export class GraphLayout {
 
   // The ways themselves: cubic curves, with straight lines between them.
 
+  /** Returns the curves of a route, in x and y. */
   curvesOf(route) {
     return this.waysOf(route).map((curve) => curve.map((point) => this.turned(point)));
   }
@@ -297,6 +304,7 @@ export class GraphLayout {
   }
 }
 
+/** Returns a straight line as a cubic curve. */
 function line(begin, end) {
   const third = (part) => [begin[0] + (end[0] - begin[0]) * part, begin[1] + (end[1] - begin[1]) * part];
   return [begin, third(1 / 3), third(2 / 3), end];
@@ -314,6 +322,7 @@ function aroundSide(begin, end, { sides, rows, beside }, most) {
   return [begin, [begin[0] + out, begin[1]], [end[0] + out, end[1]], end];
 }
 
+/** Returns whether two boxes overlap. */
 function overlap([x, y, width, height], [left, top, wide, high]) {
   return x < left + wide && left < x + width && y < top + high && top < y + height;
 }

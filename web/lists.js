@@ -24,6 +24,7 @@ export function isTooDeep(error) {
   return error instanceof RangeError || error?.name === "InternalError";
 }
 
+/** Returns the test of a text. Throws if the text is not UTF-8, or is no test for the page's own reader. */
 function testOf(text) {
   return readTest(new TextDecoder("utf-8", { fatal: true, ignoreBOM: true }).decode(text));
 }
@@ -73,6 +74,7 @@ function foundHere(text) {
   }
 }
 
+/** Puts a word into an outcome, at a site; a site that is undefined is left out. */
 function put(outcome, site, word) {
   if (site?.location !== undefined) outcome.words[site.location] = word;
   else if (site) outcome.registers[site.thread][site.register] = word;

@@ -34,6 +34,7 @@ export function stepsTogether(first, second) {
   return pairs;
 }
 
+/** The controls that step two runs together. */
 export class Lockstep {
   /** Makes the controls of both runs. `used` is called when the reader steps both. */
   constructor(runs, used) {
@@ -50,6 +51,7 @@ export class Lockstep {
     document.addEventListener("keydown", (event) => this.key(event));
   }
 
+  /** Returns whether both runs are shown at a step. */
   get isReady() {
     return this.runs.every((it) => it.isOpen && it.step !== null);
   }

@@ -59,6 +59,7 @@ export function isTight({ cells, slots }) {
   return cells.length > ROOMY.threads || slots.some((it) => it > ROOMY.slots);
 }
 
+/** Returns whether cache lines are shown. */
 function hasCaches({ state }) {
   return caches.isOn && state.threads.some((it) => it.lines);
 }

@@ -156,6 +156,7 @@ async function listAsked() {
   scrollToAnswers();
 }
 
+/** Scrolls to the answers, unless they begin in the upper part of the window. */
 function scrollToAnswers() {
   const { top } = byId("answers").getBoundingClientRect();
   if (top > 0.6 * innerHeight) byId("answers").scrollIntoView({ block: "start", behavior: isStill() ? "auto" : "smooth" });
@@ -300,6 +301,7 @@ async function openFile({ target }) {
   target.value = "";
 }
 
+/** Copies the link to what is shown. `status` says whether that succeeded. */
 async function copyLink(status) {
   if (!address.read().example && !address.read().text) address.put({ text: editor.text });
   await copy(address.link(), status, location.protocol === "file:" ? ": it is of use on this machine only" : "");

@@ -28,6 +28,7 @@ const ROOM_TOO_SMALL = 2;
 /** The call ended without an answer: the module has trapped, or the browser has refused memory for it. */
 export class Trap extends Error {}
 
+/** The module as a workbench: it answers words as on the command line. */
 export class Workbench {
   /** Says that it has films and marks, which the program `lw` has not. */
   hasFilmsAndMarks = true;
@@ -84,10 +85,12 @@ function isCommand([task, ...more]) {
   return typeof schedule === "string" && isPlain;
 }
 
+/** Returns whether a word is the number of a budget that the module takes. */
 function isBudget(word) {
   return typeof word === "string" && /^[0-9]{1,20}$/.test(word) && BigInt(word) <= MAX_BUDGET;
 }
 
+/** Returns what a new instance of a module exports. */
 function instanceOf(module) {
   return new WebAssembly.Instance(module, {}).exports;
 }
@@ -139,6 +142,7 @@ class Call {
     if (missing > 0) this.grow(missing);
   }
 
+  /** Adds pages to the memory of the instance. */
   grow(pages) {
     const { memory } = this.exports;
     try {
@@ -156,10 +160,12 @@ class Call {
     return this.placeOf(name);
   }
 
+  /** Returns where a part of the memory is, and how many bytes it has. */
   placeOf(name) {
     return [BigInt(this.at[name]), BigInt(this.sizes[name])];
   }
 
+  /** Calls the export for the command, and returns its result. */
   run() {
     const view = new DataView(this.exports.memory.buffer);
     for (const [number, value] of this.placeOf("heap").entries()) view.setBigUint64(this.at.memory + 8 * number, value, true);

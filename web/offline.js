@@ -4,6 +4,7 @@
 /* global edition, files */
 const cacheName = `${registration.scope} ${edition}`;
 
+/** Stores all files of this edition, and takes over at once. */
 async function install() {
   const cache = await caches.open(cacheName);
   await cache.addAll(files.map((file) => new Request(file, { cache: "reload" })));
@@ -18,6 +19,7 @@ async function activate() {
   await clients.claim();
 }
 
+/** Answers a request from the stored files, or by the network. */
 async function answer(request) {
   const cache = await caches.open(cacheName);
   return (await cache.match(request, { ignoreSearch: true })) ?? fetch(request);

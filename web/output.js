@@ -33,13 +33,14 @@ export function fileName(name, ending) {
  * @returns {Promise<boolean>}
  */
 export async function copy(text, status, note = "") {
-  const isCopied = (await isWritten(text)) || isCopiedFromField(text, status);
+  const isCopied = (await writeToClipboard(text)) || copyFromField(text, status);
   if (isCopied) status.textContent = `Copied${note}.`;
-  else showToCopy(text, status);
+  else showForCopying(text, status);
   return isCopied;
 }
 
-async function isWritten(text) {
+/** Writes a text to the clipboard. Returns whether the browser allows that. */
+async function writeToClipboard(text) {
   try {
     await navigator.clipboard.writeText(text);
     return true;
@@ -54,7 +55,7 @@ async function isWritten(text) {
  * @param {Element} status
  * @returns {boolean}
  */
-function isCopiedFromField(text, status) {
+function copyFromField(text, status) {
   const field = el("textarea", { class: "copied", "aria-label": "To copy", readonly: true }, text);
   const focused = document.activeElement;
   (status.closest("dialog") ?? document.body).append(field);
@@ -65,7 +66,8 @@ function isCopiedFromField(text, status) {
   return isCopied;
 }
 
-function showToCopy(text, status) {
+/** Shows a text in a field, selected, so that the reader can copy it. */
+function showForCopying(text, status) {
   const field = el("input", { type: "text", class: "copied-shown", readonly: true, value: text, "aria-label": "To copy" });
   status.replaceChildren("Copy it by hand: ", field);
   field.select();

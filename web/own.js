@@ -4,6 +4,7 @@ import { byId } from "./dom.js";
 
 const KEY = "own";
 
+/** The reader's last own test. */
 export class Own {
   /** Takes what was kept. `bring` takes a text back into the editor. */
   constructor(editor, bring) {

@@ -28,6 +28,7 @@ text { fill: #ececec } .faint { fill: #b0b0b0 } .changed { fill: #ffb27a } .read
 }
 `;
 
+/** Returns a text as SVG has it. */
 function escapeMarkup(text) {
   return text.replaceAll("&", "&amp;").replaceAll("<", "&lt;").replaceAll(">", "&gt;");
 }
@@ -47,11 +48,13 @@ export class Drawing {
     this.elements = [];
   }
 
+  /** Draws a text, whose class is `kind`. */
   text(x, y, text, kind = "") {
     const attributes = kind ? ` class="${kind}"` : "";
     this.elements.push(`<text x="${digits(x)}" y="${digits(y)}"${attributes}>${escapeMarkup(text)}</text>`);
   }
 
+  /** Draws a box with round corners, whose class is `kind`. */
   box(x, y, width, height, kind = "box") {
     const attributes = `x="${digits(x)}" y="${digits(y)}" width="${digits(width)}" height="${digits(height)}"`;
     this.elements.push(`<rect ${attributes} rx="4" class="${kind}"/>`);
@@ -65,6 +68,7 @@ export class Drawing {
     return x + width;
   }
 
+  /** Returns the picture as SVG. */
   svg(width, height, title) {
     const [w, h] = [digits(width), digits(height)];
     const head = `<svg xmlns="http://www.w3.org/2000/svg" width="${w}" height="${h}" viewBox="0 0 ${w} ${h}" role="img">`;
@@ -108,6 +112,7 @@ function refusalOf({ refused }) {
   return refused ? `Here ${refused.event} is refused: ${refusal(refused.number)}` : "";
 }
 
+/** Returns the cache lines that a thread's cache holds, each as `x:M`. */
 function heldLines(thread) {
   return (thread.lines ?? []).filter(([, letter]) => letter !== "I").map(([name, letter]) => `${name}:${letter}`);
 }
@@ -131,6 +136,7 @@ class Measures {
     this.wholeHeight = this.height + GAP + LINE + 8;
   }
 
+  /** Returns the width that a thread needs for its longest text. */
   widthOf(film, thread) {
     const texts = ["store buffer", ...film.cells[thread].map((it) => `${it.text}  `)];
     for (const state of film.states) {
@@ -169,6 +175,7 @@ function drawThread(drawing, film, step, thread, left, y, measures) {
   if (measures.hasBuffers) drawBuffer(drawing, state.buffer, before.buffer, effect.entry, x, top, measures);
 }
 
+/** Draws the code of a thread, with an arrow at the next instruction. */
 function drawCode(drawing, cells, position, x, top) {
   for (const [row, cell] of cells.entries()) {
     const isNext = cell.at === position;

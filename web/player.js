@@ -5,6 +5,7 @@ import { threadClass } from "./tint.js";
 
 const PAUSE = 1000;
 
+/** The row that plays a run. */
 export class Player {
   /** Makes the row. `id` makes the ids of the buttons, `go` goes to a step, `isSeen` says whether the run is in sight; `more` is shown at the end. */
   constructor(id, { go, isSeen, more }) {
@@ -35,6 +36,7 @@ export class Player {
     if (step === events.length) this.stop();
   }
 
+  /** Draws the events of the schedule as buttons, and scrolls to the present one. */
   drawSchedule() {
     const hadFocus = this.schedule.contains(document.activeElement);
     this.schedule.replaceChildren(...this.events.map((event, index) => el("li", {}, this.buttonOf(event, index))));
@@ -43,6 +45,7 @@ export class Player {
     if (now) this.schedule.scrollLeft = Math.max(0, now.offsetLeft - this.schedule.offsetLeft - this.schedule.clientWidth / 2);
   }
 
+  /** Returns the button of an event, which goes to the step after it. */
   buttonOf(event, index) {
     const [isDone, isNow] = [index < this.step, index === this.step - 1];
     const kinds = ["event", threadClass(event[1]), event[0] === "D" && "drains", isDone && "behind", isNow && "now"];
@@ -56,6 +59,7 @@ export class Player {
     });
   }
 
+  /** Goes to a step at the reader's request. */
   jump(step) {
     this.touch();
     this.go(step);
@@ -87,6 +91,7 @@ export class Player {
     this.timer = setInterval(() => (this.isSeen() ? this.go(this.step + 1) : this.stop()), PAUSE);
   }
 
+  /** Stops playing. */
   stop() {
     clearInterval(this.timer);
     this.timer = null;

@@ -13,6 +13,7 @@ class Preference {
     for (const listener of this.listeners) listener();
   }
 
+  /** Calls a listener whenever the preference is switched. */
   onChange(listener) {
     this.listeners.push(listener);
   }

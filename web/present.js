@@ -28,6 +28,7 @@ const LINES_OF_VERDICT = 2.7;
 const MIN_LINES = 3;
 const MAX_TRIES = 4;
 
+/** The view for a projector. */
 export class Present {
   constructor() {
     Object.assign(this, { isOpen: false, changed: () => null });
@@ -43,6 +44,7 @@ export class Present {
     this.changed = changed;
   }
 
+  /** Opens the view, on the full screen if the browser allows that. */
   async open() {
     this.isOpen = true;
     document.documentElement.classList.add("present");
@@ -58,6 +60,7 @@ export class Present {
     document.activeElement?.blur();
   }
 
+  /** Returns to the usual view. */
   close() {
     if (!this.isOpen) return;
     this.isOpen = false;

@@ -99,6 +99,7 @@ export class Program {
     return this.searched.get(output);
   }
 
+  /** Searches with one budget after another, until one suffices. Throws NoAnswer if none does. */
   searchAnew(output, text, onProgress) {
     for (const budget of BUDGETS) {
       try {
@@ -126,6 +127,7 @@ export class Program {
     return printed;
   }
 
+  /** Returns the answers that are kept of a text; those of another text are forgotten. */
   keptOf(text) {
     const decoded = textOf(text);
     if (decoded !== this.textOfKept || this.kept.size >= MAX_KEPT) this.kept = new Map();
@@ -134,6 +136,7 @@ export class Program {
     return this.kept;
   }
 
+  /** Returns what is printed. Throws Fault if the workbench refuses the words or the text, and NoAnswer if memory runs out. */
   askAnew(words, text) {
     const { status, isFault, out } = this.run(words, text);
     const printed = textOf(out);
@@ -142,6 +145,7 @@ export class Program {
     throw new Fault(faultOf(printed.trim(), status, text, words[0] === "replay" ? words[1] : ""));
   }
 
+  /** Runs the workbench. Throws NoAnswer if the browser ends the module. */
   run(words, text) {
     try {
       return this.workbench.run(words, text);

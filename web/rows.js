@@ -16,6 +16,7 @@ const [ABOVE, BELOW] = [2, 6];
 // By how many states the widths of the columns are found.
 const MEASURED = 200;
 
+/** A list of states as rows. */
 export class Rows {
   constructor(strip) {
     const { report } = strip;
@@ -44,6 +45,7 @@ export class Rows {
     return `5.5ch ${longest.map((it) => `${it + 2}ch`).join(" ")} ${this.report.is_marked ? "3ch" : ""} minmax(0, 1fr)`;
   }
 
+  /** Returns the row of names above the list. */
   headRow() {
     const { names, tints } = this.strip;
     const mark = this.report.is_marked ? el("span", { title: "the condition holds there" }, "✓") : null;
@@ -92,6 +94,7 @@ export class Rows {
     this.never.classList.toggle("chosen", this.strip.ghost !== null && this.chosen === this.strip.ghost);
   }
 
+  /** Shows only the states in which the condition holds, or all. */
   filter(isOnly) {
     this.shown = isOnly ? this.report.states.filter((it) => it.holds) : this.report.states;
     this.body.scrollTop = 0;
@@ -119,10 +122,12 @@ export class Rows {
     this.body.setAttribute("aria-activedescendant", this.idOf(this.at));
   }
 
+  /** Returns the id of the element of a row. */
   idOf(index) {
     return this.strip.editor.id(`${this.strip.name}-${index}`);
   }
 
+  /** Returns the element of a row. */
   rowOf(state, index) {
     const { strip } = this;
     const isShown = strip.isShown(state);
@@ -143,6 +148,7 @@ export class Rows {
     return row;
   }
 
+  /** Chooses the row that is clicked. */
   clicked(event) {
     const index = event.target.closest("[data-at]")?.dataset.at;
     if (index === undefined) return;
@@ -150,11 +156,13 @@ export class Rows {
     this.choose();
   }
 
+  /** Chooses the present row, if its state is shown. */
   choose() {
     const state = this.shown[this.at];
     if (this.strip.isShown(state)) this.strip.choose(state.line);
   }
 
+  /** Goes through the list by keys, and chooses by Enter or the space bar. */
   key(event) {
     const { at: index } = this;
     const [page, last] = [Math.floor(this.body.clientHeight / this.height), this.shown.length - 1];

@@ -38,6 +38,7 @@ function putAfter(before, effect) {
 
 const protocolOf = (name) => (PROTOCOLS.includes(name) ? name : "mesi");
 
+/** A run that is shown event by event. */
 export class Run {
   /**
    * Makes a place for a run. `onEnd` is called with the line of a state in which a run by hand has ended, `onDraw` when another run is shown,
@@ -55,6 +56,7 @@ export class Run {
     for (const it of [caches, largeType]) it.onChange(() => this.isOpen && this.redraw());
   }
 
+  /** Removes the run. */
   clear() {
     this.ticket += 1;
     this.isOpen = false;
@@ -85,6 +87,7 @@ export class Run {
     if (play && !isStill()) this.view.player.play();
   }
 
+  /** Opens the listed film of a program, `source` or `x86`. */
   openListed(program) {
     const film = this.listed.films[program];
     const frames = film.states.map((state, index) => ({ state, before: film.states[Math.max(index - 1, 0)], effect: film.effects[index - 1] ?? null }));
@@ -126,12 +129,14 @@ export class Run {
     return this.ticket;
   }
 
+  /** Says why there is no run. */
   fail(answer) {
     this.isOpen = false;
     this.view.clear();
     showError(answer, this.place, this.editor);
   }
 
+  /** Shows the parts of a run. `frames` has what is known of each step: its state, the state before, and the effect of its event. */
   open(text, cells, events, frames) {
     if (text !== this.text) this.kept.clear();
     const names = labelled(this.asked);
@@ -194,10 +199,12 @@ export class Run {
 
   // Where in it the reader is.
 
+  /** Returns what is known of the present step. */
   get frame() {
     return this.frames[this.step];
   }
 
+  /** Returns the schedule up to a step. */
   scheduleTo(step) {
     return this.events.slice(0, step).join(" ");
   }
@@ -240,10 +247,12 @@ export class Run {
 
   // What can be done there.
 
+  /** Returns the key under which the answer on a schedule is kept. */
   keyOf(schedule) {
     return `${this.protocol} ${schedule}`;
   }
 
+  /** Keeps the answer on a schedule, or its promise. */
   keep(schedule, answer) {
     if (this.kept.size > MAX_KEPT) this.kept.clear();
     this.kept.set(this.keyOf(schedule), answer);
@@ -288,6 +297,7 @@ export class Run {
     return this.queue;
   }
 
+  /** Carries out an event, or says why it is refused. */
   async takeNow(event) {
     if (!this.isOpen) return;
     clearTimeout(this.learning);
@@ -314,6 +324,7 @@ export class Run {
 
   // The address and the keys.
 
+  /** Writes the run and its step into the address. */
   putAddress() {
     if (!this.isLinked || this.isLocked || !this.isSeen()) return;
     const protocol = this.protocol === "mesi" ? null : this.protocol;
@@ -324,6 +335,7 @@ export class Run {
     address.put({ ...(this.isByHand ? byHand : listed), run, protocol });
   }
 
+  /** Returns whether the run is displayed, on a page that is in front. */
   isSeen() {
     return !document.hidden && this.place.getClientRects().length > 0;
   }

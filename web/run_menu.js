@@ -6,6 +6,7 @@ import { button, el } from "./dom.js";
 import { copy, save } from "./output.js";
 import { showError } from "./errors.js";
 
+/** The menu of a run. */
 export class RunMenu {
   constructor(run) {
     this.run = run;

@@ -28,6 +28,7 @@ const LOCKED = "First say what you expect: then the machine runs.";
 const OF_COMPILED = "This is the compiled run: ";
 const NO_GRAPH = "Only a run of an x86 program has a graph. ";
 
+/** The parts of the page that show a run. */
 export class RunView {
   /** Makes the parts. `graphPlace` is where the graph is drawn, if it is apart from the machine; then it is drawn from the beginning. */
   constructor(run, graphPlace) {
@@ -157,6 +158,7 @@ export class RunView {
     this.words.replaceChildren(...tintedSentence(refusalOf(event, refused), this.run.tints));
   }
 
+  /** Says that the reader has to predict first. */
   showLocked() {
     this.words.replaceChildren(LOCKED);
   }

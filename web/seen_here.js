@@ -24,6 +24,7 @@ export class SeenHere {
     this.place.replaceChildren(...this.button());
   }
 
+  /** Returns the button that runs the test, in a list that is empty if there is no test. */
   button() {
     const run = () => this.run(this.text);
     return this.text === null ? [] : [button(`Run it on this machine for ${SECONDS} seconds`, run, { class: "run-here" })];

@@ -5,6 +5,7 @@ import { NoAnswer, bytesOf, textOf } from "./program.js";
 
 export const NO_SERVER = "The server does not answer. Start ./page again.";
 
+/** The program on this machine, as a workbench. */
 export class Served {
   room = "it may have (1 GiB)";
 

@@ -25,10 +25,12 @@ class Sheet {
     largeType.onChange(() => this.fit());
   }
 
+  /** Returns the id of a part of the sheet. */
   id(name) {
     return `${this.name}-${name}`;
   }
 
+  /** Returns the text that is shown. */
   get text() {
     return this.shown;
   }
@@ -47,6 +49,7 @@ class Sheet {
   }
 }
 
+/** One of two tests: the choice of a test, its text, its states and its run. */
 export class Side {
   /**
    * Makes an empty side. `onChoose` is called with what is chosen in the list of tests, `onReveal` when the states are shown and when they are gone,

@@ -67,6 +67,7 @@ class Lists {
     return list ?? listOfStates(test);
   }
 
+  /** Returns the lines of the states of a test. */
   of(test) {
     return this.whole(test).lines;
   }

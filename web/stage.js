@@ -16,6 +16,7 @@ const NOTHING_LEFT = ["Ended", "BufferEmpty", "NotHeld"];
 // What the letters of cache lines mean.
 const LETTERS = { M: "modified", O: "owned", E: "exclusive", S: "shared", I: "invalid, not held" };
 
+/** The machine. */
 export class Stage {
   /**
    * Makes an empty machine. It calls `act` with the event that is clicked, `refuse` with an event that can't be carried out, and why, and `fence`
@@ -58,6 +59,7 @@ export class Stage {
     showNext(this.place);
   }
 
+  /** Returns the first element of the machine that a selector finds. */
   find(css) {
     return this.place.querySelector(css);
   }
@@ -144,6 +146,7 @@ export class Stage {
     return el("li", { class: kinds.filter(Boolean).join(" "), "aria-current": isNext ? "step" : null }, line, fence);
   }
 
+  /** Returns the registers of a thread that are shown, with their words. */
   registersOf(state, thread) {
     return state.registers.filter(([name]) => this.shown.used[thread].has(name));
   }
@@ -243,6 +246,7 @@ export class Stage {
   }
 }
 
+/** Returns the element of a word. */
 function valueOf(word) {
   return el("span", { class: "value" }, String(word));
 }

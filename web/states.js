@@ -41,6 +41,7 @@ function guessedWords(guessed, isSo, askAgain, reason) {
   return el("p", { class: `said${kind}` }, words, " ", why, buttons);
 }
 
+/** The states of a test: the prediction, the verdict, the list and the run. */
 export class States {
   /**
    * Makes the places for a verdict, a list and a run. `onReveal` is called when a list is shown, and when it is gone: `report` is that list, or null.
@@ -241,6 +242,7 @@ export class States {
     return this.telling && this.words.telling !== null ? this.telling.line : null;
   }
 
+  /** Plays the run to a state that the reader chooses. */
   choose(line) {
     return this.watch(line, { play: true });
   }

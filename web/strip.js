@@ -32,6 +32,7 @@ const AROUND_ROWS = 18;
 const MARKED = "in which states the condition holds";
 const NOT_PROVED = `${MARKED}: found by the page's own code, which is not proved`;
 
+/** The list of states, as columns or as rows. */
 export class Strip {
   /**
    * Makes a place for a list. `choose` is called with the line of a state, `why` with the line of one that is missing. The list is as wide as `wide`;
@@ -43,6 +44,7 @@ export class Strip {
     this.measured = new ResizeObserver(() => requestAnimationFrame(() => this.fit()));
   }
 
+  /** Removes the list. */
   clear() {
     Object.assign(this, { report: null, alone: null, found: null, line: null, explained: null, rows: null });
     this.place.replaceChildren();
@@ -73,6 +75,7 @@ export class Strip {
     if (!isIdle && this.room() !== this.drawnIn) this.draw();
   }
 
+  /** Marks a state as chosen; none if the line is null. */
   select(line) {
     this.line = line;
     this.draw();
@@ -96,6 +99,7 @@ export class Strip {
     this.draw();
   }
 
+  /** Returns whether the words of a state are shown: the reader has found it, or does not look for the states. */
   isShown({ line }) {
     return this.found === null || this.found.has(keyOf(line));
   }
@@ -227,6 +231,7 @@ export class Strip {
     return el("th", { scope: "col", class: this.kindOfGhost }, button("never", () => this.why(ghost), attributes));
   }
 
+  /** Returns a cell of each state, whose content is what `textOf` returns of it. */
   cellsOf(textOf, kind = "") {
     return this.report.states.map((state, index) => el("td", { class: `${kind} ${this.kindOf(state)}`, "data-column": String(index) }, textOf(state)));
   }

@@ -5,6 +5,7 @@ import { byId } from "./dom.js";
 export const VIEWS = ["states", "hand", "why", "compile", "fences"];
 const IN_RUN = ["states", "hand"];
 
+/** The tabs of the page. */
 export class Tabs {
   /** Listens to the tabs. It calls `onChoose` with the tab that the reader has chosen. */
   constructor(onChoose) {

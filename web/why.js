@@ -18,6 +18,7 @@ const RULE =
   "Program order counts here, but not from a store to a later load: that load may read while the store waits in its buffer. It counts again if " +
   "an `MFENCE` or a locked instruction is between them.";
 
+/** The panel that says why a test does not end in a state. */
 export class Why {
   /**
    * Makes an empty panel. It calls `watch` with the line of a state whose run the reader wants to watch, and `explained` with that of a state that it
@@ -57,6 +58,7 @@ export class Why {
     this.form.append(el("span", {}, "Does a run end in"), ...fields, el("span", {}, "? If none does:"), asked, all);
   }
 
+  /** Returns the field for the word of a name. */
   fieldOf(name, word) {
     const enter = (event) => event.key === "Enter" && this.ask();
     return el("input", { type: "text", inputmode: "numeric", value: word ?? "", size: "3", "aria-label": name, keydown: enter });
@@ -84,6 +86,7 @@ export class Why {
     return this.ask();
   }
 
+  /** Asks about the state that is written in the fields. */
   ask() {
     return this.answer(this.fields.map(({ name, field }) => `${name}=${field.value.trim()};`).join(" "));
   }
