@@ -65,17 +65,17 @@ class Step:
     def __init__(self, thread: int, before: State, after: State) -> None:
         """Looks at a step of a thread, by the states before and after it."""
         self.thread, self.before, self.after = thread, before, after
-        self.place, self.left = before["threads"][thread], after["threads"][thread]
+        self.thread_before, self.thread_after = before["threads"][thread], after["threads"][thread]
         self.name = f"P{thread}"
 
     def read_value(self, text: str) -> int:
         """Returns the word of a number, with a `$` before it or without, or of a register."""
-        registers = dict(self.place["registers"])
+        registers = dict(self.thread_before["registers"])
         return registers[text] if text in registers else int(text.lstrip("$"), 0 if "x" in text else 10)
 
     def describe_put(self, register: str, word: int, words: str) -> Effect:
         """Returns an effect that leaves a word in a register."""
-        self.require(dict(self.left["registers"]).get(register) == word)
+        self.require(dict(self.thread_after["registers"]).get(register) == word)
         return {"words": words, "register": register}
 
     @staticmethod
@@ -107,16 +107,16 @@ class Step:
 def describe_store(step: Step, location: str, value: str) -> Effect:
     """Returns the effect of a store of a value to a location."""
     word = step.read_value(value)
-    if "buffer" not in step.place:
+    if "buffer" not in step.thread_before:
         step.require(dict(step.after["content"])[location] == word)
         return {"words": f"{step.name} writes `{location}={word}` to memory"}
-    step.require(step.left["buffer"][-1:] == [(location, word)])
+    step.require(step.thread_after["buffer"][-1:] == [(location, word)])
     return {"words": f"{step.name} puts `{location}={word}` into its store buffer"}
 
 
 def describe_load(step: Step, register: str, location: str) -> Effect:
     """Returns the effect of a load of a location into a register."""
-    own_entries = [(entry, word) for entry, (name, word) in enumerate(step.place.get("buffer", [])) if name == location]
+    own_entries = [(entry, word) for entry, (name, word) in enumerate(step.thread_before.get("buffer", [])) if name == location]
     if own_entries:
         entry, word = own_entries[-1]
         effect = step.describe_put(register, word, f"{step.name} reads `{location}={word}` from its own store buffer into `{register}`")
@@ -165,7 +165,7 @@ def describe_fence(step: Step) -> Effect:
 
 def describe_jump(step: Step, label: str) -> Effect:
     """Returns a jump to an instruction, whose number is in its label."""
-    return {"words": f"{step.name} jumps to `{label}`" if step.left["at"] == int(label[1:]) else f"{step.name} does not jump"}
+    return {"words": f"{step.name} jumps to `{label}`" if step.thread_after["at"] == int(label[1:]) else f"{step.name} does not jump"}
 
 
 def describe_goto(step: Step, label: str) -> Effect:
@@ -177,7 +177,7 @@ def describe_conditional_jump(step: Step, register: str, sign: str, number: str,
     """Returns the effect of `if r = n goto L`, or of one with `!=`."""
     word = step.read_value(register)
     jumps = (word == step.read_value(number)) == (sign == "=")
-    step.require(jumps or step.left["at"] == step.place["at"] + 1)
+    step.require(jumps or step.thread_after["at"] == step.thread_before["at"] + 1)
     what_follows = f"goes to `{label}`" if jumps else "does not jump"
     return {"words": f"{step.name} {what_follows}, since `{register}={word}`"}
 

@@ -172,7 +172,7 @@ class Measures:
 def draw_thread(drawing: Drawing, film: Film, step: int, thread: int, x: float, y: float, measures: Measures) -> None:
     """Draws a thread: its code, its registers, its store buffer and its cache lines."""
     thread_state = film["states"][step]["threads"][thread]
-    before = film["states"][max(step - 1, 0)]["threads"][thread]
+    thread_before = film["states"][max(step - 1, 0)]["threads"][thread]
     effect = find_effect(film, step)
     effect = effect if effect.get("thread") == thread else {}
     drawing.draw_box(x, y, measures.width, measures.height)
@@ -183,30 +183,30 @@ def draw_thread(drawing: Drawing, film: Film, step: int, thread: int, x: float, 
         kind = "next" if is_next else "faint" if cell["at"] < thread_state["at"] else ""
         drawing.draw_text(x, top + LINE * (row + 1), ("▸ " if is_next else "  ") + cell["text"], kind)
     top += LINE * (measures.code + 1) + 4
-    words, old = dict(thread_state["registers"]), dict(before["registers"])
+    words, old_words = dict(thread_state["registers"]), dict(thread_before["registers"])
     for row, name in enumerate(measures.used[thread]):
-        is_lit = words[name] != old[name] or name == effect.get("register")
+        is_lit = words[name] != old_words[name] or name == effect.get("register")
         drawing.draw_text(x, top + LINE * row, f"{name}={words[name]}", "changed" if is_lit else "")
     top += LINE * measures.registers
     if measures.lines:
         lines_text = "lines " + (" ".join(list_held_lines(thread_state)) or "none")
-        drawing.draw_text(x, top, lines_text, "changed" if thread_state["lines"] != before["lines"] else "faint")
+        drawing.draw_text(x, top, lines_text, "changed" if thread_state["lines"] != thread_before["lines"] else "faint")
         top += LINE
     if measures.has_buffers:
-        draw_buffer(drawing, thread_state["buffer"], before["buffer"], effect.get("entry"), x, top, measures)
+        draw_buffer(drawing, thread_state["buffer"], thread_before["buffer"], effect.get("entry"), x, top, measures)
 
 
 def draw_buffer(
-    drawing: Drawing, buffer: list[tuple[str, int]], before: list[tuple[str, int]], read: int | None, x: float, top: float, measures: Measures
+    drawing: Drawing, buffer: list[tuple[str, int]], buffer_before: list[tuple[str, int]], entry_read: int | None, x: float, top: float, measures: Measures
 ) -> None:
-    """Draws a store buffer as a queue: the oldest entry is lowest, next to memory. `read` is the index of the entry that a load reads."""
+    """Draws a store buffer as a queue: the oldest entry is lowest, next to memory. `entry_read` is the index of the entry that a load reads."""
     drawing.draw_text(x, top, "store buffer", "faint")
     if not buffer:
         drawing.draw_text(x, top + 6 + (measures.entries - 1) * (LINE + 3) + 14, "(empty)", "faint")
     for number, (name, word) in enumerate(buffer):
         y = top + 6 + (measures.entries - 1 - number) * (LINE + 3)
-        is_new = len(buffer) > len(before) and number == len(buffer) - 1
-        drawing.draw_framed_text(x, y, f"{name}={word}", "entry", "changed" if is_new else "read" if number == read else "")
+        is_new = len(buffer) > len(buffer_before) and number == len(buffer) - 1
+        drawing.draw_framed_text(x, y, f"{name}={word}", "entry", "changed" if is_new else "read" if number == entry_read else "")
 
 
 def draw_state(drawing: Drawing, film: Film, step: int, x: float, y: float, measures: Measures) -> None:

@@ -61,9 +61,9 @@ function effectOfThread(event, thread, cells, before, after) {
 /** A step of a thread: the words that it finds and leaves. */
 class Step {
   constructor(thread, before, after) {
-    Object.assign(this, { thread, before, after, place: before.threads[thread] });
-    this.registers = new Map(this.place.registers);
-    this.left = after.threads[thread];
+    Object.assign(this, { thread, before, after, threadBefore: before.threads[thread] });
+    this.registers = new Map(this.threadBefore.registers);
+    this.threadAfter = after.threads[thread];
     this.name = `P${thread}`;
   }
 
@@ -83,7 +83,7 @@ class Step {
    * @returns {boolean}
    */
   leaves(register, word) {
-    return new Map(this.left.registers).get(register) === word;
+    return new Map(this.threadAfter.registers).get(register) === word;
   }
 
   /**
@@ -105,7 +105,7 @@ class Step {
 
   /** Returns the number of the newest entry of a location in the own store buffer, or -1. */
   newest(location) {
-    return (this.place.buffer ?? []).map(([name]) => name).lastIndexOf(location);
+    return (this.threadBefore.buffer ?? []).map(([name]) => name).lastIndexOf(location);
   }
 
   /** Says what still waits of a location in the buffers of others. */
@@ -161,9 +161,9 @@ function statement(step, text) {
  */
 function store(step, location, value) {
   const word = step.value(value);
-  const [name, now] = step.left.buffer ? (step.left.buffer.at(-1) ?? []) : [location, step.memory(location, step.after)];
-  if (name !== location || now !== word) return null;
-  const [does, where] = step.left.buffer ? ["puts", "into its store buffer"] : ["writes", "to memory"];
+  const [name, stored] = step.threadAfter.buffer ? (step.threadAfter.buffer.at(-1) ?? []) : [location, step.memory(location, step.after)];
+  if (name !== location || stored !== word) return null;
+  const [does, where] = step.threadAfter.buffer ? ["puts", "into its store buffer"] : ["writes", "to memory"];
   return { words: `${step.name} ${does} \`${location}=${word}\` ${where}` };
 }
 
@@ -176,7 +176,7 @@ function store(step, location, value) {
  */
 function load(step, register, location) {
   const entry = step.newest(location);
-  const word = entry < 0 ? step.memory(location) : step.place.buffer[entry][1];
+  const word = entry < 0 ? step.memory(location) : step.threadBefore.buffer[entry][1];
   if (!step.leaves(register, word)) return null;
   const read = `${step.name} reads \`${location}=${word}\``;
   if (entry >= 0) return { words: `${read} from its own store buffer into \`${register}\``, register, entry };
@@ -216,7 +216,7 @@ function compare(step, register, value) {
 
 /** Says what a jump does to an instruction, whose number is in its label. */
 function jump(step, label) {
-  const jumps = step.left.at === Number(label.slice(1));
+  const jumps = step.threadAfter.at === Number(label.slice(1));
   return { words: jumps ? `${step.name} jumps to \`${label}\`` : `${step.name} does not jump` };
 }
 
@@ -224,7 +224,7 @@ function jump(step, label) {
 function conditionalJump(step, register, sign, number, label) {
   const word = step.value(register);
   const jumps = (word === Number(number)) === (sign === "=");
-  if (!jumps && step.left.at !== step.place.at + 1) return null;
+  if (!jumps && step.threadAfter.at !== step.threadBefore.at + 1) return null;
   return { words: `${step.name} ${jumps ? `goes to \`${label}\`` : "does not jump"}, since \`${register}=${word}\`` };
 }
 

@@ -11,43 +11,44 @@ import { threadClass } from "./tint.js";
 export function flightsOf({ event, effect, state, before, drained, tints }) {
   if (!event || !effect) return [];
   const { thread } = effect;
-  const step = { effect, state, before, thread, old: before.threads[thread], now: state.threads[thread], drained: drained[thread], tints };
+  const [threadBefore, threadAfter] = [before.threads[thread], state.threads[thread]];
+  const step = { effect, state, before, thread, threadBefore, threadAfter, drained: drained[thread], tints };
   if (event[0] === "D") return [flightOfDrain(step)];
   return event[0] === "P" ? [...flightsOfStore(step), ...flightsOfLoad(step), ...flightsToMemory(step)] : [];
 }
 
-const instructionOf = ({ thread, old }) => `c:${thread}:${old.at}`;
+const instructionOf = ({ thread, threadBefore }) => `c:${thread}:${threadBefore.at}`;
 const shown = (name, word) => `${name}=${word}`;
 
 /** Returns the flight of the oldest entry to memory. */
-function flightOfDrain({ thread, old, drained, tints }) {
-  const [name, word] = old.buffer[0];
+function flightOfDrain({ thread, threadBefore, drained, tints }) {
+  const [name, word] = threadBefore.buffer[0];
   return { from: `b:${thread}:${drained - 1}`, to: `m:${name}`, word: shown(name, word), kind: tints.of(name) };
 }
 
 /** Returns the flight of a store into the buffer. */
 function flightsOfStore(step) {
-  const { thread, old, now, drained, tints } = step;
-  if (!now.buffer || now.buffer.length <= old.buffer.length) return [];
-  const [name, word] = now.buffer.at(-1);
-  const to = `b:${thread}:${drained + now.buffer.length - 1}`;
+  const { thread, threadBefore, threadAfter, drained, tints } = step;
+  if (!threadAfter.buffer || threadAfter.buffer.length <= threadBefore.buffer.length) return [];
+  const [name, word] = threadAfter.buffer.at(-1);
+  const to = `b:${thread}:${drained + threadAfter.buffer.length - 1}`;
   return [{ from: instructionOf(step), to, word: shown(name, word), kind: tints.of(name) }];
 }
 
 /** Returns the flight of a word to a register: from memory, from an entry of the own buffer, or from the instruction itself. */
 function flightsOfLoad(step) {
-  const { thread, old, now, drained, tints, effect } = step;
+  const { thread, threadBefore, threadAfter, drained, tints, effect } = step;
   if (!effect.register) return [];
-  const word = String(new Map(now.registers).get(effect.register));
+  const word = String(new Map(threadAfter.registers).get(effect.register));
   const to = `r:${thread}:${effect.register}`;
   if (effect.location !== undefined) return [{ from: `m:${effect.location}`, to, word, kind: tints.of(effect.location) }];
   if (effect.entry === undefined) return [{ from: instructionOf(step), to, word, kind: threadClass(thread) }];
-  return [{ from: `b:${thread}:${drained + effect.entry}`, to, word, kind: tints.of(old.buffer[effect.entry][0]) }];
+  return [{ from: `b:${thread}:${drained + effect.entry}`, to, word, kind: tints.of(threadBefore.buffer[effect.entry][0]) }];
 }
 
 /** Returns the flight of a word that changes memory at once: of a locked instruction, or of a store by turns. */
 function flightsToMemory(step) {
-  const old = new Map(step.before.content);
-  const changed = step.state.content.filter(([name, word]) => old.get(name) !== word);
+  const before = new Map(step.before.content);
+  const changed = step.state.content.filter(([name, word]) => before.get(name) !== word);
   return changed.map(([name, word]) => ({ from: instructionOf(step), to: `m:${name}`, word: shown(name, word), kind: step.tints.of(name) }));
 }

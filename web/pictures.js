@@ -153,7 +153,7 @@ class Measures {
 /** Draws a thread: its code, its registers, its store buffer and its cache lines. */
 function drawThread(drawing, film, step, thread, left, y, measures) {
   const state = film.states[step].threads[thread];
-  const before = film.states[Math.max(step - 1, 0)].threads[thread];
+  const threadBefore = film.states[Math.max(step - 1, 0)].threads[thread];
   const effect = step && film.effects[step - 1].thread === thread ? film.effects[step - 1] : {};
   drawing.box(left, y, measures.width, measures.height);
   const x = left + EDGE;
@@ -161,18 +161,18 @@ function drawThread(drawing, film, step, thread, left, y, measures) {
   drawing.text(x, top, `P${thread}`, "title");
   drawCode(drawing, film.cells[thread], state.at, x, top);
   top += LINE * (measures.code + 1) + 4;
-  const [words, old] = [new Map(state.registers), new Map(before.registers)];
+  const [words, oldWords] = [new Map(state.registers), new Map(threadBefore.registers)];
   for (const [row, name] of measures.used[thread].entries()) {
     const word = words.get(name);
-    drawing.text(x, top + LINE * row, `${name}=${word}`, word !== old.get(name) || name === effect.register ? "changed" : "");
+    drawing.text(x, top + LINE * row, `${name}=${word}`, word !== oldWords.get(name) || name === effect.register ? "changed" : "");
   }
   top += LINE * measures.registers;
   if (measures.hasLines) {
-    const isChanged = JSON.stringify(state.lines) !== JSON.stringify(before.lines);
+    const isChanged = JSON.stringify(state.lines) !== JSON.stringify(threadBefore.lines);
     drawing.text(x, top, `lines ${heldLines(state).join(" ") || "none"}`, isChanged ? "changed" : "faint");
     top += LINE;
   }
-  if (measures.hasBuffers) drawBuffer(drawing, state.buffer, before.buffer, effect.entry, x, top, measures);
+  if (measures.hasBuffers) drawBuffer(drawing, state.buffer, threadBefore.buffer, effect.entry, x, top, measures);
 }
 
 /** Draws the code of a thread, with an arrow at the next instruction. */
@@ -185,11 +185,11 @@ function drawCode(drawing, cells, position, x, top) {
 }
 
 /** Draws a store buffer as a queue: the oldest entry is lowest, next to memory. */
-function drawBuffer(drawing, buffer, before, entryRead, x, top, measures) {
+function drawBuffer(drawing, buffer, bufferBefore, entryRead, x, top, measures) {
   drawing.text(x, top, "store buffer", "faint");
   if (!buffer.length) drawing.text(x, top + 6 + (measures.entries - 1) * (LINE + 3) + 14, "(empty)", "faint");
   for (const [number, [name, word]] of buffer.entries()) {
-    const isNew = buffer.length > before.length && number === buffer.length - 1;
+    const isNew = buffer.length > bufferBefore.length && number === buffer.length - 1;
     const y = top + 6 + (measures.entries - 1 - number) * (LINE + 3);
     drawing.framed(x, y, `${name}=${word}`, "entry", isNew ? "changed" : number === entryRead ? "read" : "");
   }

@@ -95,7 +95,7 @@ class Thread:
         return last
 
     def fetch_instruction(self, way: Way) -> Instruction | None:
-        """Returns the instruction at a way's position; `None` if the way is too long. Before it is known which locations are shared, that is no fault.
+        """Returns the instruction at a way's position; `None` if the way is too long: no fault before it is known which locations are shared.
         Raises Refused if a jump leads out of the code, or there are too many ways.
         """
         code = self.program.assembly.code
