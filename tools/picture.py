@@ -197,7 +197,8 @@ def draw_thread(drawing: Drawing, film: Film, step: int, thread: int, x: float, 
 
 
 def draw_buffer(
-    drawing: Drawing, buffer: list[tuple[str, int]], buffer_before: list[tuple[str, int]], entry_read: int | None, x: float, top: float, measures: Measures
+    drawing: Drawing, buffer: list[tuple[str, int]], buffer_before: list[tuple[str, int]], entry_read: int | None, x: float, top: float,
+    measures: Measures
 ) -> None:
     """Draws a store buffer as a queue: the oldest entry is lowest, next to memory. `entry_read` is the index of the entry that a load reads."""
     drawing.draw_text(x, top, "store buffer", "faint")

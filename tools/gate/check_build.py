@@ -59,7 +59,7 @@ esac
 """
 
 
-class Place:
+class Checkout:
     """A copy of what ./lw consists of, with the stand-in first on PATH."""
 
     def __init__(self, folder: str) -> None:
@@ -136,34 +136,34 @@ def list_dependents(crate: str) -> list[str]:
     return sorted(it.name for it in build.list_crates() if it.name == crate or crate in [other.name for other in it.list_dependencies()])
 
 
-def check_builds(place: Place) -> Iterator[Comparison]:
+def check_builds(checkout: Checkout) -> Iterator[Comparison]:
     """Compares what builds ask the stand-in to do: all of the program, what has changed, and nothing."""
-    out, errors, record = place.run_command()
+    out, errors, record = checkout.run_command()
     yield "the first call answers by the program", ANSWER, out
     first, *others = errors.splitlines()
-    pattern = rf"lw: crates to prove: {len(place.crates)}; on \d+ processors that takes \d+ to \d+ minutes, by docs/TIMES\.md"
+    pattern = rf"lw: crates to prove: {len(checkout.crates)}; on \d+ processors that takes \d+ to \d+ minutes, by docs/TIMES\.md"
     yield "the first line gives bounds of the minutes", True, bool(re.fullmatch(pattern, first))
     proved = [it for it in others if re.fullmatch(r"lw: \w+ is proved \(\d+ of \d+\), (\d+ to \d+|about \d+) minutes? to go", it)]
-    yield "so does each crate that is proved, but the last", len(place.crates) - 1, len(proved)
-    yield "the first call builds each crate once", sorted(place.crates), list_begun_crates(record)
+    yield "so does each crate that is proved, but the last", len(checkout.crates) - 1, len(proved)
+    yield "the first call builds each crate once", sorted(checkout.crates), list_begun_crates(record)
     yield "each crate begins behind those that it stands on", True, is_in_order(record)
     yield "crates are built beside each other", True, record.index("begins lw_memory") < record.index("ends lw_text")
-    yield "the second call builds nothing", (ANSWER, "", []), place.run_command()
-    place.change_source(CHANGED)
-    out, _, record = place.run_command()
+    yield "the second call builds nothing", (ANSWER, "", []), checkout.run_command()
+    checkout.change_source(CHANGED)
+    out, _, record = checkout.run_command()
     yield "a changed crate has those above it built", (ANSWER, list_dependents(CHANGED)), (out, list_begun_crates(record))
 
 
-def check_copies(place: Place, folder: str) -> Iterator[Comparison]:
+def check_copies(checkout: Checkout, folder: str) -> Iterator[Comparison]:
     """Checks that a tree with the same content answers at once: at other times, with other modes, elsewhere, without rt, and read-only."""
-    os.utime(f"{place.home}/crates/{CHANGED}/src/lib.rt")
-    yield "a file of another time with the same content has nothing built", (ANSWER, "", []), place.run_command()
-    subprocess.run(["chmod", "-R", "go-rwx", place.home], check=True)
-    yield "other modes have nothing built", (ANSWER, "", []), place.run_command()
-    without_rt = {**place.environment, "PATH": os.environ["PATH"].replace(os.path.dirname(shutil.which("rt") or "/none/rt"), "/none")}
+    os.utime(f"{checkout.home}/crates/{CHANGED}/src/lib.rt")
+    yield "a file of another time with the same content has nothing built", (ANSWER, "", []), checkout.run_command()
+    subprocess.run(["chmod", "-R", "go-rwx", checkout.home], check=True)
+    yield "other modes have nothing built", (ANSWER, "", []), checkout.run_command()
+    without_rt = {**checkout.environment, "PATH": os.environ["PATH"].replace(os.path.dirname(shutil.which("rt") or "/none/rt"), "/none")}
     for flag in ("-a", "-r"):
         copy = f"{folder}/copy{flag}"
-        subprocess.run(["cp", flag, place.home, copy], check=True)
+        subprocess.run(["cp", flag, checkout.home, copy], check=True)
         subprocess.run(["chmod", "-R", "a+rX", folder], check=True)
         nobody: dict[str, Any] = {"user": 65534, "group": 65534, "extra_groups": []}
         users: list[dict[str, Any]] = [{}, nobody] if os.geteuid() == 0 else [{}]
@@ -171,42 +171,42 @@ def check_copies(place: Place, folder: str) -> Iterator[Comparison]:
             ran = subprocess.run([f"{copy}/lw", "states"], input=b"text\n", capture_output=True, env=without_rt, check=False, **who)
             printed = ran.stdout, ran.stderr, ran.returncode
             yield f"a copy by cp {flag} answers without rt{', read only' if who else ''}", (ANSWER, b"", 3), printed
-    place.change_source(CHANGED)
-    os.utime(f"{place.home}/crates/{CHANGED}/src/lib.rt", (0, 0))
-    yield "a changed file of an old time has those above it built", list_dependents(CHANGED), list_begun_crates(place.run_command()[2])
+    checkout.change_source(CHANGED)
+    os.utime(f"{checkout.home}/crates/{CHANGED}/src/lib.rt", (0, 0))
+    yield "a changed file of an old time has those above it built", list_dependents(CHANGED), list_begun_crates(checkout.run_command()[2])
 
 
-def check_failures(place: Place) -> Iterator[Comparison]:
+def check_failures(checkout: Checkout) -> Iterator[Comparison]:
     """Compares what builds print that fail."""
-    place.change_source(CHANGED)
-    place.write_file(f"{place.kit}/fails-{CHANGED}", "")
-    ran = place.start_command()
+    checkout.change_source(CHANGED)
+    checkout.write_file(f"{checkout.kit}/fails-{CHANGED}", "")
+    ran = checkout.start_command()
     out, err = ran.communicate(b"text\n", timeout=60)
     yield "a build that fails prints nothing", (b"", 5), (out, ran.returncode)
     message = f"the log of {CHANGED}\nlw: the build failed at {CHANGED}\n"
     yield "a build that fails says where", True, err.decode().endswith(message)
-    yield "a build that fails goes no further", [CHANGED], list_begun_crates(place.take_record())
-    os.remove(f"{place.kit}/fails-{CHANGED}")
-    yield "the next call goes on", list_dependents(CHANGED), list_begun_crates(place.run_command()[2])
-    place.change_source(CHANGED)
-    place.write_file(f"{place.kit}/hangs-{CHANGED}", "")
-    ran = place.start_command()
-    while not list_begun_crates(place.take_record()):
+    yield "a build that fails goes no further", [CHANGED], list_begun_crates(checkout.take_record())
+    os.remove(f"{checkout.kit}/fails-{CHANGED}")
+    yield "the next call goes on", list_dependents(CHANGED), list_begun_crates(checkout.run_command()[2])
+    checkout.change_source(CHANGED)
+    checkout.write_file(f"{checkout.kit}/hangs-{CHANGED}", "")
+    ran = checkout.start_command()
+    while not list_begun_crates(checkout.take_record()):
         time.sleep(0.1)
     os.killpg(ran.pid, signal.SIGINT)
     out, _ = ran.communicate(timeout=60)
-    leftover_processes = subprocess.run(["pgrep", "-f", f"{place.kit}/bin/rt"], capture_output=True, check=False).stdout
+    leftover_processes = subprocess.run(["pgrep", "-f", f"{checkout.kit}/bin/rt"], capture_output=True, check=False).stdout
     yield "a build that is ended prints nothing, and leaves nothing running", (b"", b""), (out, leftover_processes)
-    os.remove(f"{place.kit}/hangs-{CHANGED}")
-    both = [place.start_command(), place.start_command()]
+    os.remove(f"{checkout.kit}/hangs-{CHANGED}")
+    both = [checkout.start_command(), checkout.start_command()]
     yield "two calls at once both answer", [ANSWER] * 2, [it.communicate(b"text\n", timeout=60)[0] for it in both]
-    yield "two calls at once build each crate once", list_dependents(CHANGED), list_begun_crates(place.take_record())
+    yield "two calls at once build each crate once", list_dependents(CHANGED), list_begun_crates(checkout.take_record())
 
 
-def run_on_terminal(place: Place, output: BinaryIO | int) -> tuple[str, bytes | None, int]:
+def run_on_terminal(checkout: Checkout, output: BinaryIO | int) -> tuple[str, bytes | None, int]:
     """Returns what a call shows on a terminal, standard error, and what it writes to standard output."""
     ours, theirs = pty.openpty()
-    ran = place.start_command(stdin=subprocess.PIPE, stdout=output, stderr=theirs)
+    ran = checkout.start_command(stdin=subprocess.PIPE, stdout=output, stderr=theirs)
     os.close(theirs)
     ran.stdin.write(b"text\n")
     ran.stdin.close()
@@ -219,52 +219,52 @@ def run_on_terminal(place: Place, output: BinaryIO | int) -> tuple[str, bytes | 
     return shown.decode(), ran.stdout.read() if output == subprocess.PIPE else None, ran.wait(60)
 
 
-def check_first_answer(place: Place, folder: str) -> Iterator[Comparison]:
+def check_first_answer(checkout: Checkout, folder: str) -> Iterator[Comparison]:
     """Compares the first answer, which is given before the proof."""
     for answer, is_told in (("proved", False), ("another", True)):
-        place.change_source(CHANGED)
-        place.write_file(f"{place.kit}/answers", answer)
+        checkout.change_source(CHANGED)
+        checkout.write_file(f"{checkout.kit}/answers", answer)
         with open(f"{folder}/written", "w+b") as output:
-            shown, _, status = run_on_terminal(place, output)
+            shown, _, status = run_on_terminal(checkout, output)
             output.seek(0)
             yield "standard output has the proved answer alone", (ANSWER, 3), (output.read(), status)
         unproved = f"lw: unproved, so only a first look (the proved answer follows):\r\n{answer}: states\r\ntext\r\n"
         yield "a terminal shows the first answer, as unproved", True, unproved in shown
         yield "an answer that differs is told", is_told, "lw: the first answer was another" in shown
-    place.change_source(CHANGED)
-    shown, out, status = run_on_terminal(place, subprocess.PIPE)
+    checkout.change_source(CHANGED)
+    shown, out, status = run_on_terminal(checkout, subprocess.PIPE)
     yield "in a pipe nothing unproved is shown", (False, ANSWER, 3), ("unproved" in shown, out, status)
 
 
-def check_other_program(place: Place, folder: str) -> Iterator[Comparison]:
+def check_other_program(checkout: Checkout, folder: str) -> Iterator[Comparison]:
     """Checks ./beyond, when ./lw is built."""
-    place.run_command()
+    checkout.run_command()
     file = f"{folder}/a test"
-    place.write_file(file, "in a file\n")
-    out, errors, record = place.run_command("beyond", "states")
+    checkout.write_file(file, "in a file\n")
+    out, errors, record = checkout.run_command("beyond", "states")
     yield "./beyond answers by its program", ANSWER, out
     yield "./beyond says which program it builds", {"beyond"}, {it.partition(":")[0] for it in errors.splitlines()}
-    yield "./beyond builds what ./lw has not built, and nothing else", sorted(place.further), list_begun_crates(record)
-    yield "the second ./beyond builds nothing", (ANSWER, "", []), place.run_command("beyond", "states")
+    yield "./beyond builds what ./lw has not built, and nothing else", sorted(checkout.further), list_begun_crates(record)
+    yield "the second ./beyond builds nothing", (ANSWER, "", []), checkout.run_command("beyond", "states")
     for words in (["states"], ["--budget", "7", "--method", "schedules"], ["--search", "--budget", "states", "states"]):
         expected: tuple[bytes, str, list[str]] = f"proved: {' '.join(words)}\nin a file\n".encode(), "", []
-        yield f"./beyond {' '.join(words)} FILE", expected, place.run_command("beyond", *words, file)
+        yield f"./beyond {' '.join(words)} FILE", expected, checkout.run_command("beyond", *words, file)
     for words in (["states", file, file], ["--budget", "states"], [file], ["states", ""]):
         expected = f"proved: {' '.join(words)}\ntext\n".encode(), "", []
-        yield f"./beyond {' '.join(words)}, which names no file", expected, place.run_command("beyond", *words)
-    printed = place.run_command("beyond", "states", f"{folder}/none")
+        yield f"./beyond {' '.join(words)}, which names no file", expected, checkout.run_command("beyond", *words)
+    printed = checkout.run_command("beyond", "states", f"{folder}/none")
     yield "./beyond of a file that isn't there", (b"", f"beyond: {folder}/none can't be opened\n", []), printed
-    place.change_source("lw_search")
-    yield "./lw takes no notice of a crate of ./beyond's", (ANSWER, "", []), place.run_command()
-    yield "./beyond does", sorted(place.further), list_begun_crates(place.run_command("beyond", "states")[2])
+    checkout.change_source("lw_search")
+    yield "./lw takes no notice of a crate of ./beyond's", (ANSWER, "", []), checkout.run_command()
+    yield "./beyond does", sorted(checkout.further), list_begun_crates(checkout.run_command("beyond", "states")[2])
 
 
 def comparisons() -> Iterator[Comparison]:
     """Yields all comparisons: what is compared, what is expected, and what was found."""
     with tempfile.TemporaryDirectory() as folder:
-        place = Place(folder)
-        checks = check_builds(place), check_copies(place, folder), check_failures(place), check_first_answer(place, folder)
-        for check in (*checks, check_other_program(place, folder)):
+        checkout = Checkout(folder)
+        checks = check_builds(checkout), check_copies(checkout, folder), check_failures(checkout), check_first_answer(checkout, folder)
+        for check in (*checks, check_other_program(checkout, folder)):
             for subject, expected, actual in check:
                 yield f"with a stand-in for rt: {subject}", expected, actual
 

@@ -245,7 +245,7 @@ class Program:
 WITH_BUFFER = ("relaxed", "load", "load through", "load in", "set", "copy", "unless", "jump")
 
 
-class Place(NamedTuple):
+class State(NamedTuple):
     """The state of a run: each thread's next statement, its variables and its buffer, and memory."""
 
     next: tuple[int, ...]
@@ -273,7 +273,7 @@ class Interpreter:
     def list_outcomes(self) -> set[End]:
         """Returns the values of variables and locations at the ends of all runs."""
         count = len(self.program.threads)
-        first = Place((0,) * count, ((0,) * (ADDRESS + 1),) * count, ((),) * count, tuple(self.program.first))
+        first = State((0,) * count, ((0,) * (ADDRESS + 1),) * count, ((),) * count, tuple(self.program.first))
         seen, queue = {first}, [first]
         ends: set[End] = set()
         while queue:
@@ -287,7 +287,7 @@ class Interpreter:
                     queue.append(successor)
         return ends
 
-    def list_successors(self, state: Place, thread: int) -> list[Place]:
+    def list_successors(self, state: State, thread: int) -> list[State]:
         """Returns what a thread can do next: drain its oldest store, or execute its next statement."""
         successors, buffer = [], state.buffers[thread]
         if buffer:
@@ -306,7 +306,7 @@ class Interpreter:
             return registers[ADDRESS]
         return statement.location + (registers[statement.register or 0] & 1 if statement.kind.endswith("in") else 0)
 
-    def execute_statement(self, state: Place, thread: int, statement: Statement) -> Place:
+    def execute_statement(self, state: State, thread: int, statement: Statement) -> State:
         """Returns the state after a statement."""
         registers, next_index = state.registers[thread], state.next[thread] + 1
         if statement.kind in ("unless", "jump"):

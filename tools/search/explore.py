@@ -11,12 +11,12 @@ from typing import NamedTuple, Tuple
 
 import plain
 from plain import Test
-from search.threads import EXCHANGE, FORWARD, LOAD, NONE, STORE, Place, Thread
+from search.threads import EXCHANGE, FORWARD, LOAD, NONE, STORE, ThreadNode, Thread
 
 STEP, DRAIN = 0, 1
-# A state of the search: the index of the memory, and of each thread the index of its place.
+# A state of the search: the index of the memory, and of each thread the index of its node.
 State = Tuple[int, ...]
-# A move: its kind, the location that is written or -1, the word, the place after it, and the number of statements executed.
+# A move: its kind, the location that is written or -1, the word, the node after it, and the number of statements executed.
 Move = Tuple[int, int, int, int, int]
 
 
@@ -28,9 +28,9 @@ class Found(NamedTuple):
     seen: int
 
 
-def make_drain(place: Place) -> Move:
-    """Returns the drain of a place's oldest entry, which it has."""
-    location, word, end, count = place.drain
+def make_drain(node: ThreadNode) -> Move:
+    """Returns the drain of a node's oldest entry, which it has."""
+    location, word, end, count = node.drain
     return DRAIN, location, word, end, count
 
 
@@ -63,47 +63,47 @@ class Search:
             self.stored[key] = after
         return after
 
-    def make_step(self, thread: Thread, place: Place, words: tuple[int, ...]) -> Move:
+    def make_step(self, thread: Thread, node: ThreadNode, words: tuple[int, ...]) -> Move:
         """Returns the step of a thread."""
-        kind, location = place.kind, place.location
+        kind, location = node.kind, node.location
         if kind == FORWARD:
-            return (STEP, -1, 0) + place.end
+            return (STEP, -1, 0) + node.end
         if kind == STORE:
-            return (STEP, location, place.word) + place.end
+            return (STEP, location, node.word) + node.end
         word = words[location]
-        new, place_after, steps = place.ends.get(word) or thread.finish_read(place, word)
-        return STEP, location if kind == EXCHANGE else -1, new, place_after, steps
+        new, node_after, steps = node.ends.get(word) or thread.finish_read(node, word)
+        return STEP, location if kind == EXCHANGE else -1, new, node_after, steps
 
     def list_moves(self, state: State) -> Iterator[tuple[int, Move]]:
         """Yields the moves from a state, each with its thread; only one if it is sufficient to explore that."""
         words = self.words[state[0]]
-        places = [thread.places[number] for thread, number in zip(self.threads, state[1:])]
-        for index, place in enumerate(places):
+        nodes = [thread.nodes[number] for thread, number in zip(self.threads, state[1:])]
+        for index, node in enumerate(nodes):
             reads = writes = 0
-            for number, other in enumerate(places):
+            for number, other in enumerate(nodes):
                 if number != index:
                     reads |= other.reads
                     writes |= other.writes
-            move = self.find_independent_move(index, place, words, reads, writes)
+            move = self.find_independent_move(index, node, words, reads, writes)
             if move:
                 yield index, move
                 return
-        for index, place in enumerate(places):
-            if place.drain:
-                yield index, make_drain(place)
-            if place.kind != NONE:
-                yield index, self.make_step(self.threads[index], place, words)
+        for index, node in enumerate(nodes):
+            if node.drain:
+                yield index, make_drain(node)
+            if node.kind != NONE:
+                yield index, self.make_step(self.threads[index], node, words)
 
-    def find_independent_move(self, index: int, place: Place, words: tuple[int, ...], reads: int, writes: int) -> Move | None:
+    def find_independent_move(self, index: int, node: ThreadNode, words: tuple[int, ...], reads: int, writes: int) -> Move | None:
         """Returns a move of a thread that no other can notice or disturb, if it has one. `reads` and `writes` are the locations that the others may
         still access, a bit each. `None` if it has none.
         """
-        if place.drain and not (reads | writes) >> place.drain[0] & 1:
-            return make_drain(place)
-        if place.kind == NONE:
+        if node.drain and not (reads | writes) >> node.drain[0] & 1:
+            return make_drain(node)
+        if node.kind == NONE:
             return None
-        watched = writes if place.kind in (FORWARD, LOAD) else reads | writes
-        return None if watched >> place.location & 1 else self.make_step(self.threads[index], place, words)
+        watched = writes if node.kind in (FORWARD, LOAD) else reads | writes
+        return None if watched >> node.location & 1 else self.make_step(self.threads[index], node, words)
 
     def explore(self, max_states: int, report: Callable[[int, int], None]) -> Found:
         """Explores at most `max_states` states. Calls `report` from time to time with the numbers of the explored and of the known states."""
@@ -112,10 +112,10 @@ class Search:
         observed = plain.list_observed_sites(self.test)
         while explored < len(self.states) and explored < max_states:
             state, is_end = self.states[explored], True
-            for thread, (kind, location, word, place, steps) in self.list_moves(state):
+            for thread, (kind, location, word, node, steps) in self.list_moves(state):
                 is_end = False
                 memory = state[0] if location < 0 else self.replace_word(state[0], location, word)
-                after = (memory, *state[1 : thread + 1], place, *state[thread + 2 :])
+                after = (memory, *state[1 : thread + 1], node, *state[thread + 2 :])
                 if after not in self.numbers:
                     self.numbers[after] = len(self.states)
                     self.states.append(after)
@@ -132,7 +132,7 @@ class Search:
         """Returns the word of a site in a final state."""
         if isinstance(site, plain.LocationSite):
             return self.words[state[0]][site.location]
-        return self.threads[site.thread].places[state[1 + site.thread]].here.registers[site.register]
+        return self.threads[site.thread].nodes[state[1 + site.thread]].state.registers[site.register]
 
     def make_schedule(self, number: int) -> str:
         """Returns the schedule that reaches a state, which has a number."""

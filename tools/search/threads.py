@@ -1,4 +1,4 @@
-"""The places of a thread, each with an index and with its moves: the search uses only the indices."""
+"""The nodes of the graph of a thread's states, each with an index and with its moves: the search uses only the indices."""
 from __future__ import annotations
 
 from typing import Any, Tuple
@@ -8,18 +8,18 @@ from search.code import Code, ThreadState
 
 # Kinds of steps: none, a load that is forwarded from the own newest store, a load, a store to memory, and an exchange.
 NONE, FORWARD, LOAD, STORE, EXCHANGE = range(5)
-# A move's end: the index of the place after it, and the number of statements executed.
+# A move's end: the index of the node after it, and the number of statements executed.
 End = Tuple[int, int]
 
 
-class Place:
-    """A place of a thread: its next step, its next drain, and the locations that it may still read and write, a bit each."""
+class ThreadNode:
+    """A node of the graph of a thread's states: its next step, its next drain, and the locations that it may still read and write, a bit each."""
 
-    __slots__ = ("here", "kind", "location", "word", "end", "ends", "drain", "reads", "writes")
+    __slots__ = ("state", "kind", "location", "word", "end", "ends", "drain", "reads", "writes")
 
     def __init__(self, state: ThreadState, code: Code) -> None:
-        """Makes a place whose moves are not known yet: Thread.fill computes them."""
-        self.here = state
+        """Makes a node whose moves are not known yet: Thread.fill computes them."""
+        self.state = state
         self.kind = NONE
         self.location = 0
         self.word = 0
@@ -33,62 +33,62 @@ class Place:
 
 
 class Thread:
-    """All places of a thread that the search reaches."""
+    """All nodes of a thread that the search reaches."""
 
     def __init__(self, test: Test, number: int) -> None:
-        """Finds all places that a thread reaches from its start."""
+        """Finds all nodes that a thread reaches from its start."""
         self.code = Code(test, number)
         self.numbers: dict[ThreadState, int] = {}
-        self.places: list[Place] = []
+        self.nodes: list[ThreadNode] = []
         self.start, self.first_steps = self.find_end(ThreadState(0, test.registers[number], False, ()))
 
     def find_end(self, state: ThreadState, steps: int = 0) -> End:
-        """Returns the index of the place at which a thread stops after running from a state, and the number of statements executed, added
+        """Returns the index of the node at which a thread stops after running from a state, and the number of statements executed, added
         to `steps`.
         """
         state, local_steps = self.code.run_locally(state)
         if state not in self.numbers:
-            self.numbers[state] = len(self.places)
-            self.places.append(Place(state, self.code))
-            self.compute_moves(self.places[-1])
+            self.numbers[state] = len(self.nodes)
+            self.nodes.append(ThreadNode(state, self.code))
+            self.compute_moves(self.nodes[-1])
         return self.numbers[state], steps + local_steps
 
-    def compute_moves(self, place: Place) -> None:
-        """Computes the moves of a place."""
-        state = place.here
+    def compute_moves(self, node: ThreadNode) -> None:
+        """Computes the moves of a node."""
+        state = node.state
         if state.buffer:
             location, word = state.buffer[0]
-            place.drain = (location, word, *self.find_end(state._replace(buffer=state.buffer[1:])))
+            node.drain = (location, word, *self.find_end(state._replace(buffer=state.buffer[1:])))
         if state.position == self.code.end or self.code.waits(state):
             return
         statement = self.code.statements[state.position]
-        place.location = statement.location
+        node.location = statement.location
         if statement.kind == "load":
             own_words = [word for location, word in state.buffer if location == statement.location]
-            place.kind = FORWARD if own_words else LOAD
+            node.kind = FORWARD if own_words else LOAD
             if own_words:
-                place.end = self.find_end(self.make_end(state, statement.register, own_words[-1]), 1)
+                node.end = self.find_end(self.make_end(state, statement.register, own_words[-1]), 1)
         elif statement.kind == "store":
-            place.kind, place.word = STORE, read_value(statement.value, state.registers)
-            place.end = self.find_end(state._replace(position=state.position + 1), 1)
+            node.kind, node.word = STORE, read_value(statement.value, state.registers)
+            node.end = self.find_end(state._replace(position=state.position + 1), 1)
         else:
-            place.kind = EXCHANGE
+            node.kind = EXCHANGE
 
     def make_end(self, state: ThreadState, register: int, word: int, zero: bool | None = None) -> ThreadState:
         """Returns the state after a statement that gives a word to a register, and sets the zero flag if it is passed."""
         registers = state.registers[:register] + (word,) + state.registers[register + 1 :]
         return ThreadState(state.position + 1, registers, state.zero if zero is None else zero, state.buffer)
 
-    def finish_read(self, place: Place, word: int) -> tuple[int, int, int]:
-        """Returns what a load or an exchange does that finds a word: the word after it in memory, the index of the place after it, and the
+    def finish_read(self, node: ThreadNode, word: int) -> tuple[int, int, int]:
+        """Returns what a load or an exchange does that finds a word: the word after it in memory, the index of the node after it, and the
         number of statements.
         """
-        statement, state, new = self.code.statements[place.here.position], place.here, word
+        statement, state, new = self.code.statements[node.state.position], node.state, word
         zero = None
-        if place.kind == EXCHANGE:
+        if node.kind == EXCHANGE:
             operand = read_value(statement.value, state.registers) if statement.value else state.registers[statement.register]
             new = operand if statement.kind in ("xchg", "swap") else (word + operand) % WORD
             zero = new == 0 if statement.kind == "xadd" else None
         end = (new, *self.find_end(self.make_end(state, statement.register, word, zero), 1))
-        place.ends[word] = end
+        node.ends[word] = end
         return end
