@@ -275,8 +275,8 @@ def list_fault_checks() -> Iterator[Check]:
         if mistake:
             yield check_mistake, *mistake.groups()
             continue
-        begins = re.match(r"\*\*(Text|Cell|Schedule) faults|\*\*(Limit)s", line)
-        kind = (begins[1] or begins[2]).lower() if begins else kind
+        heading = re.match(r"\*\*(Text|Cell|Schedule) faults|\*\*(Limit)s", line)
+        kind = (heading[1] or heading[2]).lower() if heading else kind
         end = re.fullmatch(r"\| (\d+) \| (\w+) \| .* \| `(.*)` of `(.*)` \|", line)
         if end:
             yield check_end, *end.groups()

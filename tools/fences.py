@@ -253,13 +253,13 @@ def print_converted(choices: Choices, text: str, name: str, conversion: Converte
     parts = [Part(it, find_origins(it), it.begins) for it in conversion.conversions]
     in_names = make_renamer(conversion)
     condition = in_names(plain.format_condition(conversion.conversions[0].question))
-    tests, its = CombinedTest(parts, in_names), Text(text, conversion)
+    tests, names = CombinedTest(parts, in_names), Text(text, conversion)
     if not tests.list_states():
         tries = f"{conversion.tries} tr{'ies' if conversion.tries != 1 else 'y'}"
         print(answers.format_no_verdict(tests.question, f"no run goes through every loop within {tries}"), end="")
         print(format_tests_and_makers(tests, tests.makers, conversion.tries))
         return answers.NO_VERDICT
-    original = Original(conversion.frame.name, condition, its.describe_place, its.describe_place_briefly, {*conversion.sites}, conversion.tries)
+    original = Original(conversion.frame.name, condition, names.describe_place, names.describe_place_briefly, {*conversion.sites}, conversion.tries)
     print("\n".join(format_answer(tests, original, choices.everything, choices.exchanges)))
     return 0
 

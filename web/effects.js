@@ -21,7 +21,7 @@ const REFUSALS = {
 };
 
 /**
- * Why an event is refused, as a sentence without marks.
+ * Returns why an event is refused, as a sentence without marks.
  * @param {number} number
  * @returns {string}
  */

@@ -180,7 +180,7 @@ class Converter:
     def make_test(self, threads: list[Thread], numbers: tuple[int, ...]) -> Written:
         """Returns the test of some guesses."""
         columns: list[Sequence[plain.Statement]] = []
-        lines, begins = [], []
+        lines, starts = [], []
         marks: list[plain.Site] = []
         for number, thread in enumerate(threads):
             seen_registers = self.assign_seen_registers(number)
@@ -189,7 +189,7 @@ class Converter:
             writer = Writer(thread.ways, seen_registers, mark, self.locations, number)
             columns.append(writer.write_statements())
             lines.append([thread.ways.lines[index] for index in writer.origins])
-            begins.append([index for index, (before, node) in enumerate(zip([None, *writer.origins], writer.origins)) if before != node])
+            starts.append([index for index, (before, node) in enumerate(zip([None, *writer.origins], writer.origins)) if before != node])
         sizes = self.program.locations.sizes
         words = tuple(self.program.layout.read_initial_word(index, sizes[index]) % 2**32 for index in self.locations)
         question = plain.Test("X86", self.name, list(self.names.values()), [(0,) * SIX] * len(columns), words, columns)
@@ -199,7 +199,7 @@ class Converter:
         listed = question.listed | set(marks)
         name = self.name + ("+" + "-".join(map(str, numbers)) if len(numbers) and self.has_guesses() else "")
         test = plain.Test("X86", name, question.locations, question.registers, words, columns, listed, "forall", ALWAYS)
-        return Written(Conversion(test, question, marks, numbers), lines, begins)
+        return Written(Conversion(test, question, marks, numbers), lines, starts)
 
     def has_guesses(self) -> bool:
         """Returns whether the program is more than one test."""

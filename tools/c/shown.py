@@ -36,18 +36,19 @@ def format_lines(lines: Iterable[int]) -> str:
 
 
 def format_tests(answer: Answer, converter: Converter) -> str:
-    """Returns the texts of the tests, each with a comment that says what names mean, and from which lines instructions come."""
-    return "".join(test_text(it, converter) for it in answer.tests)
+    """Returns the texts of the tests of an answer."""
+    return "".join(format_test(it, converter) for it in answer.tests)
 
 
-def test_text(written: Written, converter: Converter) -> str:
-    """The text of a test."""
+def format_test(written: Written, converter: Converter) -> str:
+    """Returns the text of a test, with a comment that says what its names mean, and from which lines its instructions come."""
     test = restore_question(written)
     heading, _, rest = plain.format_canonical_text(test).partition("\n")
     sites = Names(converter, test).sites
     rows = [f"{name} is {site} here." for site, name in sites.items() if name != site]
     for thread, (code, lines) in enumerate(zip(test.threads, written.lines)):
-        rows += [f"P{thread} at {index}, {plain.format_instruction(test, its)}: {format_lines(lines[index])}" for index, its in enumerate(code)]
+        texts = [plain.format_instruction(test, it) for it in code]
+        rows += [f"P{thread} at {index}, {text}: {format_lines(lines[index])}" for index, text in enumerate(texts)]
     comment = "\n   ".join(rows)
     return f"{heading}\n(* {comment} *)\n{rest}"
 

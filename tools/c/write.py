@@ -68,13 +68,13 @@ class Writer:
 
     def write_statements(self) -> tuple[Statement, ...]:
         """Returns the instructions. While they are written, jumps target nodes."""
-        begins: dict[int, int] = {}
+        starts: dict[int, int] = {}
         for node_index, following in zip(self.order, [*self.order[1:], END]):
-            begins[node_index] = len(self.statements)
+            starts[node_index] = len(self.statements)
             self.write_node(node_index, following)
             self.origins += [node_index] * (len(self.statements) - len(self.origins))
-        begins[END] = len(self.statements)
-        resolved = [it if it.target is None else replace(it, target=begins[it.target]) for it in self.statements]
+        starts[END] = len(self.statements)
+        resolved = [it if it.target is None else replace(it, target=starts[it.target]) for it in self.statements]
         return self.simplify_jumps(resolved)
 
     def write_node(self, node_index: int, following: int) -> None:

@@ -42,8 +42,8 @@ def make_unlocked_instructions(test: Test, place: Place) -> list[Statement]:
     if spare is None:
         return []
     added = [Statement("add", exchange.register, value=Register(spare))] if exchange.kind == "xadd" else []
-    back = [Statement("set", exchange.register, value=Register(spare))] if is_used else []
-    return [Statement("load", spare, exchange.location), *added, store, *back]
+    restoring = [Statement("set", exchange.register, value=Register(spare))] if is_used else []
+    return [Statement("load", spare, exchange.location), *added, store, *restoring]
 
 
 def format_instructions(instructions: list[Statement]) -> str:

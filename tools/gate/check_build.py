@@ -198,8 +198,8 @@ def check_failures(checkout: Checkout) -> Iterator[Comparison]:
     leftover_processes = subprocess.run(["pgrep", "-f", f"{checkout.kit}/bin/rt"], capture_output=True, check=False).stdout
     yield "a build that is ended prints nothing, and leaves nothing running", (b"", b""), (out, leftover_processes)
     os.remove(f"{checkout.kit}/hangs-{CHANGED}")
-    both = [checkout.start_command(), checkout.start_command()]
-    yield "two calls at once both answer", [ANSWER] * 2, [it.communicate(b"text\n", timeout=60)[0] for it in both]
+    processes = [checkout.start_command(), checkout.start_command()]
+    yield "two calls at once both answer", [ANSWER] * 2, [it.communicate(b"text\n", timeout=60)[0] for it in processes]
     yield "two calls at once build each crate once", list_dependents(CHANGED), list_begun_crates(checkout.take_record())
 
 

@@ -207,8 +207,8 @@ def compare_lists(folder: str) -> Iterator[Comparison]:
         text = file.read()
     for output in ("states", "schedules", "marks"):
         for budget in (100_000, 10, 0):
-            want = run_command([BEYOND, "--budget", str(budget), output], text)
-            yield f"the library: reach {output} within {budget} states", want, reach_states(bench, output, text, budget)
+            expected = run_command([BEYOND, "--budget", str(budget), output], text)
+            yield f"the library: reach {output} within {budget} states", expected, reach_states(bench, output, text, budget)
     for arguments in (("compile", text), ("states", text, -1), ("states", text, 1 << 64), ("states", text, "10")):
         try:
             result = bench.reach(*arguments)
@@ -258,10 +258,10 @@ def all_comparisons() -> Iterator[Comparison]:
     """Yields all comparisons of the library, in C and in Python."""
     with tempfile.TemporaryDirectory(prefix="lw-library-") as folder, ThreadPoolExecutor(2) as pool:
         cases = list(list_cases())
-        wanted = list(pool.map(lambda it: run_command([PROGRAM, *it[1]], it[2]), cases))
+        expected_answers = list(pool.map(lambda it: run_command([PROGRAM, *it[1]], it[2]), cases))
         for language, answer in (("C", build_c_example(folder)), ("Python", load_python_module(folder))):
-            for (name, words, _), want, got in zip(cases, wanted, pool.map(lambda it: answer(it[1], it[2]), cases)):
-                yield f"the library from {language}: {name}, {' '.join(words)}", want, got
+            for (name, words, _), expected_answer, actual_answer in zip(cases, expected_answers, pool.map(lambda it: answer(it[1], it[2]), cases)):
+                yield f"the library from {language}: {name}, {' '.join(words)}", expected_answer, actual_answer
         for subject, expected, actual in compare_limits(lambda text, **settings: run_command([f"{folder}/lw-in-c", "states"], text, **settings)):
             yield f"the library: {subject}", expected, actual
         yield from compare_c_ends(folder)

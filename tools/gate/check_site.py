@@ -312,8 +312,8 @@ def compare_module_answers(
                     continue
                 for name, cases in itertools.groupby(questions, lambda it: it[0]):
                     _, words, texts, expected = zip(*cases)
-                    got = user.run("return answers(arguments[0])", list(zip(words, (it.decode() for it in texts))))
-                    yield f"the module {module_name}: {name}", list(expected), got
+                    actual = user.run("return answers(arguments[0])", list(zip(words, (it.decode() for it in texts))))
+                    yield f"the module {module_name}: {name}", list(expected), actual
         finally:
             user.driver.quit()
 

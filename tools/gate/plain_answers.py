@@ -167,11 +167,11 @@ def find_schedule(text: bytes, state: str) -> str:
 
 def make_source_schedule(test: plain.Test, film: Film) -> str:
     """Returns the schedule of the source run that a compiled program's run follows: a step where an instruction begins a statement."""
-    begins = [set(list_statement_starts(statements)) for statements in test.threads]
+    starts = [set(list_statement_starts(statements)) for statements in test.threads]
     steps = []
     for event, before in zip(film["events"], film["states"]):
         thread = int(event[1])
-        if event[0] == "P" and before["threads"][thread]["at"] in begins[thread]:
+        if event[0] == "P" and before["threads"][thread]["at"] in starts[thread]:
             steps.append(event)
     return " ".join(steps)
 

@@ -51,7 +51,7 @@ class Page:
 
     @property
     def columns_left(self) -> int:
-        """The number of columns that are left of the line."""
+        """Returns the number of columns that are left of the line."""
         return LIMIT - len(self.line)
 
     @property
@@ -61,7 +61,7 @@ class Page:
 
     @property
     def is_empty(self) -> bool:
-        """Whether the line has only blanks."""
+        """Returns whether the line has only blanks."""
         return not self.line.strip()
 
     def write_text(self, text: str) -> None:

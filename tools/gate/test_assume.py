@@ -142,8 +142,8 @@ def restore_loops(text: str) -> plain.Test:
     test = plain.read_test("\n".join(lines))
     for thread, head in enumerate(heads):
         code = test.threads[thread][:-1]
-        back = lambda it: it.target == len(code) and head
-        test.threads[thread] = tuple(replace(it, target=head[0]) if back(it) else it for it in code)
+        is_jump_back = lambda it: it.target == len(code) and head
+        test.threads[thread] = tuple(replace(it, target=head[0]) if is_jump_back(it) else it for it in code)
     return test
 
 
@@ -362,9 +362,9 @@ class Jumps(cases.Case):
 
 def is_simple(cells: list[tuple[str, None] | tuple[str, int]]) -> bool:
     """Returns whether a thread has one jump backward at most, over what no jump leads into except to its begin."""
-    back = [(target, index) for index, (_, target) in enumerate(cells) if target is not None and target <= index]
-    inside = lambda index, target: any(begin < target <= end and not begin <= index <= end for begin, end in back)
-    return len(back) <= 1 and not any(target is not None and inside(index, target) for index, (_, target) in enumerate(cells))
+    backward_jumps = [(target, index) for index, (_, target) in enumerate(cells) if target is not None and target <= index]
+    inside = lambda index, target: any(begin < target <= end and not begin <= index <= end for begin, end in backward_jumps)
+    return len(backward_jumps) <= 1 and not any(target is not None and inside(index, target) for index, (_, target) in enumerate(cells))
 
 
 class Command(cases.Case):

@@ -194,8 +194,8 @@ class Words(cases.Case):
         self.assertEqual({*words.X86, *words.X86_WAITING}, read_table_words("**Instructions of an x86 test.**"))
         text = " ".join(read("docs/FORMAT.md").partition("**Reserved names**")[2].partition("in any case of the letters")[0].split())
         reserved = {it for it in re.findall(r"`(\w+)`", text) if it != "r"}
-        here = {*words.QUESTIONS, *words.CONSTANTS, *words.NEGATION, *words.SOURCE, *words.SOURCE_WHOLE}
-        self.assertEqual(reserved, here | {*plain.REGISTERS["X86"], *words.OTHER_REGISTERS})
+        words_read = {*words.QUESTIONS, *words.CONSTANTS, *words.NEGATION, *words.SOURCE, *words.SOURCE_WHOLE}
+        self.assertEqual(reserved, words_read | {*plain.REGISTERS["X86"], *words.OTHER_REGISTERS})
 
     def test_reader(self) -> None:
         """The reader reserves its words of both languages and of source tests, and takes its words of instructions."""
@@ -273,11 +273,11 @@ class Page(cases.Case):
             scopes = colours.find_scopes(text)
             offset = 0
             for piece, kind in pieces:
-                its = {it and it[: -len(".lw")] for it in scopes[offset : offset + len(piece)]}
+                piece_scopes = {it and it[: -len(".lw")] for it in scopes[offset : offset + len(piece)]}
                 offset += len(piece)
                 wanted_here = [scopes_here for of_page, scopes_here in OF_PAGE.items() if (kind or "").startswith(of_page)]
-                if wanted_here and its != {"entity.name.type"} and not its <= {*wanted_here[0]}:
-                    wrong.append((piece, kind, its))
+                if wanted_here and piece_scopes != {"entity.name.type"} and not piece_scopes <= {*wanted_here[0]}:
+                    wrong.append((piece, kind, piece_scopes))
             with self.subTest(name):
                 self.assertEqual(([], len(text)), (wrong, offset))
 

@@ -325,22 +325,22 @@ class Processors(cases.Case):
                 file.write("processor\t: 0\nflags\t\t: fpu constant_tsc nonstop_tsc hypervisor\n\nprocessor\t: 1\nflags\t\t: fpu\n")
             system = make_system_folder(folder, {0: "0,2\n", 1: "1,3\n", 2: "0,2\n", 3: "1,3\n"}, {0: "0-1\n", 1: "2,3\n"})
             with mock.patch.object(os, "sched_getaffinity", lambda _: {3, 0, 1, 2}):
-                here = processors.read_processors(system, info)
+                machine = processors.read_processors(system, info)
                 bare = processors.read_processors(os.path.join(folder, "nowhere"), info + ".none")
-        self.assertEqual(((0, 1, 2, 3), {0: "0,2", 1: "1,3", 2: "0,2", 3: "1,3"}, {0: 0, 1: 0, 2: 1, 3: 1}, 1.5), here[:3] + here[4:])
-        self.assertTrue(here.has_clock and not bare.has_clock)
+        self.assertEqual(((0, 1, 2, 3), {0: "0,2", 1: "1,3", 2: "0,2", 3: "1,3"}, {0: 0, 1: 0, 2: 1, 3: 1}, 1.5), machine[:3] + machine[4:])
+        self.assertTrue(machine.has_clock and not bare.has_clock)
         self.assertEqual(((0, 1, 2, 3), {it: str(it) for it in range(4)}, {it: 0 for it in range(4)}, frozenset(), 0.0), tuple(bare))
 
     def test_placements(self) -> None:
         """Threads come on siblings and apart, on one node and on two, each on a processor of its own."""
-        here = processors.Processors(tuple(range(8)), {it: f"{it % 4},{it % 4 + 4}" for it in range(8)}, {it: it % 4 // 2 for it in range(8)})
-        placements = processors.make_placements(here, 2, Random(1))
+        machine = processors.Processors(tuple(range(8)), {it: f"{it % 4},{it % 4 + 4}" for it in range(8)}, {it: it % 4 // 2 for it in range(8)})
+        placements = processors.make_placements(machine, 2, Random(1))
         self.assertEqual([(processors.PLACEMENTS, 2)], sorted({(len(placements), len(set(it))) for it in placements}))
-        cores = {len({here.cores[cpu] for cpu in it}) for it in placements}
-        nodes = {len({here.nodes[cpu] for cpu in it}) for it in placements}
+        cores = {len({machine.cores[cpu] for cpu in it}) for it in placements}
+        nodes = {len({machine.nodes[cpu] for cpu in it}) for it in placements}
         self.assertEqual(({1, 2}, {1, 2}), (cores, nodes))
-        four = processors.make_placements(here, 4, Random(1))
-        self.assertEqual({2, 3, 4}, {len({here.cores[cpu] for cpu in it}) for it in four} | {3})
+        four = processors.make_placements(machine, 4, Random(1))
+        self.assertEqual({2, 3, 4}, {len({machine.cores[cpu] for cpu in it}) for it in four} | {3})
         flat = processors.Processors((0, 1, 5), {0: "0", 1: "1", 5: "5"}, {0: 0, 1: 0, 5: 0})
         self.assertEqual(1, len(processors.list_arrangements(flat)))
         self.assertEqual({(0, 1, 5)}, {tuple(sorted(it)) for it in processors.make_placements(flat, 3, Random(1))})
@@ -351,13 +351,13 @@ class Processors(cases.Case):
         clock = frozenset(processors.INVARIANT_CLOCK)
         good = processors.Processors((0, 1), {0: "0", 1: "1"}, {0: 0, 1: 0}, clock)
         self.assertEqual([], processors.list_obstacles(good, 2))
-        for here, part in (
+        for machine, part in (
             (good._replace(allowed=(0,)), "may use 1 processor and the test has 2 threads"),
             (good._replace(quota=1.5), "A quota leaves this process 1.5 processors"),
             (good._replace(flags=clock | {"hypervisor"}), "A hypervisor is below"),
             (good._replace(flags=frozenset()), "The time-stamp counter is not said to be invariant"),
         ):
-            obstacles = processors.list_obstacles(here, 2)
+            obstacles = processors.list_obstacles(machine, 2)
             with self.subTest(part):
                 self.assertEqual(1, len(obstacles))
                 self.assertIn(part, obstacles[0])

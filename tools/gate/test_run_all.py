@@ -222,8 +222,8 @@ class Mixed(cases.Case):
         text = run(["run_all.py", "--merge", *paths])[0].splitlines()
         self.assertEqual(len(self.rows) + 1, len(text))
         _, err, status = run(["run_all.py", "--merge", *paths[:2]])
-        here = len(self.rows) - len(json.loads(read(paths[2])))
-        self.assertEqual((f"run_all: {here} of {len(self.rows)} files are in the tables: there is no table of 2/3\n", 1), (err, status))
+        count = len(self.rows) - len(json.loads(read(paths[2])))
+        self.assertEqual((f"run_all: {count} of {len(self.rows)} files are in the tables: there is no table of 2/3\n", 1), (err, status))
         _, err, status = run(["run_all.py", "--merge", paths[0], paths[0]])
         first = json.loads(read(paths[0]))[0]["file"]
         self.assertEqual((f"run_all: {paths[0]}: {first} is in {paths[0]} too\n", 1), (err, status))
@@ -456,10 +456,10 @@ class Answers(cases.Case):
 
     def test_two_names(self) -> None:
         """Two files of one name with different states are not compared."""
-        here = logs.collect_lists([])
+        lists_read = logs.collect_lists([])
         for line in ("x=1;", "x=2;"):
-            logs.add_converted(here, f"Test A Allowed\nStates 1\n{line}\nOk\n", [], 0)
-        self.assertEqual(logs.TWO_FILES, here.own["A"].why)
+            logs.add_converted(lists_read, f"Test A Allowed\nStates 1\n{line}\nOk\n", [], 0)
+        self.assertEqual(logs.TWO_FILES, lists_read.own["A"].why)
 
     def test_columns(self) -> None:
         """A table of tests of lw has the columns that it has always had; what only some rows have makes columns of its own."""

@@ -174,7 +174,7 @@ class Converter:
             end += 1
         return (*(self.number_statement(number, it, thread_code.begins, end) for it in thread_code.statements), *last)
 
-    def number_statement(self, thread: int, statement: Statement, begins: list[int], end: int) -> Statement:
+    def number_statement(self, thread: int, statement: Statement, starts: list[int], end: int) -> Statement:
         """Returns an instruction with numbers for its names."""
         registers = self.registers[thread]
         return replace(
@@ -182,7 +182,7 @@ class Converter:
             register=None if statement.register is None else registers[statement.register],
             location=None if statement.location is None else self.locations.number_location(statement.location),
             value=Register(registers[statement.value.register]) if isinstance(statement.value, Register) else statement.value,
-            target=None if statement.target is None else end if statement.target == GIVE_UP else begins[statement.target],
+            target=None if statement.target is None else end if statement.target == GIVE_UP else starts[statement.target],
         )
 
     def number_site(self, site: Site) -> Site:
@@ -221,8 +221,8 @@ class Converter:
         named = question.listed | plain.list_sites(self.number_proposition(frame.proposition))
         further = {*marks, *plain.list_sites(filter_of_test or Constant(True))} - named
         test = replace(question, name=name, proposition=marked)
-        places, begins = [it.places for it in threads], [it.begins[:-1] for it in threads]
-        return Conversion(test, question, marks, guesses, filter_of_test, sorted(further, key=plain.site_sort_key), places, begins)
+        places, starts = [it.places for it in threads], [it.begins[:-1] for it in threads]
+        return Conversion(test, question, marks, guesses, filter_of_test, sorted(further, key=plain.site_sort_key), places, starts)
 
     def list_sites(self) -> list[Site]:
         """Returns all registers and locations of the text, as sites of its tests."""

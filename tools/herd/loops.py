@@ -105,8 +105,8 @@ def unroll_loops(nodes: list[Node], code: list[Instruction], tries: int) -> None
     while loops:
         for loop, entry in loops:
             if tries < 1:
-                back = max(index for index in loop if code[index].target is not None and code[index].target <= index)
-                raise Refused("a jump leads backward: --tries N goes through each loop N times at most", code[back].offset)
+                last_jump = max(index for index in loop if code[index].target is not None and code[index].target <= index)
+                raise Refused("a jump leads backward: --tries N goes through each loop N times at most", code[last_jump].offset)
             add_copies(nodes, loop, entry, tries)
             if len(nodes) > MAX_INSTRUCTIONS:
                 raise Refused("the loops make too many instructions", code[nodes[entry].origin].offset)
@@ -154,9 +154,9 @@ def unroll_code(code: list[Instruction], tries: int) -> list[Instruction]:
     unroll_loops(nodes, code, tries)
     order = sort_nodes(nodes)
     jumping: list[tuple[Instruction, int | None]] = []
-    begins: dict[int, int] = {}
+    starts: dict[int, int] = {}
     for node, following in zip(order, [*order[1:], END]):
-        begins[node] = len(jumping)
+        starts[node] = len(jumping)
         jumping += write_node(code[nodes[node].origin], nodes[node], following)
-    begins.update({END: len(jumping), GIVE_UP: GIVE_UP})
-    return [it if to is None else replace(it, target=begins[to]) for it, to in jumping]
+    starts.update({END: len(jumping), GIVE_UP: GIVE_UP})
+    return [it if to is None else replace(it, target=starts[to]) for it, to in jumping]

@@ -102,10 +102,10 @@ class Translated:
 
 def translate_states(test: plain.Test, origin: Origin, lines: Iterable[str]) -> Iterator[str]:
     """Yields the states of a test that its marks and its filter admit, in the names of the original."""
-    both = parse_proposition(test, f"({origin.marks}) /\\ ({origin.filter})")
+    condition = parse_proposition(test, f"({origin.marks}) /\\ ({origin.filter})")
     for line in lines:
         words = parse_state(line)
-        if plain.is_true(both, make_outcome(test, words)):
+        if plain.is_true(condition, make_outcome(test, words)):
             yield " ".join(f"{origin.names.get(name, name)}={word};" for name, word in words.items())
 
 

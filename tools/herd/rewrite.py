@@ -187,14 +187,14 @@ class Rewriter:
     def rewrite_xadd(self) -> list[Statement]:
         """Rewrites XADD without LOCK: a load, a sum and a store, between which others may act."""
         target, register = self.instruction.operands[0], self.rewrite_register(self.instruction.operands[1])
-        back = Statement("set", register, value=Register(SCRATCH))
+        restoring = Statement("set", register, value=Register(SCRATCH))
         if isinstance(target, InMemory):
             added = Statement("add", register, value=Register(SCRATCH))
-            return [self.make_load(target), added, Statement("store", location=self.rewrite_location(target), value=Register(register)), back]
+            return [self.make_load(target), added, Statement("store", location=self.rewrite_location(target), value=Register(register)), restoring]
         sum_ = self.rewrite_register(target)
         if sum_ == register:
             return [Statement("add", register, value=Register(register))]
-        return [Statement("set", SCRATCH, value=Register(sum_)), Statement("add", sum_, value=Register(register)), back]
+        return [Statement("set", SCRATCH, value=Register(sum_)), Statement("add", sum_, value=Register(register)), restoring]
 
     def rewrite_cmov(self) -> list[Statement]:
         """Rewrites a move that a branch may skip. A load is done on both ways."""

@@ -59,12 +59,12 @@ def compile_thread(statements: Sequence[Statement], has_fences: bool) -> tuple[S
     """Returns the instructions of a source thread. Jumps target instructions."""
     fenced = find_fenced_loads(statements) if has_fences else set()
     program: list[Statement] = []
-    begins: list[int] = []
+    starts: list[int] = []
     for index, statement in enumerate(statements):
-        begins.append(len(program))
+        starts.append(len(program))
         program += [Statement("mfence")] * (index in fenced) + compile_statement(statement)
-    begins.append(len(program))
-    return tuple(instruction if instruction.target is None else replace(instruction, target=begins[instruction.target]) for instruction in program)
+    starts.append(len(program))
+    return tuple(instruction if instruction.target is None else replace(instruction, target=starts[instruction.target]) for instruction in program)
 
 
 def compile_test(test: Test, has_fences: bool = True) -> Test:

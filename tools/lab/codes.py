@@ -50,8 +50,8 @@ def encode_student(student: str) -> list[tuple[int, int]]:
 
 def encode_digits(handed_in: HandedIn) -> list[tuple[int, int]]:
     """Returns the digits of a code, each with its base."""
-    front = [(MARKS, handed_in.mark), (MAX_TESTS + 1, len(handed_in.answers))]
-    return [*front, *encode_letters(handed_in.seed), *encode_student(handed_in.student), *((4, answer) for answer in handed_in.answers)]
+    header = [(MARKS, handed_in.mark), (MAX_TESTS + 1, len(handed_in.answers))]
+    return [*header, *encode_letters(handed_in.seed), *encode_student(handed_in.student), *((4, answer) for answer in handed_in.answers)]
 
 
 def format_number(number: int, least: int = 0) -> str:

@@ -44,8 +44,8 @@ def split_blocks(text: str) -> Iterator[Block]:
     block: list[str] = []
     lines = iter([*text.splitlines(), ""])
     for line in lines:
-        begins = line.startswith("#") or bool(ITEM.match(line)) or line.startswith(FENCE)
-        if block and (not line.strip() or begins):
+        is_start = line.startswith("#") or bool(ITEM.match(line)) or line.startswith(FENCE)
+        if block and (not line.strip() or is_start):
             yield find_block_kind(block[0]), block
             block = []
         if line.startswith(FENCE):

@@ -72,17 +72,17 @@ def make_stores_nontemporal(code: Code) -> Code:
     it stores the scratch register.
     """
     changed: list[Statement] = []
-    begins = []
+    starts = []
     for statement in code:
-        begins.append(len(changed))
+        starts.append(len(changed))
         if statement.kind == "store":
             is_number = isinstance(statement.value, Number)
             changed += [Statement("scratch", value=statement.value)] if is_number else []
             changed.append(Statement("movnti", location=statement.location, value=None if is_number else statement.value))
         else:
             changed.append(statement)
-    begins.append(len(changed))
-    return tuple(it if it.target is None else replace(it, target=begins[it.target]) for it in changed)
+    starts.append(len(changed))
+    return tuple(it if it.target is None else replace(it, target=starts[it.target]) for it in changed)
 
 
 def list_registers(code: Code) -> set[int]:

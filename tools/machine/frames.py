@@ -50,9 +50,9 @@ def find_fault_before(texts: list[str], code: Sequence[Statement], first: Sequen
     if addresses != expected:
         return f"the addresses of locations are taken from {addresses}, and not from {expected}"
     words = {it[1]: int(it[2], 16) for it in take_leading_matches(WORD, texts)}
-    begins = {REGISTERS[it]: first[it] for it in list_used_registers(code)}
-    if words != begins:
-        return f"registers begin with {words}, and not with {begins}"
+    first_values = {REGISTERS[it]: first[it] for it in list_used_registers(code)}
+    if words != first_values:
+        return f"registers begin with {words}, and not with {first_values}"
     rest = CLEAR_FLAG + (SET_TRAP_FLAG if is_trapped else ())
     return None if tuple(texts) == rest else f"before the test there is {'; '.join(texts)}, and not {'; '.join(rest)}"
 

@@ -105,14 +105,14 @@ def divide_limits(limits: Limits, count: int) -> Limits:
 
 def run_parts(laboratory: Laboratory, program: Program, settings: Settings) -> Iterator[tuple[Part, Ran]]:
     """Runs the tests of a program. Until all states are seen, each test is run for those that it lists and that no test before it has shown."""
-    its = settings._replace(limits=divide_limits(settings.limits, len(program.parts)))
+    part_settings = settings._replace(limits=divide_limits(settings.limits, len(program.parts)))
     seen = set()
     for part in program.parts:
         states = part.listed.states
         if settings.limits.until_complete:
             states = [it for it in states if part.find_program_state(it) is not None and part.find_program_state(it) not in seen]
         if states:
-            ran = laboratory.run(part.subject, its, states)
+            ran = laboratory.run(part.subject, part_settings, states)
             seen |= {part.find_program_state(it) for it in ran.seen.states}
             yield part, ran
 

@@ -22,11 +22,11 @@ def read_lists_and_log(answers: list[Answered], name: str) -> tuple[ListedTests,
     for answer in as_they_are:
         with open(answer.row.file, encoding="utf-8", errors="replace") as file:
             texts.append(file.read())
-    here = logs.collect_lists(zip(texts, (it.report for it in as_they_are)))
+    lists = logs.collect_lists(zip(texts, (it.report for it in as_they_are)))
     for answer in converted:
-        logs.add_converted(here, answer.report, answer.tests, answer.tries)
+        logs.add_converted(lists, answer.report, answer.tests, answer.tries)
     with open(name, encoding="utf-8", errors="replace") as file:
-        return here, logs.read_states(file)
+        return lists, logs.read_states(file)
 
 
 def report_differences(answers: list[Answered], name: str) -> int:
@@ -53,10 +53,10 @@ def report_machine_log(answers: list[Answered], name: str) -> int:
     for difference in [*not_compared, *contradicting]:
         sys.stderr.write(logs.format_machine_difference(difference))
     tests = listed.match_log_names(logged)
-    both = len({*tests} & {*logged})
+    common = len({*tests} & {*logged})
     counts = f"{len(contradicting)} showed states that are not listed, {len(not_all_seen)} did not show all"
-    print(f"{both} of {len(tests)} tests are in the machine's log {name}: {counts}, {len(not_compared)} are not compared", file=sys.stderr)
-    return SEEN_AND_NOT_LISTED if contradicting else 1 if not_compared or not both else 0
+    print(f"{common} of {len(tests)} tests are in the machine's log {name}: {counts}, {len(not_compared)} are not compared", file=sys.stderr)
+    return SEEN_AND_NOT_LISTED if contradicting else 1 if not_compared or not common else 0
 
 
 def can_be_run(answer: Answered) -> bool:

@@ -43,7 +43,7 @@ def list_options(source: str) -> list[str]:
 def make_bash(tools: Mapping[str, Sequence[str]]) -> str:
     """Returns the completion for bash. It is loaded by the name of any of the commands."""
     rows = "".join(f'        {it.make_pattern()}) words="{" ".join(it.words)}" ;;\n' for it in ROWS)
-    options = "".join(f'        {name}:*) options="{" ".join(its)}" ;;\n' for name, its in tools.items())
+    options = "".join(f'        {name}:*) options="{" ".join(options_of_tool)}" ;;\n' for name, options_of_tool in tools.items())
     return f"""# Completion of bash for lw, beyond and the tools. {MADE}
 _lw() {{
     local word=${{COMP_WORDS[COMP_CWORD]}} before=${{COMP_WORDS[COMP_CWORD - 1]}} words= options=
@@ -63,7 +63,7 @@ complete -F _lw {" ".join([*PROGRAMS, *tools])}
 def make_zsh(tools: Mapping[str, Sequence[str]]) -> str:
     """Returns the completion for zsh: a function that is loaded by its first line."""
     rows = "".join(f"    {it.make_pattern()}) compadd -- {' '.join(it.words)} ;;\n" if it.words else f"    {it.make_pattern()}) ;;\n" for it in ROWS)
-    options = "".join(f"    {name}:*) long=({' '.join(its)}) ;;\n" for name, its in tools.items())
+    options = "".join(f"    {name}:*) long=({' '.join(options_of_tool)}) ;;\n" for name, options_of_tool in tools.items())
     return f"""#compdef {" ".join([*PROGRAMS, *tools])}
 # Completion of zsh for lw, beyond and the tools. {MADE}
 local -a long
@@ -81,7 +81,7 @@ def make_fish(tools: Mapping[str, Sequence[str]]) -> str:
     """Returns the completion for fish. It is loaded by the name of any of the commands."""
     rows = "".join(f"        case '{it.make_pattern()}'\n" + "".join(f"            echo {word}\n" for word in it.words) for it in ROWS)
     programs = "".join(f"complete -c {it} -f -a '(__lw_words)'\n" for it in PROGRAMS)
-    options = "".join(f"complete -c {name} -l {it[2:]}\n" for name, its in tools.items() for it in its)
+    options = "".join(f"complete -c {name} -l {it[2:]}\n" for name, options_of_tool in tools.items() for it in options_of_tool)
     return f"""# Completion of fish for lw, beyond and the tools. {MADE}
 function __lw_words
     set -l its (commandline -opc)

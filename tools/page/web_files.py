@@ -121,8 +121,8 @@ def list_sentences() -> dict[str, str]:
     """Returns what docs/FORMAT.md says of each fault, each limit and each event that is refused: by its kind and its code."""
     sentences_by_code, kind = {}, None
     for line in read_file("docs/FORMAT.md").splitlines():
-        begins = re.match(r"\*\*(Text|Cell|Schedule) faults|\*\*(Limit)s|### (How a replay ends)", line)
-        kind = next(it for it in begins.groups() if it).lower() if begins else kind
+        heading = re.match(r"\*\*(Text|Cell|Schedule) faults|\*\*(Limit)s|### (How a replay ends)", line)
+        kind = next(it for it in heading.groups() if it).lower() if heading else kind
         row = re.match(r"\| (\d+) \| (\w+) \| (.*?) \| ", line)
         if row and kind:
             sentences_by_code[f"{'end' if kind.startswith('how') else kind} {row[1]}"] = row[3]

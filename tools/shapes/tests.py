@@ -68,8 +68,8 @@ def assign_locations(accesses: list[Access], edges: list[Edge], places: int) -> 
 def assign_words(shape: Shape) -> None:
     """Assigns words to stores and loads: each store to a location has the next number. Raises NoCycle if a test could not ask for them."""
     edges, accesses = shape.edges, shape.accesses
-    begins = [index for index in range(len(edges)) if not edges[index - 1].is_same_location]
-    for begin in begins:
+    starts = [index for index in range(len(edges)) if not edges[index - 1].is_same_location]
+    for begin in starts:
         index, count = begin, 0
         while True:
             access = accesses[index % len(accesses)]

@@ -40,12 +40,12 @@ class Sentence:
 
     @property
     def text(self) -> str:
-        """The text of all lines."""
+        """Returns the text of all lines."""
         return "\n".join(self.lines)
 
     @property
     def indent(self) -> int:
-        """The number of blanks at the start of the first line."""
+        """Returns the number of blanks at the start of the first line."""
         return count_indent(self.lines[0])
 
 

@@ -38,7 +38,7 @@ class Declaration:
 
     @property
     def place(self) -> str:
-        """Where the declaration is, as FILE:LINE."""
+        """Returns where the declaration is, as FILE:LINE."""
         return f"{os.path.relpath(self.file.path, HOME)}:{self.number}"
 
 
