@@ -3,8 +3,8 @@
     python3 tools MODULE [WORD..]
 
 `python3 tools gate.check_names` runs tools/gate/check_names.py, and `python3 tools fences FILE` does what `python3 tools/fences.py FILE` does.
-The modules import each other by their names below this folder, which Python puts first on its path if it runs the folder. With --help or without
-a word the commands are listed:
+The modules import each other by their names below this folder, which Python puts first on its path if it runs the folder. With --help, or without
+a word, it lists the commands:
 """
 from __future__ import annotations
 
@@ -20,7 +20,7 @@ sys.dont_write_bytecode = True
 from shared import command, start
 
 TOOLS = os.path.dirname(os.path.abspath(__file__))
-# What a module has that is a command.
+# The line that marks a module as a command.
 RUNS = '\nif __name__ == "__main__":\n'
 
 

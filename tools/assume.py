@@ -1,16 +1,17 @@
 #!/usr/bin/env python3
-"""The report of a test with LOCK CMPXCHG, or with loops, by assumption.
+"""Reports the states of a test with LOCK CMPXCHG, or with loops, by assumption.
 
     python3 tools/assume.py [--tries N] [--schedules] [--order intel|att] FILE
 
-reads a test in herd's form, of X86 or of X86_64 (an x86 test of lw with LOCK CMPXCHG is one), converts it as tools/from_herd.py does, to
-one test for each guess of which LOCK CMPXCHG succeed, asks for the states of each, leaves out the runs that contradict their guess or go
-through a loop more than N times, and prints one report. docs/ALGORITHMS.md has the argument why it is exact. Its last line says how many
-tests it is put together from, and by which the lists are: by lw if it is built and does not refuse the tests for their size, otherwise by
-beyond if that is built, otherwise by the search of tools/beyond.py. Then it says `not proved`, and so it does if the program is not that of the
-sources.
+FILE has a test in herd's form, of X86 or of X86_64 (an x86 test of lw with LOCK CMPXCHG has this form). The command converts it, as
+tools/from_herd.py does, to one test for each guess of which LOCK CMPXCHG succeed, and lists the states of each. It leaves out the runs that
+contradict their guess or go through a loop more than N times, and prints one report. docs/ALGORITHMS.md argues why the report is exact.
 
-With `--schedules` each state of the report has a run after it: its events, by the lines and the instructions of FILE. Instructions that no other
+Its last line says of how many tests it is composed, and which program made the lists: lw if it is built and does not refuse the tests for
+their size; otherwise beyond if that is built; otherwise the search of tools/beyond.py. If the search made them, or if the program is not that of
+the sources, the line says `not proved`.
+
+With `--schedules` a run follows each state of the report: its events, by the lines and the instructions of FILE. Instructions that no other
 thread can see are left out.
 
 If no run is left, since none goes through every loop within N tries, there is no verdict: the line `None` says so, and the status is 6.

@@ -1,19 +1,20 @@
 #!/usr/bin/env python3
-"""The states of a test that `lw states` refuses for its limits, where the program `beyond` is not built: found by a search, and each
-replayed by the program.
+"""Lists the states of a test that `lw states` refuses for its limits, if the program `beyond` is not built: a search finds them, and the
+program replays each.
 
     python3 tools/beyond.py [--max-states N] [--schedules] FILE
 
-A search that is not proved looks for all final states, by interleaving of a source test, with store buffers of an x86 test. Each state
-that it finds has a schedule, which `lw replay` carries out: so each state that is printed is one of the test's, by the proof of the
-replay. That none is missing is not proved; `./beyond` lists the same by a search that is. The report is as that of `lw states`, with a last line more, which says so, and by which the
-states are replayed: the program where it is built, else tools/plain.py. With `--schedules` the list of schedules is printed instead.
+A search that is not proved looks for all final states: of a source test by interleaving, of an x86 test with store buffers. Each state that
+it finds has a schedule, which `lw replay` carries out. So each printed state is one of the test's, by the proof of the replay. That none is
+missing is not proved; `./beyond` lists the same states by a proved search. The report is that of `lw states`, with one more line at its end,
+which says so and names what replayed the states: the program if it is built, otherwise tools/plain.py. With `--schedules` the command prints
+the list of schedules instead.
 
-The search ends after N states of the machine (2,000,000 if no number is named); then the last line says that too, and states may well be
-missing. If it has come to no final state by then, there is no verdict: the line `None` says so, and the status is 6. A terminal on standard
-error shows how far it is. A test within the limits is answered as well, with the same states.
+The search ends after N states of the machine (2,000,000 if no number is named); then the last line says that too, and states may be missing. If
+the search has found no final state by then, there is no verdict: the line `None` says so, and the status is 6. A terminal on standard error
+shows its progress. A test within the limits is answered as well, with the same states.
 
-Standard input is read where there is no FILE. Faults are told as tools/plain.py tells them; Python 3.8 is enough, on any system.
+Standard input is read if there is no FILE. Faults are reported as by tools/plain.py; Python 3.8 is enough, on any system.
 """
 from __future__ import annotations
 
@@ -59,7 +60,7 @@ def replay_all(test: plain.Test, text: str, exploration: Found) -> str:
 
 
 def format_last_line(exploration: Found, by: str) -> str:
-    """Returns what the list is."""
+    """Returns the kind of the list."""
     end = "" if exploration.is_whole else f"; the search ended at {exploration.seen} state{'s' * (exploration.seen != 1)} of the machine"
     return f"Listed by tools/beyond.py and not claimed complete; each state is replayed by {by}{end}"
 

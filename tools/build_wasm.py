@@ -5,15 +5,15 @@
     python3 tools/build_wasm.py --after-rt-ci
 
 FOLDER/lw.wasm has a 64-bit memory: it is lw_library, built by `rt lib` in a copy of the repository whose crates.txt says wasm64
-where this one says staticlib. Where wasm-opt is there (Debian's package binaryen), FOLDER/lw32.wasm is made of it, for browsers
+where this one says staticlib. If wasm-opt is installed (Debian's package binaryen), it makes FOLDER/lw32.wasm from it, for browsers
 without 64-bit memories. Without FOLDER they go to crates/lw_library/out, where the page and the tools look for them. The compiler
 for WebAssembly and wasm-opt are not proved; tools/gate/check_site.py compares what the modules answer with the program's bytes.
 
-The copy is made where temporary files are, and begins with what is built here, so only what is not proved yet is proved there.
+The copy is in the folder for temporary files, and begins with what is built here, so only what is not proved yet is proved there.
 
 With --after-rt-ci, as the gate has it, the libraries are those that `rt ci` has just proved here, and liblw_library.a is built too.
-(`rt ci` cuts the proofs out of its libraries, so it gives them no stamp by which other commands would take them: those of another
-run would not fit. Here all are of one run: the gate takes those of earlier ones away first, and one that has a stamp is refused.)
+(`rt ci` cuts the proofs out of its libraries and gives them no stamp, so that other commands do not use them: libraries of two runs would
+not fit together. Here all are of one run: the gate removes those of earlier runs first, and a library with a stamp is refused.)
 """
 from __future__ import annotations
 

@@ -3,68 +3,68 @@
 
     python3 tools/check_documents.py [--quick]
 
-With --quick what takes long is left out: the checks of single tools, the page, the library and the pack, from `tools/plain.py and its kin`
-in this list on.
+With --quick it skips the checks that take long: those of single tools, the page, the library and the pack, from `tools/plain.py` in this list
+on.
 
-- Transcripts: in README.md, docs/*.md and examples/*.page, a block of lines of which the first is '$ COMMAND'. Behind a
-  command stands what it prints: lines of standard output as they are, lines of standard error behind '2> ', and the exit
-  status, where it is not 0, as '[status N]'. Commands run at the top of the repository.
-- The tables of faults, limits and ends in docs/FORMAT.md, whose rows have examples: what is read, and the place of its fault; or
-  an example of examples/ and a schedule that ends at its last event, refused.
-- Each test of examples/ and examples/beyond/ has its NAME.page, which is as tools/plain.py has it, word for word, and one row in
-  examples/INDEX.md, which tells what the report and the comment tell. The comment's words on interleaving and x86-TSO are those of tools/plain.py, and
-  where x86-TSO allows the outcome, its schedule or that of its x86 form shows it. The x86 form of a source test is what that is
-  compiled to, without fences. Shapes ask `exists` where x86-TSO allows the outcome, and `~exists` where it forbids it.
-  Each crate has a README.md that lists its files as they are (tools/documents/make_readmes.py).
-- Each source test of examples/ beside what it is compiled to: random runs of the source, and the same runs of the compiled
-  program, statement by statement, end in the same registers and memory. The compiled text is its own canonical text, and its
-  report is that of the source in the registers of x86.
+- Transcripts: a block of lines in README.md, docs/*.md and examples/*.page whose first line is '$ COMMAND'. The output follows the command: lines
+  of standard output as they are, lines of standard error after '2> ', and the exit status as '[status N]' if it is not 0. Commands run at the
+  top of the repository.
+- The tables of faults, limits and ends in docs/FORMAT.md, whose rows have examples: a text and the place of its fault, or an example of
+  examples/ and a schedule whose last event is refused.
+- Each test of examples/ and examples/beyond/ has a NAME.page, word for word as tools/plain.py prints it, and one row in examples/INDEX.md,
+  which says the same as the report and the comment. The comment's words on interleaving and x86-TSO are those of tools/plain.py. If x86-TSO
+  allows the outcome, the test's schedule or that of its x86 form shows it. The x86 form of a source test is its compiled program without
+  fences. Shapes ask `exists` if x86-TSO allows the outcome, and `~exists` if it forbids it.
+- Each crate has a README.md that lists its present files (tools/documents/make_readmes.py).
+- Each source test of examples/ and its compiled program: random runs of the source, and the same runs of the compiled program, statement by
+  statement, end in the same registers and memory. The compiled text is its own canonical text, and its report is that of the source in the
+  registers of x86.
 - The tests, the statements and the faults of docs/CARD.md (tools/gate/check_card.py).
 - The cases of `tables/` (tools/gate/check_tables.py).
 - The tables of docs/FENCES.md and docs/FAMILIES.md: how many fences a test needs (tools/fences.py).
-- Some random tests of each language: what the program says of them beside what tools/plain.py says (tools/random_tests.py).
-- The program where memory is refused: for each n, a run whose nth call for memory is refused (tools/gate/refuse_memory.c).
-- The program where its streams fail or never end: standard output that is closed, or that nobody reads; standard input that is a
-  folder, closed or endless; words that are no command, which leave standard input unread; words that are no UTF-8; each protocol by
-  name.
-- HANDLES is its one line. Beside what is counted in folders and documents stand the least numbers that there must be of it, so that
-  a heading that is renamed can't leave its rows unread.
-- The line breaks of proofs (tools/gate/proof_layout.py), that no lemma is there in vain or twice (tools/gate/check_lemmas.py), and which
-  names tools/documents/common_names.py takes for such as a proof lacks (tools/gate/test_free_names.py).
-- No crate that says what tests mean names one that reads texts, and lw does without the search (tools/gate/check_wings.py, test_wings.py); the definitions on which the meaning of a
-  test stands are few, and docs/MAP.md tells how many (tools/documents/semantic_core.py); docs/BELIEVE.md has each definition that the contract
-  of `answer` reaches, with its lines (tools/documents/believe.py). The examples that theorems speak of are the texts that a test of
-  lw_text_tests reads as their values, and the text and the report of the law on bytes are those of the files. What documents name in
-  the repository is there, docs/MAP.md's table of crates is as crates.txt, and README.md names the logic of `rt version`
-  (tools/gate/check_names.py, tools/gate/test_names.py).
+- Some random tests of each language: the program and tools/plain.py say the same of them (tools/random_tests.py).
+- The program without memory: for each n, a run whose nth call for memory is refused (tools/gate/refuse_memory.c).
+- The program with streams that fail or never end: standard output that is closed, or that nobody reads; standard input that is a folder,
+  closed or endless; words that are no command, which leave standard input unread; words that are not UTF-8; each protocol by name.
+- HANDLES consists of its one line. Folders and documents have at least a fixed number of items, so that no rows are skipped if a heading is
+  renamed.
+- The line breaks of proofs (tools/gate/proof_layout.py), that no lemma is unused or duplicated (tools/gate/check_lemmas.py), and which
+  names tools/documents/common_names.py finds missing in a proof (tools/gate/test_free_names.py).
+- No crate that says what tests mean names one that reads texts, and lw does not depend on the search (tools/gate/check_wings.py, test_wings.py).
+- The definitions on which the meaning of a test depends are few, and docs/MAP.md says how many (tools/documents/semantic_core.py).
+  docs/BELIEVE.md has each definition that the contract of `answer` reaches, with its lines (tools/documents/believe.py).
+- The examples that theorems mention are the texts that a test of lw_text_tests reads as their values. The text and the report of the law on
+  bytes are those of the files.
+- What documents name in the repository exists, docs/MAP.md's table of crates agrees with crates.txt, and README.md names the logic of
+  `rt version` (tools/gate/check_names.py, tools/gate/test_names.py).
 - What `./lw` builds, and when, with a stand-in for `rt` (tools/gate/check_build.py); docs/TIMES.md has the table of its minutes.
 - The numbers of states of the tests in bench/.
 - The program `beyond`: the bytes of `lw` within the limits of lists, and past them the reports of tests of bench/beyond and
   examples/beyond (tools/gate/check_beyond.py); words that are no command, and streams that fail.
-- How tools/plain.py and its kin read files and tell faults (tools/gate/test_plain.py); `--help` of each command of tools/, and commands whose
-  output nobody reads (tools/gate/test_commands.py); pages of replays, which Python and JavaScript read the same
+- How tools/plain.py and similar tools read files and report faults (tools/gate/test_plain.py); `--help` of each command of tools/, and commands
+  whose output nobody reads (tools/gate/test_commands.py); pages of replays, which Python and JavaScript read in the same way
   (tools/gate/test_replay_state.py).
 - How long `./lw` says that a build takes (tools/gate/test_build.py), the arguments of python/lw.py (tools/gate/test_python.py), and the types of
   tools/ (tools/gate/test_types.py).
 - The executions that tools/graph.py draws, and the outcomes that the axioms of tools/executions.py allow (tools/gate/check_graph.py).
 - Tests in herd's form, there and back (tools/gate/test_herd.py), compare-and-swap by assumption (tools/gate/test_assume.py), and the shapes that
   tools/cycles.py makes (tools/gate/test_shapes.py).
-- Programs in C, C++ and Rust as compilers make them, and random ones beside an interpreter of their source (tools/gate/test_from_c.py,
-  tools/gate/random_programs.py).
+- Programs in C, C++ and Rust as compilers make them, and random ones compared with an interpreter of their source
+  (tools/gate/test_from_c.py, tools/gate/random_programs.py).
 - What tools/make_lab.py makes for a class of docs/LAB.md (tools/gate/check_lab.py), the slides of tools/make_slides.py
   (tools/gate/check_slides.py), and the quiz of tools/make_quiz.py with its codes (tools/gate/check_quiz.py).
 - The words that editors and the page show in colours (tools/gate/test_editor.py).
-- Many tests side by side, and tests beyond the limits (tools/gate/check_many.py); folders of mixed files by one command
-  (tools/gate/test_run_all.py); the smallest sets of fences (tools/gate/test_fences.py), and what is said of answers of a program of other sources
-  (tools/gate/test_answers.py); fences and runs of tests that are converted (tools/gate/test_original.py).
+- Many tests in parallel, and tests beyond the limits (tools/gate/check_many.py); folders of mixed files by one command
+  (tools/gate/test_run_all.py); the smallest sets of fences (tools/gate/test_fences.py); answers of a program of other sources, which are
+  reported as not proved (tools/gate/test_answers.py); fences and runs of converted tests (tools/gate/test_original.py).
 - Tests on this processor, with controls that have to show what is not listed (tools/gate/test_machine_parts.py, test_on_machine.py),
   and for the page (tools/gate/test_seen_here.py).
 - The wheel of tools/make_wheel.py, installed by pip, and the package of tools/make_deb.py, unpacked by dpkg-deb (tools/gate/test_packages.py); its
-  completions by the shells that are here (tools/gate/test_completion.py).
-- The web page, by a plain client, and where there is a browser in that too (tools/gate/check_page.py); what its code answers, and the page in
-  a browser alone (tools/gate/check_site.py).
+  completions by the installed shells (tools/gate/test_completion.py).
+- The web page, by a plain client, and in a browser if there is one (tools/gate/check_page.py); what its code answers, and the page in a browser
+  without a server (tools/gate/check_site.py).
 
-Commands run side by side, and the web page is tried behind them; what differs is told in the order of the list above.
+Commands run in parallel, and the checks of the web page follow them. Differences are printed in the order of the list above.
 """
 from __future__ import annotations
 
@@ -101,7 +101,7 @@ from shared.matches import require_match
 
 RANDOM_TESTS = 100
 TWO_THREADS = b"SRC SB\n{}\n P0 | P1 ;\n x := 1 | y := 1 ;\n r0 := y | r0 := x ;\nexists (0:r0=0 /\\ 1:r0=0)\n"
-# Examples of the tables that are told in words.
+# Examples of the tables that are described in words.
 IN_WORDS = {
     "a byte 255 behind `SRC `": b"SRC \xff",
     "any 65,537 bytes": b"x" * 65537,
@@ -137,7 +137,7 @@ REFUSED_MEMORY = [
     (BEYOND, "SB", "schedules"),
 ]
 
-# The least numbers of what is looked at, a little below what there was when they were written.
+# The least numbers of compared items, a little below the numbers when they were written.
 MIN_COUNTS = {
     "blocks with commands in README.md and docs/": 88,
     "rows of the tables of docs/FORMAT.md": 90,
@@ -149,7 +149,7 @@ MIN_COUNTS = {
 }
 COMMANDS = (("states",), ("schedules",), ("compile",), ("replay", "P0 P0 P1 P1"))
 BEYOND_COMMANDS = (("states",), ("--search", "schedules"), ("marks",))
-# Of each program its usage line, a command, and words that are none.
+# For each program its usage line, a command, and words that are none.
 USAGES = [
     (
         PROGRAM,
@@ -208,7 +208,7 @@ def split_transcript(block: list[str]) -> list[tuple[str, list[str]]]:
 
 
 def check_transcript(name: str, block: list[str]) -> Iterator[Comparison]:
-    """Compares what the commands of a block print with what the block says."""
+    """Compares the output of a block's commands with the block."""
     for shell_command, lines in split_transcript(block):
         status = 0
         if lines and re.fullmatch(r"\[status \d+\]", lines[-1]):
@@ -220,12 +220,12 @@ def check_transcript(name: str, block: list[str]) -> Iterator[Comparison]:
 
 
 def unescape(text: str) -> bytes:
-    r"""Returns what an example of a table means: `\n` is a line end, and `\|` a bar."""
+    r"""Returns the text of an example of a table: `\n` is a line end, and `\|` a bar."""
     return text.replace("\\|", "|").replace("\\n", "\n").encode()
 
 
 def check_fault(kind: str, number: int, name: str, example: str, language: str = "SRC") -> Iterator[Comparison]:
-    """Compares what the program says of an example of a row of a table of faults."""
+    """Compares the program's answer on an example of a row of a table of faults."""
     if example in IN_WORDS:
         stdin, position = IN_WORDS[example], None
     else:
@@ -247,7 +247,7 @@ def check_fault(kind: str, number: int, name: str, example: str, language: str =
 
 
 def check_limit(number: int, name: str, example: str) -> Iterator[Comparison]:
-    """Compares what the program says of a row of the table of limits."""
+    """Compares the program's answer on a row of the table of limits."""
     for lw_command in ("states", "schedules"):
         printed = run_command([PROGRAM, lw_command], IN_WORDS[example])
         yield f"docs/FORMAT.md, limit {number}", (b"", f"lw: limit {number} {name}\n".encode(), 3), printed
@@ -262,7 +262,7 @@ def check_end(number: str, name: str, schedule: str, test: str) -> Iterator[Comp
 
 
 def check_mistake(text: str, line: str) -> Iterator[Comparison]:
-    """Compares what the program says of a row of the table of common mistakes."""
+    """Compares the program's answer on a row of the table of common mistakes."""
     printed = run_command([PROGRAM, "replay", ""], unescape(text))
     yield f"docs/FORMAT.md, a mistake: {text}", (b"", f"{line}\n".encode(), 1), printed
 
@@ -337,7 +337,7 @@ def check_questions() -> Iterator[Comparison]:
 
 
 def measure_statements(source: str, compiled: str, thread: int) -> list[tuple[int, bool]]:
-    """Returns of each statement of a thread: of how many instructions it is, and whether it is a store."""
+    """Returns, for each statement of a thread, its number of instructions, and whether it is a store."""
     cells = [[row.split("|")[thread] for row in list_rows(text)] for text in (source, compiled)]
     statements = [re.sub(r"^(\s*\w+:(?!=))+", "", cell).split() for cell in cells[0]]
     instructions = [re.sub(r"^\s*L\d+:", "", cell).split() for cell in cells[1]]
@@ -368,7 +368,7 @@ def read_state_words(page: str) -> tuple[list[int], list[list[str]], str]:
 
 
 def check_compiled(name: str) -> Iterator[Comparison]:
-    """Compares a source test with what it is compiled to."""
+    """Compares a source test with its compiled program."""
     source = read_file(name)
     stdin, random = source.encode(), Random(name)
     compiled = run_command([PROGRAM, "compile"], stdin)[0]
@@ -410,7 +410,7 @@ def check_refused_memory(program: str, test: str, *arguments: str) -> Iterator[C
                 break
             os.remove(mark_file)
             yield f"{name}: call {nth} for memory is refused", refused, printed
-        yield f"{name}: behind the last call none is refused", unlimited, printed
+        yield f"{name}: after the last call none is refused", unlimited, printed
 
 
 def run_with_streams(command: Sequence[str | bytes], **streams: Any) -> tuple[bytes, int]:
@@ -470,7 +470,7 @@ def check_input_stream(program: str, command: Sequence[str]) -> Iterator[Compari
 
 
 def run_and_read_rest(command: Sequence[str], content: bytes) -> tuple[bytes, bytes, bytes, int]:
-    """Returns what a command leaves in the pipe of its standard input, what it prints on both streams, and its exit status."""
+    """Returns the rest that a command leaves in the pipe of its standard input, its output on both streams, and its exit status."""
     reading, writing = os.pipe()
     with open(writing, "wb") as pipe:
         pipe.write(content)
@@ -596,7 +596,7 @@ def check_wings_apart() -> Iterator[Comparison]:
 
 def check_semantic_core() -> Iterator[Comparison]:
     """Yields whether the definitions that the theorem needs are within their limits."""
-    yield "what the meaning of a test stands on, and docs/MAP.md on it (tools/documents/semantic_core.py)", [], semantic_core.find_faults()
+    yield "the definitions of a test's meaning, and docs/MAP.md on them (tools/documents/semantic_core.py)", [], semantic_core.find_faults()
 
 
 def check_believe() -> Iterator[Comparison]:
@@ -605,7 +605,7 @@ def check_believe() -> Iterator[Comparison]:
 
 
 def check_classics() -> Iterator[Comparison]:
-    """Compares the texts of the classic tests with those that a test of lw_text_tests reads as the values that theorems speak of."""
+    """Compares the texts of the classic tests with those that a test of lw_text_tests reads as the values that theorems mention."""
     source = read_file("crates/lw_text_tests/src/classics.rt")
     constants = re.findall(r'^/// examples/([\w-]+)\.litmus\.\nconst \w+: &str = "((?:[^"\\]|\\.)*)";', source, re.M)
     yield "how many examples lw_text_tests reads as values", 3, len(constants)
@@ -764,7 +764,7 @@ def main() -> int:
     reader.add_argument("--quick", action="store_true")
     is_quick = reader.read().quick
     os.chdir(HOME)
-    # Where there is no program for the sources as they are, these build it first.
+    # If there is no program of the present sources, these build it first.
     for words in (["lw", "replay", ""], ["beyond", "states"]):
         with open(f"{HOME}/examples/SB.litmus", "rb") as file:
             subprocess.run([f"{HOME}/{words[0]}", *words[1:]], stdin=file, stdout=subprocess.DEVNULL)
@@ -772,7 +772,7 @@ def main() -> int:
     for subject, expected, actual in comparisons(is_quick):
         passed, failed = passed + (expected == actual), failed + (expected != actual)
         if expected != actual:
-            print(f"{subject}\n  wanted: {expected!r}\n  told:   {actual!r}")
+            print(f"{subject}\n  wanted: {expected!r}\n  found:  {actual!r}")
     for skipped in ["the checks of single tools, the page, the library and the pack were left out"] if is_quick else list_skipped():
         print(skipped)
     print(f"{passed} passed, {failed} failed")

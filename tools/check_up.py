@@ -1,13 +1,13 @@
 #!/usr/bin/env python3
-"""Checks crates and all that stand on them, lowest first, and prints a line with the verdict of each.
+"""Checks crates and all that depend on them, lowest first, and prints a line with the verdict of each.
 
     python3 tools/check_up.py CRATE.. [--jobs N] [--tests]
 
 Each crate is formatted first (`rt fmt`), since the gate refuses a file that is not, and a line names the files that this changed. A
-library is built for those above it (`rt lib`), any other crate is checked (`rt check`); only what changed is proved anew. Of a crate
-that is proved one line is printed, with its functions and the seconds that it took; of the first that is not, what rt printed but for
-its notes, and the rest is left. With --tests the tests of the crates of tests are run too (`rt test`). The exit status is 1 if a
-crate is not proved, and 2 if the words are not understood.
+library is built for those above it (`rt lib`), any other crate is checked (`rt check`); only what changed is proved anew. For each proved
+crate a line has its functions and the seconds that it took. At the first crate that is not proved the command prints what rt printed, except its
+notes, and stops. With --tests it also runs the tests of the crates of tests (`rt test`). The exit status is 1 if a crate is not proved, and 2 if
+the words are not understood.
 """
 from __future__ import annotations
 
@@ -52,13 +52,13 @@ def make_command(name: str, below: dict[str, list[str]], runs_tests: bool) -> li
 
 
 def remove_notes(text: str) -> str:
-    """Returns what rt printed, without notes and without what is proved."""
+    """Returns the lines of rt, without notes and without those on proved functions."""
     lines = [it for it in text.splitlines() if not re.match(r"(rt: )?note: |fn \S+: proved$|statements |logic ", it)]
     return "\n".join(lines[-60:])
 
 
 def read_code(name: str) -> dict[str, bytes]:
-    """Returns the files of a crate's code: of each path its bytes."""
+    """Returns the files of a crate's code: for each path its bytes."""
     code = {}
     for folder, _, files in os.walk(f"{HOME}/crates/{name}/src"):
         for file_name in files:

@@ -5,17 +5,17 @@
     python3 tools/cycles.py --all N [--between mfence,xchg,xadd] [--threads N] [--source] [--into FOLDER]
     python3 tools/cycles.py --quiz N --seed S [--answers] [--into FOLDER]
 
-The first prints the x86 test of a cycle, or with `--source` the source test: whether all its edges can be at once. docs/FROM-HERD.md lists
-the edges. A cycle of docs/FAMILIES.md has its family's name, and `+mfences` and the like where something stands between accesses.
+The first prints the x86 test of a cycle, or with `--source` the source test: it asks whether all edges can hold at once. docs/FROM-HERD.md
+lists the edges. A cycle of docs/FAMILIES.md has its family's name, and `+mfences` and the like if something is between accesses.
 
-The second makes all critical cycles of at most N edges and four threads, each once: it prints a line with the name and the edges of each,
-or writes a file NAME.litmus for each into a folder that is there. With `--between` the accesses of a thread have these between them, or
+The second makes all critical cycles of at most N edges and four threads, without duplicates: it prints a line with the name and the edges of
+each, or writes a file NAME.litmus for each into an existing folder. With `--between` the accesses of a thread have these between them, or
 nothing.
 
 The third makes N tests that are in no family, the easier ones first: it prints them, or with `--answers` the answers for a teacher. With
 `--into` it writes both, quiz1.litmus and so on, and answers.txt. The same seed makes the same quiz.
 
-It needs no program. A cycle that is none is told in one line, with status 1; Python 3.8 is enough, on any system.
+It needs no program. If the edges make no cycle, one line says so, with status 1; Python 3.8 is enough, on any system.
 """
 from __future__ import annotations
 

@@ -1,10 +1,10 @@
-"""What each event of a run does, in words, and what is to be lit of it: the register that it puts a word into, and the location or the
-entry of the own store buffer that it reads. For tools/picture.py; the page says the same by web/effects.js.
+"""Says in words what each event of a run does, and what a picture highlights: the register that it sets, and the location, or the entry of
+its thread's store buffer, that it reads. For tools/picture.py; on the page web/effects.js says the same.
 
-It is found by the text of the instruction, which is the program's own, or of the statement; and told only if the state behind the event
-is as the words say. An effect is a mapping: `thread`, `words`, in which code stands between backquotes, and where they are there a
-`register` (its name), a `location` that is read from memory, or an `entry` that is read (its number in the buffer). Where a word that is said
-to be in memory is in a cache, `cache` is the thread of that.
+An effect is found by the text of the instruction, which is the program's own, or of the statement. It is stated only if the state after the
+event agrees with it. An effect is a mapping: `thread`; `words`, in which code is between backquotes; and, if the event has one, a `register` (its
+name), a `location` that is read from memory, or an `entry` that is read (its number in the buffer). If a word that is said to be in memory is in
+a cache, `cache` is the thread of that cache.
 """
 from __future__ import annotations
 
@@ -45,7 +45,7 @@ Cells = List[Cell]
 
 
 class Effect(TypedDict, total=False):
-    """What an event does: the `thread` and the `words`, which each has, and the register, location, cache and entry that have a part in it."""
+    """The effect of an event: always the `thread` and the `words`, and the register, location, cache and entry that it involves."""
 
     thread: int
     words: str
@@ -56,7 +56,7 @@ class Effect(TypedDict, total=False):
 
 
 class Unknown(Exception):
-    """What the statement does is not known, or the state after it is another."""
+    """The effect of the statement is unknown, or the state after it does not agree."""
 
 
 class Step:
@@ -85,7 +85,7 @@ class Step:
             raise Unknown
 
     def read_memory(self, location: str) -> int:
-        """Returns what memory has at a location, as a load finds it."""
+        """Returns the word of memory at a location, as a load finds it."""
         return dict(self.before["content"])[location]
 
     def describe_cache(self, location: str) -> Effect:
@@ -95,13 +95,13 @@ class Step:
         return {"cache": self.thread if self.thread in holding else holding[0]} if holding else {}
 
     def describe_waiting(self, location: str) -> str:
-        """Returns what still waits of a location in the buffers of others, in words."""
+        """Returns a sentence on the entries for a location that wait in the buffers of others."""
         others = (it for it in enumerate(self.before["threads"]) if it[0] != self.thread)
         entries = [(thread, word) for thread, it in others for name, word in it.get("buffer", []) if name == location]
         return "".join(f"; P{thread}'s `{location}={word}` still waits in its store buffer" for thread, word in entries)
 
 
-# What statements do.
+# The effects of statements.
 
 
 def describe_store(step: Step, location: str, value: str) -> Effect:

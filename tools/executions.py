@@ -1,12 +1,12 @@
-"""Executions of an x86 test by the axiomatic model of x86-TSO, and which axioms they keep.
+"""Lists the executions of an x86 test by the axiomatic model of x86-TSO, and says which axioms they satisfy.
 
 The model is that of Owens, Sarkar and Sewell ('A better x86 memory model', TPHOLs 2009) in the words of 'Herding Cats' (Alglave,
-Maranget and Tautschnig, TOPLAS 2014): a candidate execution says of each thread which instructions it does, of each read which write it
-reads from (rf), and of each location in which order its writes come (co); from-reads (fr) leads from a read to the writes that come
-after the one that it reads from. x86-TSO allows it where two relations have no cycle:
+Maranget and Tautschnig, TOPLAS 2014): a candidate execution says which instructions each thread executes, which write each read reads from
+(rf), and in which order the writes of each location come (co). From-reads (fr) leads from a read to the writes after the one that it reads
+from. x86-TSO allows the execution if two relations have no cycle:
 
 - coherence: program order of one location, rf, co and fr;
-- global happens-before: program order but for a store and a later load without a fence between them, rf of two threads, co and fr.
+- global happens-before: program order except for a store and a later load without a fence between them, rf of two threads, co and fr.
 
 A locked instruction is one event, which reads and writes. The crate that proves this model equal to the machine states the same
 axioms; this file is their plain form, for pictures and answers, and is not proved. tools/gate/check_graph.py compares it with the machine.
@@ -51,8 +51,8 @@ class Edge(NamedTuple):
 
 
 class Execution:
-    """A candidate execution: the positions that each thread goes along, of each read the write it reads from or None for the initial
-    word, and of each location its writes in coherence order. Words follow from these; one that would only follow from itself is None.
+    """A candidate execution: the positions that each thread goes along, for each read the write it reads from or None for the initial
+    word, and for each location its writes in coherence order. Words follow from these; one that would only follow from itself is None.
     """
 
     def __init__(

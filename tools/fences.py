@@ -1,26 +1,26 @@
 #!/usr/bin/env python3
-"""Which fences of a test matter: leaves out each MFENCE alone, and lists the smallest sets of them that are enough.
+"""Says which fences of a test matter: leaves out each MFENCE by itself, and lists the smallest sets of them that are enough.
 
     python3 tools/fences.py [--everything] [--exchanges] [--tries N] [--order intel|att] FILE
 
-Of an x86 test its own fences are taken, of a source test those of its compiled program. For each fence it prints which states are present
-without it that are not present with all fences; and then all smallest sets of fences that add no state. The states are those that the test
+An x86 test has its own fences, a source test those of its compiled program. For each fence the command prints the states that appear without
+it and not with all fences; then it prints all smallest sets of fences that add no state. The states are those that the test
 shows: of the names in its question and in its list of names. With `--everything` they are those of all registers that the test uses and of
-all locations, whatever the question is. Each line that says what can be left out names what was asked. A fence is called spare if a law
-that is proved says that no outcome of any kind is new without it (tools/fencing/spare.py); then it is not tried.
+all locations, whatever the question is. Each line that says what can be left out names what was asked. A fence is called spare if a proved
+law says that no outcome of any kind is new without it (tools/fencing/spare.py); then it is not tried.
 
 If a state that the question is against is present with all fences, no set of them is enough. Then the smallest sets that add no state are
-called as good as all fences, and there is no such line if the test has no fence. All smallest sets of places at which MFENCEs more would forbid
-these states are printed too. By `--everything` the fences of an x86 test are never called enough, since no question is asked. With
-`--exchanges` it prints of each XCHG and LOCK XADD which states are added if it is not locked: for XCHG a plain store, or a load and a store if
+called as good as all fences; there is no such line if the test has no fence. The command also prints all smallest sets of places at which
+further MFENCEs would forbid these states. With `--everything` the fences of an x86 test are never called enough, since no question is asked. With
+`--exchanges` it prints for each XCHG and LOCK XADD which states are added if it is not locked: for XCHG a plain store, or a load and a store if
 the old word is used; for LOCK XADD a load, a sum and a store; both by the question and by all registers and locations.
 
-A test in herd's form that lw does not read, as with LOCK CMPXCHG or loops, is converted and put together as by tools/assume.py, and its own
-instructions are spoken of, each with its line: a fence is left out in all tests and copies in which it is. A loop is gone through N times at
-most (1 if no number is named); `--order` is that of tools/from_herd.py. With `--everything` it is asked about all registers of the text.
+A test in herd's form that lw does not read, as with LOCK CMPXCHG or loops, is converted and put together as by tools/assume.py. The answers name
+its own instructions, each with its line: a fence is left out in all tests and copies in which it occurs. Each run goes through a loop at most N
+times (1 if no number is named); `--order` is that of tools/from_herd.py. With `--everything` the question is about all registers of the text.
 If no run goes through every loop within N tries, nothing is said of fences: the line `None` says so, and the status is 6.
 
-A fence only takes states away; that is used, so that not all sets are tried.
+A fence only removes states, so not all sets need to be tried.
 
 The states come from the program if it is built, in a pack from the library; those of a test that these refuse for its size come from the
 program beyond if that is built. These are proved if they are those of the sources. Other lists are made by the search of tools/beyond.py,
@@ -60,7 +60,7 @@ class Row(TypedDict):
 
 
 class Table(TypedDict):
-    """What `make_table` returns; and which makers have listed the states."""
+    """The result of `make_table`, and the makers of the lists of states."""
 
     rows: list[Row]
     enough: list[str]
@@ -70,8 +70,8 @@ class Table(TypedDict):
 
 
 class Choices(NamedTuple):
-    """What is asked of the fences of a test: by all registers and locations, of exchanges too, how often loops are gone through, and the order of
-    operands.
+    """The options of a question about fences: whether it is by all registers and locations, and about exchanges too, the number of tries of loops,
+    and the order of operands.
     """
 
     everything: bool = False
@@ -108,7 +108,7 @@ def make_report(test: plain.Test) -> str:
 
 
 def list_makers() -> set[answers.Maker]:
-    """Returns who made the lists."""
+    """Returns the makers of the lists."""
     return {it.by for it in lists.values()}
 
 
@@ -137,7 +137,7 @@ def format_place(test: plain.Test, fence: Place) -> str:
 
 
 def format_fence(row: Row, is_spare: bool, question: str) -> list[str]:
-    """Returns what is said of a fence that is left out alone, and whether it is spare. Advice names what was asked, since it is read by itself."""
+    """Returns the line on a fence that is left out by itself, and whether it is spare. Advice names what was asked, since it is read by itself."""
     if is_spare:
         return [f"{row['place']}: spare: can be left out by a proved law, whatever is asked"]
     if not row["added"]:
@@ -155,7 +155,7 @@ def find_spared(test: plain.Test, fences: list[Place], states: list[str]) -> lis
 
 
 def make_table(test: plain.Test) -> Table:
-    """Returns a table: of each fence its place, and the states that are added without it; the fences that are enough; the number of states, and of
+    """Returns a table: for each fence its place, and the states that are added without it; the fences that are enough; the number of states, and of
     those in which the proposition is true.
     """
     lists.clear()
@@ -178,12 +178,12 @@ def find_enough_sets(test: plain.Test, fences: list[Place], states: list[str]) -
 
 
 def find_helping_sets(test: plain.Test) -> list[list[Place]]:
-    """Returns all smallest sets of places at which fences answer the question; none where no fence does."""
+    """Returns all smallest sets of places at which fences answer the question; none if no fence does."""
     return find_smallest_sets(list_fence_places(test), lambda chosen: not count_unwanted_states(insert_fences(test, sorted(chosen))))
 
 
 def format_load_place(test: plain.Test, place: Place) -> str:
-    """Returns what is said of a place for a fence."""
+    """Returns the name of a place for a fence."""
     thread, position = place
     return f"P{thread} at {position}, before {plain.format_instruction(test, test.threads[thread][position])}"
 
@@ -216,7 +216,7 @@ def format_without_lock(test: plain.Test, place: Place, question: str) -> list[s
 
 
 def format_exchanges(test: plain.Test, by_everything: bool) -> list[str]:
-    """Returns what is said of each exchange: by the question, unless everything is asked about, and by everything."""
+    """Returns the lines on each exchange: by the question, unless everything is asked about, and by everything."""
     lines = []
     for thread, position in list_exchanges(test):
         lines.append(f"P{thread} at {position}, {plain.format_instruction(test, test.threads[thread][position])}, without its lock:")

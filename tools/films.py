@@ -1,5 +1,5 @@
-"""Films: the code of a test, the states behind each number of events of a schedule, each of them a replay by the program, and what each
-event does. Where an event is refused, the film ends before it, and `refused` says which and why.
+"""Makes films: the code of a test, the state after each number of events of a schedule, each of them a replay by the program, and what each
+event does. If an event is refused, the film ends before it, and `refused` says which and why.
 
 For tools/picture.py, which draws them. tools/plain.py, which is not proved, gives the rows of source statements.
 """
@@ -60,7 +60,7 @@ def check_program() -> None:
 
 
 def ask_program(arguments: list[str], text: bytes) -> str:
-    """Returns what the program prints on the bytes of a text. Raises NoFilm if the program does not start or is ended, and Refused if it refuses the
+    """Returns the program's output on the bytes of a text. Raises NoFilm if the program does not start or is ended, and Refused if it refuses the
     text.
     """
     try:

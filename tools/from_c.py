@@ -1,5 +1,5 @@
 #!/usr/bin/env python3
-"""The states in which a small program in C, C++ or Rust can end, as a compiler makes it for x86.
+"""Lists the states in which a small program in C, C++ or Rust can end, as a compiler makes it for x86.
 
     python3 tools/from_c.py [--cc 'gcc -O2'] [--tries N] [--show | --schedules | --fences | --film N] FILE
     python3 tools/from_c.py --matrix [--cc 'gcc -O2']... [--tries N] FILE
@@ -9,25 +9,27 @@ condition:
 
     // lw: exists (0:r0=0 /\\ 1:r0=0)
 
-`0:r0` is a local variable of P0, or what lw_see(r0, VALUE) says (include/lw_see.h), `0:return` what P0 returns; a global has its name, x+8 is
-what is 8 bytes after the begin of x, and &x is an address to compare with. The compiler of `--cc` makes assembly. Each thread is followed
-through it; what other threads can see of it becomes instructions of lw, which lists the states. docs/FROM-C.md says how, and what is refused.
+`0:r0` is a local variable of P0, or the VALUE of lw_see(r0, VALUE) (include/lw_see.h), and `0:return` is the result of P0. A global has its
+name, x+8 is the value 8 bytes after the start of x, and &x is an address to compare with. The compiler of `--cc` makes assembly. Each thread is
+followed through it; what other threads can see of it becomes instructions of lw, which lists the states. docs/FROM-C.md says how, and what is
+refused.
 
 - A `Never` is said of this compiler's code on x86-TSO. The language may allow more, and another compiler may make other code.
-- A loop that need not end is gone through at most N times by each run, as `--tries N` says (1 if it is not there).
+- Each run goes through a loop that need not end at most N times, as `--tries N` says (1 without it).
 - Compare-and-swap, and other locked instructions that lw lacks, are answered by guesses: one report is put together from several tests.
 - `--show` prints these tests and nothing else, with a comment that has the lines of FILE from which each instruction comes. The other tools
   take them.
 - `--schedules` prints after the report a run to each state: its events, with the lines of FILE.
 - `--fences` prints after the report what tools/fences.py says of each fence and exchange, with the lines of FILE: which of them the answer
   needs. What is of one line of a thread is left out together, if there are several tests.
-- `--film N` prints, and nothing else, the film of a run to the N-th state of the report as an SVG, as tools/picture.py draws it: the machine at
+- `--film N` prints only the film of a run to the N-th state of the report as an SVG, as tools/picture.py draws it: the machine at
   each event, with the line of FILE. It needs the program lw.
-- `--matrix` compiles by all compilers that are there (or by those of `--cc`) at all levels, and prints each list once with those that have
+- `--matrix` compiles by all installed compilers (or by those of `--cc`) at all levels, and prints each list once with the compilers that have
   it; and whether the verdict changes with weaker memory orders.
 
-The last line but one says by whom the lists are made, and `not proved` if not by lw or beyond. Notes and refusals are lines `FILE:LINE: ..` on
-standard error. The status is 1 if FILE is refused, 2 if the command is none, and 6 if no run is left, so that there is no verdict.
+The last line but one says which program made the lists, and `not proved` if it is neither lw nor beyond. Notes and refusals are lines
+`FILE:LINE: ..` on standard error. The status is 1 if FILE is refused, 2 if the words are no command, and 6 if no run is left, so that there is no
+verdict.
 Python 3.8 is enough; it needs a compiler that writes assembly of x86-64 in AT&T's order.
 """
 from __future__ import annotations
@@ -67,7 +69,7 @@ def convert_source(source: Source, compiler: str, tries: int, weaker: int = 0, i
 
 
 def format_no_run(source: Source, why: str) -> str:
-    """Returns what is printed in place of a report if no run is left."""
+    """Returns the lines in place of a report if no run is left."""
     condition = source.condition
     lines = answers.format_no_verdict(plain.Test("X86", source.name, quantifier=condition.quantifier), why).splitlines()
     return plain.join_lines([*lines[:-1], f"Condition {condition.text}"])

@@ -4,11 +4,11 @@
     python3 tools/from_herd.py FILE
     python3 tools/from_herd.py --into FOLDER FILE...
 
-prints the test, or writes one file NAME.litmus for each test into a folder that exists. Standard input is read if there is no FILE,
+It prints the test, or writes one file NAME.litmus for each test into a folder that exists. Standard input is read if there is no FILE,
 or if it is `-`. docs/FROM-HERD.md says what is taken as it is, what is rewritten, and what is refused.
 
 - `--into` overwrites nothing. A test is refused if another FILE has a test of its name, or if the folder has its file with another text.
-- `--tries N` goes through each loop N times at most. A run that would go on is given up, and the condition leaves it out.
+- `--tries N` goes through each loop N times at most. A run that would continue is given up, and the condition leaves it out.
 - A test with k LOCK CMPXCHG makes 2 to the k tests, one for each guess of which of them succeed; `--into` has to say where.
   tools/assume.py makes one report of them.
 - `--order intel` (the destination first) or `--order att` (the destination last) says the order of the operands. Otherwise it is concluded
@@ -16,7 +16,7 @@ or if it is `-`. docs/FROM-HERD.md says what is taken as it is, what is rewritte
   too. `$1` and the letter of a size (`movl`) say none. Marks that contradict one another are refused. Without a mark the order is that of
   herd's tests of the language: Intel's for X86, AT&T's for X86_64.
 
-Standard error gets a line `FILE:LINE:COLUMN: note: ..` for what is left out or taken otherwise, and a line `FILE:LINE:COLUMN: cause` where
+Standard error gets a line `FILE:LINE:COLUMN: note: ..` for what is left out or read differently, and a line `FILE:LINE:COLUMN: cause` if
 a test is refused, with status 1. Python 3.8 is enough, on any system.
 """
 from __future__ import annotations
@@ -36,7 +36,7 @@ from shared import command, start
 
 
 def write_converted_text(original: Converted, conversion: Conversion) -> str:
-    """Returns the text of a converted test, with a comment that says where it comes from."""
+    """Returns the text of a converted test, with a comment on its origin."""
     heading, _, rest = plain.format_canonical_text(conversion.test).partition("\n")
     return f"{heading}\n{make_comment(original, conversion)}{rest}"
 
@@ -49,7 +49,7 @@ class Folder:
         self.origins: dict[str, str] = {}
 
     def check_file(self, path: str, text: str, conversion: Converted, name: str, offset: int) -> None:
-        """Looks whether a file may be written: no other input of this run has its name, and no other text is there. Raises Fault if not."""
+        """Checks that a file may be written: no other input of this run has its name, and no other text is there. Raises Fault if not."""
         if path in self.origins:
             fault = f"'{conversion.frame.name}' of {name} and a test of {self.origins[path]} have one file name, {path}"
             raise given.Fault(f"{fault}: nothing is written for the second, name one of them otherwise", offset)

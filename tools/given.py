@@ -2,7 +2,7 @@
 
 A line with status 1 says why a file can't be read, or what is wrong in a text: `FILE:LINE:COLUMN: cause`, in which FILE is `-` for standard
 input. Lines and columns are counted from 1, columns in characters. What a tool prints is UTF-8, with the line ends of
-`lw`, whatever the console has. Python 3.8 alone is enough, on any system.
+`lw`, whatever the console has. Python 3.8 is enough, on any system.
 """
 from __future__ import annotations
 
@@ -13,7 +13,7 @@ STANDARD_INPUT = "-"
 
 
 class Fault(Exception):
-    """What is wrong in a text: the cause in words, and the place, counted in characters from 0."""
+    """A fault of a text: the cause in words, and the place, counted in characters from 0."""
 
 
 def read_bytes(name: str) -> bytes:

@@ -1,5 +1,5 @@
 #!/usr/bin/env python3
-"""Draws the execution of a run: which write each read reads from, and in which order each location is written. Or says why not.
+"""Draws the execution of a run: which write each read reads from, and in which order each location is written. Or says why no run ends in a state.
 
     python3 tools/graph.py SCHEDULE [FILE]
     python3 tools/graph.py --text SCHEDULE [FILE]
@@ -9,8 +9,8 @@
 
 The first prints a picture (SVG) of the run of an x86 test by a schedule, as `lw schedules` lists it; of a source test it is a run of
 its compiled program. Its events are in columns by thread, or in rows if that is narrower, with arrows for program order (po), reads-from (rf,
-within a thread rfi), coherence order (co, dashed) and from-reads (fr, dotted). Where the run is none of interleaving, a cycle of these is marked, and in
-it each store and later load that x86-TSO may turn round: there a fence is missing. --text prints the same in words, with what the
+within a thread rfi), coherence order (co, dashed) and from-reads (fr, dotted). If no interleaving has this run, a cycle of these is marked, and
+in it each store and later load that x86-TSO may reorder: a fence is missing there. --text prints the same in words, with what the
 axioms of x86-TSO say of it.
 
 --why-not takes a state that the test does not end in, as a report's line (`0:EAX=0; 1:EAX=0;`, of a source test `0:r0=0; 1:r0=0;`), and
@@ -41,11 +41,11 @@ DOCUMENTS = (("docs/pictures/SB-graph.svg", "SB-x86", "P0 P0 P1 P1 D0 D1"),)
 MAX_CANDIDATES = 400_000
 MAX_CYCLES = 6
 MAX_DRAWN_CYCLES = 3
-MAX_NAMED_READS = 4  # so many reads of the initial word have a name at their arrow
+MAX_NAMED_READS = 4  # the number of reads of the initial word with a name at their arrow
 LETTERS = "abcdefghijklmnopqrstuvwxyz"
 NONE_FORBIDDEN = "x86-TSO allows every state that some candidate execution has."
 NAMES = {"po": "program order", "rf": "reads-from", "co": "coherence order", "fr": "from-reads"}
-# Relations are told apart by their names and by how their lines are broken: colours are those of threads and locations.
+# Relations are distinguished by their names and by the dashes of their lines: colours are those of threads and locations.
 STYLE = """
 path { fill: none; stroke: #1b1b1b; stroke-width: 1.4 } path.po { stroke: #8a8a8a } path.co { stroke-dasharray: 8 4 } path.fr { stroke-dasharray: 3 3 }
 path.marked { stroke: #1b1b1b; stroke-width: 3.2 } path.co.marked { stroke-dasharray: 11 6 } path.fr.marked { stroke-dasharray: 4 5 }
@@ -62,7 +62,7 @@ path, path.marked { stroke: #ececec } path.po { stroke: #8d939c } text.relation 
 
 # The words of the observed sites of a state.
 Words = Tuple[int, ...]
-# What two ways have in common if they are the same: the axiom, the cycle, and the cycle's events.
+# The key of a way, equal for two ways that are the same: the axiom, the cycle, and the cycle's events.
 WayKey = Tuple[str, str, Tuple[str, ...]]
 
 
@@ -84,7 +84,7 @@ class Names:
         self.letters = {event: letter(index) for index, event in enumerate(execution.list_events())}
 
     def describe_event(self, event: executions.Event) -> str:
-        """Returns what an event does: R, W or U (a locked instruction) with a location and its words, or MFENCE."""
+        """Returns the label of an event: R, W or U (a locked instruction) with a location and its words, or MFENCE."""
         statement = self.execution.find_instruction(event)
         if statement.kind == "mfence":
             return "MFENCE"
@@ -117,7 +117,7 @@ def list_direct_edges(edges: list[executions.Edge]) -> list[executions.Edge]:
 
 
 def list_direct_fr_edges(execution: executions.Execution) -> list[executions.Edge]:
-    """Returns of each read the edge to the first write after the one that it reads from."""
+    """Returns, for each read, the edge to the first write after the one that it reads from."""
     direct_fr_edges: dict[executions.Event, executions.Edge] = {}
     for edge in execution.list_fr_edges():
         direct_fr_edges.setdefault(edge.source, edge)
@@ -240,7 +240,7 @@ def draw_events(
 def format_caption(
     names: Names, cycle: list[executions.Edge], broken: tuple[str, list[executions.Edge]] | None, missing: list[executions.Edge]
 ) -> list[str]:
-    """Returns what is said below a picture."""
+    """Returns the caption below a picture."""
     if broken:
         return [f"Marked: a cycle, against {broken[0]}."]
     verdict = "Marked: a cycle, so no run of interleaving." if cycle else "No cycle: a run of interleaving, too."

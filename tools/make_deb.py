@@ -8,8 +8,9 @@ tools/fences.py and so on; a manual page for each, and completions for bash, zsh
 (`cc use.c $(pkg-config --cflags --libs lw)`), and for Python (`import lw`); and the documents, examples and tools in /usr/share/lw. It needs
 glibc, of the version that the programs need, and Python.
 
-It is made of a built tree, as the wheel is (tools/make_wheel.py), by the same rules: what is missing is said with status 1, and nothing
-written; and a checkout whose gate has not passed is named in its description and on standard error. The same tree gives the same bytes.
+It is made from a built tree, as the wheel is (tools/make_wheel.py), by the same rules: if something is missing, it says what, with status 1, and
+writes nothing; if the gate has not passed for this checkout, the description and a line on standard error say so. The same tree gives the same
+bytes.
 """
 from __future__ import annotations
 
@@ -65,7 +66,7 @@ class Link(str):
     """The target of a symbolic link, from the top of the system."""
 
 
-# What a package installs: of each name the bytes, or the target of a link.
+# The files of a package: for each name the bytes, or the target of a link.
 Installed = Dict[str, Union[bytes, Link]]
 
 
@@ -119,7 +120,7 @@ def list_command_files(files: Mapping[str, bytes]) -> Installed:
 
 
 def list_document_files(files: Mapping[str, bytes], origin: Origin) -> Installed:
-    """Returns what Debian has of each package in /usr/share/doc."""
+    """Returns the files that each package of Debian has in /usr/share/doc."""
     licences = "".join(f"\n{name}\n\n{files[name].decode()}" for name in sorted(files) if name.startswith("licences/"))
     copyright_text = f"{tree.describe_provenance(origin, tree.BEYOND in files)}\nThe crates of others that are linked in:\n{licences}"
     links = {f"usr/share/doc/lw/{name}": Link(f"{SHARE}/{name}") for name in ("README.md", "docs", "examples")}
@@ -127,7 +128,7 @@ def list_document_files(files: Mapping[str, bytes], origin: Origin) -> Installed
 
 
 def list_installed_files(origin: Origin, files: Mapping[str, bytes]) -> Installed:
-    """Returns what is installed: by name, the bytes or the target of a link."""
+    """Returns the installed files: by name, the bytes or the target of a link."""
     return {**list_tree_files(files), **list_library_files(origin.version), **list_command_files(files), **list_document_files(files, origin)}
 
 

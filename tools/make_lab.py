@@ -8,8 +8,8 @@ of the lab as files, and the workbench as a site (tools/make_site.py); students.
 comments, and neither sheet nor card says a verdict. FOLDER/teacher has the solutions, the timetable, the slides (tools/make_slides.py) and a
 page of terms to hand out at the end.
 
-The site needs the workbench's WebAssembly modules, and the slides need the program, built of the sources as they are: where they are not,
-these are left out, which is said. All else needs Python 3.8 alone, on any system. The same sources give the same bytes.
+The site needs the workbench's WebAssembly modules, and the slides need the program, built from the present sources. Without them these are left
+out, and a line says so. All else needs only Python 3.8, on any system. The same sources give the same bytes.
 """
 from __future__ import annotations
 
@@ -33,7 +33,7 @@ NO_SLIDES = "make_lab: the slides are left out: there is no program of these sou
 
 
 def make_student_files(lab: str, modules: list[bytes]) -> dict[str, bytes]:
-    """Returns the files for students: of each name its bytes."""
+    """Returns the files for students: for each name its bytes."""
     tests = make_tests(lab)
     texts = {
         "sheet.html": sheets.make_sheet(lab, tests, "site/index.html" if modules else None), "card.html": sheets.render_document("CARD"),
@@ -59,7 +59,7 @@ def make_zip(files: dict[str, bytes], top: str) -> bytes:
 
 
 def make_files(modules: list[bytes], slides: str | None) -> dict[str, bytes]:
-    """Returns all files: of each name its bytes. There is a site if there are modules, and slides if they are passed."""
+    """Returns all files: for each name its bytes. There is a site if there are modules, and slides if they are passed."""
     lab = read_file("docs/LAB.md")
     given_out = make_student_files(lab, modules)
     files = {f"students/{name}": it for name, it in given_out.items()}

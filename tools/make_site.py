@@ -9,9 +9,9 @@ browser uses the first that it takes. There is no server: the module runs in a w
 documents of tools/page/documents.py, whose links open on the page what they show, and the lab's slides if the program is built. Nothing is loaded
 from elsewhere.
 
-A page that was opened as a file may load neither JSON nor modules of JavaScript, so those of web/ are put together to one classic
-script each for the page and its worker, and tables and modules come in scripts too: all of it packed, as gzip in letters. In a folder the page
-asks for a module as soon as the tables are there, and for the second only if the browser does not take the first.
+A page that was opened as a file may load neither JSON nor modules of JavaScript. So those of web/ are joined to one classic script each for
+the page and its worker, and tables and modules come in scripts too, all packed as gzip in letters. In a folder the page
+asks for a module as soon as it has the tables, and for the second only if the browser does not take the first.
 """
 from __future__ import annotations
 
@@ -36,7 +36,7 @@ COMMENT = re.compile(r"^[ \t]*(?://[^\n]*|/\*\*.*?\*/)\n", re.M | re.S)
 # What a site is made without, so that less has to be loaded: blanks at the start of lines, lines without letters, and comments of styles.
 INDENT = re.compile(r"^\s+", re.M)
 STYLE_COMMENT = re.compile(r"/\*.*?\*/\n?", re.S)
-# Where a style has a blank or a line end that says nothing: around braces, and after a line's last semicolon.
+# The blanks and line ends of a style that mean nothing: around braces, and after a line's last semicolon.
 STYLE_BLANK = re.compile(r"\s*([{}])\s*|(;)\s*\n\s*")
 # And what else says nothing outside of its strings: a blank after a colon or a comma, or around `>`, the 0 before a decimal point, the last semicolon.
 STYLE_STRING = re.compile(r'("[^"]*")')
@@ -65,7 +65,7 @@ document.head.append(script);
 });
 globalThis.site.coming.catch(() => null);
 """
-# What a page of files may not do: send anything by a network.
+# The rule for a page of files: it may send nothing by a network.
 POLICY = "connect-src 'none'; object-src 'none'; frame-src 'none'; base-uri 'none'; form-action 'none'"
 
 
@@ -73,7 +73,7 @@ class NoSite(Exception):
     """The site can't be made, and why."""
 
 
-# The site's files: of each name its text.
+# The site's files: for each name its text.
 Files = Dict[str, str]
 
 
@@ -113,7 +113,7 @@ def add_module(name: str, web: str, done: dict[str, str], importers: tuple[str, 
 
 
 def rewrite_import(statement: re.Match[str]) -> str:
-    """Returns what replaces an import."""
+    """Returns the replacement of an import."""
     namespace, names, name = statement.groups()
     return f"const {namespace} = from_{name};\n" if namespace else f"const {{{names}}} = from_{name};\n"
 
@@ -195,7 +195,7 @@ def make_one_file(modules: list[bytes], web: str) -> str:
 
 
 def make_documents(web: str, slides: str | None) -> Files:
-    """Returns the documents of a site, with their style and their script, and the slides if there are some: of each file its text. Raises NoSite if
+    """Returns the documents of a site, with their style and their script, and the slides if there are some: for each file its text. Raises NoSite if
     web/style.css has another form.
     """
     match = COLOURS.search(read_source("style.css", web))
@@ -206,7 +206,7 @@ def make_documents(web: str, slides: str | None) -> Files:
 
 
 def make_folder(modules: list[bytes], web: str, has_documents: bool = True, slides: str | None = None) -> Files:
-    """Returns the site as files: of each name its text; with the documents, or without them for a class that is to find the answers."""
+    """Returns the site as files: for each name its text; with the documents, or without them for a class that is to find the answers."""
     front, back = split_page(web)
     files = {"icon.svg": read_source("icon.svg", web), "style.css": read_styles(web)}
     files.update(make_scripts(modules, True, web, has_documents))

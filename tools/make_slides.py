@@ -6,7 +6,7 @@
 PageDown, Space, Enter, the arrows to the right and down, a click and a tap lead on; PageUp and the other arrows lead back; Home and End to
 the ends. N shows notes for the teacher. The number after `#` in the address is that of the slide. Printed, each slide is a page.
 
-What is shown of tests comes from the program (`./lw states` and `./lw replay`), which has to be built: so it needs Linux. The pictures are
+What the slides show of tests comes from the program (`./lw states` and `./lw replay`), which has to be built: so it needs Linux. The pictures are
 those of tools/picture.py and tools/graph.py. The same sources give the same bytes.
 """
 from __future__ import annotations

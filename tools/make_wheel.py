@@ -10,7 +10,7 @@ glibc that the programs need.
 
 `pip install .` in the repository makes and installs it too (pyproject.toml).
 
-It is made of a built tree, as the archive of tools/pack.py is: the sources are those of a commit, and the programs, the library and its
+It is made from a built tree, as the archive of tools/pack.py is: the sources are those of a commit, and the programs, the library and its
 module are built. Otherwise it says what is missing, with status 1, and writes nothing. If the gate (./test.sh) has not passed for these
 sources, the wheel is made too, and its description and a line on standard error say so, and that nothing has compared the library with the
 sources. The same tree gives the same bytes.

@@ -1,5 +1,5 @@
 #!/usr/bin/env python3
-"""Runs litmus tests on this processor, and holds what is seen against the list that is proved complete.
+"""Runs litmus tests on this processor, and compares what is seen with the list that is proved complete.
 
     python3 tools/on_machine.py [--runs N] [--seconds S] [--until complete] [--everything] [--against FILE] [--json]
                                 [--cc CC] [--knob NAME=VALUE] [--program-cc COMMAND] [--tries N] FILE...
@@ -10,21 +10,22 @@ seconds (10 if no number is named) or until N runs are done (then without a limi
 ends as soon as all listed states were seen.
 
 A FILE may be a program in C, C++ or Rust, or a test of herd's language C. tools/from_c.py compiles it, by the compiler of `--program-cc` (as its
-`--cc`), and converts it to tests of lw; `--tries N` goes through loops N times at most. These tests are run, and not the program's machine code: one
-after another, among which the seconds and runs are divided. What they show of the program is put together, and held against the program's list;
-all that each shows is held against its own list.
+`--cc`), and converts it to tests of lw; `--tries N` goes through loops N times at most. These tests are run one after another, and not the
+program's machine code; the seconds and runs are divided among them. What they show of the program is put together and compared with the program's
+list; all that each shows is compared with its own list.
 
-The output is a histogram in the form of litmus7's logs, and after it: what kept the run from showing much, runs a second, by whom the list
-was made, how many of its states were seen, the rarest, and those that were not seen. A state that was SEEN AND NOT LISTED contradicts the
-list, and the status is 3. Nothing is said of other processors, and a state that was not seen was not seen, no more
+The output is a histogram in the form of litmus7's logs, and after it: what kept the run from showing much, runs per second, which program made
+the list, how many of its states were seen, the rarest, and those that were not seen. A state that was SEEN AND NOT LISTED contradicts the
+list, and the status is 3. The output says nothing of other processors, and a state that was not seen may still be possible
 (docs/ON-MACHINE.md). `--json` prints all of it as a line of JSON for each test.
 
-`--everything` looks at all registers that the test uses and at all locations. `--against FILE` holds what is seen against the list of another
-test of the same names: a control, as is `--knob stores=nontemporal`. Other knobs say what a run may do; a wrong one names all.
+`--everything` looks at all registers that the test uses and at all locations. `--against FILE` compares what is seen with the list of another
+test of the same names: a control, as is `--knob stores=nontemporal`. Other knobs say what a run may do; the refusal of a wrong one names all.
 
 The list is made by lw, by beyond if lw refuses the test for its size, and otherwise by the search of tools/beyond.py, which is not proved;
-the output says which. That a program is converted rightly is not proved. A C compiler and objdump are needed: without one of them, if what is
-compiled is not the test, or if no run of a program is left, a line says so and the status is 5. A file that has no test ends with status 1, and one line `FILE:LINE:COLUMN: cause`. Linux on x86-64, Python 3.8.
+the output says which. That a program is converted correctly is not proved. A C compiler and objdump are needed: without one of them, if what is
+compiled is not the test, or if no run of a program is left, a line says so and the status is 5. A file that has no test ends with status 1, and
+one line `FILE:LINE:COLUMN: cause`. Linux on x86-64, Python 3.8.
 """
 from __future__ import annotations
 
@@ -77,7 +78,7 @@ def parse_compiler(text: str) -> list[str]:
 
 
 def make_settings(arguments: argparse.Namespace, against: Subject | None) -> Settings:
-    """Returns how tests are run, by the arguments of the command."""
+    """Returns the options of runs, by the arguments of the command."""
     seconds = SECONDS if arguments.seconds is None and not arguments.runs else arguments.seconds
     return Settings(Limits(seconds, arguments.runs, arguments.until == "complete"), knobs.make_knobs(arguments.knob), arguments.everything, against)
 

@@ -1,5 +1,5 @@
 #!/usr/bin/env python3
-"""Packs the proved workbench for who has no toolchain: FOLDER/lw-COMMIT-linux-x86_64.tar.gz.
+"""Packs the proved workbench for users without the toolchain: FOLDER/lw-COMMIT-linux-x86_64.tar.gz.
 
     python3 tools/pack.py FOLDER
 
@@ -8,9 +8,9 @@ programs; the library with its header and its Python module; the WebAssembly mod
 examples and documents; the licence texts of the crates of others that are linked in; checksums; and PACK.txt, which says of which commit
 it was made, by which toolchain, and how the gate ended that proved it.
 
-It is made of a built tree alone: the sources are those of the commit, and the programs of these sources, the library and its modules
-(tools/build_wasm.py) are there. Otherwise it says what is missing, with status 1, and writes nothing. If the gate (./test.sh) has not passed
-for these sources in this checkout, PACK.txt and a line on standard error say so: it may have passed elsewhere, which nothing here shows.
+It is made only from a built tree: the sources are those of the commit, and the programs of these sources, the library and its modules
+(tools/build_wasm.py) are built. Otherwise it says what is missing, with status 1, and writes nothing. If the gate (./test.sh) has not passed
+for these sources in this checkout, PACK.txt and a line on standard error say so; the gate may have passed elsewhere.
 """
 from __future__ import annotations
 
@@ -36,7 +36,7 @@ from shared.home import HOME, read_crates, read_lines
 
 OUT = f"{HOME}/crates/lw/out"
 LIBRARY = "crates/lw_library/out/liblw_library.a"
-# What is taken as it is. Of the tools, those that need neither the toolchain nor the sources.
+# The files that are copied. Of the tools, those that need neither the toolchain nor the sources.
 FILES = """lw beyond page README.md docs/*.md docs/pictures/* examples/* examples/*/* include/* python/* web/* tools/program/*
     tools/__main__.py tools/assume.py tools/beyond.py tools/build_wasm.py tools/cycles.py tools/effects.py tools/executions.py tools/fences.py
     tools/films.py tools/from_c.py tools/from_herd.py tools/given.py tools/graph.py tools/on_machine.py tools/picture.py tools/plain.py
@@ -47,7 +47,7 @@ FILES = """lw beyond page README.md docs/*.md docs/pictures/* examples/* example
     crates/lw/out/lw crates/beyond/out/beyond crates/lw_library/out/*.a crates/lw_library/out/*.wasm""".split()
 # How the gate ended, if nothing here says that it has passed.
 NO_GATE = "has not passed for these sources in this checkout; whether it has elsewhere, nothing here says"
-# What the gate would have compared.
+# The warning in place of a comparison by the gate.
 NO_LIBRARY = "that the library is that of these sources was not checked"
 SHARED = ["cc", "-shared", "-Wl,--whole-archive", f"{HOME}/{LIBRARY}", "-Wl,--no-whole-archive", "-o"]
 TOLD = """lw, packed
@@ -59,8 +59,8 @@ The gate:  {gate}
 ./lw states < examples/SB-x86.litmus    the program
 ./beyond states FILE                    the program for tests that ./lw refuses for their size
 ./page                                  the page, on this machine
-site.html                               the page in a browser alone
-README.md                               what it is, what is proved, and what whoever takes this pack has to believe
+site.html                               the page in a browser, without a server
+README.md                               what it is, what is proved, and what users of this pack have to believe
 
 The checksums are those of each file here: sha256sum -c SHA256SUMS
 """
@@ -71,12 +71,12 @@ class NoPack(Exception):
 
 
 def run_command(*arguments: str) -> list[str]:
-    """Returns the lines that a command prints; none where it fails."""
+    """Returns the lines that a command prints; none if it fails."""
     ran = subprocess.run(arguments, cwd=HOME, stdout=subprocess.PIPE, stderr=subprocess.DEVNULL, text=True, check=False)
     return ran.stdout.splitlines() if ran.returncode == 0 else []
 
 
-# What it is made of.
+# The sources of a pack.
 
 
 def read_commit() -> str:
@@ -98,7 +98,7 @@ def describe_gate() -> str:
 
 
 def read_licences() -> dict[str, bytes]:
-    """Returns the licence texts of the crates of others that the program is linked with: of each name its bytes. Raises NoPack if one is missing."""
+    """Returns the licence texts of the crates of others that the program is linked with: for each name its bytes. Raises NoPack if one is missing."""
     ours = {os.path.basename(it) for it in glob.glob(f"{HOME}/crates/*")}
     tests = re.compile(r"\w+_tests|lw_test_reader")
     crates = {it for name, (_, below) in read_crates().items() if not tests.fullmatch(name) for it in below}
@@ -123,7 +123,7 @@ def is_built(program: build.Program) -> bool:
 
 
 def read_taken_files(parts: Sequence[str] = tuple(FILES)) -> dict[str, bytes]:
-    """Returns the files that are taken as they are: of each name its bytes. Raises NoPack if one is missing."""
+    """Returns the files that are taken as they are: for each name its bytes. Raises NoPack if one is missing."""
     taken_files = {}
     for part in parts:
         paths = [it for it in glob.glob(f"{HOME}/{part}") if os.path.isfile(it)]

@@ -4,15 +4,15 @@
     python3 tools/picture.py SCHEDULE [--strip] [--protocol PROTOCOL] FILE
     python3 tools/picture.py --documents
 
-The first prints a picture of where a schedule leads; with --strip there is one picture for each event. What is drawn comes from the
-program (`./lw replay` and `./lw compile`), which has to be built: so it needs Linux. Without FILE, or where it is `-`, standard input is
+The first prints a picture of the state that a schedule reaches, or with --strip one picture for each event. The states come from the
+program (`./lw replay` and `./lw compile`), which has to be built: so it needs Linux. Without FILE, or if it is `-`, standard input is
 read. The second writes the pictures of the documents anew.
 
-Of each thread are drawn its code, with an arrow at what comes next, the registers that it uses, its store buffer, the oldest entry
-nearest to memory, and its cache lines that are held, with their letters; below them the words that a load finds. What the last
-event has changed or put is bold and underlined, and what it has read is bold and slanted. A strip says of each event what it does.
+For each thread the picture shows its code, with an arrow at what comes next, the registers that it uses, its store buffer, with the oldest entry
+nearest to memory, and the cache lines that it holds, with their letters; below them the words that a load finds. What the last
+event has changed or added is bold and underlined, and what it has read is bold and slanted. A strip says what each event does.
 
-Where an event is refused, what is drawn ends before it and says so, and the exit status is 1, as that of `./lw replay`.
+If an event is refused, the picture ends before it and says so, and the exit status is 1, as that of `./lw replay`.
 """
 from __future__ import annotations
 
@@ -88,7 +88,7 @@ class Drawing:
         return "\n".join([head, title_element, ground, *self.elements, "</svg>\n"])
 
 
-# What there is to be drawn.
+# The parts of a picture.
 
 
 def list_used_registers(film: Film, thread: int) -> list[str]:
@@ -99,7 +99,7 @@ def list_used_registers(film: Film, thread: int) -> list[str]:
 
 
 def format_title(film: Film, step: int) -> str:
-    """Returns what is above a step of a strip: its event, with its code."""
+    """Returns the title of a step of a strip: its event, with its code."""
     if not step:
         return "0  at the start"
     event = film["events"][step - 1]
@@ -114,7 +114,7 @@ def find_effect(film: Film, step: int) -> Effect:
 
 
 def format_effect(film: Film, step: int, letters: int) -> list[str]:
-    """Returns what the event before a step does, in lines of at most `letters` letters."""
+    """Returns the effect of the event before a step, in lines of at most `letters` letters."""
     lines: list[str] = []
     for word in find_effect(film, step)["words"].replace("`", "").split():
         longer = f"{lines[-1]} {word}" if lines else word
@@ -126,7 +126,7 @@ def format_effect(film: Film, step: int, letters: int) -> list[str]:
 
 
 def format_refusal(film: Film) -> str:
-    """Returns what is said of the event that a film ends before."""
+    """Returns the words on the event before which a film ends."""
     return f"Here {film['refused']['event']} is refused: {describe_refusal(film['refused']['number'])}" if film["refused"] else ""
 
 

@@ -1,5 +1,5 @@
 #!/usr/bin/env python3
-"""A plain interpreter of litmus tests, by docs/FORMAT.md alone. It shares nothing with the crates, and nothing here is proved.
+"""Interprets litmus tests by docs/FORMAT.md only. It shares nothing with the crates, and nothing here is proved.
 
     python3 tools/plain.py states FILE
     python3 tools/plain.py schedules FILE
@@ -12,13 +12,13 @@ The first four print what `./lw` prints, by other means: final states are found 
 test's by interleaving on one memory, an x86 test's with store buffers before one memory. The caches are played in replays only.
 
 - `schedules` gives a shortest schedule to each state; `./lw` may give another.
-- Without FILE, or where it is `-`, standard input is read. A file that can't be read is told in one line.
+- Without FILE, or if it is `-`, standard input is read. If a file can't be read, one line says so.
 - A text that is no test ends with status 1 and one line that says where and why, as `FILE:LINE:COLUMN: cause`, in which FILE is `-` for
-  standard input. Lines and columns are counted from 1, columns in characters. Which fault of docs/FORMAT.md it is, only `./lw` tells. A
-  fault of a schedule is told as by `./lw`.
+  standard input. Lines and columns are counted from 1, columns in characters. Only `./lw` says which fault of docs/FORMAT.md it is. A
+  fault of a schedule is reported as by `./lw`.
 - Python 3.8 is enough, on any system.
-- There is no limit but patience: a test with very many states takes very long. Only a condition with hundreds of parentheses in one another
-  is refused, by a line that says so.
+- No size is refused, except a condition with hundreds of nested parentheses, by a line that says so. A test with very many states takes very
+  long.
 
 The last two say whether interleaving and x86-TSO allow what a test's condition asks about, in the words of the examples' comments; and how many
 items a choice of flow paths has at most, and how many orders `./lw` counts.
@@ -62,7 +62,7 @@ PROTOCOLS = ("mesi", "moesi")
 
 
 def answer_command(arguments: list[str], text: str) -> tuple[str, int]:
-    """Returns what the program prints for a command, and its exit status. The words are those of its command line, without the file."""
+    """Returns the program's output for a command, and its exit status. The words are those of its command line, without the file."""
     name, *rest = arguments
     test = read_test(text)
     if name == "replay":

@@ -3,10 +3,10 @@
 
     python3 tools/random_tests.py [COUNT [FIRST]]
 
-makes COUNT tests of each language (2,000 where no number is given), by the seeds from FIRST on (1). Compared are reports, compiled
-texts and replays, over both protocols; each schedule that the program lists is replayed to its state by both; a test beyond the
-program's limits has to be refused. Of each test a text is made with a random mistake or two, and schedules have a faulty word now
-and then: both take the text, and replay it alike, or both refuse it. The last line is 'N passed, M failed'.
+It makes COUNT tests of each language (2,000 if no number is named), by the seeds from FIRST on (1). It compares reports, compiled
+texts and replays, over both protocols. Both replay each schedule that the program lists to its state; a test beyond the
+program's limits has to be refused. From each test it makes a text with a random mistake or two, and some schedules have a faulty word:
+both take the text and replay it in the same way, or both refuse it. The last line is 'N passed, M failed'.
 tools/check_documents.py makes some of these tests each time.
 """
 from __future__ import annotations
@@ -26,7 +26,7 @@ from shared.home import PROGRAM
 import plain
 
 PROTOCOLS = ("mesi", "moesi")
-# What a mistake inserts into a text, and into a schedule.
+# The insertions of a mistake, into a text and into a schedule.
 MISTAKES = (
     "r0 r5 r6 r9 EAX EBX ebp x y z L1 if goto swap fetchadd exists forall locations filter true false not MOV ADD CMP XCHG LOCK "
     "XADD MFENCE JE JMP ; | : := , $ = != + /\\ \\/ ~ ( ) { } [ ] 0 1 4294967295 4294967296 0x 0xff 00012 P0 P1 P4 (* *) \" A=b - # "
@@ -173,7 +173,7 @@ class Writer:
         return text
 
     def draw_schedule(self, test: plain.Test) -> str:
-        """Returns the words of events; now and then one is faulty."""
+        """Returns the words of events; sometimes one is faulty."""
         events = self.draw_events(test)
         if self.random.random() < 0.05:
             events.insert(self.random.randint(0, len(events)), self.random.choice(FAULTY_WORDS))
@@ -199,14 +199,14 @@ class Writer:
 
 
 class Printed(NamedTuple):
-    """What a command prints on standard output and on standard error, and its exit status."""
+    """The output of a command on standard output and on standard error, and its exit status."""
 
     out: str
     err: str
     status: int
 
 
-# What is compared, what tools/plain.py says, and what the program says.
+# The name of a comparison, the answer of tools/plain.py, and the answer of the program.
 Comparison = Tuple[str, object, object]
 
 
@@ -224,7 +224,7 @@ def compare_replays(subject: str, text: str, test: plain.Test, schedule: str) ->
 
 
 def replay_by_plain(test: plain.Test, schedule: str, protocol: str) -> Printed:
-    """Returns what the program should print of a replay."""
+    """Returns the expected output of the program on a replay."""
     try:
         page, status = plain.replay(test, schedule, protocol)
     except plain.NoSchedule as fault:
@@ -316,7 +316,7 @@ def main() -> int:
             for subject, expected, actual in compared:
                 passed, failed = passed + (expected == actual), failed + (expected != actual)
                 if expected != actual:
-                    print(f"{subject}\n  wanted: {expected!r}\n  told:   {actual!r}")
+                    print(f"{subject}\n  wanted: {expected!r}\n  found:  {actual!r}")
     print(f"{passed} passed, {failed} failed")
     return 1 if failed else 0
 

@@ -8,7 +8,7 @@ The first word is the file with the quiz, or its seed. FILE, or standard input, 
 same, blanks and hyphens between them are skipped, and an O is read as 0, an I or L as 1. The table has of each code its line, the student,
 how many answers are right, and which are wrong: `3 interleaving`, `5 x86`, or `7 both`.
 
-A bad code is told as `FILE:LINE:COLUMN: cause`, in which FILE is `-` for standard input, and the status is 1; the others are read. A
+A bad code is reported as `FILE:LINE:COLUMN: cause`, in which FILE is `-` for standard input, and the status is 1; the others are read. A
 student who has handed in before is noted. Python 3.8 is enough, on any system.
 """
 from __future__ import annotations
@@ -29,7 +29,7 @@ DATA = re.compile(r"^const quiz = (\{.*\});$", re.M)
 WRONG = ("", "interleaving", "x86", "both")
 
 
-# A row of the table: who has handed a code in, the points, and the tests with wrong answers.
+# A row of the table: the student, the points, and the tests with wrong answers.
 Row = Tuple[str, ...]
 
 
@@ -57,8 +57,8 @@ class Quizzes:
         return self.known[count]
 
     def make_row(self, line: str) -> Row:
-        """Returns what the code of a line says: who, how many answers, how many of them right, and which wrong. Raises BadCode if it is of another
-        quiz.
+        """Returns the contents of a line's code: the student, the numbers of answers and of right ones, and the wrong ones. Raises BadCode if
+        it is of another quiz.
         """
         handed_in = codes.read_code(line)
         begin = len(line) - len(line.lstrip(codes.BETWEEN))

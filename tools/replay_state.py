@@ -1,17 +1,17 @@
 #!/usr/bin/env python3
-"""Reads what `lw replay` prints of a run into the state that it tells of. The web page and tools/picture.py show what is read here.
+"""Reads the state that `lw replay` prints of a run. The web page and tools/picture.py show this state.
 
     ./lw replay SCHEDULE < TEST | python3 tools/replay_state.py
     python3 tools/replay_state.py FILE
 
-prints the state as JSON, in the second way of what a replay printed into a file. A state has
+It prints the state as JSON; the second form reads what a replay printed into a file. A state has
 
 - `name`, `steps`, and `end`: `kind` is Final, NotFinal or Stopped, and of a run that stopped `at`, `number` and `cause`;
 - `threads`: of each `at`, the number of its next statement, and `registers`, pairs of a name and a word; of an x86 test also
   `buffer`, pairs of a location and a word, the oldest first, and `lines`, pairs of a location and its line's letter;
 - `memory` and `content`, pairs of a location and a word; a source test's content is its memory.
 
-Nothing is made up here: a text of another form is refused, as `FILE:LINE:COLUMN: cause`. Each line that a replay prints has to be there,
+A text of another form is refused, as `FILE:LINE:COLUMN: cause`. Each line that a replay prints has to be present,
 in its place and with its end; an end may be that of Windows. web/replays.js takes the same texts. Python 3.8 is enough, on any system.
 """
 from __future__ import annotations
@@ -60,7 +60,7 @@ class End(Ending, total=False):
 
 
 class Registers(TypedDict):
-    """What each thread has: the position of its next statement, and its registers."""
+    """The state of a thread: the position of its next statement, and its registers."""
 
     at: int
     registers: Words

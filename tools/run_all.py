@@ -1,20 +1,20 @@
 #!/usr/bin/env python3
-"""Runs many tests side by side, and prints a table of what is answered.
+"""Runs many tests in parallel, and prints a table of the answers.
 
     python3 tools/run_all.py [--as text|csv|json|log] [--shard I/N] [--expect-ok] [--tries N] [--order intel|att] [--cc COMMAND]
                              [--expect TABLE] [--against LOG] [--machine-log LOG] [--on-machine SECONDS] [FOLDER|FILE]...
     python3 tools/run_all.py [--as text|csv|json] [--expect-ok] [--expect TABLE] --merge TABLE...
 
-Of a folder all files that end in .litmus, .c, .cc, .cpp, .cxx or .rs are run. If neither is named, standard input has the name of a file in each
-line. The table has of each test its name, what is asked (Allowed, Forbidden or Required), the verdict, the observation, the number of states,
+In a folder it runs all files that end in .litmus, .c, .cc, .cpp, .cxx or .rs. If neither is named, standard input has the name of a file in each
+line. For each test the table has its name, the question (Allowed, Forbidden or Required), the verdict, the observation, the number of states,
 the milliseconds of processor time, and the method by which the list was made: `enumerated` by lw, `searched` by beyond, or not proved,
-`searched, not proved` and `plain, not proved`. `--as log` prints all reports, one behind another. A terminal on standard error shows how far the
-runs are.
+`searched, not proved` and `plain, not proved`. `--as log` prints all reports, one after another. A terminal on standard error shows the
+progress.
 
 A test that lw does not read is converted if it is in herd's form: of X86 and X86_64 as by tools/from_herd.py, with LOCK CMPXCHG or loops as by
 tools/assume.py, of C as by tools/from_c.py; so are programs in C, C++ and Rust. `--tries N` goes through each loop N times at most (1 if it
 is not named), `--order` is that of tools/from_herd.py, and `--cc` names the compiler of C and C++ (`gcc -O2`, or `g++ -O2`). States are in the names
-of the original. If a file was converted, a column says how: by which tool, to how many tests of lw, and how often loops are gone through. If its
+of the original. If a file was converted, a column says how: by which tool, to how many tests of lw, and with how many tries of loops. If its
 lists have several methods, the weakest is named. Its notes are on standard error.
 
 A file that is refused has the verdict `Refused`, and a column says why; so does a line `FILE:LINE:COLUMN: cause` on standard error. One of which
@@ -29,26 +29,27 @@ end, and a word. A verdict is Ok, No, None or Refused. An observation is Never, 
 Never and Required is Always, as in files of kinds for herd's tools. A `#` begins a comment. Files that are not in the table are to be Ok if
 `--expect-ok` is there too. What is not as expected is said on standard error.
 
-`--against LOG` compares with the reports of an earlier run (`--as log`), or with a log of herd's tools: it tells on standard error of
-which tests states are missing here, and of which there are too many. Registers may have other names of the same (`rax` for `EAX`). A test
+`--against LOG` compares with the reports of an earlier run (`--as log`), or with a log of herd's tools: standard error says
+which tests lack states here, and which have too many. The log may use other names for registers (`rax` for `EAX`). A test
 that tools/from_herd.py has converted is compared in the names of the original test: renamed registers have their names again, states that
 the original's filter leaves out do not count, and the tests that stand for guesses of LOCK CMPXCHG are put together.
 
 `--machine-log LOG` compares with what a machine showed, as litmus7 logs it. A machine need not show all states, so a state that is listed
 and was not seen is no difference. A state that was seen and is not listed contradicts the list: it is reported, and the status is 3.
 
-`--on-machine SECONDS` runs each test for so many seconds on this processor too, one after another, as tools/on_machine.py does; a test in
+`--on-machine SECONDS` runs each test for SECONDS on this processor too, one after another, as tools/on_machine.py does; a test in
 herd's form as it is converted, if that is one test without loops, and a program as the tests that it is converted to. A further column says
 how many of its listed states were seen here, `-` if it could not be run; why, is said on standard error.
 
-It is looked once whether the program is that of the sources, as `./lw` does for each test. Where it is not, tools/plain.py answers. Tests that
-lw refuses for their size are listed by beyond, and where that is not the program of the sources, by the search of tools/beyond.py. What is
-not proved is said on standard error too.
+The command checks once whether the program is that of the sources, as `./lw` does for each test. If it is not, tools/plain.py answers. Tests that
+lw refuses for their size are listed by beyond, or by the search of tools/beyond.py if beyond is not the program of the sources. Standard error
+says too what is not proved.
 
-The status is the first of these that applies: 3 if a machine showed a state that is not listed; 7 if something is not as `--expect-ok` or `--expect` have it;
-6 if no run of a file is left, so that it has no verdict; 5 if `--on-machine` can't run anything, for want of a C compiler or objdump;
-2 if the command is none; 1 if a file is refused, if something differs from LOG of `--against`, or if a test of both speaks of other names,
-or no test at all is in LOG of `--machine-log`, or no file in TABLE of `--expect`, or if tables are not put together. Python 3.8 is enough, on any system.
+The status is the first of these that applies: 3 if a machine showed a state that is not listed; 7 if something is not as `--expect-ok` or
+`--expect` have it; 6 if no run of a file is left, so that it has no verdict; 5 if `--on-machine` can't run anything without a C compiler or
+objdump; 2 if the words are no command; 1 if a file is refused, if something differs from LOG of `--against`, or if a test of both has other
+names, or no test at all is in LOG of `--machine-log`, or no file in TABLE of `--expect`, or if tables are not put together. Python 3.8 is enough,
+on any system.
 """
 from __future__ import annotations
 
@@ -137,7 +138,7 @@ def parse_arguments() -> argparse.Namespace:
 
 
 def read_expected(arguments: argparse.Namespace) -> Expected | None:
-    """Returns what is expected of the rows, or None if nothing is."""
+    """Returns the expected verdicts of the rows, or None if there are none."""
     if not (arguments.expect or arguments.expect_ok):
         return None
     from many.expected import Expected

@@ -4,15 +4,15 @@
     python3 tools/to_herd.py [--form X86_64|X86] FILE
     python3 tools/to_herd.py --report [--form X86_64|X86] REPORT
 
-A source test is written as what it is compiled to, by `lw compile` where the program is built, else by tools/plain.py. X86_64 is the form
-where none is named: AT&T's order of operands, 32 bits in each access, registers by their names of 64 bits in the block and the condition.
-X86 is that of Intel's order. tools/from_herd.py reads both back, to a test with the same states.
+A source test is written as its compiled program, by `lw compile` if the program is built, otherwise by tools/plain.py. If no form is named, it
+is X86_64: AT&T's order of operands, 32 bits in each access, registers by their names of 64 bits in the block and the condition.
+X86 has Intel's order. tools/from_herd.py reads both back, to a test with the same states.
 
 With `--report` a report of `lw states` is read, and written in the lines of a log of herd's: a line `Witnesses` is added, and a line of
-time. There is no line `Hash`, which herd's tools make of the text of a test in a way of their own.
+time. There is no line `Hash`, which herd's tools compute from the text of a test in a way of their own.
 
-Standard input is read where there is no file. Faults are told as tools/plain.py tells them; Python 3.8 is enough, on any system.
-docs/FROM-HERD.md says of which spellings it is not known whether herd takes them.
+Standard input is read if there is no file. Faults are reported as by tools/plain.py; Python 3.8 is enough, on any system.
+docs/FROM-HERD.md lists the spellings of which it is not known whether herd takes them.
 """
 from __future__ import annotations
 

@@ -1,4 +1,4 @@
-// What the page is, in a few sentences, and what its words and keys mean.
+// Explains the page in a few sentences, and its words and keys.
 
 import { button, byId, el, plainMark, sentence } from "./dom.js";
 import { documents, origin } from "./supplies.js";
@@ -33,7 +33,7 @@ const WHAT =
   "for programmers of lock-free code.";
 const PROVED = "Reports, schedules, compiled texts and each step of a run come from a program that is proved correct";
 const NOT_CLAIMED = "The machine is x86-TSO as it was published. That processors on sale behave like it is not proved.";
-// What is said of the page's origin if it has a server.
+// The words on the page's origin if it has a server.
 const SERVED = "The program, its sources and its proof are in the repository that `./page` was started in.";
 const THEOREMS = "theorems.html";
 const PLAIN = ". What the page's own code finds, which is not proved, is marked ";

@@ -1,23 +1,23 @@
-// Keeps in the address, behind `#`, what the page shows: the test, and where in it the reader is. So a reload loses nothing, and
-// the address is a link. The part behind `#` is never sent to the server. A browser lets the address change only so often, so
+// Keeps in the address, after `#`, what the page shows: the test, and where in it the reader is. So a reload loses nothing, and
+// the address is a link. The part after `#` is never sent to the server. A browser lets the address change only so often, so
 // changes that follow each other closely are written together; the browser's store of this tab has them at once, for a reload, which
 // may already have begun when the address is written.
 
 const PAUSE = 200;
 const KEY = "address";
 
-// What names an example, whose name has no blank.
+// The fields that name an example, whose name has no blank.
 const NAMES = ["example", "beside"];
 
 let fields = parseFields(keptForReload() ?? location.hash.slice(1));
 let timer = null;
-// The address as it was written or followed last. Where it is another, a link is about to be followed, and is not written over.
+// The address as it was written or followed last. If the present one differs, a link is about to be followed, and is not overwritten.
 let known = location.hash;
 keep();
 addEventListener("pageshow", keep);
 
 /**
- * Returns what the part of an address after `#` says. In the name of an example a bare `+` is a plus.
+ * Returns the fields of the part of an address after `#`. In the name of an example a bare `+` is a plus.
  * @param {string} text
  * @returns {URLSearchParams}
  */
@@ -28,7 +28,7 @@ function parseFields(text) {
 }
 
 /**
- * Returns what was kept for a reload, if this is one.
+ * Returns the address that was kept for a reload, if this is one.
  * @returns {string | null}
  */
 function keptForReload() {
@@ -49,7 +49,7 @@ function keep() {
 }
 
 /**
- * Returns what the address says, as an object of texts.
+ * Returns the fields of the address, as an object of texts.
  * @returns {Object<string, string>}
  */
 export function read() {
@@ -90,7 +90,7 @@ function addressOfFields() {
 }
 
 /**
- * Calls back where the address is changed by anybody else: a link that is pasted, or the browser's Back; with what it said before.
+ * Calls back if the address is changed by anything else, such as a pasted link or the browser's Back; passes what it said before.
  * @param {function(Object<string, string>): void} act
  */
 export function onLink(act) {

@@ -1,5 +1,5 @@
-// The text of a test as it is shown where nobody writes in it: in rows that have a cell for each thread, the cells of a thread stand one
-// below the other. Nothing but blanks is added.
+// Aligns the text of a test for places where it can't be edited: in rows that have a cell for each thread, the cells of a thread are one
+// below the other. Only blanks are added.
 
 /**
  * Returns the cells of a line of the table, or null if it is none.

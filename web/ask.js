@@ -1,5 +1,4 @@
-// Asks one question on the test that an editor holds. One that is asked again ends the one before it, and what takes long can be ended by
-// the reader.
+// Asks one question on the test that an editor holds. A new question ends the one before it, and the reader can end one that takes long.
 
 import { button, el } from "./dom.js";
 import { hasServer } from "./supplies.js";
@@ -8,7 +7,7 @@ import { byBest, byServer, hasModule } from "./ways.js";
 const PAUSE = 400;
 const SECOND = 1000;
 
-// Of each editor the questions that are asked on its test, by their names.
+// For each editor the questions that are asked on its test, by their names.
 const askedByEditor = new WeakMap();
 
 /** A question that is asked. */
@@ -48,7 +47,7 @@ class Asked {
   }
 
   /**
-   * Returns what is shown until the answer arrives: after a while how long it takes, how to end it, and the other way to an answer.
+   * Returns the elements that are shown until the answer arrives: after a while how long it takes, how to end it, and the other way to an answer.
    * @returns {Element}
    */
   line() {

@@ -1,5 +1,5 @@
-// Two tests side by side: that in the editor, and a second one beside it. The address says both. What the page shows of the first
-// alone is hidden meanwhile, and nothing of it is lost.
+// Two tests side by side: that in the editor, and a second one beside it. The address names both. What the page shows only of the first
+// is hidden meanwhile, and nothing of it is lost.
 
 import * as address from "./address.js";
 import { ask } from "./ask.js";
@@ -11,7 +11,7 @@ import { Side } from "./side.js";
 import { showError } from "./errors.js";
 import { nameOf } from "./tokens.js";
 
-// What the second test can be besides an example: made of the first, by the names that an answer has for them.
+// The second tests that are made from the first one, by the names that an answer has for them.
 const MADE = { compiled: "what it is compiled to", bare: "that without its fences" };
 
 /** The view of two tests side by side. */
@@ -77,13 +77,13 @@ export class Beside {
     this.second.select.focus();
   }
 
-  /** Shows the first test alone again. */
+  /** Shows only the first test again. */
   close() {
     this.take({});
     byId("set-beside").focus();
   }
 
-  /** Sets a test beside the first, an example or a text, and says so in the address; with neither the first is alone again. */
+  /** Sets a test beside the first, an example or a text, and says so in the address; with neither only the first is shown again. */
   take({ beside = null, beside_text = null }) {
     const { example, text } = address.read();
     const first = example || text ? {} : { example: this.examples.name };

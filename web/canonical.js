@@ -52,7 +52,7 @@ export function canonicalText(test) {
 }
 
 /**
- * Returns of each thread its cells in a canonical text: row k has instruction k.
+ * Returns, for each thread, its cells in a canonical text: row k has instruction k.
  * @param {string} canonical
  * @returns {Cell[][]}
  */
@@ -63,7 +63,7 @@ export function x86Cells(canonical) {
 }
 
 /**
- * Returns of each thread its cells that are not empty, each with the number of its statement; a cell with only a label has the next one's.
+ * Returns, for each thread, its cells that are not empty, each with the number of its statement; a cell with only a label has the next one's.
  * @param {Test} test
  * @returns {Cell[][]}
  */

@@ -1,13 +1,13 @@
 // The part of a thread's code that is in sight, if not all of it has room: the next instruction is always in it, and the first line is whole.
 // There is no scroll bar: the box says which lines are shown, and the last line is pale if others follow it.
 
-// What part of a line may be missing at the end of a code that is shown as a whole.
+// The part of a line that may be missing at the end of a code that is shown as a whole.
 const SPARE = 0.35;
-// In a narrow window the threads are in so many columns. Codes that are fitted have so many lines at least.
+// The number of columns of threads in a narrow window, and the least number of lines of codes that are fitted.
 const PHONE = "(max-width: 40rem)";
 const COLUMNS = 2;
 const MIN_LINES = 3;
-// What is left empty below a machine, in pixels.
+// The empty space below a machine, in pixels.
 const MARGIN = 14;
 
 /**

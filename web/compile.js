@@ -1,4 +1,4 @@
-// A test beside what it is compiled to, with its fences and without; and below each its list, as it comes, with a film to each state.
+// Shows a test beside its compiled program, with its fences and without; and below each its list, as it comes, with a film to each state.
 
 import { ask } from "./ask.js";
 import { button, el, plainMark, sentence } from "./dom.js";
@@ -31,7 +31,7 @@ export class Compile {
     this.film.clear();
   }
 
-  /** Asks, unless what is shown is of the same text. What runs by itself takes at most so many milliseconds. */
+  /** Asks, unless the answer on the same text is shown. A question that runs by itself takes at most that number of milliseconds. */
   askOnce(timeout = null) {
     return this.askedOf === this.editor.text ? null : this.ask(timeout);
   }
@@ -44,7 +44,7 @@ export class Compile {
     return guess.unlock(this.editor, this.place, () => this.show(timeout));
   }
 
-  /** Shows what the test is compiled to. */
+  /** Shows the compiled program of the test. */
   async show(timeout) {
     const { text } = this.editor;
     const answer = await ask(this.editor, "compile", { text }, { place: this.place, timeout });
@@ -60,7 +60,7 @@ export class Compile {
     await Promise.all(lists.map((it) => it.ask({ timeout, onList: () => bare?.markWhatIsNewTo(compiled) })));
   }
 
-  /** Returns what is said of the texts that are shown. */
+  /** Returns the words on the shown texts. */
   wordsOn(answer) {
     const isSource = answer.language === "SRC";
     const number = answer.fences.length;

@@ -1,5 +1,5 @@
-// Which instructions of a compiled program begin the statements of its source test. lw compiles by a proved rule, which is spelled
-// here once more to find the source run that a compiled program's run stands for. Not proved; the run is shown only if its replay
+// Finds the instructions of a compiled program that begin the statements of its source test. lw compiles by a proved rule. The rule is
+// repeated here to find the source run that a compiled program's run represents. Not proved; the run is shown only if its replay
 // by lw ends in the same state.
 
 /**

@@ -1,12 +1,12 @@
-// The condition of a test in words: what the threads read, and what registers and memory have at the end. That is said of a conjunction whose
-// registers get their words from reads; of others the condition is not put into words. Not proved.
+// Writes the condition of a test in words: what the threads read, and the words of registers and memory at the end. Only a conjunction whose
+// registers get their words from reads is put into words. Not proved.
 
 import { holds, siteKey, siteName } from "./propositions.js";
 import { wordsOf } from "./replays.js";
 import { readTest } from "./tests.js";
 
 const MAX_ATOMS = 6;
-// What reads a word from memory into its register, and what puts another word into one.
+// The kinds of statements that read a word from memory into a register, and those that put another word into one.
 const READS = ["load", "xchg", "xadd", "swap", "fetchadd"];
 const SETS = ["set", "add", "sum"];
 
@@ -49,7 +49,7 @@ function readInto(test, { thread, register }) {
 }
 
 /**
- * Says what one thread does: its reads in the order of its code, and the words that it ends with.
+ * Describes one thread: its reads in the order of its code, and the words that it ends with.
  * @param {Test} test
  * @param {number} thread
  * @param {{site: Site, word: number}[]} atoms
@@ -82,8 +82,8 @@ export function conditionWords(text) {
 }
 
 /**
- * Returns what a test asks about: `isAsked` says of a state's line whether the condition asks about it, and `words` which words it names at each
- * site, by name. Of a text that is not read, all states are asked about.
+ * Returns the subject of a test's question: `isAsked` says of a state's line whether the condition asks about it, and `words` which words it names
+ * at each site, by name. In a text that is not read, the question is about all states.
  * @param {string} text
  * @returns {{isAsked: function(string): boolean, words: Map<string, number[]>}}
  */

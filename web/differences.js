@@ -1,5 +1,5 @@
-// Which states two reports have in common, and which each has alone. Registers have names by the language; that of a compiled program
-// stands for that of its source with the same number. Not proved.
+// Finds the states that two reports have in common, and those that only one has. Registers have names by the language; that of a compiled program
+// represents that of its source with the same number. Not proved.
 
 import { registerNumber, wordsOf } from "./replays.js";
 
@@ -7,7 +7,7 @@ const OTHER_NAMES = "Not compared: the tests show different registers and locati
 const NOT_WHOLE = "The states are not compared, since not all of them are shown.";
 
 /**
- * Returns what a line says, whatever the language and the order of its names: pairs of a name and a word.
+ * Returns the contents of a line, whatever the language and the order of its names: pairs of a name and a word.
  * @param {string} line
  * @returns {[string, number][]}
  */

@@ -5,7 +5,7 @@ import { el } from "./dom.js";
 import { tokenAt } from "./faults.js";
 import { textNodes, tintsOf } from "./tint.js";
 
-// How many lines are in sight at least, and at most.
+// The least and the largest number of lines in sight.
 const [MIN_LINES, MAX_LINES] = [6, 40];
 // The lines that are to be seen whole, if that can be: rows of several threads, and the question.
 const WIDE = /^ .*\||^\s*(?:~?\s*exists|forall)\b/;

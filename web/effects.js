@@ -1,10 +1,10 @@
-// What each event of a run does, in words, and what is to be lit of it: the register that it puts a word into, and the location or the
-// entry of the own store buffer that it reads. This is found by the text of the instruction, which is lw's own, or of the statement; and
-// said only if the state after the event is as the words say.
+// Says in words what each event of a run does, and what a picture highlights: the register that it sets, and the location, or the entry of
+// its thread's store buffer, that it reads. An effect is found by the text of the instruction, which is lw's own, or of the statement; and
+// stated only if the state after the event agrees with it.
 //
-// An effect has a `thread` and `words`, in which code stands between backquotes, and where they are there a `register` (its name), a
-// `location` that is read from memory, or an `entry` that is read (its number in the buffer). Where a word that is said to be in memory is in
-// a cache, `cache` is the thread of that.
+// An effect has a `thread`; `words`, in which code is between backquotes; and, if the event has one, a `register` (its name), a
+// `location` that is read from memory, or an `entry` that is read (its number in the buffer). If a word that is said to be in memory is in
+// a cache, `cache` is the thread of that cache.
 
 import { WORD } from "./token_reader.js";
 
@@ -87,7 +87,7 @@ class Step {
   }
 
   /**
-   * Returns what memory has at a location, as a load finds it.
+   * Returns the word of memory at a location, as a load finds it.
    * @param {string} location
    * @param {State} [state]
    * @returns {number}
@@ -139,7 +139,7 @@ const FORMS = [
 ];
 
 /**
- * Returns what a statement does, or null if that is not known.
+ * Returns the effect of a statement, or null if it is not known.
  * @param {Step} step
  * @param {string} text
  * @returns {Effect | null}

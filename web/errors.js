@@ -1,4 +1,4 @@
-// What is shown if there is no answer: a fault, with its place and the sentence of docs/FORMAT.md for it, or an error.
+// Shows why there is no answer: a fault, with its place and the sentence of docs/FORMAT.md for it, or an error.
 
 import { button, byId, el, sentence } from "./dom.js";
 import { hintOn, misspeltQuestion, questionIn } from "./faults.js";

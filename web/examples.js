@@ -1,11 +1,11 @@
-// The examples by family, and what the comment of the one that is chosen says.
+// Shows the examples by family, and the comment of the chosen one.
 
 import { aligned } from "./aligned.js";
 import { button, byId, el, sentence } from "./dom.js";
 import { caches } from "./preferences.js";
 import { nameOf } from "./tokens.js";
 
-// What follows the `+` in the name of a test to which fences or locked exchanges were added: the most telling first.
+// The suffixes after the `+` in the name of a test to which fences or locked exchanges were added: the clearest first.
 const FENCED = [/^mfences$/, /mfence/, /^(?:xchgs|xadds)$/, /^(?:xchg|swap)$/];
 
 /** Returns the two parts of an example's name: what comes before `-x86`, and that. */
@@ -27,7 +27,7 @@ function withoutCaches(text) {
   return kept.length ? kept.join(" ") : text;
 }
 
-// What may be the name of another example in a comment: what ends in -x86, what is between backquotes, and what follows `see`.
+// The words of a comment that may name another example: those that end in -x86, are between backquotes, or follow `see`.
 const NAME = /(`?[\w.+]+-x86\b`?|`[\w.+]+`|(?<=\b[Ss]ee )[\w.+]*\w)/;
 
 /** Returns the schedule of the run that a comment describes, or null. */
@@ -35,7 +35,7 @@ function scheduleIn(comment) {
   return /\bA (?:telling schedule|run): ([\w\s:]+)/.exec(comment)?.[1].trim().replace(/\s+/g, " ") ?? null;
 }
 
-/** Returns what is said beside the comment of a source test if only the compiler's fences forbid its outcome on x86; or "". */
+/** Returns the words beside the comment of a source test if only the compiler's fences forbid its outcome on x86; or "". */
 function fencesWords({ name, text, known }, tests) {
   const isHeldByFences = text.startsWith("SRC") && /^Interleaving: forbidden\. x86-TSO: allowed\./.test(known);
   if (!isHeldByFences) return "";
@@ -60,7 +60,7 @@ export class Examples {
     return [el("option", { value: "" }, "a test of my own"), ...this.families.flatMap(listed)];
   }
 
-  /** Shows which example the text is, if it is one. What gives the answer away is folded, all of it where the reader predicts. */
+  /** Shows which example the text is, if it is one. Words that give the answer away are folded, all of them if the reader predicts. */
   show(name, text) {
     const test = this.tests.get(name);
     const isPredicting = byId("predict").checked;

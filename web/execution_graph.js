@@ -18,7 +18,7 @@ const ARROWS = [
 ];
 const WITH_CYCLE = "The bold arrows are a cycle: no interleaving ends this way. ";
 const WITHOUT_CYCLE = "No cycle: interleaving can end this way, too. ";
-// How many graphs were shown so far.
+// The number of graphs that were shown so far.
 let shownGraphs = 0;
 const SVG = "http://www.w3.org/2000/svg";
 
@@ -122,7 +122,7 @@ export async function graphOf(editor, text, schedule, place, tints, lead = null)
 }
 
 /**
- * Returns what is shown of the execution of a run: what its graph says, the graph with its legend, and the same in words.
+ * Returns the elements on the execution of a run: the sentence on its graph, the graph with its legend, and the same in words.
  * @param {{graph: string, words: string[], hasCycle: boolean}} answer
  * @param {Tints} tints
  * @param {(string | Element)[] | null} [lead]

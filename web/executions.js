@@ -1,8 +1,8 @@
-// Executions of an x86 test by the axiomatic model of x86-TSO, and which axioms they keep: tools/executions.py once more. Not proved.
+// Lists the executions of an x86 test by the axiomatic model of x86-TSO, and says which axioms they satisfy, as tools/executions.py. Not proved.
 //
-// An execution has of each thread the positions that it goes along (`paths`), of each read the write that it reads from or null for the
-// initial word (`rf`), and of each location its writes in coherence order (`co`). An event is a number, thread * 64 + position. An edge
-// of a relation has a `kind`, a `source` and a `target`. A word that would only follow from itself is null.
+// An execution has for each thread the positions of its path (`paths`), for each read the write that it reads from, or null for the
+// initial word (`rf`), and for each location its writes in coherence order (`co`). An event is a number, thread * 64 + position. An edge
+// of a relation has a `kind`, a `source` and a `target`. A word that would depend on itself is null.
 
 import { WORD } from "./token_reader.js";
 
@@ -56,7 +56,7 @@ export class Execution {
   // Words.
 
   /**
-   * Returns of each thread its registers at its end, or null if a jump goes another way.
+   * Returns, for each thread, its registers at its end, or null if a jump goes another way.
    * @returns {(number | null)[][] | null}
    */
   findWords() {

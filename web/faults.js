@@ -1,5 +1,5 @@
-// A fault of a text in a sentence for beginners: what is at its place, what lw expects there, and what may be meant, which a button puts into the
-// text. That is found by the fault's name and by the token at its place; lw's own line is shown beside it. Not proved.
+// Explains a fault of a text in a sentence for beginners: what is at its place, what lw expects there, and what may be meant, which a button puts
+// into the text. The sentence depends on the fault's name and on the token at its place; lw's own line is shown beside it. Not proved.
 
 import { nearest } from "./nearest.js";
 import { otherCode, otherHead, otherRegister } from "./other_language.js";
@@ -21,7 +21,7 @@ const HEADS = ["SRC", "X86"];
 const CONNECTIVES = {
   "&&": "/\\", "&": "/\\", and: "/\\", "||": "\\/", "|": "\\/", or: "\\/", "!": "~",
 };
-// What is before an instruction in its cell: its labels.
+// The labels before an instruction in its cell.
 const LABELS = /^(?:\w+\s*:\s*)*$/;
 
 /**
@@ -35,7 +35,7 @@ export function tokenAt(text, index) {
   return TOKEN.exec(text)?.[0] ?? "";
 }
 
-/** Returns what is at a fault's place, in words. */
+/** Returns the text at a fault's place, in words. */
 function wordsOfToken(token) {
   if (token === "") return "the end of the text";
   if (token === "\n") return "the end of the line";
@@ -94,7 +94,7 @@ function cellBefore(text, index) {
 }
 
 /**
- * Returns what follows `exists` or `forall` in the question at the end of a text, without comments; or null if there is none.
+ * Returns the text after `exists` or `forall` in the question at the end of a text, without comments; or null if there is none.
  * @param {string} text
  * @returns {string | null}
  */
@@ -115,7 +115,7 @@ export function misspeltQuestion(text) {
 }
 
 /**
- * Returns what the question lacks if a text ends in it; or "" if nothing is known.
+ * Returns words on the missing part of the question if a text ends in it; or "" if it is not known.
  * @param {Place} place
  * @returns {string}
  */
@@ -163,7 +163,7 @@ function otherNotation(place) {
 }
 
 /**
- * Returns what is wrong with the first word of a text, if that is at the place; or "".
+ * Returns words on the fault of a text's first word, if that is at the place; or "".
  * @param {Place} place
  * @returns {string}
  */
@@ -183,7 +183,7 @@ function emptyText(place) {
 }
 
 /**
- * Returns what is wrong with the form of a statement of a source test.
+ * Returns words on the fault of the form of a statement of a source test.
  * @param {Place} place
  * @returns {string}
  */
@@ -206,7 +206,7 @@ function formOfSource(place) {
 }
 
 /**
- * Returns what is wrong with the form of an instruction.
+ * Returns words on the fault of the form of an instruction.
  * @param {Place} place
  * @returns {string}
  */
@@ -266,8 +266,8 @@ const SENTENCES = {
 };
 
 /**
- * Returns what is wrong with a text: `words`, a sentence in which code is between backquotes, or null if the fault is not known; and the `change`
- * that is proposed, a text with the `begin` and the `end` of what it replaces, and a `title` if the text is long, or null.
+ * Returns the explanation of a text's fault: `words`, a sentence in which code is between backquotes, or null if the fault is not known; and the
+ * proposed `change`, a text with the `begin` and the `end` of the part that it replaces, and a `title` if the text is long, or null.
  * @param {Fault} fault
  * @param {string} text
  * @returns {{words: string | null, change: {begin: number, end: number, text: string, title?: string} | null}}

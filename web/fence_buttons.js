@@ -1,5 +1,5 @@
-// The buttons between two instructions of the machine that put a fence into the text of the test, and those that take one out. Of each thread one
-// of them is reached by Tab, and the others from it by arrows.
+// The buttons between two instructions of the machine that put a fence into the text of the test, and those that take one out. Tab reaches one
+// button of each thread, and arrows lead from it to the others.
 
 import { el } from "./dom.js";
 

@@ -1,5 +1,5 @@
 // Puts fences into the text of an x86 test, and takes them out again: nothing else of the text changes. A fence goes into a row of its own, or
-// into an empty cell right before its place. What comes out is read again, and is used only if it is the test that was wanted. Not proved.
+// into an empty cell right before its place. The new text is read again, and is used only if it is the test that was wanted. Not proved.
 //
 // A `TextCell` has the offsets of its `begin` and its `end`, its `labels` and its `instruction`.
 
@@ -31,7 +31,7 @@ function withoutComments(text) {
 }
 
 /**
- * Returns the rows of a test below its header: where each begins and ends, and its cells, each with its place, labels and instruction.
+ * Returns the rows of a test below its header: the start and end of each, and its cells, each with its place, labels and instruction.
  * @param {string} text
  * @returns {{begin: number, end: number, cells: TextCell[]}[]}
  */
@@ -50,7 +50,7 @@ function rowsOf(text) {
 }
 
 /**
- * Returns where the line begins on which a row begins, or the row itself if another one is on the same line.
+ * Returns the start of the line on which a row begins, or of the row itself if another one is on the same line.
  * @param {string} code
  * @param {number} begin
  * @param {number} end

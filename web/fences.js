@@ -1,5 +1,5 @@
-// Which fences of a test matter: a table of them, with a film to each state that a fence takes away. A fence matters where states are added
-// without it; that says nothing of whether a test with all its fences is right, so it says in how many states the condition holds.
+// Shows which fences of a test matter: a table of them, with a film to each state that a fence removes. A fence matters if states are added
+// without it. That does not show that a test with all its fences is right, so the table says in how many states the condition holds.
 
 import { ask } from "./ask.js";
 import { button, el, plainMark, sentence } from "./dom.js";
@@ -77,7 +77,7 @@ export class Fences {
     this.more.append(...this.partsOfMore(answer.fenced, isForall));
   }
 
-  /** Returns what is said of the sets of places for fences. */
+  /** Returns the words on the sets of places for fences. */
   partsOfMore({ sets, more }, isForall) {
     const goal = isForall ? "make the condition hold in every state" : "forbid it";
     if (!sets.length) return [el("p", { class: "next-step" }, el("b", {}, `No further MFENCE would ${goal}.`))];
@@ -147,7 +147,7 @@ function statesOf(number) {
   return number === 1 ? "1 state" : `${number} states`;
 }
 
-/** Returns what the page calls the fences: by the instruction after each, since their numbers count instructions from 0. */
+/** Returns the page's names of the fences: by the instruction after each, since their numbers count instructions from 0. */
 function namesOf({ rows }) {
   const names = rows.map(({ place }) => place.replace(/^(P\d) at \d+$/, "$1, at its end").replace(/ at \d+/, ""));
   return names.map((name, index) => {

@@ -1,5 +1,5 @@
-// Where an MFENCE more would answer a test's question: the smallest sets of places, as tools/fencing/places.py and sets.py find them. A fence only
-// removes outcomes, which cuts the search. The texts with fences are made here, which is not proved; their lists are lw's.
+// Finds where further MFENCEs would answer a test's question: the smallest sets of places, as tools/fencing/places.py and sets.py find them. A
+// fence only removes outcomes, which cuts the search. The texts with fences are made here, which is not proved; their lists are lw's.
 //
 // A `Place` is a pair of a thread and a position: that of a fence, or of the instruction before which one is put.
 
@@ -7,7 +7,7 @@ import { canonicalText, instructionText } from "./canonical.js";
 import { NoAnswer } from "./program.js";
 
 const WAITS = ["mfence", "xchg", "xadd"];
-// How many lists are made at most, and how many sets are shown.
+// The largest number of lists that are made, and of sets that are shown.
 const MAX_LISTS = 200;
 const MAX_SETS = 6;
 
@@ -83,7 +83,7 @@ export function withFences(test, places) {
 }
 
 /**
- * Yields the ways to choose so many of some items, in their order.
+ * Yields the ways to choose a number of items, in their order.
  * @param {Place[]} items
  * @param {number} size
  * @param {number} [begin]

@@ -1,4 +1,4 @@
-// Reads a file of a test, whatever encoding it was saved in, and says so where lw would refuse it as it is.
+// Reads a file of a test, whatever encoding it was saved in, and says so if lw would refuse the file itself.
 
 const MARKS = [
   [[0xef, 0xbb, 0xbf], "utf-8", "The file begins with a byte order mark, which lw refuses. It is left out here."],

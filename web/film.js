@@ -1,4 +1,4 @@
-// A run in a panel of its own, of another text than that in the editor; and the button that shows one.
+// Shows a run of another text than that in the editor, in a panel of its own; and makes the button that shows one.
 
 import { button } from "./dom.js";
 import { isStill } from "./motion.js";

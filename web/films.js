@@ -1,4 +1,4 @@
-// Films: the code, the states behind each number of events of a schedule, each of them a replay by lw, and what each event does. Where an
+// Films: the code, the state after each number of events of a schedule, each of them a replay by lw, and what each event does. If an
 // event is refused, the film ends before it, and `refused` says which and why. The schedule of a source run is found here and not proved;
 // the run is shown only if its replay ends in the state.
 //
@@ -19,7 +19,7 @@ const MAX_STEPS = 1000;
 const MAX_ADDED = 200;
 
 /**
- * Returns of each thread the code that the page shows: of an x86 test that of its canonical text.
+ * Returns, for each thread, the code that the page shows: of an x86 test that of its canonical text.
  * @param {Program} program
  * @param {Uint8Array} text
  * @returns {Cell[][]}
@@ -51,7 +51,7 @@ export function filmOf(program, text, schedule, protocol) {
 }
 
 /**
- * Returns a schedule of an x86 test that goes on to the end of the run: each thread to its end, and what waits in its store buffer drains.
+ * Returns a schedule of an x86 test that continues to the end of the run: each thread runs to its end, and its store buffer drains.
  * @param {Program} program
  * @param {Uint8Array} text
  * @param {string} schedule

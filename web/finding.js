@@ -1,6 +1,6 @@
-// Finds examples by words: in names, other names, families and descriptions, each by how its words begin. What fits best comes first: a name as
-// it is, then how a name begins, then a word of a name, then what is said of the test. Some words of users have others in the examples, and some
-// mean what the format has not: then a note says what it has instead.
+// Finds examples by words: in names, other names, families and descriptions, each by the first letters of its words. The best matches come first:
+// a whole name, then the start of a name, then a word of a name, then the description. The examples use other words for some words of users, and
+// some words mean things that the format lacks: then a note says what it has instead.
 
 // Of a word that readers look for the words that the examples have for it, the best first.
 const SYNONYMS = {
@@ -19,7 +19,7 @@ const FULL_NAMES = {
   "independent reads": "iriw", "independent reads of independent writes": "iriw", "load buffer": "lb", "load buffering": "lb", "message passing": "mp",
   "read to write causality": "rwc", "store buffer": "sb", "store buffering": "sb", "store forwarding": "n6", "write to read causality": "wrc",
 };
-// What the format has in place of what some words mean.
+// The notes on words whose meanings the format lacks: what it has instead.
 const NOTES = [
   [["cas", "cmpxchg", "compare"], "lw reads no compare-and-swap. `TryLock` and `Consensus` have a swap in its place."],
   [["deadlock", "livelock", "starvation"], "No run waits for ever: jumps go forward only. A test of a lock tries once or twice, and asks who got in."],
@@ -34,9 +34,9 @@ const NOTES = [
 // How well a word fits, the best first; a synonym fits less than the word itself.
 const [WHOLE, OTHER_LANGUAGE, BEGIN, IN_NAME, IN_FAMILY, IN_WORDS, BEGINS_WORD] = [0, 0.5, 1, 2, 4, 6, 8];
 const FOR_SYNONYM = 3;
-// What is added to the fit of a test whose full name is written: it comes before all others.
+// The addition to the fit of a test whose full name is written: the test comes before all others.
 const FULL_NAME = -20;
-// How the name of an x86 test ends that has the name of a source test.
+// The ending of an x86 test's name that begins with the name of its source test.
 const X86_FORM = "-x86";
 
 /**
@@ -53,7 +53,7 @@ const isWord = (word) => (it) => it === word || it === `${word}s`;
 
 /**
  * Returns how well a word fits a test; null if it does not. The source test and the x86 test of a name have that name, the one in the preferred
- * language first. If only names count, what is said of the test is not looked at.
+ * language first. If only names count, descriptions are not searched.
  * @param {string} word
  * @param {Example} test
  * @param {Family} family
@@ -110,7 +110,7 @@ function wordsLookedFor(text) {
 }
 
 /**
- * Returns what the format has in place of what a text looks for, as sentences in which code is between backquotes.
+ * Returns notes on what the format has instead of the words of a search, as sentences in which code is between backquotes.
  * @param {string} text
  * @returns {string[]}
  */

@@ -1,4 +1,4 @@
-// What moves in a step of a run: words, each from one place of the machine to another. Places have keys: `c:0:2` is the instruction 2 of
+// Finds the words that move in a step of a run, each from one place of the machine to another. Places have keys: `c:0:2` is the instruction 2 of
 // thread 0, `b:0:1` the entry that its buffer takes second, `r:0:EAX` a register of it, `m:x` a location of memory.
 
 import { threadClass } from "./tint.js";

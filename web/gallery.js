@@ -3,7 +3,7 @@
 import { button, byId, el, sentence } from "./dom.js";
 import { findTests, isNameOf, notesOn } from "./finding.js";
 
-// What a lesson may begin with, and why.
+// The examples with which a lesson may begin, and why.
 const PICKS = [
   ["SB-x86", "Two stores wait, two loads go ahead"],
   ["SB+mfences-x86", "A fence on each side forbids it"],

@@ -1,9 +1,9 @@
-// Where the parts of an execution's picture are: of each event its box, of each edge its way and its label. No edge crosses a box: between
-// neighbouring threads it goes through the gutter, past a thread in a lane behind a row of boxes, and within a thread around its side.
+// Places the parts of an execution's picture: the box of each event, and the way and the label of each edge. No edge crosses a box: between
+// neighbouring threads it goes through the gutter, past a thread in a lane after a row of boxes, and within a thread around its side.
 // tools/shared/graph_layout.py does the same, number by number.
 //
 // Threads are columns; if that would be much wider they are rows, and the picture is turned. Places are found along two axes, `across` the
-// threads and `along` program order, and turned at last.
+// threads and `along` program order, and turned at the end.
 
 import { threadOf } from "./executions.js";
 import { EDGE, LETTER, LINE } from "./pictures.js";
@@ -75,11 +75,11 @@ export class GraphLayout {
     }
     this.sortEnds();
     this.taken = [...events.map((it) => [...this.corner(it), ...this.box]), ...this.threads.map((_, thread) => this.titleBox(thread))];
-    // Of each route points along its arrow.
+    // For each route points along its arrow.
     this.passed = new Map([...this.routes, ...this.starts].map((it) => [it.number, this.pointsOf(it)]));
   }
 
-  // Which way an edge goes.
+  // The routes of edges.
 
   /** Returns the route of an edge. */
   routeOf(edge, number) {
@@ -131,7 +131,7 @@ export class GraphLayout {
     return route;
   }
 
-  // Where the threads are.
+  // The places of the threads.
 
   /** Places the threads, and finds the size of the picture. */
   place() {
@@ -163,7 +163,7 @@ export class GraphLayout {
     return this.isTurned ? [along, across] : [across, along];
   }
 
-  /** Returns where the box of an event begins, along the two axes. */
+  /** Returns the start of an event's box, along the two axes. */
   spot(event) {
     return [this.lefts[threadOf(event)], this.begin + this.rows.get(event) * this.pitch];
   }
@@ -173,7 +173,7 @@ export class GraphLayout {
     return this.turned(this.spot(event));
   }
 
-  /** Returns where the name of a thread begins, at its base. */
+  /** Returns the start of a thread's name, at its base. */
   titleAt(thread) {
     return this.isTurned ? [EDGE, this.lefts[thread] + BASE] : [this.lefts[thread], EDGE + LINE - 4];
   }
@@ -184,16 +184,16 @@ export class GraphLayout {
     return [x, y - LABEL, 3 * LETTER, LABEL + 4];
   }
 
-  /** Returns where along program order the lane of a route is. */
+  /** Returns the place of a route's lane along program order. */
   laneOf(route) {
     const all = this.lanes.get(route.gap);
     const middle = this.begin + route.gap * this.pitch - (this.pitch - this.deep) / 2;
     return middle + (all.indexOf(route) - (all.length - 1) / 2) * Math.min(LANE, (this.room.gap - 10) / all.length);
   }
 
-  // Where on the side of its box an edge ends.
+  // The ends of edges on the sides of boxes.
 
-  /** Puts the ends at each side of a box apart, in the order of where they come from. */
+  /** Puts the ends at each side of a box apart, in the order of their sources. */
   sortEnds() {
     const middle = (event) => this.spot(event)[1] + this.deep / 2;
     const key = ({ route, end }) => {

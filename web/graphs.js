@@ -1,4 +1,4 @@
-// Draws the execution of a run, and says it in words: as tools/graph.py does. Not proved.
+// Draws the execution of a run, and describes it in words, as tools/graph.py does. Not proved.
 
 import { positionOf, threadOf } from "./executions.js";
 import { BASE, GraphLayout } from "./graph_layout.js";
@@ -33,7 +33,7 @@ export class Names {
   }
 
   /**
-   * Returns what an event does: R, W or U (a locked instruction) with a location and its words, or MFENCE.
+   * Returns the label of an event: R, W or U (a locked instruction) with a location and its words, or MFENCE.
    * @param {number} event
    * @returns {string}
    */
@@ -75,7 +75,7 @@ function nearEdges(edges) {
   return edges.filter(({ source, target }) => !edges.some(({ target: mid }) => leads(source, mid) && leads(mid, target)));
 }
 
-/** Returns of each read the edge to the first write after the one that it reads from. */
+/** Returns, for each read, the edge to the first write after the one that it reads from. */
 function nearFromReads(execution) {
   const edges = new Map();
   for (const it of execution.frEdges()) if (!edges.has(it.source)) edges.set(it.source, it);

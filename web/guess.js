@@ -1,5 +1,5 @@
-// Whether the reader still has to say what to expect of a test: who has asked to predict first is shown no answer before that. What is
-// asked for meanwhile waits, and comes when the guess is made and answered, or when the reader does not want to predict any more.
+// Says whether the reader still has to predict the answer on a test: a reader who has asked to predict first sees no answer before that. An
+// answer that is asked for meanwhile waits until the guess is made and answered, or until the reader does not want to predict any more.
 
 import { conditionWords } from "./condition_words.js";
 import { button, byId, el } from "./dom.js";
@@ -11,14 +11,14 @@ const KEY_OF_ANSWERED = "answered";
 const FIRST = "First say above what you expect.";
 const OPEN = "Your prediction is still open: find the states by hand, or show the answer above.";
 
-// Of each text what the reader has said of it: yes, no, null for nothing, or undefined if there was nothing to say, since lw refuses it. What
+// For each text what the reader has said of it: yes, no, null for nothing, or undefined if there was nothing to say, since lw refuses it. What
 // was said is kept in the tab, so that it is not asked again.
 const guesses = new Map(stored(KEY));
 // The texts of which the answer was shown after a guess: it is not kept back any more.
 const answered = new Set(stored(KEY_OF_ANSWERED));
-// What the reader has made by hand of a text on which there was a guess: it is not asked about again.
+// The text that the reader made by hand from one with a guess: there is no second guess on it.
 let edited = null;
-// What waits for guesses, or until their answers are shown: each with its text, what is shown meanwhile, and what is done then.
+// The panels that wait for guesses, or until their answers are shown: each with its text, what it shows meanwhile, and what it does then.
 let pending = [];
 
 /**
@@ -31,7 +31,7 @@ export function isAwaited(text) {
 }
 
 /**
- * Returns what the reader, who wants to predict, has said of a text, or null.
+ * Returns the prediction of the reader, who wants to predict, on a text, or null.
  * @param {string} text
  * @returns {boolean | null}
  */

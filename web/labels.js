@@ -2,7 +2,7 @@
 
 import { readTest } from "./tests.js";
 
-/** Returns of each thread the label at each number of an instruction. */
+/** Returns, for each thread, the label at each number of an instruction. */
 function labelsOf(text) {
   const test = readTest(text);
   if (test.language !== "X86") return [];

@@ -1,5 +1,5 @@
-// Lights what the pointer is on wherever it appears: a thread or a location at each of its names, and an instruction in the code, in the
-// schedule and in the graph.
+// Highlights the item under the pointer wherever it appears: a thread or a location at each of its names, and an instruction in the code, in
+// the schedule and in the graph.
 
 const NAMES = "span.loc, span.thr, .entry, .word, .badge-thread, text.loc, text.thr, b.thr";
 

@@ -1,5 +1,5 @@
-// Two runs that step together, where they can: an event that both schedules have is carried out in both at once, and one that only one has in
-// that one. The pairs of steps follow a longest common subsequence of the two schedules.
+// Two runs that step together if they can: an event that both schedules have is carried out in both at once, and an event of only one in that
+// one. The pairs of steps follow a longest common subsequence of the two schedules.
 
 import { button, el } from "./dom.js";
 

@@ -1,10 +1,10 @@
-// How much room a machine needs, and in which of its sizes it is drawn: by its threads, code, registers and store buffers, and by the window.
+// Chooses the size in which a machine is drawn: by its threads, code, registers and store buffers, and by the window.
 //
 // `Shown` is what a machine is drawn from, as `shownOf` of run_view.js makes it.
 
 import { caches, largeType } from "./preferences.js";
 
-// How many slots of a store buffer are shown at most as long as they are empty.
+// The largest number of empty slots of a store buffer that are shown.
 export const MAX_SLOTS = 4;
 // A store whose text has more letters needs the width of its box for its entry.
 const LONG_STORE = 18;

@@ -1,4 +1,4 @@
-// Puts the page together: the test, the verdict with its list, what is looked at below them, and the address, which keeps where the reader is.
+// Puts the page together: the test, the verdict with its list, the panels below them, and the address, which keeps the reader's place.
 
 import { about } from "./about.js";
 import * as address from "./address.js";
@@ -38,7 +38,7 @@ const FIRST = "SB-x86";
 const TYPING = 600;
 const MAX_MILLISECONDS = 10000;
 const CHANGED = "Changed: Ctrl+Enter lists its states.";
-// What the address says of a test, and of where in it the reader is.
+// The fields of the address on a test, and on the reader's place in it.
 const NOWHERE = { text: null, example: null, state: null, own: null, step: null, run: null, protocol: null, schedule: null, view: null };
 
 const editor = new Editor(byId("editor"), followChange);
@@ -70,7 +70,7 @@ function fitLater() {
   requestAnimationFrame(() => present.fit());
 }
 
-// What is asked.
+// Questions.
 
 /** Offers what can be asked about the list, after it is shown or gone. */
 function updateOffers() {
@@ -195,7 +195,7 @@ function followTab(view) {
   if (!tabs.isOfRun) showAnswered();
 }
 
-// Which test it is.
+// The test.
 
 /** Puts a text into the editor, writes it into the address, and lists its states. The browser's Back returns to the text before. */
 async function take(text, where, isOwn = false) {
@@ -209,7 +209,7 @@ async function take(text, where, isOwn = false) {
   scrollToAnswers();
 }
 
-/** Shows which example the text in the editor is, if it is one, whether it is the reader's own, and what stands beside it. */
+/** Shows which example the text in the editor is, if it is one, whether it is the reader's own, and what is beside it. */
 function show(example, isOwn) {
   if (examples) {
     examples.show(example, editor.text);
@@ -264,7 +264,7 @@ function showUnknown(names) {
   byId("unknown").replaceChildren(...(names[0] ? [el("p", { class: "notice" }, words)] : []));
 }
 
-/** Follows a link from where the reader is. If it says the same of the first test, all that is shown of that stays. */
+/** Follows a link on the open page. If it names the same first test, everything shown of that test stays. */
 function followFrom(before) {
   const firstOf = ({ beside: _, beside_text: __, ...first }) => JSON.stringify(first);
   if (firstOf(before) === firstOf(address.read())) beside.follow();
@@ -307,7 +307,7 @@ async function copyLink(status) {
   await copy(address.link(), status, location.protocol === "file:" ? ": it is of use on this machine only" : "");
 }
 
-// What is listened to.
+// Listeners.
 
 /** Connects the buttons of the editor. */
 function listenToTools() {
@@ -340,7 +340,7 @@ function listenToChoices() {
   largeType.bindTo(byId("large"));
 }
 
-/** Skips to the answers without following the link, since the address says where the reader is. */
+/** Skips to the answers without following the link, since the address has the reader's place. */
 function listenToSkip() {
   byId("skip").addEventListener("click", (event) => {
     event.preventDefault();
@@ -348,7 +348,7 @@ function listenToSkip() {
   });
 }
 
-/** Says where the proved workbench runs. */
+/** Says where the proved workbench runs: in the browser or on this machine. */
 async function showWhere() {
   const isHere = await hasModule();
   if (isHere || hasServer) byId("where").textContent = isHere ? ", in this browser as a WebAssembly module" : ", on this machine";

@@ -1,4 +1,4 @@
-// A state that a list has not, to ask about.
+// Finds a state that a list lacks, to ask about.
 
 import { wordsOf } from "./replays.js";
 

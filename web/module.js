@@ -1,17 +1,17 @@
 // The proved workbench as a WebAssembly module: loads it, lays its memory out, and calls it. All that this page knows of the module's
-// calls stands here, and nothing else does.
+// calls is here, and nothing else is.
 //
-// The module has no imports. A call is given memory behind __heap_base: the text, the schedule, the result, the room for the answer,
-// and behind them all that it may allocate from. A call leaves nothing behind, so the instance for calls that need little answers one
+// The module has no imports. A call gets memory after __heap_base: the text, the schedule, the result, the room for the answer,
+// and after them all that it may allocate from. A call leaves nothing allocated, so the instance for calls that need little answers one
 // after another; one that has trapped answers nothing more, and another takes its place. Addresses have 64 bits; a module that was
 // lowered to memories of 32 bits is called in the same way.
 
 const PAGE = 65536;
 const GRAIN = 16;
 const MEGABYTE = 2 ** 20;
-// How many megabytes a call may allocate, beside an eighth of that as the room for its answer: little first, since most calls need
-// little and an instance with little is made fast; and where that was not enough, more, or as much as the browser gives, of an instance
-// for that call alone.
+// How many megabytes a call may allocate, besides an eighth of that as the room for its answer: little first, since most calls need
+// little and an instance with little is made fast; and if that was not enough, more, or as much as the browser gives, of an instance
+// for only that call.
 const LITTLE = [2, 64];
 const MUCH = [1024, 512, 256, 128];
 const SHORT_OF_MEMORY = "lw: memory";
@@ -21,7 +21,7 @@ const MAX_BUDGET = 2n ** 64n - 1n;
 const LISTS = ["states", "schedules", "marks"];
 // The calls that take a schedule.
 const REPLAYS = ["replay", "film"];
-// What the bytes of a result are if they are no answer.
+// The kinds of results whose bytes are no answer.
 const FAULT = 1;
 const ROOM_TOO_SMALL = 2;
 
@@ -68,7 +68,7 @@ export class Workbench {
     return `${Math.floor(number / 100)}.${number % 100}`;
   }
 
-  /** Returns what an instance exports; that for the least memory is kept from one call to the next. */
+  /** Returns the exports of an instance; that for the least memory is kept from one call to the next. */
   instanceFor(size) {
     if (size !== LITTLE[0]) return instanceOf(this.module);
     this.kept ??= instanceOf(this.module);
@@ -154,7 +154,7 @@ class Call {
     }
   }
 
-  /** Puts what is given at its place. Returns where it is, and how many bytes it has. */
+  /** Copies an argument to its place in memory. Returns the place, and the number of bytes. */
   put(name) {
     new Uint8Array(this.exports.memory.buffer).set(this.given[name], this.at[name]);
     return this.placeOf(name);

@@ -1,4 +1,4 @@
-// What moves: a word that goes from one place of the picture to another, and what makes room for it. Nothing moves where the reader's
+// Moves a word from one place of the picture to another, and the things that make room for it. Nothing moves if the reader's
 // system asks for less motion, and nothing waits for a motion to end.
 
 const TIME = 280;

@@ -1,6 +1,6 @@
-// The word that a misspelt one may mean: of some names the one that takes the fewest changes of letters.
+// Finds the word that a misspelt one may mean: of some names the one that takes the fewest changes of letters.
 
-// How many letters a word has at most of which one letter may be wrong; in a longer one two may be.
+// The largest number of letters of a word in which one letter may be wrong; in a longer one two may be.
 const SHORT = 4;
 
 /**

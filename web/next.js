@@ -1,11 +1,11 @@
-// What to look at next: the same test with fences, or without what was added to it; and what there is to read.
+// Proposes what to look at next: the same test with fences, or without additions; and documents to read.
 
 import { button, byId, el } from "./dom.js";
 import { documents } from "./supplies.js";
 
 const TUTORIAL = "tutorial.html";
 
-/** Returns what is said of the example to which the next step leads. */
+/** Returns the words on the example to which the next step leads. */
 function wordsOf(examples, name, partner) {
   if (examples.fencedOf(name) === partner) return `the same test with ${/\+.*(?:xchg|xadd)/.test(partner) ? "locked instructions" : "fences"}: `;
   if (partner === `${name}-x86`) return "the same test on x86, without the compiler's fences: ";

@@ -1,4 +1,4 @@
-// Code in the other language than the first word of its text says: source statements in an x86 test, and instructions in a source test. Not proved.
+// Finds code in another language than the first word of its text: source statements in an x86 test, and instructions in a source test. Not proved.
 
 import { REGISTERS } from "./token_reader.js";
 

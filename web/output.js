@@ -1,4 +1,4 @@
-// What the page hands to the reader: a file, or a text in the clipboard.
+// Hands a file, or a text in the clipboard, to the reader.
 
 import { el } from "./dom.js";
 
@@ -50,7 +50,7 @@ async function writeToClipboard(text) {
 }
 
 /**
- * Copies a text out of a field that is there for a moment. It lies in the dialog that is open, since nothing else can be selected then.
+ * Copies a text out of a field that exists for a moment. The field is in the open dialog, since nothing else can be selected then.
  * @param {string} text
  * @param {Element} status
  * @returns {boolean}

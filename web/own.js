@@ -26,7 +26,7 @@ export class Own {
     byId("bring-back").hidden = this.kept === null || this.kept === this.editor.text;
   }
 
-  /** Keeps the text in the editor, where it is the reader's own: another is about to take its place. */
+  /** Keeps the text in the editor, if it is the reader's own: another is about to take its place. */
   keep() {
     if (!this.isHere || !this.editor.text.trim()) return;
     this.kept = this.editor.text;

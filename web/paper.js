@@ -1,4 +1,4 @@
-// What is printed above the rest: which test it is, the schedule of the run that is shown, and a link to what is shown.
+// Writes the lines that are printed above the rest: the test, the schedule of the shown run, and a link to this view.
 
 import * as address from "./address.js";
 import { byId, el } from "./dom.js";

@@ -1,8 +1,8 @@
 // Draws the machine as a picture: one state of a film, or a strip of all its states, as an SVG for paper, screens and dark mode.
 //
-// Of each thread are drawn its code, with an arrow at what comes next, the registers that it uses, its store buffer, the oldest entry
-// nearest to memory, and its cache lines that are held, with their letters; below them the words that a load finds. What the last
-// event has changed or put is bold and underlined, and what it has read is bold and slanted.
+// For each thread the picture shows its code, with an arrow at what comes next, the registers that it uses, its store buffer, with the oldest
+// entry nearest to memory, and the cache lines that it holds, with their letters; below them the words that a load finds. What the last
+// event has changed or added is bold and underlined, and what it has read is bold and slanted.
 
 import { refusal } from "./effects.js";
 
@@ -60,7 +60,7 @@ export class Drawing {
     this.elements.push(`<rect ${attributes} rx="4" class="${kind}"/>`);
   }
 
-  /** Draws a text in a box of its own. Returns where the box ends. */
+  /** Draws a text in a box of its own. Returns the end of the box. */
   framed(x, y, text, kind, textKind) {
     const width = text.length * LETTER + 12;
     this.box(x, y, width, LINE, kind);
@@ -77,7 +77,7 @@ export class Drawing {
   }
 }
 
-// What there is to be drawn.
+// The parts of a picture.
 
 /** Returns the registers that a thread's code names, or that have a word other than 0 at some time. */
 function usedRegisters(film, thread) {
@@ -96,7 +96,7 @@ function titleOf(film, step) {
   return `${step}  ${event}${next ? `: ${next.text}` : ""}`;
 }
 
-/** Returns what the event before a step does, in lines of so many letters at most. */
+/** Returns the effect of the event before a step, in lines of at most that number of letters. */
 function effectLines(film, step, letters) {
   const lines = [];
   for (const word of step ? film.effects[step - 1].words.replaceAll("`", "").split(" ") : []) {
@@ -107,7 +107,7 @@ function effectLines(film, step, letters) {
   return lines;
 }
 
-/** Returns what is said of the event that a film ends before. */
+/** Returns the words on the event before which a film ends. */
 function refusalOf({ refused }) {
   return refused ? `Here ${refused.event} is refused: ${refusal(refused.number)}` : "";
 }
@@ -117,7 +117,7 @@ function heldLines(thread) {
   return (thread.lines ?? []).filter(([, letter]) => letter !== "I").map(([name, letter]) => `${name}:${letter}`);
 }
 
-/** How much room the threads of a film need, the same for all its states. */
+/** The room that the threads of a film need, the same for all its states. */
 class Measures {
   constructor(film) {
     const threadStates = film.states.flatMap((state) => state.threads);

@@ -1,4 +1,4 @@
-// Where the parts of the page are: by the width of the window, by the size of the graph, and on a projector.
+// Places the parts of the page: by the width of the window, by the size of the graph, and on a projector.
 
 import { byId } from "./dom.js";
 

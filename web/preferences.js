@@ -1,4 +1,4 @@
-// What the reader has switched on, kept by the browser from one visit to the next. All of it is off at first.
+// The options that the reader has switched on. The browser keeps them from one visit to the next. All are off at first.
 
 /** A switch that is kept under a name. */
 class Preference {
@@ -26,7 +26,7 @@ class Preference {
 }
 
 /**
- * Returns what the browser keeps under a name, or null.
+ * Returns the text that the browser keeps under a name, or null.
  * @param {string} name
  * @returns {string | null}
  */

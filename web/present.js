@@ -10,11 +10,11 @@ const MIN_TYPE = 18;
 const MIN_TYPE_OF_TWO = 13;
 const MIN_PART_OF_HEIGHT = 0.024;
 const MAX_TYPE = 44;
-// How much larger the machine may be than the rest, where that leaves room: of at most two threads, and of more.
+// The largest ratio of the machine's type to the rest, if there is room: with at most two threads, and with more.
 const [MAX_SCALE, MAX_TIGHT_SCALE] = [1.5, 1.2];
-// Where the graph may be, the best first: beside the machine, beside all, or nowhere.
+// The possible places of the graph, the best first: beside the machine, beside all, or nowhere.
 const GRAPH_PLACES = ["machine", "all", "none"];
-// What is no smaller than on the page itself, by the property of the style sheet that has its size there.
+// The elements that are no smaller than on the page itself, by the property of the style sheet that has their size there.
 const USUAL = {
   "--usual-verdict": "#outcome .verdict",
   "--usual-strong": "#outcome .verdict strong",

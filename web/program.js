@@ -1,4 +1,4 @@
-// Asks the workbench, and says of a refusal where in the text it is. What comes back are lw's own bytes.
+// Asks the workbench, and finds the place of a refusal in the text. The answers are lw's own bytes.
 //
 // A `Fault` has lw's own `line` and the `status`; its `kind` is text, cell, schedule, limit or budget, with the `number` and the `name` of the cause.
 // One in a text or a schedule has its `place`, a byte, and the same as a `row`, a `column` and an `index` in a string.
@@ -13,7 +13,7 @@ const BUDGET = /^beyond: budget (\d+)$/;
 // The most states that a search may find: the next is tried if the one before it is not enough, so that it is known how far the search is.
 const BUDGETS = [100000, 1000000, 10000000];
 const SHORT_OF_MEMORY = "lw: memory";
-// How much is kept of what is printed: so many answers of one text, each of so many characters at most.
+// The limits of kept answers: the number of answers on one text, and the characters of each.
 const MAX_KEPT = 4096;
 const MAX_CHARACTERS = 16384;
 
@@ -114,7 +114,7 @@ export class Program {
   }
 
   /**
-   * Returns what is printed. Short answers are kept as long as the same text is asked about: films and runs by hand ask for many again.
+   * Returns the output. Short answers are kept as long as the same text is asked about: films and runs by hand ask for many again.
    * @param {string[]} words
    * @param {Uint8Array} text
    * @returns {string}

@@ -1,5 +1,5 @@
-// What the page asks for: a question with its fields comes in, and the answer goes out. What is proved comes from lw: reports,
-// schedules, compiled texts and replays. The rest is found by the page itself, which says so where it shows it: the marks on states,
+// Answers the questions of the page: a question with its fields comes in, and the answer goes out. Proved answers come from lw: reports,
+// schedules, compiled texts and replays. The page itself finds the rest, and says so where it shows it: the marks on states,
 // in which state a run by hand has ended, the rows of statements, texts without fences, and the schedule of a source run.
 //
 // An answer has `fault` if lw refuses the text, the schedule or the list, and `error` if there is no answer at all; `isBeyond` says that
@@ -106,7 +106,7 @@ function answerMoves(program, text, { schedule, protocol, whole = false }) {
 }
 
 /**
- * Returns of each thread the registers that the events of a schedule have put words into, or null if there are too many events to look at.
+ * Returns, for each thread, the registers that the events of a schedule have put words into, or null if there are too many events to look at.
  * @param {Program} program
  * @param {Uint8Array} text
  * @param {{schedule: string, protocol: string}} run
@@ -174,7 +174,7 @@ function answerCompile(program, text) {
   return language === "SRC" ? { ...answer, cells_of_source: sourceCells(readTest(textOf(text))) } : answer;
 }
 
-/** Returns the table of fences, with where its lists come from (with `search` by a search), and of each row the text without its fence. */
+/** Returns the table of fences, with the maker of its lists (with `search` a search), and for each row the text without its fence. */
 function answerFences(program, text, { everything, search = false }, onProgress) {
   const test = readTest(program.ask(["compile"], text));
   const listOf = (canonical) => listOrNull(program, bytesOf(canonical), { search, onProgress });
@@ -183,7 +183,7 @@ function answerFences(program, text, { everything, search = false }, onProgress)
   return { table: tableOfFences(compared, listOf), condition: conditionText(test), texts, language: languageOf(text) };
 }
 
-/** Returns where fences more would answer the question of an x86 test; of a source test, whose compiler adds them, nothing. */
+/** Returns where further fences would answer the question of an x86 test; for a source test, whose compiler adds them, nothing. */
 function answerMoreFences(program, text, { search = false }, onProgress) {
   if (languageOf(text) === "SRC") return { fenced: null };
   const listOf = (canonical) => listOrNull(program, bytesOf(canonical), { search, onProgress });

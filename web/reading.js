@@ -1,10 +1,10 @@
-// Shows a document of a made site by light or by dark, as the reader has chosen here or on the page, or else as the system asks.
+// Shows a document of a made site in light or dark, as the reader has chosen here or on the page, or otherwise as the system asks.
 
 "use strict";
 (() => {
   const KEY = "theme";
 
-  /** Returns what the browser keeps of the choice, or null. */
+  /** Returns the choice that the browser keeps, or null. */
   function stored() {
     try {
       return localStorage.getItem(KEY);

@@ -5,7 +5,7 @@
 // `buffer`, pairs of a location and a word, the oldest first, and `lines`, pairs of a location and its line's letter. And it has
 // `memory` and `content`, pairs of a location and a word; a source test's content is its memory.
 //
-// Nothing is made up here: a text of another form is refused. Each line that a replay prints has to be there, in its place and with its
+// A text of another form is refused. Each line that a replay prints has to be present, in its place and with its
 // end; an end may be that of Windows. tools/replay_state.py takes the same texts.
 
 const REGISTERS = ["EAX", "EBX", "ECX", "EDX", "ESI", "EDI"];
@@ -35,7 +35,7 @@ class Page {
   }
 
   /**
-   * Returns what the groups of a pattern match in the next line. Refuses a line that does not match.
+   * Returns the groups of a pattern's match in the next line. Refuses a line that does not match.
    * @param {string} pattern
    * @returns {string[]}
    */
@@ -133,7 +133,7 @@ export function registerNumber(name) {
 }
 
 /**
- * Returns what a line of a report says: pairs of an observed name and a word.
+ * Returns the contents of a report's line: pairs of an observed name and a word.
  * @param {string} line
  * @returns {[string, number][]}
  */

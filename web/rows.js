@@ -11,9 +11,9 @@ import { siteNode } from "./tint.js";
 // are beside each other in it, or if the type is large.
 const HEIGHT = 1.6;
 const [ROWS_IN_SIGHT, FEW_ROWS, MIN_ROWS, LOW, NARROW] = [6, 3, 2, 800, 700];
-// How many rows are made above those in sight, and below.
+// The numbers of rows that are made above those in sight, and below.
 const [ABOVE, BELOW] = [2, 6];
-// By how many states the widths of the columns are found.
+// The number of states by which the widths of the columns are found.
 const MEASURED = 200;
 
 /** A list of states as rows. */
@@ -55,7 +55,7 @@ export class Rows {
     return head;
   }
 
-  /** Returns what is beside the list: the number of states, the choice of those in which the condition holds, and the list as a file. */
+  /** Returns the elements beside the list: the number of states, the choice of those in which the condition holds, and the list as a file. */
   tools() {
     const { report } = this;
     const withCommas = (number) => number.toLocaleString("en");

@@ -16,12 +16,12 @@ const PROGRAMS = ["test", "compiled", "bare"];
 // How long a step is shown before it is asked what can be done there, and how many answers are kept.
 const LEARN = 150;
 const MAX_KEPT = 1000;
-// Where keys mean something else, and where arrows do.
+// The elements in which keys mean something else, and those in which arrows do.
 const WRITTEN_IN = "textarea, select, input:not([type=checkbox], [type=range]), dialog";
 const HAS_ARROWS = "[role=tab], [role=listbox]";
 const PRESSED = "button, input, summary, a, label";
 
-// Of each editor the run that is shown.
+// For each editor the run that is shown.
 const shown = new WeakMap();
 
 /** Returns the step at which most stores wait, since there is the most to see. */
@@ -30,7 +30,7 @@ function tellingStep(frames) {
   return Math.max(0, waiting.indexOf(Math.max(...waiting)));
 }
 
-/** Returns of each thread the registers that have words of the run, given those before an event with an effect. */
+/** Returns, for each thread, the registers that have words of the run, given those before an event with an effect. */
 function putAfter(before, effect) {
   const register = effect?.register;
   return before.map((names, thread) => (register !== undefined && thread === effect.thread ? [...new Set([...names, register])] : names));
@@ -66,7 +66,7 @@ export class Run {
     this.onStep();
   }
 
-  // Which run it is.
+  // The run.
 
   /**
    * Shows the run that is listed to a state; of a source test that of the source, unless `run` is "x86" or it is not known. `step` is a number or
@@ -179,7 +179,7 @@ export class Run {
     return this.show(this.goal, { step, run: program, protocol, text, of, search, own });
   }
 
-  /** Goes to where a schedule leads. Returns the answer that says why it leads nowhere, or null. */
+  /** Goes to the state that a schedule reaches. Returns the answer that says why there is none, or null. */
   async follow(schedule) {
     const answer = await this.leadTo(this.text, schedule);
     if (!answer) return null;
@@ -192,12 +192,12 @@ export class Run {
     return null;
   }
 
-  /** Returns the answer on where a schedule leads, and what can be done there. */
+  /** Returns the answer on the state that a schedule reaches, and on the events that are possible there. */
   leadTo(text, schedule) {
     return ask(this.editor, "moves", { text, schedule, protocol: this.protocol, whole: true }, { name: "where a schedule leads" });
   }
 
-  // Where in it the reader is.
+  // The step of the run.
 
   /** Returns what is known of the present step. */
   get frame() {
@@ -245,7 +245,7 @@ export class Run {
     if (focused && !focused.isConnected) this.view.player.forward.focus({ preventScroll: true });
   }
 
-  // What can be done there.
+  // The possible events.
 
   /** Returns the key under which the answer on a schedule is kept. */
   keyOf(schedule) {
@@ -258,7 +258,7 @@ export class Run {
     this.kept.set(this.keyOf(schedule), answer);
   }
 
-  /** Returns what can be done after a number of events: each event, with its cause if it is refused. */
+  /** Returns the possible events after a number of events: each event, with its cause if it is refused. */
   movesAt(step) {
     const schedule = this.scheduleTo(step);
     const key = this.keyOf(schedule);

@@ -1,5 +1,5 @@
-// What else can be done with a run: another to the same state is shown, its schedule is copied, its pictures are saved, and a schedule that is
-// written is followed.
+// The further actions on a run: show another to the same state, copy its schedule, save its pictures, and follow a schedule that the reader
+// writes.
 
 import { ask } from "./ask.js";
 import { button, el } from "./dom.js";
@@ -36,7 +36,7 @@ export class RunMenu {
     this.written.value = "";
   }
 
-  /** Saves a picture of where the run is, or a strip of all its steps. */
+  /** Saves a picture of the run's present step, or a strip of all its steps. */
   async savePicture(isStrip) {
     const { editor, text, protocol, events, step } = this.run;
     const schedule = (isStrip ? events : events.slice(0, step)).join(" ");

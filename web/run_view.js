@@ -1,4 +1,4 @@
-// What is seen of a run: the row that plays it, the sentence on its step, the machine, and the graph of its events.
+// Shows a run: the row that plays it, the sentence on its step, the machine, and the graph of its events.
 
 import { hiddenHeight, spareHeight } from "./code_window.js";
 import { button, byId, el, plainMark } from "./dom.js";
@@ -15,13 +15,13 @@ import { threadClass, tintedSentence } from "./tint.js";
 import { refusalOf } from "./errors.js";
 
 export const PROTOCOLS = ["mesi", "moesi"];
-// What of a source test can be run by hand, and what of one is listed, with what each is.
+// The forms of a source test that can be run by hand, and those that are listed, with a description of each.
 const BY_HAND = [["test", "the source, by interleaving"], ["compiled", "the compiled program"], ["bare", "that without its fences"]];
 const LISTED = [
   ["source", "Source", "The source by interleaving: the threads take turns on one memory"],
   ["x86", "Compiled to x86", "The compiled program, with its fences, on the x86-TSO machine"],
 ];
-// What part of a graph is in sight at least if it counts as seen, or what part of the window it fills; and how often that is looked at.
+// The part of a graph that has to be in sight if it counts as seen, or the part of the window that it fills; and how often that is checked.
 const SEEN = 0.9;
 const LOOKS = 20;
 const LOCKED = "First say what you expect: then the machine runs.";
@@ -204,7 +204,7 @@ function isInSight({ intersectionRect, intersectionRatio }) {
   return intersectionRatio >= SEEN || intersectionRect.height >= (SEEN - 0.1) * innerHeight;
 }
 
-/** Returns of each event of a run the place of its instruction, as far as it is known; a drain has that of its store. */
+/** Returns, for each event of a run, the place of its instruction, as far as it is known; a drain has that of its store. */
 function placesOf({ events, frames, cells }) {
   const stores = cells.map(() => []);
   return events.map((event, index) => {
@@ -218,7 +218,7 @@ function placesOf({ events, frames, cells }) {
   });
 }
 
-/** Returns what the machine is drawn from: the registers that are used in the whole run, how many entries have left each buffer, and more. */
+/** Returns the data of the machine's drawing: the registers that are used in the whole run, how many entries have left each buffer, and more. */
 function shownOf(run) {
   const { cells, frame, frames, tints, slots, step, events, isByHand } = run;
   const known = isByHand ? [frame.state, frame.before] : frames.flatMap((it) => [it.state, it.before]);

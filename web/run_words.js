@@ -1,4 +1,4 @@
-// What is said of a step of a run: what its event has done, and at the end in which state the run has ended.
+// Describes a step of a run: what its event has done, and at the end the state in which the run has ended.
 
 import { el } from "./dom.js";
 import { caches } from "./preferences.js";
@@ -64,7 +64,7 @@ function beginWords({ isLocked, isByHand, events, frame }) {
   return frame.state.threads[0].buffer ? BEGIN_OF_X86 : BEGIN_OF_SOURCE;
 }
 
-/** Returns what an event has done. The words name memory, or the cache that has the word if the reader looks at cache lines. */
+/** Returns the effect of an event in words. The words name memory, or the cache that has the word if the reader looks at cache lines. */
 function doneWords({ thread, words, cache }) {
   if (cache === undefined || !caches.isOn) return words;
   const owner = cache === thread ? "its own" : `P${cache}'s`;

@@ -3,10 +3,10 @@
 import { byId } from "./dom.js";
 
 const KEY = "score";
-// How many lines a test has at most that is short enough to be predicted.
+// The largest number of lines of a test that is short enough to be predicted.
 const MAX_LINES = 9;
 
-// Of each text whether the first prediction on it was right.
+// For each text whether the first prediction on it was right.
 const results = new Map(stored());
 
 /**

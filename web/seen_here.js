@@ -1,6 +1,6 @@
-// What this machine shows of a test. If ./page serves the page, its server runs the test on this processor for some seconds, as
+// Shows which states of a test this machine reaches. If ./page serves the page, its server runs the test on this processor for some seconds, as
 // tools/on_machine.py does, and a table says how often each listed state was seen. Nothing is concluded from that: a state that was not seen
-// was not seen, no more.
+// may still be possible.
 
 import { button, el } from "./dom.js";
 import { NO_SERVER } from "./served.js";
@@ -9,7 +9,7 @@ import { hasServer } from "./supplies.js";
 const SECONDS = 2;
 const ABOUT = "What a processor shows proves nothing, and a state that was not seen was not seen, no more (docs/ON-MACHINE.md).";
 
-/** The offer to run a test on this machine, and what was seen. There is none if no server stands behind the page, or beside another test. */
+/** The offer to run a test on this machine, and what was seen. There is none if no server is behind the page, or beside another test. */
 export class SeenHere {
   text = null;
 
@@ -40,7 +40,7 @@ export class SeenHere {
   }
 }
 
-/** Returns what the server answers. */
+/** Returns the server's answer. */
 async function answerOf(text) {
   try {
     const body = JSON.stringify({ text, seconds: SECONDS });

@@ -1,5 +1,5 @@
 // The proved program on this machine, by the server of the page: a workbench that answers as that of module.js does. It waits for each
-// answer, as a worker may; where the worker is ended, the server ends the run.
+// answer, as a worker may; if the worker is ended, the server ends the run.
 
 import { NoAnswer, bytesOf, textOf } from "./program.js";
 
@@ -22,7 +22,7 @@ export class Served {
   }
 }
 
-/** Returns what the server answers to a question. */
+/** Returns the server's answer to a question. */
 function ask(path, question) {
   try {
     const request = new XMLHttpRequest();

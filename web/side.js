@@ -65,7 +65,7 @@ export class Side {
     this.states = new States(this.place, this.sheet, onReveal, { onDraw, onStep, firstStep: 0 });
   }
 
-  /** Shows a test, and which of the options it is. Where it was there before, all that was shown of it stays. */
+  /** Shows a test, and which of the options it is. If it was shown before, everything shown of it stays. */
   put(text, option, options) {
     this.select.replaceChildren(...options);
     this.select.value = option;

@@ -1,5 +1,5 @@
-// Slips in a test that lw takes: a question that names what no instruction writes, and a load of what no thread writes. They are hints of the
-// page's own, beside what lw says. Not proved.
+// Finds slips in a test that lw takes: a question about a place that no instruction writes, and a load of a location that no thread writes. They
+// are hints of the page's own, beside lw's answers. Not proved.
 
 import { button, el, plainMark, sentence } from "./dom.js";
 import { nearest } from "./nearest.js";
@@ -9,11 +9,11 @@ import { REGISTERS } from "./token_reader.js";
 
 const STORES = ["store", "xchg", "xadd", "swap", "fetchadd"];
 const LOADS = ["load", "xchg", "xadd", "swap", "fetchadd"];
-// What puts a word into its register.
+// The kinds of statements that put a word into their register.
 const SETS = [...LOADS, "set", "add", "sum"];
 const MAX_SHOWN = 3;
 
-// Where the question of a text begins.
+// The start of a text's question.
 const QUESTION = /~?\s*\b(?:exists|forall)\b[^;]*$/;
 
 /**
@@ -92,7 +92,7 @@ export function slipsIn(text) {
 }
 
 /**
- * Returns what is shown of the slips in a text. `mend` is called with a text that a reader wants in its place.
+ * Returns the elements on the slips in a text. `mend` is called with a text that a reader wants in its place.
  * @param {string} text
  * @param {function(string): void} mend
  * @returns {Element[]}

@@ -1,5 +1,5 @@
-// Which fences of an x86 test matter: each MFENCE is left out alone, and then as many as can be spared. The texts without fences are
-// written here, which is not proved; their lists are lw's, or, where it refuses one for its limits, those of walk.js.
+// Finds the fences of an x86 test that matter: each MFENCE is left out by itself, and then as many as can be spared. The texts without fences are
+// written here, which is not proved; their lists are lw's, or, if it refuses one for its limits, those of walk.js.
 
 import { canonicalText, instructionText } from "./canonical.js";
 import { sortedSites } from "./propositions.js";
@@ -75,7 +75,7 @@ class Lists {
 
 /**
  * Returns of each fence its place, and the states that are new if only it is left out; the fences that are enough; the number of states, and of those
- * in which the proposition is true. `listOf` gives the lines of the states of a text, and that number; or null where lw refuses it.
+ * in which the proposition is true. `listOf` gives the lines of the states of a text, and that number; or null if lw refuses it.
  * @param {Test} test
  * @param {function(string): ({lines: string[], positive: number} | null)} listOf
  * @returns {{rows: {place: string, added: string[]}[], enough: string[], states: number, positive: number, answered_by: string[]}}

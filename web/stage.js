@@ -1,6 +1,6 @@
-// The machine: of each thread its code, its registers and its store buffer, a queue whose oldest entry lies at the mouth of memory; and
-// memory, below all. The next instruction and the oldest entry are buttons: what is clicked happens. One state is drawn at a time; from one
-// to the next a word moves from where it was to where it is.
+// Draws the machine: the code, the registers and the store buffer of each thread, a queue whose oldest entry is nearest to memory; and
+// memory, below all. The next instruction and the oldest entry are buttons: a click carries out the event. One state is drawn at a time; from
+// one to the next a word moves from its old place to its new one.
 
 import { fitCodes, showNext, watchCodes } from "./code_window.js";
 import { el } from "./dom.js";
@@ -11,9 +11,9 @@ import { fly, glow, isStill, placesIn, settle } from "./motion.js";
 import { caches } from "./preferences.js";
 import { codeNodes, threadClass } from "./tint.js";
 
-// Causes that need no words: there is nothing to be done.
+// Causes that need no words: no event is left.
 const NOTHING_LEFT = ["Ended", "BufferEmpty", "NotHeld"];
-// What the letters of cache lines mean.
+// The meanings of the letters of cache lines.
 const LETTERS = { M: "modified", O: "owned", E: "exclusive", S: "shared", I: "invalid, not held" };
 
 /** The machine. */
@@ -64,7 +64,7 @@ export class Stage {
     return this.place.querySelector(css);
   }
 
-  // What can be done.
+  // The possible events.
 
   /** Shows what can be done, given the moves that the machine itself answers. */
   allow(moves) {

@@ -1,7 +1,7 @@
 // Reads the cells of a test: statements of the source language, instructions of x86, and their labels. Not proved.
 //
-// A statement has a `kind` and, where there is one, a `register`, a `location`, a `value` ({ number } or { register }), the first
-// register of a sum (`left`), and where a jump leads (`target`; while a thread is read that is a label).
+// A statement has a `kind` and, if it has one, a `register`, a `location`, a `value` ({ number } or { register }), the first
+// register of a sum (`left`), and the target of a jump (`target`; while a thread is read that is a label).
 
 import { TokenReader, isReserved } from "./token_reader.js";
 import { NoTest } from "./tokens.js";

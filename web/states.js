@@ -31,7 +31,7 @@ const unmarked = () => [
   "States are not marked, since the page's own reader ", plainMark(), " does not find as many in which the condition holds as lw counts.",
 ];
 
-/** Returns what is said of the reader's guess, if there is one, with the `reason` if it was wrong, and buttons that ask again and on another test. */
+/** Returns the words on the reader's guess, if there is one, with the `reason` if it was wrong, and buttons that ask again and on another test. */
 function guessedWords(guessed, isSo, askAgain, reason) {
   const words = guessed === null ? "" : guessed === isSo ? "✓ As you said." : "✗ Not as you said.";
   const kind = guessed === null ? "" : guessed === isSo ? " right" : " wrong";
@@ -136,7 +136,7 @@ export class States {
 
   /** Shows a report, or asks for a guess first. */
   reveal({ report, language, words }, link) {
-    // What was found of another text is not found of this one.
+    // States that were found of another text do not count for this one.
     if (this.foundIn !== this.editor.text) Object.assign(this, { foundIn: this.editor.text, found: new Set() });
     Object.assign(this, { report, language, words, isVeiled: this.isKeptBack(this.isByHand || link?.view === "hand") });
     this.showVerdict();
@@ -220,7 +220,7 @@ export class States {
     );
   }
 
-  /** Returns in a sentence which state shows the answer, with its run, or which is missing, with why; nothing if no state alone shows it. */
+  /** Returns in a sentence which state shows the answer, with its run, or which is missing, with why; nothing if no single state shows it. */
   reason() {
     const missing = this.why && this.asked === null ? missingState(this.report, questionOf(this.editor.text)) : null;
     const linked = (words, line, text, act) => {
@@ -266,7 +266,7 @@ export class States {
     if (this.report) this.strip.mark(lines);
   }
 
-  /** Returns what is said of the whole list, and the list as lw prints it; a long list is saved as a file. */
+  /** Returns the words on the whole list, and the list as lw prints it; a long list is saved as a file. */
   printed() {
     const { report, words } = this;
     if (!report) return [];

@@ -1,5 +1,5 @@
-// Where the page has from what it needs besides its own code: the tables, the module, and the worker that asks it. Where the page is a
-// site of files (tools/make_site.py) they come in scripts of its own, in an object by the name `site`; else `./page` serves them.
+// Gets what the page needs besides its own code: the tables, the module, and the worker that asks it. If the page is a
+// site of files (tools/make_site.py) they come in scripts of its own, in an object by the name `site`; otherwise `./page` serves them.
 
 const site = globalThis.site ?? null;
 
@@ -9,7 +9,7 @@ export const hasServer = site === null;
 /** Lists the documents that a made site carries, each with its file and its title. */
 export const documents = site?.documents ?? [];
 
-/** Says where a made site comes from; null where the page has a server. */
+/** The origin of a made site; null if the page has a server. */
 export const origin = site?.origin ?? null;
 
 const tables = site && unpacked(site.tables).then((bytes) => JSON.parse(new TextDecoder().decode(bytes)));
@@ -76,7 +76,7 @@ export async function newWorker() {
 }
 
 /**
- * Has the browser keep the site, where it came by a network, so that it opens without one.
+ * Has the browser keep the site, if it came by a network, so that it opens without one.
  * @returns {Promise<void>}
  */
 export async function keep() {

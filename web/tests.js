@@ -1,6 +1,6 @@
-// Reads a whole test, by docs/FORMAT.md alone: its block, its threads, its list of names and its condition. Not proved.
+// Reads a whole test, only by docs/FORMAT.md: its block, its threads, its list of names and its condition. Not proved.
 //
-// A test has a `language`, a `name`, the names of its `locations` and the `words` that these begin with, of each thread the words of
+// A test has a `language`, a `name`, the names of its `locations` and the `words` that these begin with, for each thread the words of
 // its `registers`, its statements (`threads`) and its cells (`columns`, each a list of tokens), the sites that are `listed`, and its
 // `quantifier` and `proposition`. A site is { location } or { thread, register }.
 
@@ -59,7 +59,7 @@ function header(reader) {
 }
 
 /**
- * Reads the rows. Returns of each thread its cells, each a list of tokens.
+ * Reads the rows. Returns, for each thread, its cells, each a list of tokens.
  * @param {TokenReader} reader
  * @param {number} threads
  * @returns {Token[][][]}

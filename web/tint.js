@@ -6,7 +6,7 @@ import { readTest } from "./tests.js";
 import { nameOf } from "./tokens.js";
 import { FENCES, KEYWORDS, REGISTER } from "./words.js";
 
-// How many colours there are, and which locations have the same in every test.
+// The number of colours, and the locations that have the same colour in every test.
 const COLOURS = 8;
 const FIXED = ["x", "y", "z", "w"];
 const MAX_COLOURED = 20000;

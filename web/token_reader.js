@@ -59,7 +59,7 @@ export class TokenReader {
    */
   take(wanted = null) {
     const text = this.next;
-    if (text === null || (wanted !== null && text !== wanted)) throw new NoTest(`${text} stands where ${wanted ?? "more"} should`);
+    if (text === null || (wanted !== null && text !== wanted)) throw new NoTest(`found ${text}, expected ${wanted ?? "more"}`);
     this.index += 1;
     return text;
   }

@@ -1,6 +1,6 @@
-// What the page says of a report, in clear words: by the test's language, its quantifier and the verdict.
+// Writes the page's words on a report: by the test's language, its quantifier and the verdict.
 
-// What is asked of the condition itself, whatever the test says of it, of the runs of a language.
+// The question on the condition itself, for the runs of a language, whatever the test claims of it.
 const QUESTIONS = {
   Allowed: (run) => `Can a run${run} end this way?`,
   Forbidden: (run) => `Can a run${run} end this way?`,
@@ -13,7 +13,7 @@ const BOUNDS = {
     "and the compiled program, with its fences, ends on the x86-TSO machine in exactly these.",
   X86: "These are all states in which a run of the test on the x86-TSO machine ends, and no others.",
 };
-// Whether the condition holds in the states that show what the verdict says, where some do.
+// Whether the condition holds in the states that show the verdict, if some do.
 const SHOWING = { "Allowed Ok": true, "Forbidden No": true, "Required No": false };
 
 /**

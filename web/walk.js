@@ -1,5 +1,5 @@
-// All final states of an x86 test by a walk through all states that it can be in, with store buffers before one memory. Not proved:
-// for lists that lw refuses for its limits. There is no limit here but patience.
+// Finds all final states of an x86 test by a walk through all its reachable states, with store buffers before one memory. Not proved:
+// for lists that lw refuses for its limits. There is no limit here.
 //
 // A `MachineState` has `processors`, each with its `position`, its `registers`, its `zero` flag and its `buffer`, pairs of a location and a
 // word, the oldest first; and the `words` of memory.

@@ -10,7 +10,7 @@ const NO_MODULE =
   "version 133 on and Firefox from version 134 on.";
 const STALE = "The sources have changed, or the program is gone: start ./page again.";
 
-// By hand a click is answered at once: there it is enough that the program was current so many milliseconds before.
+// By hand a click is answered at once: it is enough that the program was current this number of milliseconds before.
 const RECENTLY = 2000;
 
 const idle = [];
@@ -118,7 +118,7 @@ async function isStaleBy(signal) {
     currentAt = isStale ? -Infinity : performance.now();
     return isStale;
   } catch {
-    // The server does not answer; whoever asks it for more gets this error.
+    // The server does not answer; further questions get this error.
     return false;
   }
 }

@@ -1,5 +1,5 @@
-// Why a test does not end in a state: the cycle that forbids it, drawn. The state that the condition asks about is answered at once; of one
-// that a run ends in, that run is drawn.
+// Shows why a test does not end in a state: it draws the cycle that forbids it. The state that the condition asks about is answered at once; for
+// a state in which a run ends, it draws that run.
 
 import { ask } from "./ask.js";
 import { questionOf } from "./condition_words.js";
@@ -96,7 +96,7 @@ export class Why {
     this.explained(this.askedOf === "all" ? null : this.askedOf);
   }
 
-  /** Answers on a state, or on `all`. What was answered before is gone meanwhile. */
+  /** Answers on a state, or on `all`. The last answer is removed meanwhile. */
   async answer(state) {
     this.askedOf = state;
     this.answers.replaceChildren();

@@ -1,5 +1,5 @@
-// A worker of the page: answers questions by the module that it is given with them, or where it is given none by the program on this
-// machine, so that the page goes on meanwhile, and so that a run can be ended. It stays from one question to the next, with what was
+// A worker of the page: answers questions by the module that comes with them, or without a module by the program on this
+// machine, so that the page continues meanwhile, and so that a run can be ended. It stays from one question to the next, with the answers that
 // printed for it; a run that is ended ends it, and another takes its place. Before an answer it may say how far it is: `progress`.
 
 import { Workbench } from "./module.js";

@@ -89,11 +89,11 @@ class Access:
         return self.program.locations.find_writers(address, size) <= {self.thread}
 
     def read_own_last_store(self, address: int, size: int) -> Value:
-        """Returns what this thread, the only one that stores to a location, has stored last."""
+        """Returns the value that this thread, the only one that stores to the location, stored last."""
         return self.way.last_stored.get(address, self.program.layout.read_initial_word(address, size))
 
     def load(self, address: int, size: int) -> Value:
-        """Returns what a load finds. It is an effect if others may have stored it."""
+        """Returns the value that a load finds. The load is an effect if others may have stored it."""
         locations = self.program.locations
         if not self.is_shared(address, size):
             return load_own(self.way, self.program.layout, address, size)

@@ -103,7 +103,7 @@ class ConditionReader(PropositionReader):
         """Reads a value of a thread, such as 0:r0 or P0:r0. Raises Refused if the thread or the name is none."""
         offset, digits = self.token.offset, self.take_token().text.lstrip("P")
         if not digits.isdigit() or int(digits) > 3:
-            raise Refused(f"'{digits}' stands where the number of a thread from 0 to 3 should", offset)
+            raise Refused(f"found '{digits}', expected the number of a thread from 0 to 3", offset)
         self.take_token(":")
         if self.token.kind != "name":
             raise self.make_misplaced_refusal("a name")

@@ -26,7 +26,7 @@ ALWAYS = plain.Constant(True)
 
 @dataclass
 class Written:
-    """A test of lw with its marks, of each thread's instructions the lines of the source, and which begin what comes from one node of its ways."""
+    """A test of lw with its marks, the source lines of each thread's instructions, and the indices at which the code of a node of its ways begins."""
 
     conversion: Conversion
     lines: list[list[set[int]]]
@@ -56,7 +56,7 @@ class Converter:
         self.names = self.name_locations()
         self.check_words()
 
-    # What is asked about.
+    # The question.
 
     def check_seen(self) -> None:
         """Refuses a condition with a name that no way shows."""
@@ -106,7 +106,7 @@ class Converter:
         return names
 
     def check_words(self) -> None:
-        """Refuses words that lw can't tell apart. Words of lw have 32 bits; those of a location may have more, unless two of them have the same 32
+        """Refuses words that lw can't distinguish. Words of lw have 32 bits; those of a location may have more, unless two of them have the same 32
         lowest bits.
         """
         named_words = [(self.program.layout.name_address(address), self.program.locations.words[address]) for address in self.locations]

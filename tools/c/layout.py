@@ -67,7 +67,7 @@ class Layout:
         return word
 
     def extract_datum_bytes(self, datum: Datum, begin: int, size: int) -> int:
-        """Returns what a datum adds to the word of some bytes of its object."""
+        """Returns the part of a datum in the word of some bytes of its object."""
         low, high = max(datum.offset, begin), min(datum.offset + datum.size, begin + size)
         if low >= high:
             return 0

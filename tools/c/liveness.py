@@ -49,7 +49,7 @@ def sets_to_zero(instruction: Instruction) -> bool:
 
 
 def list_reads_and_writes(instruction: Instruction) -> tuple[set[str], set[str]]:
-    """Returns what an instruction reads, and what it overwrites completely. It may list too many reads, and too few writes."""
+    """Returns the registers and flags that an instruction reads, and those that it overwrites. It may list too many reads, and too few writes."""
     name, writes = instruction.mnemonic, list_overwritten(instruction)
     if name.startswith("call"):
         return set(ALL), set()
@@ -82,7 +82,7 @@ def list_successors(assembly: Assembly, index: int, after_calls: list[int]) -> l
 
 
 def compute_live_sets(assembly: Assembly) -> list[frozenset[str]]:
-    """Returns what may still be read before each instruction, and after the last. A return may continue after every call."""
+    """Returns the registers and flags that may still be read before each instruction, and after the last. A return may continue after any call."""
     code = assembly.code
     facts = [list_reads_and_writes(it) for it in code]
     after_calls = [index + 1 for index, it in enumerate(code) if it.mnemonic.startswith("call")]

@@ -89,7 +89,7 @@ class Locations:
         self.words = {address: {self.layout.read_initial_word(address, size): self.never} for address, size in self.sizes.items()}
 
     def list_readable_words(self, address: int, thread: int, stores: int) -> frozenset[int]:
-        """Returns the words that a thread can find in a location after so many stores of its own."""
+        """Returns the words that a thread can find in a location after that number of its own stores."""
         return frozenset(word for word, clock in self.words[address].items() if clock[thread] <= stores)
 
     def add_words(self, address: int, words: dict[int, Clock]) -> None:

@@ -182,7 +182,7 @@ class Locked(Vectors):
             self.guess = IsOneOf(symbol, (old,), tuple(it for it in words if it != old)), True
 
     def list_words_now(self, address: int, size: int) -> frozenset[int]:
-        """Returns what an access of a location can find now."""
+        """Returns the words that an access of a location can find now."""
         if self.is_only_writer(address, size):
             return self.way.list_words(self.read_own_last_store(address, size))
         return self.program.locations.list_readable_words(address, self.thread, self.way.stores)

@@ -34,7 +34,7 @@ def group_compilers(answers: dict[str, Answer | None]) -> dict[str, list[str]]:
 
 
 def print_matrix(name: str, source: Source, compilers: list[str] | None, by: Callable[..., Answer]) -> int:
-    """Prints each list once, and where the verdict changes. Returns the exit status."""
+    """Prints each list once, and the compilers for which the verdict changes. Returns the exit status."""
     compilers = compilers or list_compilers(source.ending)
     if not compilers:
         return given.refuse(f"from_c: no compiler for '{source.ending}' is there: name one by --cc")

@@ -1,4 +1,4 @@
-"""The tests of lw that a program is, as texts; a run to each state, and which fences matter, by the lines of the source."""
+"""Writes the tests of lw to which a program is converted; a run to each state, and which fences matter, by the lines of the source."""
 from __future__ import annotations
 
 import io
@@ -77,7 +77,7 @@ def format_fences_together(answer: Answer, converter: Converter) -> str:
     everything: set[plain.Site] = {plain.LocationSite(number) for number in converter.locations.values()}
     names = Names(converter, answer.tests[0].conversion.question)
     original = Original(converter.name, converter.condition.text, format_place, format_place, everything, all_shown="its question and all locations")
-    # (Who lists the tests, and how often loops are gone through, is said of the whole answer.)
+    # (The maker of the lists and the number of tries are reported for the whole answer.)
     return plain.join_lines(format_answer(CombinedTest(parts, names.translate_line, True), original, False, True)[:-1])
 
 

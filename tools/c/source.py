@@ -1,4 +1,4 @@
-"""The source: which functions are threads, where the condition is, and which values it mentions."""
+"""Reads the source: the functions that are threads, the condition, and the values that it mentions."""
 from __future__ import annotations
 
 import os
@@ -10,7 +10,7 @@ from c.condition import Address, Condition, Global, read_condition
 from plain import Eq, Proposition, replace_atoms
 from shared.matches import require_match
 
-# What is no code: comments and quoted texts. A quote of Rust before a lifetime is not closed.
+# Parts of a source that are no code: comments and quoted texts. A quote of Rust before a lifetime is not closed.
 NO_CODE = re.compile(r'//[^\n]*|/\*.*?\*/|"(?:\\.|[^"\\])*"|\'(?:\\[^\']+|[^\'\\])\'', re.S)
 HERD_COMMENT = re.compile(r"\(\*.*?\*\)", re.S)
 MARK = re.compile(r"(?://|/\*)\s*lw:\s*")
@@ -70,7 +70,7 @@ def find_closing_brace(code: str, begin: int) -> int:
 
 
 def find_bodies(code: str) -> dict[int, tuple[int, int]]:
-    """Returns, for each thread, where the braces of its function open and close. Raises Fault unless they are P0, P1 and so on, at most four."""
+    """Returns, for each thread, the places of the braces of its function. Raises Fault unless they are P0, P1 and so on, at most four."""
     bodies: dict[int, tuple[int, int]] = {}
     for function in THREAD.finditer(code):
         number = int(function[1])
@@ -85,7 +85,7 @@ def find_bodies(code: str) -> dict[int, tuple[int, int]]:
 
 
 def blank_bodies(code: str, bodies: dict[int, tuple[int, int]]) -> str:
-    """Returns what is outside of all threads: helpers, which all of them may call."""
+    """Returns the functions outside of all threads: helpers, which all of them may call."""
     for begin, end in sorted(bodies.values(), reverse=True):
         code = code[:begin] + code[end:]
     return code
@@ -142,7 +142,7 @@ def read_source(path: str, text: str) -> Source:
 
 
 def parse_initial_block(text: str, code: str, begin: int, end: int) -> dict[str, str]:
-    """Returns what the initial block says of each location. Raises Fault at an entry that is not read."""
+    """Returns the entries of the initial block for each location. Raises Fault at an entry that is not read."""
     words: dict[str, str] = {}
     for entry_match in re.finditer(r"[^;]+", code[begin:end]):
         entry, offset = entry_match[0].strip(), begin + entry_match.start()

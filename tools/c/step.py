@@ -101,7 +101,7 @@ class Step(Control):
         return to_signed(self.way.require_number(value), size) & MASK[target]
 
     def execute_conversion(self) -> None:
-        """Does CLTQ and its kin: they extend RAX."""
+        """Does CLTQ and similar instructions: they extend RAX."""
         name, rax = self.instruction.mnemonic, Register("rax", 8)
         size = CONVERSIONS[name]
         value = self.read_register("rax", size)

@@ -12,7 +12,7 @@ Clock = Tuple[int, ...]
 
 
 class Symbol(NamedTuple):
-    """What a load of `width` bytes found, plus a number, modulo 2 to the bits of `size` bytes."""
+    """The word that a load of `width` bytes found, plus a number, modulo 2 to the bits of `size` bytes."""
 
     id: int
     width: int

@@ -44,7 +44,7 @@ class Vectors(Access):
             self.write_register(target, size, value)
 
     def read_moved_value(self, source: Any, size: int) -> Value:
-        """Returns what is moved."""
+        """Returns the value that is moved."""
         if isinstance(source, Memory):
             self.check_own(source, size)
             return self.load(self.compute_address(source), size)

@@ -5,13 +5,13 @@ import re
 
 from c.source import blank_comments
 
-# What the numbers of tools/c/weaker.h and tools/c/weaker_cc.h mean.
+# The meanings of the numbers of tools/c/weaker.h and tools/c/weaker_cc.h.
 WEAKER = {1: "release and acquire in place of seq_cst", 2: "relaxed in place of every order"}
 PATH = r"(?:\w+\s*::\s*)*"
 ORDER = re.compile(rf"\b{PATH}(SeqCst|AcqRel|Acquire|Release|Relaxed)\b")
 FENCE = re.compile(rf"\b{PATH}fence\s*\(")
 CALLED = re.compile(r"\b(\w+)\s*\(\Z")
-# Of an operation the order in place of SeqCst. All other operations that have an order load and store at once.
+# The order of an operation in place of SeqCst. All other operations that have an order load and store at once.
 IN_PLACE = {"load": "Acquire", "store": "Release"}
 OPERATIONS = re.compile(r"load|store|swap|fetch_\w+|compare_exchange|compare_exchange_weak|compare_and_swap|fence")
 

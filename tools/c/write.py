@@ -169,7 +169,7 @@ class Writer:
 
 
 def follow_jumps(code: list[Statement], target: int) -> int:
-    """Returns where a jump to an instruction ends."""
+    """Returns the instruction that a jump to an instruction reaches."""
     while target < len(code) and code[target].kind == "jmp":
         target = code[target].target
     return target

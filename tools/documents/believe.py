@@ -1,15 +1,15 @@
-"""Follows the definitions on which the contract of `answer` stands, for the task `states`, and compares them with docs/BELIEVE.md.
+"""Follows the definitions on which the contract of `answer` depends, for the task `states`, and compares them with docs/BELIEVE.md.
 
     python3 tools documents.believe [--write | --print]
 
 It begins with what the clauses of the contract say and goes from name to name (tools/documents/definitions.py), not from file to file. There are
 seven sittings: what `made` and `machine` say, on the flat machine; what the laws of lw_axiomatic have in place of the machine, AXIOMS;
-what `caches` adds; the limits and texts, which the first reaches by way of LAST alone; what the lists of `beyond` add, SEARCH; what the
+what `caches` adds; the limits and texts, which the first reaches only by way of LAST; what the lists of `beyond` add, SEARCH; what the
 contract of the whole command adds, COMMAND; and other forms of the machine and the axioms, FORMS. It prints, step by step as the page has
-them, each file with the lines that are reached in it and their number. It fails where a definition is reached that no step has,
-where a step has other lines or another number, where the first sitting has more lines of definitions than MAX_LINES, and where the page's Notation
-lacks a name of the standard library that a definition uses. With --write the page's lines and numbers are written anew; with --print
-the contracts and all these lines are printed, block by block, in the page's order.
+them, each file with the lines that are reached in it and their number. It fails if a definition is reached that no step has,
+if a step has other lines or another number, if the first sitting has more lines of definitions than MAX_LINES, and if the page's Notation
+lacks a name of the standard library that a definition uses. With --write it writes the page's lines and numbers anew; with --print
+it prints the contracts and all these lines, block by block, in the page's order.
 tools/check_documents.py calls it. The last line is 'N passed, M failed'.
 """
 from __future__ import annotations
@@ -177,7 +177,7 @@ def format_size(files: dict[str, set[int]]) -> str:
 
 
 def find_faults(text: str, sittings: list[list[Definition]]) -> list[str]:
-    """Returns what is wrong with the page, a line each."""
+    """Returns the faults of the page, a line each."""
     files = [group_lines_by_file(it) for it in sittings]
     faults: list[str] = []
     met: list[set[str]] = [set() for _ in files]
@@ -219,7 +219,7 @@ def read_page() -> str:
 
 
 def find_page_faults() -> list[str]:
-    """Returns what is wrong, a line each, for tools/check_documents.py."""
+    """Returns the faults, a line each, for tools/check_documents.py."""
     return find_faults(read_page(), list_sittings())
 
 

@@ -4,13 +4,13 @@
 
 A crate's `proofs/Common.antt` passes these names on, and its other proofs import them from there, in lines of at most 110 columns;
 lower crates' definitions come by the lower crate's own Common. What is generated from the code (`specs.declared`, `specs.contracts`)
-is not passed on from one crate to another, so each Common names it where it stands. Directly come, too, a crate's own lemmas, a name
-that two modules share, one that is renamed (`as`), and one that a proof unfolds.
+is not passed on from one crate to another, so each Common imports it from its own place. A proof also imports directly a crate's own lemmas, a
+name that two modules share, one that is renamed (`as`), and one that a proof unfolds.
 
-What a proof uses and imports nowhere is looked for first, and imported (missing_names.py): a line says of each such name from where. For
-one that stands nowhere, or in several modules, it says so, and the exit status is 1: import that by hand.
+What a proof uses and imports nowhere is looked for first, and imported (missing_names.py): for each such name a line says from where. If
+a name is nowhere, or in several modules, the line says so, and the exit status is 1: import it by hand.
 
-Without --write it tells what would change.
+Without --write it says what would change.
 """
 from __future__ import annotations
 
@@ -46,7 +46,7 @@ class Crates:
 
     def __init__(self) -> None:
         """Reads the names that each Common exports."""
-        self.completed: dict[str, str] = {}  # of each proof its text with the imports that it lacked
+        self.completed: dict[str, str] = {}  # for each proof its text with the imports that it lacked
         text = re.sub(r"#.*", "", read_text(f"{HOME}/crates.txt"))
         self.order = re.findall(r"^(\w+)[^:\n]*:", text, re.M)
         self.passed = {it: self.read_passed_names(self.make_module_path(it)) for it in self.order}
@@ -133,7 +133,7 @@ class Names:
         """
         self.crates, self.in_std, self.opened = crates, in_std, find_unfoldable_definitions(crates)
         imports = {it: self.count_imports(it) for it in crates.order}
-        # Of each crate the names that its Common exports, each with its module.
+        # For each crate the names that its Common exports, each with its module.
         self.passed: dict[str, dict[str, str]] = {}
         for crate in reversed(crates.order):
             best: dict[str, str] = {}

@@ -1,7 +1,7 @@
 """Follows definitions by name, from the contract of a public call down, for docs/BELIEVE.md.
 
 A definition is a block of lines of a file of `specs/`: its name with its type, its clauses or fields, and the comment above it. It
-stands on the names that it cites: those that its file imports from a crate of the workbench, those that are defined in its file,
+depends on the names that it cites: those that its file imports from a crate of the workbench, those that are defined in its file,
 and types that code declares, whose block is the declaration in `src/`. What the standard library defines is not followed.
 """
 from __future__ import annotations
@@ -29,7 +29,7 @@ class Definition:
         return self.last - self.first + 1
 
     def key(self) -> tuple[str, int]:
-        """Returns what distinguishes a definition from all others."""
+        """Returns a key that distinguishes a definition from all others."""
         return self.path, self.first
 
 

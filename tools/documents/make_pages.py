@@ -1,9 +1,9 @@
-"""Writes the page NAME.page of each test of examples/ and examples/beyond/, by tools/plain.py alone: `./lw` and `./beyond` have no part in it.
+"""Writes the page NAME.page of each test of examples/ and examples/beyond/, only by tools/plain.py: `./lw` and `./beyond` have no part in it.
 
     python3 tools documents.make_pages
 
-A page has the test's report (for a test past the limits of lists, that of `./beyond`), the replay of the schedule that its comment tells, the replays of FURTHER below, and of a source test
-what it is compiled to.
+A page has the test's report (for a test past the limits of lists, that of `./beyond`), the replay of the schedule in its comment, the
+replays of FURTHER below, and for a source test its compiled program.
 """
 from __future__ import annotations
 

@@ -22,7 +22,7 @@ from shared import answers, command, spawn
 from shared.home import HOME
 from shared.matches import require_match
 
-# Of each folder the ending of its programs, and the compilers of its table.
+# For each folder the ending of its programs, and the compilers of its table.
 FOLDERS = {"from_c": (".c", ("gcc -O2", "clang -O2")), "from_rust": (".rs", ("rustc -C opt-level=2",))}
 TABLE = re.compile(r"^\| Program \| The list by.*\n(?:\|.*\n)+", re.M)
 BOUNDED, NOT_PROVED, NONE = "(each loop at most once)", "(not proved)", "none"

@@ -115,7 +115,7 @@ def find_link_faults(crate: str, text: str) -> Iterator[str]:
 
 
 def comparisons() -> Iterator[tuple[str, object, object]]:
-    """Yields what tools/check_documents.py compares: what is compared, what is expected, and what was found."""
+    """Yields the comparisons of tools/check_documents.py: the name, the expected value, and the value that was found."""
     for crate, _ in read_dependencies():
         text = read_readme(crate)
         yield f"the list of files in crates/{crate}/README.md", True, text == replace_list(text, make_list(crate)) and text != ""

@@ -2,7 +2,7 @@
 
     python3 tools documents.make_times
 
-tools/check_documents.py looks whether it is so.
+tools/check_documents.py checks that the table is up to date.
 """
 from __future__ import annotations
 

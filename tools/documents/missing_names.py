@@ -1,13 +1,13 @@
 """Finds from where a proof can import a name that it uses and that it neither brings in, declares nor binds. For common_names.py.
 
-A name is looked for, in the crate of the proof and in those that it stands on, in
+A name is looked for, in the crate of the proof and in those that it depends on, in
 
-- what the crate's own `proofs/Common.antt` passes on already: there it is taken from, whatever else has it;
-- what `specs/` declares, and `proofs/`, of lower crates `proofs/api/` alone; a file that itself imports the proof is left out;
+- what the crate's own `proofs/Common.antt` passes on already: this comes first, whatever else has the name;
+- what `specs/` declares, and `proofs/`, of lower crates only `proofs/api/`; a file that itself imports the proof is left out;
 - what their proofs import of std, of the kit's libraries, and of what is generated from the code; and std's Common;
-- where none of these has it, what `rt lemma` finds by that name.
+- if none of these has it, what `rt lemma` finds by that name.
 
-One place is an answer. With none, or with several, the name is told and nothing is imported. How names are read: shared/antt_free.py.
+One place is an answer. With none, or with several, the name is reported and nothing is imported. How names are read: shared/antt_free.py.
 """
 from __future__ import annotations
 
@@ -32,7 +32,7 @@ def split_names(group: str) -> list[str]:
 
 
 def list_offered_names(file: File) -> set[str]:
-    """Returns what a file declares that others can import: public names, and the constructors of its types."""
+    """Returns the names of a file that others can import: public names, and the constructors of its types."""
     offered_names = set()
     for declaration in file.declarations:
         if declaration.owner is None and not declaration.scope:
@@ -54,13 +54,13 @@ class Missing:
     def __init__(self, crates: Any, std: str, in_std: set[str]) -> None:
         """Finds where each name is defined. `in_std` are the names that std's Common exports."""
         self.crates, self.std = crates, std
-        self.reports: list[tuple[bool, str]] = []  # of each missing name whether it has one origin, and a line
+        self.reports: list[tuple[bool, str]] = []  # for each missing name whether it has one origin, and a line
         self.files = Files()
         self.by_path = {it.path: it for it in self.files.all}
         self.below: dict[str, set[str]] = {}
         for crate, (_, names) in lines_of_crates().items():
             self.below[crate] = {crate}.union(*(self.below[it] for it in names if it in self.below))
-        self.places: dict[str, set[tuple[str, str, str]]] = defaultdict(set)  # of each word names, each with a crate and a module
+        self.places: dict[str, set[tuple[str, str, str]]] = defaultdict(set)  # for each word names, each with a crate and a module
         for file in self.files.all:
             for name in list_offered_names(file):
                 self.add(name, file.crate, file.module)
@@ -110,7 +110,7 @@ class Missing:
 
     @staticmethod
     def find_by_rt(crate: str, word: str) -> set[tuple[str, str]]:
-        """Returns what `rt lemma` finds by a word."""
+        """Returns the results of `rt lemma` for a word."""
         printed = subprocess.run(["rt", "lemma", word], cwd=f"{HOME}/crates/{crate}", capture_output=True, text=True, check=False).stdout
         return {(module, name) for module, group in FOUND.findall(printed) for name in split_names(group) if word in list_search_words(name)}
 
@@ -143,7 +143,7 @@ class Missing:
         for word in list_free_names(file):
             modules = sorted(self.find_modules(file, word))
             module_names = ", ".join(module for module, _ in modules)
-            several = f"stands in several modules: {module_names}" if modules else "stands nowhere"
+            several = f"is in several modules: {module_names}" if modules else "is nowhere"
             says = f"is imported from {module_names}" if len(modules) == 1 else several
             self.reports.append((len(modules) == 1, f"{os.path.relpath(path, HOME)}: {word} {says}"))
             added += ["use {}.{{{}}}".format(*it) for it in modules if len(modules) == 1]

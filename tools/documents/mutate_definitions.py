@@ -4,7 +4,7 @@
                                                 [--work FOLDER] [--results FILE]
     python3 tools documents.mutate_definitions --list | --table [--results FILE]
 
-A definition can't be proved right; but a wrong row is to contradict something else that was said: the code, a lemma, a law, or an
+A definition can't be proved right; but a wrong row should contradict something else that was said: the code, a lemma, a law, or an
 example. The mutations are those of tools/documents/definition_mutations.txt, a block of lines each: a title, and then of each edit the
 file, the old text and the new one, on a line each. The first edit is of the definition; others are of code that is wrong in the same way,
 so that something else has to notice. Each mutation is made in a copy of the repository's last commit, and the crate and those that depend
@@ -51,9 +51,9 @@ FUNCTION = re.compile(r"^fn (\S+): (?:not proved|no proof)(.*)$", re.M)
 GOAL = re.compile(r"did not prove ((?:`[^`]+`(?:, | and )?)+)")
 # A law is a public function of one of these modules.
 LAW = re.compile(r"^lw_(?:axiomatic|\w+::\w*laws)::")
-# What a mutation has to leave without an error: definitions, and code with its clauses. (specs/laws/ has proofs.)
+# The files that a mutation has to leave without an error: definitions, and code with its clauses. (specs/laws/ has proofs.)
 DEFINITION = re.compile(r"^(?:specs/(?!laws/)|src/)")
-# How many lemmas or laws a cell of the table names.
+# The number of lemmas or laws that a cell of the table names.
 SHOWN = 3
 
 
@@ -68,7 +68,7 @@ class Edit:
         self.file, self.old, self.new = file, old, new
 
     def read_file(self, home: str) -> str:
-        """Returns what the file has in a checkout."""
+        """Returns the contents of the file in a checkout."""
         with open(f"{home}/{self.file}", encoding="utf-8") as file:
             return file.read()
 
@@ -122,14 +122,14 @@ def parse_mutation(block: str) -> Mutation:
 
 
 def find_faults(listed: list[Mutation]) -> list[str]:
-    """Returns what is wrong with the mutations, a line each."""
+    """Returns the faults of the mutations, a line each."""
     counts = [(it.title, edit.file, edit.read_file(HOME).count(edit.old)) for it in listed for edit in it.edits]
     titles = [it.title for it in listed]
     faults = [f"{title}: `old` is {count} times in {file}" for title, file, count in counts if count != 1]
     return faults + [f"{it}: two mutations have this title" for it in sorted(set(titles)) if titles.count(it) > 1]
 
 
-# What is known of a mutation that was made, as it is written to the file of results.
+# The result of a mutation, as it is written to the file of results.
 Result = Dict[str, Any]
 
 
@@ -215,7 +215,7 @@ class Copy:
 
 
 def parse_notices(printed: str) -> dict[str, list[Any]]:
-    """Returns what a check that fails says: the lemmas, the goals of functions, and the functions that are not proved."""
+    """Returns the report of a check that fails: the lemmas, the goals of functions, and the functions that are not proved."""
     lemmas: list[list] = []
     functions: list[str] = []
     goals: list[list] = []
@@ -276,7 +276,7 @@ def format_names(names: list[str]) -> str:
 
 
 def format_cells(result: Result) -> tuple[str, str]:
-    """Returns what noticed, as two cells of the table: the proofs that fail, and the laws and the functions that depend on them."""
+    """Returns two cells of the table on a noticed mutation: the proofs that fail, and the laws and the functions that depend on them."""
     crate, proved = result["crate"], ", ".join(result["proved"])
     if result["outcome"] == "nothing":
         return f"**nothing**: {proved} are proved", ""

@@ -2,10 +2,10 @@
 
     python3 tools documents.proof_times CRATE [N]
 
-It reads when the files below crates/CRATE/out/incremental were written, each as soon as it was checked, one behind another: so it is
+It reads when the files below crates/CRATE/out/incremental were written, each as soon as it was checked, one after another. So it is
 right only after a check of the whole crate from nothing at one job (`rt check --jobs 1` in a folder without out/). It prints the N
-dearest functions (20), each with the seconds of its parts: `Lts` is the model of the function's steps, `Tie` ties it to the contract,
-`Proof` is the search for proofs of the goals that no answer is given for, `Answers` the answers that are given.
+slowest functions (20), each with the seconds of its parts: `Lts` is the model of the function's steps, `Tie` ties it to the contract,
+`Proof` is the search for proofs of the goals without an answer, `Answers` are the answers.
 """
 from __future__ import annotations
 

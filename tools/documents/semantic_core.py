@@ -67,7 +67,7 @@ def format_size(files: list[str]) -> str:
 
 
 def find_faults() -> list[str]:
-    """Returns what is wrong, a line each."""
+    """Returns the faults, a line each."""
     core = list_dependencies(START)
     faults = []
     if len(core) > MAX_FILES or sum(count_lines(it)[0] for it in core) > MAX_LINES:

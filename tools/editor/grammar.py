@@ -15,7 +15,7 @@ from interpreter.tests import REGISTERS
 SCOPE = "source.lw"
 FOLDER = "tools/editor/vscode"
 NAME = "[A-Za-z_][A-Za-z0-9_]*"
-# What never matches: a rule that ends there is open to the end of the text.
+# A pattern that never matches: a rule that ends with it is open to the end of the text.
 NEVER = "(?!)"
 
 
@@ -130,7 +130,7 @@ def make_configuration() -> dict[str, Any]:
 
 
 def make_files() -> dict[str, str]:
-    """Returns of each file that is made its text."""
+    """Returns the text of each file that is made."""
     values = {"lw.tmLanguage.json": make_grammar(), "package.json": make_extension(), "language-configuration.json": make_configuration()}
     written = {f"{FOLDER}/{name}": json.dumps(it, indent=1, ensure_ascii=False) + "\n" for name, it in values.items()}
     return {**written, "web/words.js": words.make_javascript()}

@@ -8,7 +8,7 @@ from collections.abc import Iterable
 
 from interpreter.tests import REGISTERS
 
-# Of both languages: what is asked, and what a proposition has.
+# The words of questions and of propositions, in both languages.
 QUESTIONS = ("exists", "forall", "locations", "filter")
 CONSTANTS = ("true", "false")
 NEGATION = ("not",)

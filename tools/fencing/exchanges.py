@@ -1,4 +1,4 @@
-"""Exchanges without their lock: XCHG as a plain store, or as a load and a store where its old word is used; LOCK XADD as a load, a sum and a
+"""Exchanges without their lock: XCHG as a plain store, or as a load and a store if its old word is used; LOCK XADD as a load, a sum and a
 store. Without the lock no outcome is lost: a run with it is one in which nothing comes between, and the store is drained at once."""
 from __future__ import annotations
 
@@ -47,7 +47,7 @@ def make_unlocked_instructions(test: Test, place: Place) -> list[Statement]:
 
 
 def format_instructions(instructions: list[Statement]) -> str:
-    """Returns what replaces an exchange, in words."""
+    """Returns the replacement of an exchange, in words."""
     if len(instructions) == 1:
         return "a plain store"
     return "a load, a sum and a plain store" if any(it.kind == "add" for it in instructions) else "a load and a plain store"

@@ -1,8 +1,8 @@
-"""Places where a fence may help: before a load that some way reaches from a store with no fence and no locked instruction between, and
-before a branch with two such loads behind it.
+"""Finds the places where a fence may help: before a load that some way reaches from a store with no fence and no locked instruction between, and
+before a branch that two such loads follow.
 
-A fence elsewhere does no more: it may be moved on, over stores and what is the thread's own, to the next load or branch, where it holds back
-what it held back before, and perhaps more. So some smallest set of places is among these.
+A fence elsewhere does no more: it may be moved on, over stores and what is the thread's own, to the next load or branch, where it orders
+what it ordered before, and perhaps more. So some smallest set of places is among these.
 """
 from __future__ import annotations
 

@@ -1,4 +1,4 @@
-"""Fences that are spare: they can be left out, one by one, and no outcome is new. No list is made for that.
+"""Finds spare fences: they can be left out, one by one, and no outcome is new. No list is needed for that.
 
 The law `lw_axiomatic::spare_fences_change_no_outcome` (specs/SpareFences.antt) says so of a fence for which this holds on every path: each store
 before it and each later load that it separates are separated by another fence or locked instruction too, or no other thread has an

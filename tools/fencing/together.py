@@ -15,7 +15,7 @@ from herd.convert import Conversion
 from herd.together import make_merged_report
 from shared import answers
 
-# What an instruction of the original is known by; None if an instruction of lw comes from none. A thread with one is a place.
+# The key of an instruction of the original; None if an instruction of lw comes from none. A thread with a key is a place.
 Origin = Any  # hashable
 Place = Tuple[int, Origin]
 
@@ -26,7 +26,7 @@ def list_places_after_stores(test: plain.Test) -> list[tuple[int, int]]:
 
 
 class Part(NamedTuple):
-    """One of the tests, of each thread's instructions the origins, and the numbers of those that begin what comes from one instruction."""
+    """One of the tests, with the origins of each thread's instructions, and the indices at which the code of one original instruction begins."""
 
     conversion: Conversion
     origins: list[list[Origin]]
@@ -149,15 +149,15 @@ class CombinedTest:
 
 
 class Original(NamedTuple):
-    """What is said of the original: its name, its condition, how a place is named, and how if it is one of several; and by what further sites
-    everything is shown."""
+    """The words on the original: its name, its condition, the name of a place, and its name among several; and the further sites of
+    `--everything`."""
 
     name: str
     condition: str
     named: Callable[[Place], str]
     short: Callable[[Place], str]
     everything: set[plain.Site]
-    # How often loops are gone through, if that has a limit, and what everything is.
+    # The number of tries of loops, if it has a limit, and the words for `--everything`.
     tries: int = 0
     all_shown: str = "all registers and locations"
 
@@ -180,7 +180,7 @@ def format_sets(sets: list[list[str]], question: str, are_enough: bool) -> list[
 
 
 def format_fences(tests: CombinedTest, original: Original, question: str, are_enough: bool) -> Iterator[str]:
-    """Yields what is said of each fence, and which sets of them add no state, by what was asked."""
+    """Yields the lines on each fence, and the sets of fences that add no state, for the question."""
     before, fences = {*tests.list_states()}, tests.list_fences()
     for place in fences:
         added = [line for line in tests.list_states_without({place}) if line not in before]
@@ -203,7 +203,7 @@ def format_helping_places(tests: CombinedTest, format_place: Callable[[Place], s
 
 
 def format_exchanges(shown: list[tuple[str, CombinedTest]], format_place: Callable[[Place], str]) -> Iterator[str]:
-    """Yields what is said of each exchange: by the question, and by everything."""
+    """Yields the lines on each exchange: by the question, and by everything."""
     for place in shown[0][1].list_exchanges():
         yield f"{format_place(place)}, without its lock:"
         for shown_by, tests in shown:

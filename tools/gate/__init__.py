@@ -1,4 +1,4 @@
-"""What the test command checks beside `rt ci`."""
+"""The checks of the test command besides those of `rt ci`."""
 import sys
 
 # (`python3 -m unittest` imports this first. The other commands say so themselves.)

@@ -1,9 +1,9 @@
-"""What the unit tests of tools share: cases that count what they compare, and how they are run.
+"""Has the common parts of the unit tests of tools: cases that count what they compare, and how they are run.
 
-A file `test_X.py` here has a class for each subject, and a method for each of its rules, which the method's comment says. It is run by
-`python3 -m unittest`, by its own `main`, whose last line is 'N passed, M failed', and by tools/check_documents.py. These two count each
-assertion that holds, and each rule, or case of a rule (`subTest`), that doesn't. A method that compares nothing fails, so that a loop
-over no cases shows nothing.
+A file `test_X.py` here has a class for each subject, and a method for each of its rules, which the method's comment states. It is run by
+`python3 -m unittest`, by its own `main`, whose last line is 'N passed, M failed', and by tools/check_documents.py. The last two count each
+assertion that holds, and each rule, or case of a rule (`subTest`), that doesn't. A method that compares nothing fails, so a loop
+over no cases does not pass.
 """
 from __future__ import annotations
 
@@ -18,7 +18,7 @@ from shared import command
 from shared.home import close_check
 
 
-# What is compared, what is expected, and what was found.
+# The name of a comparison, the expected value, and the value that was found.
 Comparison = Tuple[str, object, object]
 
 

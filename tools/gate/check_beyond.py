@@ -7,11 +7,11 @@
 - The tests of bench/beyond and examples/beyond, and those of bench/ and tables/ that `lw` refuses for size: `beyond` answers them within its
   budget. The report has the checksum that bench/beyond/INDEX.md keeps, which is that of a report by tools/beyond.py; or it is that of
   tools/plain.py or of the search of tools/beyond.py. The numbers of orders and of states that are visited are those of the index. A
-  budget of so many states is enough, and one less is not. Schedules replay.
+  budget of that number of states is enough, and one less is not. Schedules replay.
 - Texts that are no tests: the line and the status of `lw`.
 
-Of tests with more than MAX_VISITED states only the orders are looked at. With --write the numbers of visited states in that
-index are written anew, and nothing is compared: for who has changed the search. The last line is 'N passed, M failed'.
+For tests with more than MAX_VISITED states only the orders are compared. With --write the command writes the numbers of visited states in that
+index anew, after a change of the search, and compares nothing. The last line is 'N passed, M failed'.
 """
 from __future__ import annotations
 
@@ -54,7 +54,7 @@ ROW = re.compile(r"^\| (\S+) \| ([\d,]+) \| ([\d,]+) \| ([\d,]+) \| (.*) \| ([0-
 
 
 def run_tool(arguments: list[str], text: str) -> tuple[str, str, int]:
-    """Returns what a command prints on both streams, and its exit status."""
+    """Returns the output of a command on both streams, and its exit status."""
     ran = subprocess.run(arguments, input=text.encode(), capture_output=True, check=False, timeout=300)
     return ran.stdout.decode(), ran.stderr.decode(), ran.returncode
 
@@ -223,7 +223,7 @@ def write_visited() -> None:
 
 
 def run_on_terminal(path: str) -> tuple[str, str]:
-    """Returns what `./beyond --method states` prints of a test on standard output, and on a terminal as standard error."""
+    """Returns the output of `./beyond --method states` on a test: standard output, and standard error on a terminal."""
     terminal, end = pty.openpty()
     with subprocess.Popen([f"{HOME}/beyond", "--method", "states", f"{HOME}/{path}"], stdout=subprocess.PIPE, stderr=end) as ran:
         os.close(end)

@@ -2,8 +2,8 @@
 
     python3 tools gate.check_build
 
-Looked at are: which crates are built and in which order, what a second call does, what a changed crate has built, a build that
-fails or is ended, two builds at once, and the first answer, which is for terminals alone; that ./lw builds no crate of ./beyond's, and
+It checks which crates are built and in which order, what a second call does, what is built after a change of a crate, a build that
+fails or is ended, two builds at once, and the first answer, which only terminals get; that ./lw builds no crate of ./beyond's, and
 ./beyond no crate twice; and the file that ./beyond reads. tools/check_documents.py calls it.
 """
 from __future__ import annotations
@@ -93,7 +93,7 @@ class Checkout:
         return subprocess.Popen([f"{self.home}/{arguments[0]}", *arguments[1:]], start_new_session=True, **{**defaults, **options})
 
     def run_command(self, *arguments: str) -> tuple[bytes, str, list[str]]:
-        """Returns what ./lw, or a command, prints on both streams, and what it has asked the stand-in to do."""
+        """Returns the output of ./lw, or of a command, on both streams, and its calls of the stand-in."""
         streams = self.start_command(arguments or ("lw", "states")).communicate(b"text\n", timeout=60)
         return streams[0], streams[1].decode(), self.take_record()
 
@@ -146,7 +146,7 @@ def check_builds(checkout: Checkout) -> Iterator[Comparison]:
     proved = [it for it in others if re.fullmatch(r"lw: \w+ is proved \(\d+ of \d+\), (\d+ to \d+|about \d+) minutes? to go", it)]
     yield "so does each crate that is proved, but the last", len(checkout.crates) - 1, len(proved)
     yield "the first call builds each crate once", sorted(checkout.crates), list_begun_crates(record)
-    yield "each crate begins behind those that it stands on", True, is_in_order(record)
+    yield "each crate begins after those that it depends on", True, is_in_order(record)
     yield "crates are built beside each other", True, record.index("begins lw_memory") < record.index("ends lw_text")
     yield "the second call builds nothing", (ANSWER, "", []), checkout.run_command()
     checkout.change_source(CHANGED)
@@ -204,7 +204,7 @@ def check_failures(checkout: Checkout) -> Iterator[Comparison]:
 
 
 def run_on_terminal(checkout: Checkout, output: BinaryIO | int) -> tuple[str, bytes | None, int]:
-    """Returns what a call shows on a terminal, standard error, and what it writes to standard output."""
+    """Returns the output of a call on a terminal, as standard error, and on standard output."""
     ours, theirs = pty.openpty()
     ran = checkout.start_command(stdin=subprocess.PIPE, stdout=output, stderr=theirs)
     os.close(theirs)
@@ -227,10 +227,10 @@ def check_first_answer(checkout: Checkout, folder: str) -> Iterator[Comparison]:
         with open(f"{folder}/written", "w+b") as output:
             shown, _, status = run_on_terminal(checkout, output)
             output.seek(0)
-            yield "standard output has the proved answer alone", (ANSWER, 3), (output.read(), status)
+            yield "standard output has only the proved answer", (ANSWER, 3), (output.read(), status)
         unproved = f"lw: unproved, so only a first look (the proved answer follows):\r\n{answer}: states\r\ntext\r\n"
         yield "a terminal shows the first answer, as unproved", True, unproved in shown
-        yield "an answer that differs is told", is_told, "lw: the first answer was another" in shown
+        yield "an answer that differs is reported", is_told, "lw: the first answer was another" in shown
     checkout.change_source(CHANGED)
     shown, out, status = run_on_terminal(checkout, subprocess.PIPE)
     yield "in a pipe nothing unproved is shown", (False, ANSWER, 3), ("unproved" in shown, out, status)
@@ -273,7 +273,7 @@ def main() -> int:
     """Runs the command that the arguments describe. Returns the exit status."""
     wrong = [it for it in comparisons() if it[1] != it[2]]
     for subject, expected, actual in wrong:
-        print(f"{subject}\n  wanted: {expected!r}\n  told:   {actual!r}")
+        print(f"{subject}\n  wanted: {expected!r}\n  found:  {actual!r}")
     return 1 if wrong else 0
 
 

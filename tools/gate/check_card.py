@@ -1,12 +1,12 @@
-"""Looks whether the program reads and refuses what docs/CARD.md says. The last line is 'N passed, M failed'.
+"""Checks that the program reads and refuses what docs/CARD.md says. The last line is 'N passed, M failed'.
 
     python3 tools gate.check_card
 
-- The two tests of the card are read, and each statement in its tables is, in place of the first row.
-- Each fault of the card is told by the program where it is written so, and what was meant in its place is read.
+- The program reads the two tests of the card, and each statement in its tables, in place of the first row.
+- The program reports each fault of the card in the wrong text, and reads the right text in its place.
 - There are ten faults, and the limits are those of docs/FORMAT.md.
 
-tools/check_documents.py calls this; the program has to be there.
+tools/check_documents.py calls this; the program has to be built.
 """
 from __future__ import annotations
 
@@ -28,7 +28,7 @@ LIMITS = (("four threads", "one to four of them"), ("eight locations", "There ar
 
 
 def ask_program(lines: list[str]) -> tuple[str, int]:
-    """Returns what the program prints about a test when it compiles it, which reads all of it, and the exit status."""
+    """Returns the program's output when it compiles a test, which reads all of it, and the exit status."""
     ran = subprocess.run([PROGRAM, "compile"], input="".join(f"{it}\n" for it in lines).encode(), capture_output=True, check=False)
     return ran.stderr.decode(), ran.returncode
 
@@ -53,7 +53,7 @@ def read_tables(card: str) -> list[list[list[str]]]:
 
 
 def list_code_spans(cell: str) -> list[str]:
-    """Returns what a cell has in backticks."""
+    """Returns the texts in backticks of a cell."""
     return re.findall(r"`([^`]*)`", cell)
 
 

@@ -1,11 +1,11 @@
-"""Looks whether each wrong body was refused where it says, by what the gate printed.
+"""Checks that each wrong body was refused at the place that it names, by what the gate printed.
 
     python3 tools gate.check_edits LOG
 
 Each crates/CRATE/must-fail/NAME.edit begins with `refused at: FUNCTION CLAUSE (GOAL)`: the function that the edit breaks, its clause
-that is then not proved, and the open goal that the prover tells of first. LOG has the lines of `rt ci`, or of `rt must-fail`, which
-tell of each wrong body what the prover said first: that has to be this goal, in the function's source file or in its own proof
-files. A wrong body that is refused for what it is written like, or because a proof names what it took away, says nothing of the
+that is then not proved, and the open goal that the prover reports first. LOG has the lines of `rt ci`, or of `rt must-fail`, which
+have the prover's first report on each wrong body: it has to be this goal, in the function's source file or in its own proof
+files. A wrong body that is refused for how it is written, or because a proof names what it removed, says nothing of the
 contract. The last line is 'N passed, M failed'.
 """
 from __future__ import annotations
@@ -31,7 +31,7 @@ def list_edits() -> list[str]:
 
 
 def read_reports(log: str) -> dict[str, str]:
-    """Returns what the log says of each wrong body."""
+    """Returns the log's report on each wrong body."""
     with open(log, encoding="utf-8", errors="replace") as file:
         return dict(re.findall(r"^rt: must-fail (\S+\.edit): (.*)$", file.read(), re.M))
 
@@ -47,7 +47,7 @@ def find_function(path: str, line: int) -> str | None:
 
 
 def find_fault(edit: str, report: str | None) -> str | None:
-    """Returns what is wrong with how a wrong body was refused, or `None`."""
+    """Returns the fault in the refusal of a wrong body, or `None`."""
     crate, name = edit.split("/")
     with open(f"{HOME}/crates/{crate}/must-fail/{name}", encoding="utf-8") as file:
         text = file.read()
@@ -68,7 +68,7 @@ def find_fault(edit: str, report: str | None) -> str | None:
         is_there = folder.replace("+", "") == f"{home}/{function}" or is_of_cycle
     else:
         is_there = f"file: {match[1]}" in text.split("\n") and find_function(f"{HOME}/crates/{crate}/{match[1]}", int(match[2])) == function
-    return None if is_there else f"the prover told something else first than of {head[2]}: {report}"
+    return None if is_there else f"the prover reported something else before {head[2]}: {report}"
 
 
 def main() -> int:

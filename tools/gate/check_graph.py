@@ -1,21 +1,21 @@
-"""Compares the axioms of tools/executions.py with the machine, and looks at what tools/graph.py draws. The last line is
+"""Compares the axioms of tools/executions.py with the machine, and checks what tools/graph.py draws. The last line is
 'N passed, M failed'.
 
     python3 tools gate.check_graph
 
-- Of each listed state of each example: the execution of its schedule keeps the axioms, and what it reads, its registers and its memory
+- For each listed state of each example: the execution of its schedule satisfies the axioms, and what it reads, its registers and its memory
   are those of tools/plain.py's replay of the schedule.
-- The outcomes that the axioms allow are those that tools/plain.py finds by walking: of the classic shapes, and of random tests.
-- Why not: of each outcome of the classic shapes that candidate executions have and the machine has not, a cycle is told, which is one
-  of the relations that the axiom is about; and no state that the machine has is called forbidden.
-- Each row of docs/FAMILIES.md: the execution that its test asks about has the row's cycle, and where x86-TSO forbids it that is a cycle
+- The outcomes that the axioms allow are those that tools/plain.py finds by its walk: for the classic shapes, and for random tests.
+- Why not: for each outcome of the classic shapes that candidate executions have and the machine has not, the tool prints a cycle of the
+  relations that the axiom is about; and it calls no state that the machine has forbidden.
+- Each row of docs/FAMILIES.md: the execution that its test asks about has the row's cycle, and if x86-TSO forbids it, that is a cycle
   of global happens-before.
 - In the picture of each of these executions no arrow crosses a box, no label lies over a box, over another label or out of it, and at most
   one lies over an arrow of another edge.
 - No fence is missed between two events that have a fence or a locked instruction between them.
 - What the tool prints and refuses.
 
-Where the program is built, it lists the states, else tools/plain.py. tools/check_documents.py calls this.
+The program lists the states if it is built, otherwise tools/plain.py. tools/check_documents.py calls this.
 """
 from __future__ import annotations
 
@@ -79,7 +79,7 @@ def list_schedules(path: str, test: plain.Test) -> list[str]:
 
 
 def check_schedules(path: str) -> list[Comparison]:
-    """Returns of each listed state its execution."""
+    """Returns, for each listed state, its execution."""
     test, name = read_compiled(path), os.path.basename(path)
     results: list[Comparison] = []
     for schedule in list_schedules(path, test):
@@ -99,7 +99,7 @@ def check_schedules(path: str) -> list[Comparison]:
         results.append((f"{name}, {schedule}: few labels lie over arrows of other edges", True, count_crossing_labels(picture) <= MAX_CROSSING))
         words = graph.format_execution(execution)
         is_weak = any(it.startswith("No run of interleaving") for it in words)
-        results.append((f"{name}, {schedule}: a cycle is told where interleaving has no such run", bool(execution.find_cycle()), is_weak))
+        results.append((f"{name}, {schedule}: a cycle is found if interleaving has no such run", bool(execution.find_cycle()), is_weak))
         results.append((f"{name}, {schedule}: a fence is missed where one is", [], find_fenced_pairs(test, execution, words)))
     return results
 
@@ -118,7 +118,7 @@ def list_positions_between(execution: executions.Execution, events: dict[str, ex
 
 
 def find_picture_faults(picture: str) -> list[str]:
-    """Returns what is covered in a picture of an execution: arrows that cross boxes, labels that lie over boxes or over each other, or out of it.
+    """Returns the overlaps in a picture of an execution: arrows that cross boxes, labels that lie over boxes or over each other, or out of it.
     """
     root = xml.etree.ElementTree.fromstring(picture)
     number = lambda it, key: float(it.get(key))
@@ -216,7 +216,7 @@ def list_asked_words(proposition: plain.Proposition) -> dict[plain.Site, int]:
 
 
 def make_bare_program(name: str) -> plain.Test:
-    """Returns the x86 form of a source test: what it is compiled to, without fences."""
+    """Returns the x86 form of a source test: its compiled program without fences."""
     with open(f"{HOME}/examples/{name}.litmus", encoding="utf-8") as file:
         return plain.compile_test(plain.read_test(file.read()), has_fences=False)
 

@@ -1,4 +1,4 @@
-"""Looks whether tools/make_lab.py makes of docs/LAB.md what a class needs. The last line is 'N passed, M failed'.
+"""Checks that tools/make_lab.py makes what a class needs from docs/LAB.md. The last line is 'N passed, M failed'.
 
     python3 tools gate.check_lab
 
@@ -9,12 +9,12 @@
 - The points of the items make up those of their tasks, and these and the minutes those of the timetable. docs/SOLUTIONS.md has the same
   tasks, and an answer to each item. Its table of cache lines is what the program replays.
 - In Chromium, if it is there: task 1 prints on one page, the rest on at most seven, and sheet and card fit a phone.
-- In Chromium without a network, where it is there with its driver and python3-selenium, and unshare is permitted, the lab is played from the
-  sheet (tools/gate/check_lab_browser.py), and what the page shows is what docs/SOLUTIONS.md says. What is left out is told, which with
-  CI=true is a failure where the modules alone are missing.
+- In Chromium without a network, if it is there with its driver and python3-selenium, and unshare is permitted, the lab is played from the
+  sheet (tools/gate/check_lab_browser.py), and what the page shows is what docs/SOLUTIONS.md says. A line says what is skipped; with
+  CI=true that is a failure if only the modules are missing.
 - The same sources give the same bytes; without modules the site is left out, and without the program the slides, and nothing else.
 
-tools/check_documents.py calls all this; the program has to be there.
+tools/check_documents.py calls all this; the program has to be built.
 """
 from __future__ import annotations
 
@@ -51,7 +51,7 @@ WORDS_IN_A_ROW = 6
 TASK = re.compile(r"^### (\d)\. (.*) \((\d+) minutes, (\d+) points( more)?\)$", re.M)
 ITEM = re.compile(r"^(\d)\. \((\d) points?, (easy|medium|hard)\) ", re.M)
 TIME = re.compile(r"^\| (\d+) to (\d+) \| (.*?) \| (\d*) ?\|$", re.M)
-# A page of a printed document; and what leaves of the sheet the first task alone.
+# A page of a printed document; and a style that leaves only the first task of the sheet.
 PAGE = re.compile(rb"/Type\s*/Page\b")
 FIRST_TASK = "for (let it = document.querySelector('h3.new-page'); it;) { const next = it.nextElementSibling; it.remove(); it = next; }"
 MIN_TESTS, MIN_ITEMS, MIN_PLAYED = 16, 18, 70
@@ -71,7 +71,7 @@ SAID = (
 
 
 def ask_program(arguments: list[str], text: str) -> tuple[str, int]:
-    """Returns what the program prints, and its exit status."""
+    """Returns the program's output, and its exit status."""
     ran = subprocess.run([PROGRAM, *arguments], input=text.encode(), stdout=subprocess.PIPE, stderr=subprocess.STDOUT, check=False)
     return ran.stdout.decode(), ran.returncode
 
@@ -88,13 +88,13 @@ def extract_prose(text: str) -> str:
 
 
 def list_word_rows(text: str) -> set[str]:
-    """Returns all rows of so many words that a text has, in small letters."""
+    """Returns all sequences of WORDS_IN_A_ROW words of a text, in small letters."""
     words = re.findall(r"[\w=]+", text.lower())
     return {" ".join(words[index : index + WORDS_IN_A_ROW]) for index in range(len(words) - WORDS_IN_A_ROW + 1)}
 
 
 def extract_visible_text(page: str) -> str:
-    """Returns what a reader sees of a page."""
+    """Returns the visible text of a page."""
     return unescape(re.sub(r"<style>.*?</style>|<[^>]*>", " ", page, flags=re.S))
 
 
@@ -113,13 +113,13 @@ def check_tests(lab: str, tests: dict[str, str]) -> Iterator[Comparison]:
 
 
 def find_tests(text: str) -> dict[str, bool]:
-    """Returns the tests that a task shows: of each whether it is played by hand."""
+    """Returns the tests that a task shows: for each whether it is played by hand."""
     lines = re.findall(r"^Tests( by hand)?: (.*)$", text, re.M)
     return {name: bool(by_hand) for by_hand, names in lines for name in names.split()}
 
 
 def read_comments(lab: str) -> dict[str, str]:
-    """Returns of each example of the lab its comment."""
+    """Returns, for each example of the lab, its comment."""
     return {it: require_match(re.search(r"\(\*(.*?)\*\)", read_file(f"examples/{it}.litmus"), re.S))[1] for it in list_examples(lab).values()}
 
 
@@ -163,7 +163,7 @@ def check_links(tests: dict[str, str]) -> Iterator[Comparison]:
 
 
 def read_tasks(text: str) -> list[tuple[str, str, int, int, str]]:
-    """Returns the tasks of a text: of each its number its title, minutes and points, with what is below its heading."""
+    """Returns the tasks of a text by their numbers: the title, minutes and points of each, with the text below its heading."""
     matches = list(TASK.finditer(text))
     ends = [it.start() for it in matches[1:]] + [len(text)]
     return [(it[1], it[2], int(it[3]), int(it[4]), text[it.end() : end].partition("\n### ")[0]) for it, end in zip(matches, ends)]
@@ -263,7 +263,7 @@ def check_command() -> Iterator[Comparison]:
 
 @functools.lru_cache(maxsize=None)
 def find_offline_wrapper() -> list[str] | None:
-    """Returns the words that run a command in a namespace without a network, as root or as its owner; None where that is not permitted."""
+    """Returns the words that run a command in a namespace without a network, as root or as its owner; None if that is not permitted."""
     for words in (["unshare", "-n"], ["unshare", "-rn"]):
         try:
             if subprocess.run([*words, "true"], capture_output=True, check=False).returncode == 0:
@@ -274,7 +274,7 @@ def find_offline_wrapper() -> list[str] | None:
 
 
 def list_missing() -> list[str]:
-    """Returns what is missing to play the lab."""
+    """Returns the parts that are missing to play the lab."""
     requirements: dict[str, object] = {"Chromium with its driver and selenium": user.is_there(), "a permission for unshare": find_offline_wrapper()}
     requirements["the module of the sources as they are"] = web_files.read_module()
     return [requirement for requirement, is_there in requirements.items() if not is_there]

@@ -2,12 +2,12 @@
 
     unshare -n python3 tools gate.check_lab_browser FOLDER
 
-FOLDER is what tools/make_lab.py writes, with the site. Each item of tasks 2 to 6 that is done on the page is done as the sheet says: the link
-beside the test is clicked, then what the page has, and texts are typed. What the page shows is compared with docs/SOLUTIONS.md where a
-script finds it there, and else with what is typed in here. Each line that is printed is a comparison as JSON: what is compared, what is
-wanted, and what is told.
+FOLDER is what tools/make_lab.py writes, with the site. Each item of tasks 2 to 6 that is done on the page is done as the sheet says: it clicks
+the link beside the test, then the page's controls, and types texts. It compares what the page shows with docs/SOLUTIONS.md if a
+script finds it there, and otherwise with values in this file. Each printed line is a comparison as JSON: what is compared, what is
+wanted, and what was found.
 
-The namespace that `unshare -n` makes has a loopback alone, over which the browser is driven; it is taken up here.
+The namespace that `unshare -n` makes has only a loopback, over which the browser is driven; it is brought up here.
 """
 from __future__ import annotations
 
@@ -53,7 +53,7 @@ LINES = """
 const texts = (css) => [...document.querySelectorAll(`#watching ${css}`)].map((it) => it.textContent.trim());
 return [...texts(".cacheline .value"), ...texts(".own").map((it) => it.split(" ")[1])];
 """
-# Where a row is typed: behind a line.
+# The place at which a row is typed: after a line.
 GO_BEHIND = """
 const it = document.getElementById("text");
 const at = it.value.split("\\n").slice(0, arguments[0]).join("\\n").length;
@@ -63,7 +63,7 @@ it.setSelectionRange(at, at);
 
 
 class Solutions:
-    """What docs/SOLUTIONS.md says of the lab."""
+    """The answers of docs/SOLUTIONS.md."""
 
     def __init__(self) -> None:
         """Reads the solutions."""
@@ -77,13 +77,13 @@ class Solutions:
         return require_match(re.search(rf"^{number}\. (.*?)(?=^\d\. |\Z)", self.tasks[task], re.M | re.S))[1]
 
     def list_places(self) -> list[list[str]]:
-        """Returns of each test of the repair shop the places that tools/fences.py prints, without their numbers."""
+        """Returns, for each test of the repair shop, the places that tools/fences.py prints, without their numbers."""
         lines = re.findall(r"^  (P\d at .*)$", self.tasks[5], re.M)
         return [[re.sub(r" at \d+", "", it) for it in line.split("; ")] for line in lines]
 
 
 class Student(User):
-    """Somebody who has the sheet and the page."""
+    """A student with the sheet and the page."""
 
     def __init__(self, folder: str, temporary_folder: str) -> None:
         """Opens the sheet."""
@@ -110,7 +110,7 @@ class Student(User):
         self.wait_for_answer()
 
     def wait_for_answer(self) -> None:
-        """Waits till what is asked is answered."""
+        """Waits until the page answers."""
         stale = "return document.getElementById('answers').classList.contains('stale') || document.querySelector('.asking') !== null"
         self.wait(lambda: not self.run(stale), "an answer")
 
@@ -132,7 +132,7 @@ class Student(User):
         self.find("#watching [data-event=P0]")
 
     def play_schedule(self, schedule: Sequence[str]) -> tuple[list[str], bool]:
-        """Makes a run by hand, and tells of its end."""
+        """Makes a run by hand, and returns its end."""
         self.click(".transport [aria-label='To the start']")
         self.wait(lambda: self.done() == "", "the start")
         self.carry_out(*schedule)
@@ -145,13 +145,13 @@ class Student(User):
         self.text_with("#outcome .found", "Found ")
 
     def type_row_after(self, line: int, row: str) -> None:
-        """Types a row behind a line of the test, and waits for the answer."""
+        """Types a row after a line of the test, and waits for the answer."""
         self.run(GO_BEHIND, line)
         self.press(self.keys.ENTER, row)
         self.wait_for_answer()
 
     def list_fences(self) -> tuple[list[str], str]:
-        """Returns which fences there are, and what is said of them."""
+        """Returns the fences that are there, and the words on them."""
         self.click("#tab-fences")
         verdict = self.text("#fences .verdict")
         return self.texts("#fences tbody th"), verdict
@@ -253,7 +253,7 @@ def check_own_store(student: Student, answers: Solutions) -> Iterator[Comparison
 def check_repair_shop(student: Student, answers: Solutions) -> Iterator[Comparison]:
     """Plays task 5: a repair shop."""
     places = dict(zip(("A4", "E1", "E2"), answers.list_places()))
-    # Of each test the list as it is, a row behind a line that repairs it, one that does not, and how each row ends.
+    # For each test the list as it is, a row after a line that repairs it, one that does not, and how each row ends.
     tests = {
         "A4": ("R-x86", (4, " | MFENCE ;", "R+mfence-x86"), (4, " MFENCE | ;", "R-x86")),
         "E1": ("Peterson-x86", (5, " MFENCE | MFENCE ;", "Peterson+mfences-x86"), (4, " MFENCE | MFENCE ;", "Peterson+between-x86")),
@@ -266,10 +266,10 @@ def check_repair_shop(student: Student, answers: Solutions) -> Iterator[Comparis
             student.open_test(5, name)
             student.type_row_after(line, row)
             positive, number = answers.true_of[expected]
-            yield f"5, {name} with {row} behind line {line}, and no second guess", [positive, number], student.guess_and_count_states()
+            yield f"5, {name} with {row} after line {line}, and no second guess", [positive, number], student.guess_and_count_states()
             fences, verdict = student.list_fences()
             is_it = f"the condition holds in none of {number} states." if not positive else f"in the same {number} states, and the condition holds in 1 of them."
-            yield f"5, {name} with {row} behind line {line}: Fences", True, verdict.endswith(is_it) or verdict
+            yield f"5, {name} with {row} after line {line}: Fences", True, verdict.endswith(is_it) or verdict
             if not positive:
                 yield f"5, {name}: the place", places[name], fences
     student.open_test(5, "E3")

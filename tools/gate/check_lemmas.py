@@ -1,10 +1,10 @@
-"""Looks which lemmas and definitions of proofs nothing names, and which statements stand twice.
+"""Lists the lemmas and definitions of proofs that nothing names, and the statements that are there twice.
 
     python3 tools gate.check_lemmas
 
-- What proofs/ declares is named somewhere: in its file beside its own clauses, by a file that imports it, or in a .rt file. What
+- What proofs/ declares is named somewhere: in its file outside its own clauses, by a file that imports it, or in a .rt file. What
   answers a goal, in Answers, Invariants and Proof, is named by the prover.
-- No statement stands twice, and no definition, in proofs and specs/ of all crates. Two are the same if only the names of bound
+- No statement and no definition is there twice, in proofs and specs/ of all crates. Two are the same if only the names of bound
   variables differ, their brackets, or the module's parameters that they do not name. Names are compared by what they mean.
 - A `pub` lemma of proofs/api/ has a line of comment above it.
 
@@ -29,12 +29,12 @@ IMPORTS = re.compile(r"\s*(unfoldable )?(pub )?use ")
 ANSWERS = {"Answers.antt", "Invariants.antt", "Proof.antt"}
 # The signs of a statement that claims something.
 CLAIMS = {"≡", "≢", "<", "≤", "⊎", "×", "↔", "⊥", "→"}
-# What nothing names, or what appears twice, and why.
+# The declarations that nothing names, or that appear twice, each with the reason.
 ALLOWED = {
     "Rattle.lw_base.specs.Types.TokenList": "a row of tokens and a table of names are lists of texts, and are not meant for one another",
     "Rattle.lw_tso.specs.Runs.InitialWords": "where a run begins is of the shape of an outcome, and is none",
     "Rattle.lw_arena.specs.Ownership.node_val": "a node is a struct of one pointer, of each of which the walks say the same",
-    "Rattle.lw_orders.proofs.api.OpenPairs.none_in": "lw_orders stands on std alone, which does not have it",
+    "Rattle.lw_orders.proofs.api.OpenPairs.none_in": "lw_orders depends only on std, which does not have it",
 }
 
 
@@ -48,7 +48,7 @@ def is_answer(declaration: Declaration) -> bool:
     return declaration.is_public and os.path.basename(declaration.file.path) in ANSWERS and not declaration.scope
 
 
-# What nothing names.
+# Declarations that nothing names.
 
 
 def list_name_candidates(word: str) -> set[str]:
@@ -58,7 +58,7 @@ def list_name_candidates(word: str) -> set[str]:
 
 
 class Named:
-    """Which names are used, and where."""
+    """The names that are used, and their places."""
 
     def __init__(self, files: Files) -> None:
         """Gathers all names that files use of others."""
@@ -103,7 +103,7 @@ def is_in(name: str, sentence: Sentence) -> bool:
 def list_sentences(declaration: Declaration) -> list[Sentence]:
     """Returns the sentence that contains a declaration, and all that it contains."""
     sentences, owner = declaration.file.sentences, declaration.owner
-    assert owner is not None  # only declarations inside a `where` are looked at
+    assert owner is not None  # only declarations inside a `where` are checked
     contained = [owner]
     for sentence in sentences[sentences.index(owner) + 1 :]:
         if sentence.indent <= owner.indent:
@@ -139,7 +139,7 @@ def split_path(crate: str, path: str) -> tuple[str, str]:
 
 
 def list_unnamed(files: Files) -> Iterator[Declaration]:
-    """Returns what nothing names."""
+    """Returns the declarations that nothing names."""
     names_in_use = Named(files)
     for file in filter(is_proof, files.all):
         for declaration in file.declarations:
@@ -147,7 +147,7 @@ def list_unnamed(files: Files) -> Iterator[Declaration]:
                 yield declaration
 
 
-# What appears twice.
+# Declarations that appear twice.
 
 
 class Statement:
@@ -156,7 +156,7 @@ class Statement:
     def __init__(self, files: Files, file: File) -> None:
         """Starts a statement of a file."""
         self.files, self.file = files, file
-        self.bound: dict[str, str] = {}  # of each bound variable its number
+        self.bound: dict[str, str] = {}  # for each bound variable its number
         self.words: list[str] = []
 
     def bind_names(self, names: Iterable[str]) -> None:
@@ -246,7 +246,7 @@ def is_definition(declaration: Declaration) -> bool:
 
 
 def make_statement(files: Files, declaration: Declaration) -> tuple[str, ...]:
-    """Returns what a declaration says, as words."""
+    """Returns the statement of a declaration, as words."""
     nodes = group_tokens(read_words(declaration.head))
     if is_definition(declaration):
         for part in declaration.parts:
@@ -332,7 +332,7 @@ def comparisons() -> Iterator[Comparison]:
     """Returns all comparisons, for tools/check_documents.py."""
     files = Files()
     yield "there are lemmas to look at", True, sum(len(it.declarations) for it in files.all) > 5000
-    yield "lemmas: what nothing names, what stands twice, what has no comment (tools/gate/check_lemmas.py)", [], list(find_faults(files))
+    yield "lemmas that nothing names, that are there twice, or that have no comment (tools/gate/check_lemmas.py)", [], list(find_faults(files))
 
 
 def main() -> int:

@@ -2,11 +2,11 @@
 
     python3 tools gate.check_library
 
-The library is crates/lw_library/out/liblw_library.a, which the gate builds (`rt lib` in crates/lw_library builds it too). Of each example:
-its states, its schedules, its compiled text, and its replays by a schedule of its list, by one with a word more, and over MOESI. Then
-what is told where the memory that is lent is small, down to none, and where the room is; words that are no command, a small stack, and
+The library is crates/lw_library/out/liblw_library.a, which the gate builds (`rt lib` in crates/lw_library builds it too). For each example it
+compares its states, its schedules, its compiled text, and its replays by a schedule of its list, by one with a further word, and over MOESI. Then
+it compares the faults if the lent memory or the room for the answer is small, down to none; words that are no command, a small stack, and
 threads that share a workbench; and what examples/python/use.py prints. The last line is 'N passed, M failed'. tools/check_documents.py
-calls this; what the modules of WebAssembly answer is compared by tools/gate/check_site.mjs.
+calls this; tools/gate/check_site.mjs compares what the modules of WebAssembly answer.
 """
 from __future__ import annotations
 
@@ -34,7 +34,7 @@ VERSION_IN_C = '#include "lw.h"\n#include <stdio.h>\nint main(void) { printf("%d
 PAST_LIMITS = f"{HOME}/bench/beyond/TryLock3-x86.litmus"
 
 
-# Returns what is answered to the words of a command and a text: the exit status, standard output and standard error.
+# The answer to the words of a command and a text: the exit status, standard output and standard error.
 Answer = Callable[[List[str], bytes], Tuple[int, bytes, bytes]]
 
 
@@ -77,7 +77,7 @@ def load_python_module(folder: str) -> Answer:
     lw = python_lw.load_lw()
 
     def answer_command(arguments: list[str], text: bytes) -> tuple[int, bytes, bytes]:
-        """Returns what the library answers to a command from Python."""
+        """Returns the library's answer to a command from Python."""
         bench = lw.Workbench(shared, memory=1 << 20)
         command, *others = arguments
         try:
@@ -109,7 +109,7 @@ def compare_limits(answer_with: Callable[..., tuple[int, bytes, bytes]]) -> Iter
 
 
 def compare_python_example(folder: str) -> Iterator[Comparison]:
-    """Compares what examples/python/use.py prints: of each state its schedule, and a fault's place."""
+    """Compares what examples/python/use.py prints: for each state its schedule, and a fault's place."""
     with open(f"{HOME}/examples/SB-x86.litmus", "rb") as file:
         text = file.read()
     states = run_command([PROGRAM, "states"], text)[1].decode().splitlines()
@@ -120,7 +120,7 @@ def compare_python_example(folder: str) -> Iterator[Comparison]:
     yield "the example in Python has the states", sorted(it for it in states if "=" in it and "(" not in it), sorted(
         it.split("  by ")[0] for it in lines if "  by " in it
     )
-    yield "the example in Python tells a fault's place", True, bool(re.search(r"\(line \d+, column \d+\)$", lines[-1] if lines else ""))
+    yield "the example in Python prints a fault's place", True, bool(re.search(r"\(line \d+, column \d+\)$", lines[-1] if lines else ""))
 
 
 def compare_c_ends(folder: str) -> Iterator[Comparison]:
@@ -183,7 +183,7 @@ def compare_threads(folder: str) -> Iterator[Comparison]:
 
 
 def reach_states(bench: Any, output: str, text: bytes, budget: int) -> tuple[int, bytes, bytes]:
-    """Returns what a call for a list of any size answers, as a program would: the exit status, standard output and standard error."""
+    """Returns the answer of a call for a list of any size, in a program's form: the exit status, standard output and standard error."""
     import lw
 
     try:

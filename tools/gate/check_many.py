@@ -1,10 +1,10 @@
-"""Looks at tools/run_all.py and tools/beyond.py, as their head comments say. The last line is 'N passed, M failed'.
+"""Checks tools/run_all.py and tools/beyond.py by their module docstrings. The last line is 'N passed, M failed'.
 
     python3 tools gate.check_many
 
 - The table of run_all.py over examples/ and examples/beyond/ has what the pages of the examples have, in all forms, and says how each list was
   made; faults have their places; an earlier run and a log in herd's lines are compared.
-- Where the program is that of the sources, run_all.py takes at most 1.5 times the processor time of the programs that it starts, over
+- If the program is that of the sources, run_all.py takes at most 1.5 times the processor time of the programs that it starts, over
   examples/ and over 1,000 generated cycles.
 - beyond.py: the states of all examples and of random tests are those of tools/plain.py, and each schedule leads to its state; the tests of
   tools/search/tests, which are beyond the limits, are answered in time.
@@ -204,7 +204,7 @@ def check_beyond() -> Iterator[Comparison]:
     yield "beyond.py --max-states 0", 2, run(["beyond.py", "--max-states", "0", "examples/SB-x86.litmus"])[2]
     printed = run(["beyond.py", "--schedules", "examples/SB-x86.litmus"])[0]
     yield "beyond.py --schedules", ["Test SB-x86", "States 4", "0:EAX=0; 1:EAX=0;"], printed.splitlines()[:3]
-    yield "beyond.py, a fault", ("", "-:1:1: 'X86_64' stands where 'SRC' or 'X86' should\n", 1), run(["beyond.py"], "X86_64 A\n")
+    yield "beyond.py, a fault", ("", "-:1:1: found 'X86_64', expected 'SRC' or 'X86'\n", 1), run(["beyond.py"], "X86_64 A\n")
 
 
 def comparisons() -> Iterator[Comparison]:

@@ -1,4 +1,4 @@
-"""Looks that what the documents name is there: each crate, file, call, clause and definition that docs/THEOREMS.md, BELIEVE.md, AXIOMS.md,
+"""Checks that what the documents name exists: each crate, file, call, clause and definition that docs/THEOREMS.md, BELIEVE.md, AXIOMS.md,
 DECISIONS.md, MAP.md, PROOF.md, TRUSTED.md and CONTRIBUTING.md have in backticks. tools/check_documents.py calls it.
 
     python3 tools gate.check_names
@@ -6,12 +6,12 @@ DECISIONS.md, MAP.md, PROOF.md, TRUSTED.md and CONTRIBUTING.md have in backticks
 - `lw_x`, and a path: a crate, and a file or folder of it, with its ending or without; a path that begins with a crate or a folder of the
   repository is there as a whole; another one is of some crate.
 - `lw_x::name`, `Type::name`: a function, type, field or variant of the crate, or of a crate that has the type.
-- A word alone: a name of the crates, tools or pages. In the column of contracts of THEOREMS.md it is a function, a clause, a field or
+- A single word: a name of the crates, tools or pages. In the column of contracts of THEOREMS.md it is a function, a clause, a field or
   a definition.
 
-What is no name (a command, a text, a number) is not looked at, but for the paths in a command; nor is what a build makes (in a folder out/). And:
+What is no name (a command, a text, a number) is not checked, except the paths in a command; nor is what a build makes (in a folder out/). And:
 
-- The files that README.md and all pages of docs/ link to, and the paths of files that stand in them without backticks, are there.
+- The files that README.md and all pages of docs/ link to, and the paths of files that are in them without backticks, exist.
 - A link from a name in backticks to a file of a crate, as docs/PROOF.md has for lemmas: the file declares the name.
 - A path below a crate, such as `specs/Limits.antt`: the crate named last before it in its paragraph, item or row has it; if none is named, some
   crate. `specs/laws/Cases.written` means a declaration of that file.
@@ -45,7 +45,7 @@ PLACEHOLDER = re.compile(r"\b(NAME|CRATE|NN|FILE|WORD|KIT)")
 LINKED_NAME = re.compile(r"\[`([\w'+-]+)`\]\(\.\./(crates/[^)\s]+)\)")
 # A path below a crate, in backticks, with the crate before it or after it; or a crate.
 BELOW_CRATE = re.compile(r"`(?:(lw_\w+)/)?((?:src|specs|proofs|must-fail)/[\w.+/-]*)`(?: of (lw_\w+))?|\b(lw_\w+)")
-# Where a paragraph, an item of a list or a row of a table begins.
+# The start of a paragraph, of an item of a list or of a row of a table.
 BLOCK = re.compile(r"\n\s*\n|\n(?=\s*(?:-|\d+\.) |\|)")
 # A function of the toolchain's crates; check_trusted compares those of docs/TRUSTED.md.
 OF_KIT = re.compile(r"(libc|os)::[\w:]+")
@@ -133,7 +133,7 @@ class Names:
 
 
 def list_quoted(text: str) -> list[tuple[str, bool]]:
-    """Returns what a document has in backticks, each with whether it is in a column of contracts."""
+    """Returns the texts in backticks of a document, each with whether it is in a column of contracts."""
     quoted, contracts = [], False
     for line in text.split("\n"):
         if line.startswith("|"):
@@ -216,7 +216,7 @@ def read_crate_rows(text: str) -> dict[str, str]:
 
 
 def find_table_faults(rows: dict[str, str], lines: dict[str, list[str]]) -> Iterator[str]:
-    """Returns where the table of crates differs from crates.txt. `lines` has the dependencies of each crate there."""
+    """Returns the differences of the table of crates from crates.txt. `lines` has the dependencies of each crate there."""
     for crate in sorted({*rows} ^ {*lines}):
         yield f"docs/MAP.md has {'a' if crate in rows else 'no'} row for {crate}, which crates.txt has{'' if crate in lines else ' not'}"
     above: list[str] = []
@@ -229,14 +229,14 @@ def find_table_faults(rows: dict[str, str], lines: dict[str, list[str]]) -> Iter
 
 
 def find_logic_faults(text: str, version_text: str) -> Iterator[str]:
-    """Returns where README.md names another logic than what `rt version` prints."""
+    """Returns the places where README.md names another logic than `rt version`."""
     named_here, by_rt = (re.search(r"\blogic [0-9a-f]{16}\b", it) for it in (text, version_text))
     if not named_here or by_rt and named_here[0] != by_rt[0]:
         yield f"README.md names '{named_here and named_here[0]}', and `rt version` '{by_rt and by_rt[0]}'"
 
 
 def read_version() -> str:
-    """Returns what `rt version` prints, or nothing if there is none."""
+    """Returns the output of `rt version`, or nothing if there is none."""
     try:
         return subprocess.run(["rt", "version"], capture_output=True, text=True, check=False).stdout
     except OSError:

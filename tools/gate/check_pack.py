@@ -1,9 +1,9 @@
-"""Looks whether a pack runs where there is no toolchain and no checkout. The last line is 'N passed, M failed'.
+"""Checks that a pack runs without a toolchain and without a checkout. The last line is 'N passed, M failed'.
 
     python3 tools gate.check_pack
 
 It makes a pack of the built tree, unpacks it in a folder that may only be read, and runs it without rt: the programs, the tools, the
-page's server, and the library from Python. As root it does the same in a container of files with glibc, a shell and Python alone.
+page's server, and the library from Python. As root it does the same in a container of files with only glibc, a shell and Python.
 tools/check_documents.py calls this.
 """
 from __future__ import annotations
@@ -30,7 +30,7 @@ from shared.matches import require_match
 
 GATE = "1 passed, 0 failed"
 TEST = "examples/SB-x86.litmus"
-# Where a pack runs: no rt, and no Python but the system's.
+# The path on which a pack runs: no rt, and only the system's Python.
 PATH = "/usr/bin:/bin"
 CALLS = (
     (["./lw", "states"], TEST),
@@ -51,7 +51,7 @@ import lw
 bench = lw.Workbench("python/liblw.so")
 sys.stdout.buffer.write(bench.run("states", open(sys.argv[1], "rb").read())[1])
 """
-# What tools/make_lab.py makes, each file by a sum of its bytes, without where it comes from, which an archive knows by its PACK.txt.
+# The files of tools/make_lab.py, each by a sum of its bytes, without its origin, which an archive has in its PACK.txt.
 BY_LAB = """
 import hashlib, sys
 sys.dont_write_bytecode = True
@@ -66,7 +66,7 @@ for name, it in sorted(make_lab.make_files(web_files.read_modules(), make_slides
 
 
 class HostSystem:
-    """Where a pack runs: this system, without rt."""
+    """The system on which a pack runs: this one, without rt."""
 
     def start_command(self, words: list[str], folder: str, **streams: Any) -> subprocess.Popen:
         """Starts a command in a folder of this system."""
@@ -150,7 +150,7 @@ def check_server(home: str, system: System) -> Iterator[Comparison]:
 
 
 def check_in_container(home: str) -> Iterator[Comparison]:
-    """Compares the same in a container, where there is nothing but glibc, a shell and Python."""
+    """Compares the same in a container with only glibc, a shell and Python."""
     if not container.can_be_made():
         return
     with container.Container() as system:
@@ -160,14 +160,14 @@ def check_in_container(home: str) -> Iterator[Comparison]:
 
 
 def check_refusals() -> Iterator[Comparison]:
-    """Compares what is said if no pack can be made."""
+    """Compares the messages if no pack can be made."""
     tool = [sys.executable, f"{HOME}/tools/pack.py"]
     yield "no folder", 2, subprocess.run(tool, capture_output=True, check=False).returncode
     with mock.patch.object(pack, "OUT", "/nowhere"):
         gate = pack.describe_gate()
     yield "no gate", pack.NO_GATE, gate
-    yield "no gate is told", True, "in this checkout" in "".join(pack.make_warning(gate))
-    yield "a gate that has passed is not told", [], pack.make_warning(GATE)
+    yield "a missing gate is reported", True, "in this checkout" in "".join(pack.make_warning(gate))
+    yield "a gate that has passed is not reported", [], pack.make_warning(GATE)
 
 
 def skipped() -> str | None:

@@ -1,14 +1,14 @@
-"""Runs ./page, and looks whether it answers what it should, and refuses what it must. The last line is 'N passed, M failed'.
+"""Runs ./page, and checks that it answers what it should, and refuses what it must. The last line is 'N passed, M failed'.
 
     python3 tools gate.check_page
 
 By a plain client: each answer on each example is what `lw` prints; requests that are not for the page, or that are faulty, cut
 off, slow or too many, are each answered and end nothing; runs that take too long, crash or are left by their client end with all
-that they have started, and a run ends with its server. The last need a program that misbehaves, which stands in for `lw` in a copy of
-the repository. What the page makes of what is printed is compared by tools/gate/check_site.mjs.
+that they have started, and a run ends with its server. The last checks need a program that misbehaves, which stands in for `lw` in a copy of
+the repository. tools/gate/check_site.mjs compares what the page makes of these answers.
 
-In a browser, if Debian's chromium, chromium-driver and python3-selenium are there: the tests of tools/gate/browser/. If they are not, it
-is told how many tests were left out, which with CI=true is a failure. tools/check_documents.py calls all this.
+In a browser, if Debian's chromium, chromium-driver and python3-selenium are there: the tests of tools/gate/browser/. Without them a line says
+how many tests were skipped, which with CI=true is a failure. tools/check_documents.py calls all this.
 """
 from __future__ import annotations
 
@@ -82,7 +82,7 @@ Field = Union[str, List[str], None]
 
 
 class Ran(TypedDict):
-    """What the page is told of a run: the exit status, what was printed, and the line of the fault, or None."""
+    """The server's answer on a run: the exit status, what was printed, and the line of the fault, or None."""
 
     status: int
     printed: str
@@ -119,7 +119,7 @@ class Page:
         return connection
 
     def send_request(self, request: bytes, closes_after: bool = False) -> HttpAnswer:
-        """Returns what is answered to some bytes: the status, the headers, and the content."""
+        """Returns the server's answer to some bytes: the status, the headers, and the content."""
         with self.connect() as connection:
             with contextlib.suppress(BrokenPipeError, ConnectionResetError):
                 connection.sendall(request)
@@ -145,13 +145,13 @@ class Page:
         return {"Host": self.host, "Origin": self.origin, "Content-Type": "application/json", "Content-Length": length}
 
     def ask_run(self, text: str, *words: str) -> Any:
-        """Returns what is reported of a run: its answer, or the status of HTTP and why there is none."""
+        """Returns the report on a run: its answer, or the status of HTTP and why there is none."""
         status, _, content = self.post_question({"words": words, "text": text})
         answer = json.loads(content)
         return answer if status == 200 else (status, answer["error"])
 
     def is_current(self) -> dict[str, bool]:
-        """Returns what the page is told about whether its program is current."""
+        """Returns the server's answer whether its program is current."""
         return json.loads(self.post_bytes(b"{}", "/current")[2])
 
 
@@ -182,12 +182,12 @@ def read_answer(connection: socket.socket) -> HttpAnswer:
 
 
 def ask_lw(text: str, *arguments: str) -> Ran:
-    """Returns what the program prints for a text, as a run of the page has it."""
+    """Returns the program's output on a text, in the form of a run of the page."""
     return ask_program(PROGRAM, text, *arguments)
 
 
 def ask_program(program: str, text: str, *arguments: str) -> Ran:
-    """Returns what a program prints for a text, as a run of the page has it."""
+    """Returns a program's output on a text, in the form of a run of the page."""
     ran = subprocess.run([program, *arguments], input=text.encode(), capture_output=True, timeout=60, check=False)
     return {"status": ran.returncode, "printed": ran.stdout.decode(), "fault": ran.stderr.decode().rstrip("\n") or None}
 
@@ -246,7 +246,7 @@ def check_bodies(page: Page) -> Iterator[Comparison]:
     posted = make_head("POST", "/run", page.make_fields("100"))
     yield "a body that is cut off", 400, page.send_request(posted + body, closes_after=True)[0]
     yield "a head that is cut off", 400, page.send_request(b"GET / HTTP/1.1\r\nHost:", closes_after=True)[0]
-    yield "a body with more behind it", 400, page.post_bytes(body + b"GET / HTTP/1.1\r\n\r\n", Content_Length=str(len(body)))[0]
+    yield "a body with more after it", 400, page.post_bytes(body + b"GET / HTTP/1.1\r\n\r\n", Content_Length=str(len(body)))[0]
     yield "GET with a body", 400, page.send_request(make_head("GET", "/", {"Host": page.host, "Content-Length": "3"}) + b"abc")[0]
     yield "a head that is too long", 431, page.get_file("/", Cookie="x" * (2 << 20))[0]
     right = "GET / HTTP/1.1"
@@ -367,7 +367,7 @@ def list_examples() -> list[str]:
 
 
 def check_example(page: Page, name: str) -> Iterator[Comparison]:
-    """Compares what the page is told of an example with what the program prints."""
+    """Compares the server's answers on an example with what the program prints."""
     text = read_file(f"examples/{name}.litmus")
     for lw_command in ("states", "schedules", "compile"):
         yield f"{name}: {lw_command}", ask_lw(text, lw_command), page.ask_run(text, lw_command)
@@ -417,7 +417,7 @@ def check_searches(page: Page) -> Iterator[Comparison]:
 def check_pictures(_page: Page) -> Iterator[Comparison]:
     """Compares the pictures of documents, and how refusals are printed."""
     sentences = {int(kind.split()[1]): it for kind, it in web_files.list_sentences().items() if kind.startswith("end ")}
-    yield "refusals are told by the sentences of docs/FORMAT.md", sentences, effects.REFUSALS
+    yield "refusals are explained by the sentences of docs/FORMAT.md", sentences, effects.REFUSALS
     for path, example, schedule, is_strip in picture.DOCUMENTS:
         yield f"{path} is as tools/picture.py draws it", picture.draw_document_picture(example, schedule, is_strip), read_file(path)
     for schedule, fields, line, panels in (
@@ -455,7 +455,7 @@ def check_slow(page: Page) -> Iterator[Comparison]:
     yield "a request among slow ones is answered", 200, page.get_file("/")[0]
     yield "slow ones keep others from the page for five seconds at most", True, time.monotonic() - began < 8 * measure_patience()
     printed = [read_answer(it)[0] for it in slow]
-    yield "slow ones are told so", [408] * 36, printed
+    yield "slow ones are answered", [408] * 36, printed
     for slow_connection in slow:
         slow_connection.close()
     with page.connect() as connection:
@@ -481,7 +481,7 @@ def check_idle(page: Page) -> Iterator[Comparison]:
 
 
 class Copy:
-    """A copy of what ./page is made of, with a program that misbehaves where its text says so."""
+    """A copy of the files of ./page, with a program that misbehaves if its text says so."""
 
     def __init__(self, folder: str) -> None:
         """Copies the repository into a folder, with stand-ins for rt and for lw."""
@@ -558,17 +558,17 @@ def check_misbehaving() -> Iterator[Comparison]:
 
 
 def check_crashes(page: Page) -> Iterator[Comparison]:
-    """Compares what is said of a run that crashes."""
+    """Compares the answers on a run that crashes."""
     yield "a run of the stand-in", "Observation A Always 1 0", page.ask_run("SRC A", "states")["printed"].splitlines()[-1]
-    yield "a run that crashes is told", (500, "The program was ended by the system."), page.ask_run("Crashes", "states")
+    yield "a run that crashes is reported", (500, "The program was ended by the system."), page.ask_run("Crashes", "states")
     grown = 500, "The program failed, or needed more memory than it may have (1 GiB)."
-    yield "a run that takes too much memory is told", grown, page.ask_run("Grows", "states")
-    yield "a run that prints without end is told", (500, "The run's answer is too long."), page.ask_run("Talks", "states")
-    yield "the server is alive behind that", 200, page.get_file("/")[0]
+    yield "a run that takes too much memory is reported", grown, page.ask_run("Grows", "states")
+    yield "a run that prints without end is reported", (500, "The run's answer is too long."), page.ask_run("Talks", "states")
+    yield "the server is alive after that", 200, page.get_file("/")[0]
 
 
 def check_left(copy: Copy, page: Page) -> Iterator[Comparison]:
-    """Closes a connection while its run goes on."""
+    """Closes a connection while its run continues."""
     copy.forget_processes()
     body = json.dumps({"words": ["states"], "text": "Hangs"}).encode()
     with page.connect() as connection:
@@ -576,7 +576,7 @@ def check_left(copy: Copy, page: Page) -> Iterator[Comparison]:
         started = copy.wait_for_processes(2)
         yield "a run that hangs has begun", 2, len(started)
     yield "a run that its client has left is ended, with all below it", True, wait_until_gone(started)
-    yield "the server is alive behind a client that went away", 200, page.get_file("/")[0]
+    yield "the server is alive after a client went away", 200, page.get_file("/")[0]
 
 
 def check_limits(copy: Copy, page: Page) -> Iterator[Comparison]:
@@ -607,24 +607,24 @@ def check_too_long(copy: Copy, page: Page) -> Iterator[Comparison]:
         yield "files are there while four runs hang, and whether the program is current", (200, {"is_current": True}), answer
         future = pool.submit(page.post_question, {"words": ["states"], "text": "SRC A"})
         expected = [(504, "The run took longer than 20 seconds, and was ended.")] * 4
-        yield "runs that take too long are told", expected, [it.result() for it in hanging]
+        yield "runs that take too long are reported", expected, [it.result() for it in hanging]
         yield "runs are ended after twenty seconds", True, 19 < time.monotonic() - began < 20 + 4 * measure_patience()
         yield "runs that take too long are ended, with all below them", True, wait_until_gone(started)
         yield "one that waited is answered", True, future.result()[0] in (200, 503)
 
 
 def check_stale(copy: Copy, page: Page) -> Iterator[Comparison]:
-    """Compares what is said of a program of other sources."""
+    """Compares the answers on a program of other sources."""
     yield "the program is that of the sources", {"is_current": True}, page.is_current()
     copy.write_program(f"{copy.home}/crates/lw/src/main.rt", "// lw, changed\n")
-    yield "where the sources have changed, that is told", {"is_current": False}, page.is_current()
+    yield "changed sources are reported", {"is_current": False}, page.is_current()
     os.remove(f"{copy.home}/crates/lw/out/lw")
-    yield "where the program is gone, that is told", {"is_current": False}, page.is_current()
+    yield "a missing program is reported", {"is_current": False}, page.is_current()
     yield "a run of a program that is gone", (500, "The program is gone: start ./page again."), page.ask_run("SRC A", "states")
 
 
 def check_ends(copy: Copy, page: Page) -> Iterator[Comparison]:
-    """Checks that what ends the server ends its runs. (The program is gone: it is put back first.)"""
+    """Checks that what ends the server ends its runs. (The program was removed: it is put back first.)"""
     Copy.__init__(copy, f"{copy.room}/again")
     ways = [("TERM", signal.SIGTERM, "Hangs", 2), ("QUIT", signal.SIGQUIT, "Hangs", 2), ("HUP", signal.SIGHUP, "Hangs", 2)]
     # Nothing is there to end what a run has started itself, which the program does not.
@@ -643,7 +643,7 @@ def check_ends(copy: Copy, page: Page) -> Iterator[Comparison]:
 def check_start(page: Page) -> Iterator[Comparison]:
     """Checks the command line, and the ports."""
     run = lambda *words: subprocess.run([f"{HOME}/page", *words], capture_output=True, timeout=60, check=False)
-    yield "the line that tells the address", f"The workbench is at http://127.0.0.1:{page.port}/ (Ctrl-C ends it)\n", page.line
+    yield "the line with the address", f"The workbench is at http://127.0.0.1:{page.port}/ (Ctrl-C ends it)\n", page.line
     took = min(measure_first_report() for _ in range(3))
     yield "from ./page to the first report in two seconds, the best of three", True, took < 2 * measure_patience()
     printed = run(str(page.port))
@@ -766,14 +766,14 @@ def check_by_client() -> Iterator[Comparison]:
             yield from run_twice_if_needed(check_ports)
             yield from run_twice_if_needed(check_no_program)
             yield from misbehaving.result()
-        yield name_comparison(("the server is alive behind all that", 200, page.get_file("/")[0]))
+        yield name_comparison(("the server is alive after all that", 200, page.get_file("/")[0]))
     finally:
         ended = page.end_server()
     yield name_comparison(("nothing was logged", (0, ""), ended))
 
 
 def check_by_browser() -> Iterator[Comparison]:
-    """Yields all comparisons in a browser, where there is one. CI has to have one."""
+    """Yields all comparisons in a browser, if there is one. CI has to have one."""
     if not user.is_there():
         if os.environ.get("CI") == "true":
             yield name_comparison(("there is a browser where CI=true", "", skipped()))
@@ -812,7 +812,7 @@ def try_subjects(page: Page, chosen: Iterable[type[page_case.PageCase]], where: 
 
 
 def make_handed_on_folder(home: str) -> None:
-    """Makes a folder with what ./page needs where there are no sources, and no module."""
+    """Makes a folder with the files that ./page needs, without sources and without a module."""
     os.makedirs(f"{home}/crates/lw/out")
     for name in ("tools", "docs", "web", "examples"):
         shutil.copytree(f"{HOME}/{name}", f"{home}/{name}")
@@ -827,7 +827,7 @@ class Misbehaving(page_case.PageCase):
     page: Page
 
     def test_told(self) -> None:
-        """A run that hangs is cancelled; and the page says that the sources have changed, and that its server is gone."""
+        """A run that hangs is cancelled; and the page says that the sources have changed, and that its server has ended."""
         user, copy = self.user, self.copy
         user.open()
         user.type("SRC Hangs")
@@ -874,9 +874,9 @@ def run_check(check: Callable[..., Iterator[Comparison]], *words: object) -> Ite
 
 
 def format_fault(comparison: Comparison) -> str | None:
-    """Returns what is printed of a comparison that differs, or None."""
+    """Returns the lines on a comparison that differs, or None."""
     subject, expected, actual = comparison
-    return None if expected == actual else f"{subject}\n  wanted: {expected!r}\n  told:   {actual!r}"[:2000]
+    return None if expected == actual else f"{subject}\n  wanted: {expected!r}\n  found:  {actual!r}"[:2000]
 
 
 def skipped() -> str | None:

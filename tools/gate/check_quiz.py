@@ -1,16 +1,16 @@
-"""Looks whether tools/make_quiz.py makes a quiz, and whether tools/read_codes.py reads its codes. The last line is 'N passed, M failed'.
+"""Checks that tools/make_quiz.py makes a quiz, and that tools/read_codes.py reads its codes. The last line is 'N passed, M failed'.
 
     python3 tools gate.check_quiz
 
 - The same seed gives the same bytes, by the program and by tools/plain.py. The page names no other site and loads nothing.
 - Each verdict is the program's: the x86 test's report, and that of its source form, which has the test's accesses and no fence. That the
-  end is possible by interleaving is asked anew of tools/plain.py, which interleaves the x86 test itself.
-- No answer stands in the page in plain sight: what hides them has no symbol for each answer.
-- A code that the page's own JavaScript makes, in node where it is there, and in Chromium where it is there with its driver and
+  end is possible by interleaving is checked with tools/plain.py, which interleaves the x86 test itself.
+- No answer is in the page in plain sight: the hidden text has no symbol for each answer.
+- A code that the page's own JavaScript makes, in node if it is there, and in Chromium if it is there with its driver and
   python3-selenium, is that of tools/lab/codes.py, and the command reads it with the right score.
 - Each kind of bad code is refused, and so are all codes with one wrong symbol or two neighbours exchanged.
 
-tools/check_documents.py calls all this; the program has to be there.
+tools/check_documents.py calls all this; the program has to be built.
 """
 from __future__ import annotations
 
@@ -44,7 +44,7 @@ NODE = shutil.which("node")
 
 
 def read_data(page: str) -> quiz.Data:
-    """Returns what a page holds of its quiz."""
+    """Returns the contents of a quiz's page."""
     return json.loads(require_match(re.search(r"^const quiz = (\{.*\});$", page, re.M))[1])
 
 
@@ -56,7 +56,7 @@ def list_accesses(text: str) -> list[list[list[str]]]:
 
 
 def check_verdicts(seed: str) -> Iterator[Comparison]:
-    """Checks the tests of a seed, and what is said of them."""
+    """Checks the tests of a seed, and the verdicts on them."""
     tests = quiz.make_tests(TESTS, seed, quiz.make_report_by_program)
     yield f"the tests of {seed}, by the program and by tools/plain.py", tests, quiz.make_tests(TESTS, seed, quiz.make_report_by_plain)
     yield f"the tests of {seed} differ", TESTS, len({it.text.partition("\n")[2] for it in tests})
@@ -69,7 +69,7 @@ def check_verdicts(seed: str) -> Iterator[Comparison]:
         ]
         yield f"the verdicts of test {index} of {seed}", [test.interleaved, test.on_x86], by_program
         words = ["allowed" if verdict else "forbidden" for verdict in (test.interleaved, test.on_x86)]
-        yield f"the verdicts of test {index} of {seed}, by the x86 test alone", words, list(plain.find_verdicts(plain.read_test(test.text)))
+        yield f"the verdicts of test {index} of {seed}, by the x86 test itself", words, list(plain.find_verdicts(plain.read_test(test.text)))
         yield f"the source form of test {index} of {seed}", list_accesses(test.text), list_accesses(source)
 
 
@@ -103,7 +103,7 @@ def check_reasons(data: quiz.Data, tests: list[quiz.Asked]) -> Iterator[Comparis
 
 
 def make_answers(rights: list[int], wrong: dict[int, int]) -> list[int]:
-    """Answers of which some are wrong: of each test what differs from the right answer."""
+    """Answers of which some are wrong: for each test the difference from the right answer."""
     return [right ^ wrong.get(index, 0) for index, right in enumerate(rights, 1)]
 
 
@@ -112,7 +112,7 @@ ROW = [STUDENT, f"{2 * TESTS - 4}/{2 * TESTS}", "2 interleaving, 5 x86, 9 both"]
 
 
 def run_and_split(text: str, *arguments: str) -> tuple[list[list[str]], str, int]:
-    """Returns what the command prints of codes: the cells of each line, standard error, and the status."""
+    """Returns the output of the command on codes: the cells of each line, standard error, and the status."""
     out, err, status = run(["read_codes.py", *arguments], text)
     return [re.split(r" {2,}", line) for line in out.splitlines()], err, status
 
@@ -217,9 +217,9 @@ def check_browser(page: str, folder: str) -> Iterator[Comparison]:
         yield "the page fits a phone", [360, 360], user.run("return [innerWidth, document.documentElement.scrollWidth]")
         user.click("#done")
         printed = user.text("#fault"), user.focused().get_attribute("name")
-        yield "what is missing is told", ('Test 1 has no answer to "Can it end this way by interleaving?"', "interleaving1"), printed
+        yield "what is missing is reported", ('Test 1 has no answer to "Can it end this way by interleaving?"', "interleaving1"), printed
         is_in_sight = "const { top, bottom } = document.getElementById('fault').getBoundingClientRect(); return top >= 0 && bottom <= innerHeight"
-        yield "what is missing is told where it is seen", True, user.run(is_in_sight)
+        yield "what is missing is reported in sight", True, user.run(is_in_sight)
         for index, answer in enumerate(make_answers(quiz.read_answers(read_data(page)), WRONG), 1):
             for kind, bit in (("interleaving", 1), ("x86", 2)):
                 user.click(f"input[name={kind}{index}][value={'yes' if answer & bit else 'no'}]")
@@ -237,11 +237,11 @@ def check_browser(page: str, folder: str) -> Iterator[Comparison]:
         user.click("#copy")
         yield "the code is copied", True, user.is_soon(lambda: user.text("#said") in ("Copied.", "It is selected: copy it by hand."))
         marks = user.texts("fieldset .told")
-        yield "what was right is told", (2 * TESTS - 4, 4), (marks.count("✓"), sum(it.startswith("✗") for it in marks))
+        yield "the page shows what was right", (2 * TESTS - 4, 4), (marks.count("✓"), sum(it.startswith("✗") for it in marks))
         whys = user.run("return [...document.querySelectorAll('fieldset .why')].map((it) => [it.open, it.querySelectorAll('li').length > 1])")
         yield "each question shows why, unfolded where the answer was wrong", [[not it.startswith("✓"), True] for it in marks], whys
         yield "nothing can be changed any more", 0, user.run("return document.querySelectorAll('input:not([disabled])').length")
-        yield "the page tells of no fault", [], [it for it in user.driver.get_log("browser") if it["level"] == "SEVERE"]
+        yield "the page reports no fault", [], [it for it in user.driver.get_log("browser") if it["level"] == "SEVERE"]
     finally:
         user.driver.quit()
 

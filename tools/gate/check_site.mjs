@@ -1,12 +1,12 @@
-// Compares what the page's JavaScript answers with what tools/gate/plain_answers.py answers by other means, for every example and for texts
-// that are typed in; and some answers with what is typed in here. The last line is 'N passed, M failed'.
+// Compares the answers of the page's JavaScript with those of tools/gate/plain_answers.py, which uses other means, for every example and for
+// typed texts; and some answers with values in this file. The last line is 'N passed, M failed'.
 //
 //     node tools/gate/check_site.mjs [--module FILE | --server ADDRESS] [NAME...]
 //
-// Both ask the same program, crates/lw/out/lw, and lists by a search where it is built crates/beyond/out/beyond. With --module the JavaScript asks the WebAssembly module in place of it, with --server a
-// ./page that runs; then each answer of that is compared with the program's too. (Before version 24 node needs
-// --experimental-wasm-memory64.) The JavaScript is that of web/, which is copied, since node takes a file for a module by the folder that
-// it is in. NAME: these examples alone, and what is typed in is not asked.
+// Both ask the same program, crates/lw/out/lw, and for lists by a search crates/beyond/out/beyond, if it is built. With --module the JavaScript
+// asks the WebAssembly module instead, with --server a running ./page; then each answer is compared with the program's too. (Before version 24
+// node needs --experimental-wasm-memory64.) The JavaScript is that of web/, which is copied, since node takes a file for a module by the folder
+// that it is in. NAME: it asks only these examples, and no typed texts.
 
 import { spawn, spawnSync } from "node:child_process";
 import fs from "node:fs";
@@ -103,7 +103,7 @@ class Both {
   }
 }
 
-/** What passed, and what failed. */
+/** The numbers of comparisons that passed and failed. */
 class Tally {
   passed = 0;
   failed = 0;
@@ -114,11 +114,11 @@ class Tally {
       return;
     }
     this.failed += 1;
-    console.log(`${what}\n  wanted: ${JSON.stringify(expected)}\n  told:   ${JSON.stringify(actual)}`.slice(0, 3000));
+    console.log(`${what}\n  wanted: ${JSON.stringify(expected)}\n  found:  ${JSON.stringify(actual)}`.slice(0, 3000));
   }
 }
 
-/** What web/served.js asks by: a request to a server that is waited for. (node has none; another thread asks.) */
+/** The synchronous requests to a server that web/served.js needs. (node has none; another thread asks.) */
 function requestsTo(server) {
   const asker = new Worker(ASKER, { eval: true });
   asker.unref();
@@ -185,7 +185,7 @@ async function loadPage() {
   }
 }
 
-// What is asked.
+// Questions.
 
 /** The questions on a text, given the schedules that lw lists. */
 function questionsOn(text) {
@@ -211,7 +211,7 @@ function questionsOn(text) {
 // The most accesses of a test in which places for fences are looked for.
 const FEW_ACCESSES = 14;
 
-/** Returns the question where fences more would answer that of a test, if the test is small. */
+/** Returns the question where further fences would answer that of a test, if the test is small. */
 function moreFencesOf(text) {
   const number = (String(text).match(/\[|:=/g) ?? []).length;
   return number <= FEW_ACCESSES ? [["more fences", {}]] : [];
@@ -290,10 +290,10 @@ function typedTexts() {
     " B: C: | goto L ;\n r0 := swap x r1 | y := 2 ;\n goto E | L: r2 := y ;\n r3 := r3 + 1 | ;\n E: | ;\n" +
     "locations [x; 0:r0;]\nforall (~(x=1 /\\ y=2) \\/ not (1:r2=0 \\/ true) /\\ [x]=0)\n";
   return [
-    ["a fault behind letters of two and four bytes", "SRC Mine (* é𝄞 *)\n{}\n P0 ;\n(* é𝄞 *) x = 1 ;\nexists (x=1)\n"],
+    ["a fault after letters of two and four bytes", "SRC Mine (* é𝄞 *)\n{}\n P0 ;\n(* é𝄞 *) x = 1 ;\nexists (x=1)\n"],
     ["no test", "no test"],
     ["nothing", ""],
-    ["a letter of two bytes where none may stand", "SRC A\n{}\n P0 ;\n é := 1 ;\nexists (x=1)\n"],
+    ["a letter of two bytes in a wrong place", "SRC A\n{}\n P0 ;\n é := 1 ;\nexists (x=1)\n"],
     ["a text that is too long", `(* ${"é".repeat(40000)}`],
     ["a limit", five],
     ["a limit of its compiled program's list without fences", five.replace("x := 2", "r0 := x")],
@@ -312,7 +312,7 @@ function typedTexts() {
 
 // Comparisons.
 
-/** What of an answer is compared: all but the words on a verdict, and on a test that is not read, and who has found the marks. */
+/** Returns the compared parts of an answer: all except the words on a verdict, and on a test that is not read, and the maker of the marks. */
 function shown(answer) {
   if (answer.error && UNREAD.test(answer.error)) return { error: "not read" };
   const { report, words, ...others } = answer;
@@ -353,7 +353,7 @@ function compareCondition(page, tally, name, text, { films, state }) {
   }
 }
 
-/** Compares what is said of the steps of a film with the replays: of each it is known what it does, and what is read is what is there. */
+/** Compares the words on the steps of a film with the replays: the effect of each step is known, and it reads the words of the state. */
 function compareEffects(tally, name, { events, effects, states }) {
   for (const [at, { thread, words, register, location, entry, cache }] of effects.entries()) {
     const what = `${name}: ${events.slice(0, at + 1).join(" ")} (${words})`;
@@ -370,7 +370,7 @@ function compareEffects(tally, name, { events, effects, states }) {
   }
 }
 
-/** A word that is said to be in memory is memory's own, or in the cache that is told. */
+/** A word that is said to be in memory is memory's own, or in the cache that is named. */
 function compareCache(tally, what, location, { before, after, thread, cache }, event) {
   const isDrain = event[0] === "D";
   const { threads, memory, content } = isDrain ? after : before;
@@ -410,7 +410,7 @@ function asPrinted({ name, steps, end, threads, memory, content }) {
   return [...rows, ...(threads[0].lines ? [`Content${row(content)}`] : [])].map((it) => `${it}\n`).join("");
 }
 
-/** What is no replay is refused. */
+/** Compares that texts that are no replays are refused. */
 function compareRefused(page, tally) {
   const right = "Test A\nSteps 0\nEnd NotFinal\nP0 at 0 r0=0 r1=0 r2=0 r3=0 r4=0 r5=0\nMemory x=0\n";
   tally.compare("a replay is read", right, asPrinted(page.replays.readState(right)));
@@ -501,7 +501,7 @@ function compareBudgets(page, tally) {
   tally.compare("a search says how far it is", budgets.length, passed.length);
 }
 
-/** Which states two lists have in common, and which each has alone. */
+/** Compares the states that two lists have in common, and those that only one has. */
 function compareDifferences(page, tally) {
   const report = (lines, more) => ({ states: lines.map((line) => ({ line })), left_out: 0, ...more });
   const both = report(["0:r0=0; x=1;", "0:r0=1; x=1;"]);
@@ -523,7 +523,7 @@ function compareDifferences(page, tally) {
   tally.compare("states of a list that is not whole are not compared", ["why"], Object.keys(page.differences.differenceOf(part, both)));
 }
 
-/** What is shown of a run on this machine: the states that are not listed come first, and then those that were seen most often. */
+/** Compares the table of a run on this machine: the states that are not listed come first, and then those that were seen most often. */
 function compareSeenHere(page, tally) {
   const seen = [["a", 3, true], ["b", 1200, true], ["c", 1, false]].map(([state, count, listed]) => ({ state, count, listed }));
   const answer = { runs: 1204, seconds: 2.04, processors: 1, listed: 3, seen, not_seen: ["d"], list: "lw, proved complete" };
@@ -533,7 +533,7 @@ function compareSeenHere(page, tally) {
   tally.compare("the sentence on a run on this machine", words, page.seen_here.sentenceOn(answer));
 }
 
-/** A text that is shown with its cells one below the other has all that it had, but for blanks. */
+/** A text that is shown with its cells one below the other has all that it had, except blanks. */
 function compareAligned(page, tally, texts) {
   const source = "SRC A\n{ x=1; }\n P0 | P1 ;\n x := 1 | y := 1 ;\n | L: ;\n(* a | b ; *)\nexists (x=1)\n";
   const shown = "SRC A\n{ x=1; }\n P0     | P1     ;\n x := 1 | y := 1 ;\n        | L:     ;\n(* a | b ; *)\nexists (x=1)\n";
@@ -560,7 +560,7 @@ function compareOwnRuns(page, program, tally, texts) {
   }
 }
 
-/** A fence that is put into the text of a test and taken out again leaves the text as it was; and each fence that is there can be taken out. */
+/** A fence that is put into the text of a test and taken out again leaves the text as it was; and each fence of the text can be taken out. */
 function compareFenceEdits(page, tally, texts) {
   const { textWithFences, textWithoutFence } = page.fence_edit;
   for (const [name, text] of texts.filter(([, it]) => it.startsWith("X86"))) {
@@ -585,7 +585,7 @@ function compareFenceEdits(page, tally, texts) {
   tally.compare("no fence at a place that is none", null, textWithFences(text, [[0, 9]]));
 }
 
-/** Which examples are found by which words, the first of them, and how many at most; and which words are near to which. */
+/** Compares the examples that words find: the first of them, and at most how many; and the words that are near to others. */
 function compareFinding(page, tally, families) {
   const namesFor = (text) => page.finding.findTests(families, text, false).map((it) => it.name);
   for (const [text, first] of FOUND) {
@@ -609,7 +609,7 @@ const FOUND = [
   ["jump", ["SB+join", "SB+join-x86"]], ["publication early x86", ["Publication+early-x86"]],
 ];
 
-/** What the page says of slips in a test that lw takes. */
+/** Compares the page's words on slips in a test that lw takes. */
 function compareSlips(page, tally) {
   const text = "X86 A\n{ k=2; }\n P0 | P1 ;\n MOV [flag],$1 | MOV EAX,[flga] ;\n | MOV ECX,[k] ;\nexists (1:EBX=1 /\\ z=0)\n";
   tally.compare("slips", [
@@ -646,13 +646,13 @@ function compareTyped(page, program, tally) {
     const { moves } = ask("moves", example(name), { schedule, protocol: "mesi" });
     return moves.map(({ event, refused }) => [event, refused && refused.cause]);
   };
-  compare("what the machine can do behind P0", MOVES, causes("SB+mfences-x86", "P0"));
+  compare("what the machine can do after P0", MOVES, causes("SB+mfences-x86", "P0"));
   compare("what a source test can do", [["P0", "Ended"], ["P1", null]], causes("SB", "P0 P0"));
   const added = ["0:EAX=0; 1:EAX=0;"];
   const rows = [{ place: "P0 at 1, before MOV EAX,[y]", added }, { place: "P1 at 1, before MOV EAX,[x]", added }];
   const table = { rows, enough: ["P0 at 1", "P1 at 1"], states: 3, positive: 0, answered_by: ["program"] };
   compare("the fences of SB", table, ask("fences", example("SB"), { everything: false }).table);
-  compare("where the fences of SB stand", [[0, 1], [1, 1]], ask("compile", example("SB")).fences);
+  compare("the places of the fences of SB", [[0, 1], [1, 1]], ask("compile", example("SB")).fences);
   const { source } = ask("film", example("SB"), { state: "0:r0=1; 1:r0=1;", protocol: "mesi" }).films;
   compare("a source run has one step for each statement", ["P0", "P1", "P0", "P1"], source.events);
   compare("the code of a source run", [{ text: "x := 1", at: 0 }, { text: "r0 := y", at: 1 }], source.cells[0]);
@@ -667,7 +667,7 @@ function compareTyped(page, program, tally) {
   for (const [word, isProved] of [[1, hasMarks], [7, true]]) {
     const { report } = ask("states", deep(word));
     const expected = [["Test A Allowed", "States 2"], isProved, isProved];
-    compare("a test that lw alone reads has its report, and marks only if they are proved", expected, [report.head, report.is_marked, report.is_proved]);
+    compare("a test that only lw reads has its report, and marks only if they are proved", expected, [report.head, report.is_marked, report.is_proved]);
   }
   const named = "X86 <b>\n{}\n P0 ;\n MOV [x],$1 ;\nexists (x=1)\n";
   const { picture } = ask("picture", named, { schedule: "P0", protocol: "mesi", strip: true });
@@ -701,8 +701,8 @@ function compareTrapped(page, tally, workbench) {
   };
   workbench.kept = { ...workbench.kept, lw_compile: trap };
   const { error, isBeyond } = ask();
-  tally.compare("a trap is told", ["The module was ended by the browser: RuntimeError: unreachable.", true], [error, isBeyond]);
-  tally.compare("behind a trap the module answers", expected, ask());
+  tally.compare("a trap is reported", ["The module was ended by the browser: RuntimeError: unreachable.", true], [error, isBeyond]);
+  tally.compare("after a trap the module answers", expected, ask());
 }
 
 /** The workbench that is asked: the program, or in place of it a module or a server. */

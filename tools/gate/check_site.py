@@ -1,15 +1,15 @@
-"""Looks whether the page answers what it should, with its server and in a browser alone. The last line is 'N passed, M failed'.
+"""Checks that the page answers what it should, with its server and in a browser without one. The last line is 'N passed, M failed'.
 
     python3 tools gate.check_site
 
-- tools/gate/check_site.mjs, where node is there: the JavaScript of web/ beside tools/gate/plain_answers.py, on all examples; where the module
-  is built, each of the module's answers beside the program's too; and some examples by way of a ./page.
+- tools/gate/check_site.mjs, if node is there: it compares the JavaScript of web/ with tools/gate/plain_answers.py, on all examples; each of the
+  module's answers with the program's, if the module is built; and some examples by way of a ./page.
 - tools/make_site.py: what it makes, and what it refuses.
-- Where the modules are built, in each browser that is there (Debian's Chromium and Firefox): of each example the states, the schedules,
-  the compiled text and three replays beside the program's bytes, by each module; the sites that tools/make_site.py makes, opened as
-  files, as a user uses them (tools/gate/browser/); and one that came from a web server, when the server is gone.
+- If the modules are built, in each browser that is there (Debian's Chromium and Firefox): for each example the states, the schedules,
+  the compiled text and three replays are the program's bytes, by each module; the sites that tools/make_site.py makes, opened as
+  files, work for a user (tools/gate/browser/); and so does one that came from a web server, when the server is gone.
 
-What is left out is told, which with CI=true is a failure, but for node and Firefox, which the machine may lack. tools/check_documents.py
+Lines say what is skipped, which with CI=true is a failure, except for node and Firefox, which the machine may lack. tools/check_documents.py
 calls all this.
 """
 from __future__ import annotations
@@ -63,7 +63,7 @@ BUNDLED = {
     "main.js": 'import { two } from "./other.js";\nimport * as whole from "./other.js";\ntold.push(two(), whole.one, typeof site);\n',
     "other.js": "/** One. */\nexport const one = 1;\n\nexport function two() {\n  return one + 1;\n}\n",
 }
-# What can't be put together: what is told, and the module that shows it.
+# Modules that can't be joined: what the fault says, and the module's text.
 REFUSED = (
     ("itself", 'import { a } from "./main.js";\nexport const a = 1;\n'),
     ("another form", 'import it from "./other.js";\n'),
@@ -99,13 +99,13 @@ def check_by_node() -> Iterator[Comparison]:
 
 
 def run_node(*words: str) -> str:
-    """Returns what tools/gate/check_site.mjs prints."""
+    """Returns the output of tools/gate/check_site.mjs."""
     ran = subprocess.run(make_node_command(*words), capture_output=True, text=True, timeout=1800, check=False)
     last = ran.stdout.splitlines()[-1:] or [""]
     return "0 failed" if re.fullmatch(r"[1-9]\d* passed, 0 failed", last[0]) else (ran.stdout + ran.stderr)[-3000:]
 
 
-# What is made.
+# The files that are made.
 
 
 def check_bundles() -> Iterator[Comparison]:
@@ -290,7 +290,7 @@ def make_comparing_page(folder: str, modules: list[bytes]) -> str:
 
 
 def format_answer(ran: tuple[int, bytes, bytes]) -> list[object]:
-    """Returns what the program answers, as the module returns it."""
+    """Returns the program's answer, in the form of the module's."""
     status, out, errors = ran
     return [status, bool(errors), (errors[:-1] or out).decode()]
 
@@ -319,7 +319,7 @@ def compare_module_answers(
 
 
 class Site(PageCase):
-    """What is only so of a site."""
+    """Properties that only a site has."""
 
     def test_where(self) -> None:
         """The page says that the workbench runs in the browser."""
@@ -371,7 +371,7 @@ def check_offline(folder: str) -> Iterator[Comparison]:
 
 
 def check_by_browser() -> Iterator[Comparison]:
-    """Yields all comparisons in a browser, where there is one, and the module."""
+    """Yields all comparisons in a browser, if there is one, and of the module."""
     if not web_files.read_module():
         yield from report_missing("the module of the sources as they are")
     if not is_there():

@@ -1,16 +1,16 @@
-"""Looks whether tools/make_slides.py makes the slides that docs/LAB.md speaks of. The last line is 'N passed, M failed'.
+"""Checks that tools/make_slides.py makes the slides that docs/LAB.md describes. The last line is 'N passed, M failed'.
 
     python3 tools gate.check_slides
 
 - There are twelve slides, each with a title of its own; the page names no other site and loads nothing; the same sources give the same bytes.
 - What is shown of a test is what the program says of it: each list is its report, and each picture of the machine has the registers,
   the store buffers and the words of its replay. An execution's loads have the words that the replay ends with.
-- The slides come in the sequence of the timetable. Before the tasks none shows a test of tasks 2 to 4, but for the text of A1 and A2 and the
+- The slides are in the order of the timetable. Before the tasks none shows a test of tasks 2 to 4, except the text of A1 and A2 and the
   list of A1 by turns, and no picture shows cache lines. Slide and sheet ask the same.
 - In Chromium, if it is there with its driver and python3-selenium: keys and clicks lead from slide to slide, a key shows notes, and each is a
   page of paper.
 
-tools/check_documents.py calls all this; the program has to be there.
+tools/check_documents.py calls all this; the program has to be built.
 """
 from __future__ import annotations
 
@@ -38,16 +38,16 @@ FIGURE = re.compile(r'<figure data-kind="(\w+)" data-test="([\w-]+)" data-schedu
 LIST = re.compile(r'<pre data-kind="(\w+)" data-test="([\w-]+)">(.*?)</pre>', re.S)
 TEXT = re.compile(r'<text [^>]*?(?: class="([\w ]+)")?>([^<]*)</text>')
 OUTWARD = re.compile(r"https?:|\bsrc=|\bhref=|@import|url\((?!#)|(?<!:)//\w")
-# What slides show of tests before the tasks about them: the kind and the test of a text, a list or a picture.
+# The parts of tests that slides show before the tasks about them: the kind and the test of a text, a list or a picture.
 BEFORE = {("code", "A1"), ("code", "A2"), ("states", "A1-turns"), ("state", "A1-turns"), ("state", "Slip")}
-# What the sheet says of task 1, and its slide.
+# The question of the sheet and of the slide in task 1.
 SAID = "Say why, whatever you answer."
 # A page of a printed document.
 PAGE = re.compile(rb"/Type\s*/Page\b")
 
 
 def ask_program(arguments: list[str], text: bytes) -> str:
-    """Returns what the program prints."""
+    """Returns the output of the program."""
     return subprocess.run([PROGRAM, *arguments], input=text, stdout=subprocess.PIPE, stderr=subprocess.STDOUT, check=False).stdout.decode()
 
 
@@ -85,7 +85,7 @@ def check_lists(page: str, tests: dict[str, bytes]) -> Iterator[Comparison]:
 
 
 def parse_picture(svg: str) -> tuple[list[list[str]], list[str] | None]:
-    """Returns what a picture of one state shows: the texts and the entries of each thread, and the words of memory."""
+    """Returns the contents of a picture of one state: the texts and the entries of each thread, and the words of memory."""
     threads: list[list[str]] = []
     content: list[str] | None = None
     for kind, text in TEXT.findall(svg):
@@ -106,7 +106,7 @@ def format_words(pairs: list[tuple[str, int]]) -> list[str]:
 
 
 def find_buffer(words: list[str]) -> int:
-    """Returns where the store buffer starts in what is shown of a thread."""
+    """Returns the start of the store buffer in the shown text of a thread."""
     return words.index("store buffer") if "store buffer" in words else len(words)
 
 

@@ -6,16 +6,16 @@ cases below them:
     lw states             TEXT => TOLD
     lw compile            TEXT => TOLD
     lw replay             TEXT => SCHEDULE => TOLD, or TEXT => TOLD by the empty schedule
-    lw replay TEXT        SCHEDULE => TOLD, of this text
+    lw replay TEXT        SCHEDULE => TOLD, for this text
 
-There `$` stands for a line end, and `@` for the dollar sign.
+In these lines `$` stands for a line end, and `@` for the dollar sign.
 
 A folder of tables/ has a file for each case, whose TOLD has several lines: comments, the line `lw states`, `lw schedules`, `lw compile`
 or `lw replay SCHEDULE`, the lines of TEXT, a line `=>`, and the lines of TOLD. There `<>` at the end of a line stands for no line end.
 
-TOLD is all that the program writes. It is the line of a fault, `lw: ..`, on standard error, and then nothing stands on standard
-output; or what stands on standard output; or `read`, for any page of a replay. The exit status is that of the fault or of the end.
-What `lw compile` tells is its own canonical text: compiled, it is told again. Behind a SCHEDULE may stand ` --protocol moesi`.
+TOLD is all that the program writes. It is the line of a fault, `lw: ..`, on standard error, with an empty standard output; or the text on
+standard output; or `read`, for any page of a replay. The exit status is that of the fault or of the end. What `lw compile` prints is its own
+canonical text: `lw compile` prints it again. ` --protocol moesi` may follow a SCHEDULE.
 
 In all of these `<3 ab>` stands for `ababab`, and `<0d>` for the byte of that hexadecimal number.
 """
@@ -105,7 +105,7 @@ def parse_expected(words: Words, expected: str) -> tuple[bytes, bytes, int | Non
 
 
 def run_program(program: str, words: Words, text: bytes) -> tuple[bytes, bytes, int]:
-    """Returns what a program prints on both streams, and its exit status."""
+    """Returns the output of a program on both streams, and its exit status."""
     ran = subprocess.run([program, *words], input=text, capture_output=True, timeout=300)
     return ran.stdout, ran.stderr, ran.returncode
 
@@ -116,7 +116,7 @@ def is_page(expected: tuple[bytes, bytes, int]) -> bool:
 
 
 def run_case(program: str, case: Case | None) -> tuple[object, object]:
-    """Returns what is expected of a case, and what was found."""
+    """Returns the expected output of a case, and the output that was found."""
     if case is None:
         return "a case that is understood", None
     words, text, expected = case

@@ -23,7 +23,7 @@ from shared.home import HOME
 
 LOG = f"{HOME}/crates/lw/out/log"
 PAGE = f"{HOME}/docs/TRUSTED.md"
-# What the verdict of a build has, and that of `rt ci` may lack.
+# The words that the verdict of a build has, and that of `rt ci` may lack.
 OF_BUILDS = {"incremental=trusted"}
 # The lines with which the parts of a log of `rt ci` start.
 PART = re.compile(r"^== (.+)$", re.M)
@@ -37,7 +37,7 @@ def read_text(path: str) -> str:
 
 
 def find_crate_log(log: str) -> str:
-    """Returns what a log says of the crate `lw`: all of it, or that crate's part of a log of `rt ci`."""
+    """Returns the part of a log on the crate `lw`: all of it, or that crate's part of a log of `rt ci`."""
     pieces = PART.split(log)
     parts = dict(zip(pieces[1::2], pieces[2::2]))
     return parts.get("lw", "") if parts else log
@@ -50,7 +50,7 @@ def find_last_line(start_of_line: str, text: str) -> str | None:
 
 
 def read_reached(text: str) -> dict[str, tuple[list[str], int]]:
-    """Returns of each crate of the report the functions that are named as reached, and their number."""
+    """Returns, for each crate of the report, the functions that are named as reached, and their number."""
     reached = {}
     for crate, names, count in re.findall(r"^ *axioms (\w+): (.*) \((\d+) of the \d+ declared\)$", text, re.M):
         reached[crate] = [it for it in names.split(", ") if it != "..."], int(count)
@@ -82,7 +82,7 @@ def find_function_faults(log: str, page: str) -> Iterator[str]:
 
 
 def list_linked_files(text: str) -> list[list[str]]:
-    """Returns the names of the linked files, without their folders, of each line that says what was linked. `rt ci` links the program twice, the
+    """Returns the names of the linked files, without their folders, for each line that says what was linked. `rt ci` links the program twice, the
     second time as Rattle's own compiler makes it, which no part of this repository runs."""
     lines = re.findall(r"^ *linked .*?files=(.*)$", text, re.M)
     return [[os.path.basename(it) for it in line.split(",")] for line in lines]

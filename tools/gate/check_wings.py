@@ -1,11 +1,11 @@
-"""Looks whether the crates that say what tests mean know nothing of how texts are read. tools/check_documents.py calls it.
+"""Checks that the crates that say what tests mean know nothing of how texts are read. tools/check_documents.py calls it.
 
     python3 tools gate.check_wings
 
-The library crates stand in two wings, MEANING and READING below, and on both stand the workbench, with lw_arena, which stands on
-neither, for its library; lw_axiomatic, whose laws say what the workbench prints; and lw_beyond and beyond, which list tests of any size.
+The library crates form two wings, MEANING and READING below. The workbench depends on both; so do lw_axiomatic, whose laws say what the
+workbench prints, and lw_beyond and beyond, which list tests of any size. lw_arena, for the workbench's library, depends on neither.
 No crate of the meaning wing may name one of the reading wing, directly or by way of others: not in its line of crates.txt, and not in its
-code, its definitions or its proofs. What a crate names stands in its line. The program `lw` depends on no crate of
+code, its definitions or its proofs. A crate's line has all that the crate names. The program `lw` depends on no crate of
 SEARCHING, so a first use of `./lw` proves no search. The last line is 'N passed, M failed'.
 """
 from __future__ import annotations
@@ -76,11 +76,11 @@ def find_dependency_paths(crate: str, below: dict[str, list[str]]) -> dict[str, 
 
 
 def find_crate_faults(crate: str, below: dict[str, list[str]]) -> list[str]:
-    """Returns what is wrong with what a crate names: what its line lacks; and for the meaning wing, what it names of the reading wing."""
+    """Returns the faults of a crate: the names that its line lacks; and for the meaning wing, its names of the reading wing."""
     faults = []
     ways = find_dependency_paths(crate, below)
     if crate in MEANING:
-        faults += [f"{' -> '.join(ways[it])}: meaning stands on reading" for it in READING if it in ways]
+        faults += [f"{' -> '.join(ways[it])}: meaning depends on reading" for it in READING if it in ways]
     for path, text in list_files(crate):
         for name in sorted(find_named_crates(text) - {crate, *below[crate]}):
             faults.append(f"{path} names {name}, which its line of crates.txt has not")
@@ -90,7 +90,7 @@ def find_crate_faults(crate: str, below: dict[str, list[str]]) -> list[str]:
 
 
 def find_faults(below: dict[str, list[str]] | None = None) -> list[str]:
-    """Returns what is wrong, a line each, with what each crate depends on; by crates.txt if that is not passed."""
+    """Returns the faults of the crates' dependencies, a line each; by crates.txt if they are not passed."""
     below = read_dependencies() if below is None else below
     placed = {*BOTH, *MEANING, *READING, *ABOVE}
     wing_faults = [f"{it} is in no wing of tools/gate/check_wings.py" for it in below if it not in placed and "_test" not in it]

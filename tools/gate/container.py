@@ -1,6 +1,6 @@
-"""A container of files with glibc, a shell and Python alone, in which commands run: what a pack for others is tried in.
+"""Makes a container of files with only glibc, a shell and Python, in which commands run, to try a pack as another user does.
 
-It is made of this system's own files, where Debian has them. To enter it takes the rights of root (chroot).
+It consists of this system's own files, at the places that Debian gives them. To enter it takes the rights of root (chroot).
 """
 from __future__ import annotations
 

@@ -1,4 +1,4 @@
-"""Helpers of the checks of tools: the files of the repository, its examples, and what a command of tools/ prints."""
+"""Has helpers of the checks of tools: the files of the repository, its examples, and the output of a command of tools/."""
 from __future__ import annotations
 
 import glob
@@ -24,6 +24,6 @@ def examples() -> list[tuple[str, str]]:
 
 
 def run(arguments: list[str], text: str = "") -> tuple[str, str, int]:
-    """Returns what a command of tools/ prints on both streams, and its exit status."""
+    """Returns the output of a command of tools/ on both streams, and its exit status."""
     ran = subprocess.run([sys.executable, os.path.join(TOOLS, arguments[0]), *arguments[1:]], input=text.encode(), capture_output=True, cwd=HOME)
     return ran.stdout.decode(), ran.stderr.decode(), ran.returncode

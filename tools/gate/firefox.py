@@ -1,6 +1,6 @@
 """Drives Firefox for the checks of the page, by the protocol that it speaks itself (Marionette), without any other program.
 
-A `Firefox` has of selenium's driver what tools/gate/browser/user.py uses, under the same names. Each command is a line of JSON behind
+A `Firefox` has the methods of selenium's driver that tools/gate/browser/user.py uses, under the same names. Each command is a line of JSON after
 its length, `[0, number, name, parameters]`, and each answer `[1, number, error, value]`.
 """
 from __future__ import annotations
@@ -136,7 +136,7 @@ class Firefox:
         return json.loads(lines.read(int(length[:-1])))
 
     def ask(self, name: str, **parameters: Any) -> Any:
-        """Returns what Firefox answers to a command. Raises WebDriverError if it answers with an error."""
+        """Returns Firefox's answer to a command. Raises WebDriverError if it answers with an error."""
         self.number += 1
         command = json.dumps([0, self.number, name, parameters]).encode()
         assert self.connection is not None
@@ -198,7 +198,7 @@ class Firefox:
         return Element(self, self.ask("WebDriver:GetActiveElement")[ELEMENT])
 
     def execute_script(self, script: str, *arguments: Any) -> Any:
-        """Returns what a script returns; elements may be passed, and none is returned."""
+        """Returns the result of a script; elements may be passed, and none is returned."""
         sent_arguments = [{ELEMENT: it.number} if isinstance(it, Element) else it for it in arguments]
         return self.ask("WebDriver:ExecuteScript", script=script, args=sent_arguments, newSandbox=True, sandbox=None)
 

@@ -3,9 +3,9 @@
     python3 tools gate.gate_times --into FILE rt ci
     python3 tools gate.gate_times --into FILE --row PART COMMAND..
 
-Runs the command, hands its lines on, and ends with its status. The first writes into the file FILE, in minutes of processor time,
+It runs the command, hands its lines on, and ends with its status. The first form writes into the file FILE, in minutes of processor time,
 what each crate took for its proof, for its wrong bodies and for its tests, in the form of tools/program/minutes.txt; the second adds a
-line for another part. `rt ci` tells no times, so they are read off the processes that it starts, four times a second: a process is told
+line for another part. `rt ci` prints no times, so they are read from the processes that it starts, four times a second: a process is recognized
 by its words, which name the crate and say `--test` for tests, and by its folder, a copy of the crate for a wrong body. What a process
 takes after it was last seen counts as the rest.
 """
@@ -62,7 +62,7 @@ Work = Tuple[str, str]
 
 
 class Watch:
-    """What the processes below one have taken, as last seen. A process without a command line of its own works for its parent's crate."""
+    """The processor times of the processes below one, as last seen. A process without a command line of its own works for its parent's crate."""
 
     def __init__(self, top: int) -> None:
         """Starts to watch the processes below one."""

@@ -1,7 +1,7 @@
-"""Random rows of instructions of one thread, each with the words that x86 leaves: the oracles of tools/gate/test_herd.py.
+"""Makes random rows of instructions of one thread, each with the words that x86 leaves: the oracles of tools/gate/test_herd.py.
 
 A row runs by itself while it is drawn, so what it leaves is known without tools/herd/. Rows of 64 bits have words that may not fit into a
-word of lw. Rows in all spellings have what people write: both orders of operands, with marks of the other one now and then.
+word of lw. Rows in all spellings have what people write: both orders of operands, sometimes with marks of the other one.
 """
 from __future__ import annotations
 
@@ -186,7 +186,7 @@ def make_wide_threads(seed: int) -> str:
 
 
 class SpelledRow:
-    """A random sequence of instructions of 32 bits, in one order of operands, in the spellings of that order and now and then of the other.
+    """A random sequence of instructions of 32 bits, in one order of operands, in the spellings of that order and sometimes of the other.
     """
 
     def __init__(self, seed: int) -> None:
@@ -214,7 +214,7 @@ class SpelledRow:
         return f"${number}" if self.is_att or self.random.random() < 0.3 else str(number)
 
     def spell_instruction(self, mnemonic: str, to: str, source: str | None = None) -> str:
-        """Returns an instruction with its operands, in the order of the sequence, and with the letter of a size now and then."""
+        """Returns an instruction with its operands, in the order of the sequence, and sometimes with the letter of a size."""
         letter = "l" * (self.random.random() < 0.4 and (self.is_att or self.is_mixed))
         operands = [to] if source is None else [source, to] if self.is_att else [to, source]
         return f"{mnemonic}{letter} {','.join(operands)}"

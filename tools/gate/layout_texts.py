@@ -97,7 +97,7 @@ smallest xs = go all (λ i j d lt within.
     not_above (get_or all i d) (get_or all j d) (sorted_far is_below (ranks_by total own) all up i j d lt within))
 """
 
-# What is not read, and what stands between, stays.
+# Lines that are not read, and what is between them, stay.
 KEPT = """\
 use Rattle.lw_base.proofs.Common.{a, b}
 

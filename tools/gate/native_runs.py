@@ -1,11 +1,11 @@
-"""Runs programs in C on this processor, and looks whether a state is seen that tools/from_c.py does not list.
+"""Runs programs in C on this processor, and reports states that are seen and that tools/from_c.py does not list.
 
     python3 tools gate.native_runs [--cc 'gcc -O2']... [--seconds N] [--tries N] FILE...
 
-The assembly that is run is the one that is converted, with a store to memory of the thread's own in place of each comment of `lw_see`. A
-line says of each program and compiler how many of the listed states were seen, in how many runs; and which seen states are not listed, which
-would be a fault of the conversion, or a processor that is none of x86-TSO. If a loop is gone through at most N times the list leaves states
-out, so these are not counted as faults then. The last line is 'N programs, M beyond'.
+It runs the assembly that is converted, with a store to memory of the thread's own in place of each comment of `lw_see`. For each program and
+compiler a line says how many of the listed states were seen, in how many runs, and which seen states are not listed. Such a state would be a
+fault of the conversion, or of a processor that does not follow x86-TSO. If runs go through a loop at most N times, the list lacks states, and
+these do not count as faults. The last line is 'N programs, M beyond'.
 """
 from __future__ import annotations
 
@@ -111,7 +111,7 @@ int main(int count, char **words) {
 
 
 class Native(NamedTuple):
-    """What was seen of a program: states as lines, each with its count."""
+    """The seen states of a program: lines, each with its count."""
 
     counts: dict[str, int]
 
@@ -136,7 +136,7 @@ def list_objects(converter: Converter) -> list[tuple[str, int, bool]]:
 
 
 def make_declarations(converter: Converter, sites: list[Seen | Global]) -> str:
-    """Returns what the harness knows of a program: its functions, objects and values."""
+    """Returns the harness's tables of a program: its functions, objects and values."""
     objects = list_objects(converter)
     names = sorted({site.name for site in sites if isinstance(site, Seen) and site.name != "return"})
     count = len(converter.program.threads)
@@ -202,7 +202,7 @@ def parse_native(printed: str, sites: list[Seen | Global]) -> Native:
 
 
 def compare_with_list(path: str, compiler: str, seconds: float, tries: int) -> tuple[list[str], int, int, int, bool]:
-    """Returns what is seen and not listed of a program, how many of the listed states were seen, and the number of runs."""
+    """Returns the states of a program that are seen and not listed, how many of the listed states were seen, and the number of runs."""
     with open(path, encoding="utf-8") as file:
         source = read_source(path, file.read())
     raw = compile_to_assembly(source, compiler, 0, os.path.dirname(os.path.abspath(path)))

@@ -1,4 +1,4 @@
-"""Oniguruma, the library of regular expressions by which VS Code reads grammars, if the system has it.
+"""Calls Oniguruma, the library of regular expressions by which VS Code reads grammars, if the system has it.
 
 Patterns are compiled as VS Code's engine compiles them: in Oniguruma's own syntax, with numbered groups, over UTF-8.
 """
@@ -13,7 +13,7 @@ MAX_MESSAGE_BYTES = 256
 
 
 class Region(ctypes.Structure):
-    """Where a match and its groups begin and end, in bytes."""
+    """The starts and ends of a match and its groups, in bytes."""
 
     _fields_ = [
         ("allocated", ctypes.c_int), ("count", ctypes.c_int), ("begins", ctypes.POINTER(ctypes.c_int)), ("ends", ctypes.POINTER(ctypes.c_int)),
@@ -57,24 +57,24 @@ class Library:
 
 
 class Match:
-    """A match, as Python's has it: where it and its groups are, in letters."""
+    """A match, as in Python: the places of it and of its groups, in letters."""
 
     def __init__(self, line: bytes, region: Region) -> None:
-        """Reads where a match is, which the library counts in bytes."""
+        """Reads the place of a match, which the library counts in bytes."""
         letters = lambda place: len(line[:place].decode()) if place >= 0 else -1
         self.spans = [(letters(region.begins[it]), letters(region.ends[it])) for it in range(region.count)]
         self.text = line.decode()
 
     def span(self, group: int = 0) -> tuple[int, int]:
-        """Returns where a group begins and ends."""
+        """Returns the start and the end of a group."""
         return self.spans[group]
 
     def start(self, group: int = 0) -> int:
-        """Returns where a group begins."""
+        """Returns the start of a group."""
         return self.spans[group][0]
 
     def end(self, group: int = 0) -> int:
-        """Returns where a group ends."""
+        """Returns the end of a group."""
         return self.spans[group][1]
 
     def __getitem__(self, group: int) -> str:

@@ -2,7 +2,7 @@
 
     python3 tools gate.plain_answers
 
-Each line of standard input is a question as JSON, as web/questions.js takes it; each line that is printed is its answer. Reports,
+Each line of standard input is a question as JSON, as web/questions.js takes it; each printed line is its answer. Reports,
 schedules, compiled texts and replays are the program's; tools/plain.py gives the marks on states, the rows of statements, texts without
 fences, and the schedule of a source run; tools/fences.py gives the table of fences, and tools/picture.py and tools/graph.py draw.
 """
@@ -54,11 +54,11 @@ class NoAnswer(Exception):
 
 
 def remember(ask_once: Callable[[list[str], bytes], str]) -> Callable[[list[str], bytes], str]:
-    """Returns what asks the program once for the same words and text."""
+    """Returns a function that asks the program once for the same words and text."""
     results = {}
 
     def ask(arguments: list[str], text: bytes) -> str:
-        """Returns what the program prints, if that was asked before the same."""
+        """Returns the program's output, which is kept for the next time."""
         key = (tuple(arguments), text)
         if key not in results:
             results[key] = ask_once(arguments, text)
@@ -185,7 +185,7 @@ def list_statement_starts(statements: Sequence[plain.Statement]) -> Iterator[int
 
 
 def make_source_film(text: bytes, compiled_film: Film, state: str) -> Film | None:
-    """Returns the film of the source run to a state, or None where that run is not known to end there."""
+    """Returns the film of the source run to a state, or None if that run is not known to end there."""
     try:
         film = make_film(text, make_source_schedule(plain.read_test(text.decode()), compiled_film), "mesi")
     except (plain.NoTest, RecursionError, Refused):
@@ -238,7 +238,7 @@ def answer_moves(text: bytes, schedule: str, protocol: str, whole: bool = False)
 
 
 def list_set_registers(film: Film) -> list[list[str]] | None:
-    """Returns of each thread the registers that the events of a film have put words into; None if there are more than 100 events."""
+    """Returns, for each thread, the registers that the events of a film have put words into; None if there are more than 100 events."""
     put: list[list[str]] = [[] for _ in film["cells"]]
     for effect in film["effects"]:
         if effect.get("register") is not None and effect["register"] not in put[effect["thread"]]:
@@ -247,7 +247,7 @@ def list_set_registers(film: Film) -> list[list[str]] | None:
 
 
 def answer_compile(text: bytes) -> Answer:
-    """Returns a test beside what it is compiled to, with fences and without."""
+    """Returns a test beside its compiled program, with fences and without."""
     compiled = ask(["compile"], text)
     program = plain.read_test(compiled)
     places = fences.list_fences(program)
@@ -260,7 +260,7 @@ def answer_compile(text: bytes) -> Answer:
 
 
 def answer_fences(text: bytes, everything: bool) -> Answer:
-    """Returns the table of tools/fences.py, where its lists come from, and of each row the text without its fence."""
+    """Returns the table of tools/fences.py, the makers of its lists, and for each row the text without its fence."""
     test = plain.read_test(ask(["compile"], text))
     compared = fences.show_everything(test) if everything else test
     texts = [plain.format_canonical_text(fences.remove_fences(compared, [fence])) for fence in fences.list_fences(compared)]

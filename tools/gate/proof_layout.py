@@ -1,15 +1,15 @@
-"""The line breaks of proofs. They depend on a proof's words alone, and not on how its lines were broken before.
+"""Breaks the lines of proofs. The breaks depend only on a proof's words, and not on how its lines were broken before.
 
     python3 tools gate.proof_layout [--write] [FILE..]
 
-Of crates/*/proofs/**/*.antt, or of the files named, it tells which are not in this layout; with --write it lays them out. `rt fmt`
-keeps what it writes: that sets how far lines are indented, and breaks none.
+It says which of crates/*/proofs/**/*.antt, or of the files named, are not in this layout; with --write it lays them out. `rt fmt`
+preserves what it writes: `rt fmt` sets how far lines are indented, and breaks none.
 
-- What fits on one line of LIMIT columns stands on one line, but for a `let` that another follows.
+- What fits on one line of LIMIT columns is on one line, except a `let` that another follows.
 - A signature that does not fit has a line for each premise, and for what they prove.
-- A term that does not fit behind its `=` or `↦` begins a line. A chain of operators then has a line for each of its terms; those of
+- A term that does not fit after its `=` or `↦` begins a line. A chain of operators then has a line for each of its terms; those of
   lists and sums are filled. A function's arguments fill lines, each whole.
-- A term in brackets is broken only if it alone is longer than a line, and then in the same way. Tuples, records and the cases of an
+- A term in brackets is broken only if it is itself longer than a line, and then in the same way. Tuples, records and the cases of an
   `elim` that do not fit have a line for each item.
 
 Lines with comments between them, imports, and words that tools/shared/antt_terms.py does not read stay as they are. A file is
@@ -35,7 +35,7 @@ LIMIT = 130
 # Operators whose terms fill lines.
 FILLED = {"∷", "++", "+", "-", "*", "/", "%", "^"}
 MARKS = {"pattern", "unfoldable", "abbrev", "pub", "axiom"}
-# What starts a sentence that is no signature and no clause.
+# The first words of sentences that are neither signatures nor clauses.
 KEPT = {"use", "mod", "open", "infix", "infixl", "infixr", "unfolding", "ruleset", "mutual", "deriving", "where"}
 BLOCKS = {"module", "record", "data"}
 
@@ -105,7 +105,7 @@ def is_apart(term: Term | None, page: Page) -> bool:
 
 
 def find_opening(term: Term) -> str | None:
-    """Returns what precedes the first line break of a term that ends in items on lines of their own, or `None`."""
+    """Returns the text before the first line break of a term that ends in items on lines of their own, or `None`."""
     if isinstance(term, Rows):
         return find_rows_opening(term)
     if isinstance(term, Bracket):
@@ -121,7 +121,7 @@ def find_opening(term: Term) -> str | None:
 
 
 def find_rows_opening(rows: Rows) -> str | None:
-    """Returns what precedes the first item of some rows, or `None`."""
+    """Returns the text before the first item of some rows, or `None`."""
     if not rows.items or rows.head and rows.head.is_chained:
         return None
     return f"{rows.head.flat} {rows.opening}" if rows.head else rows.opening

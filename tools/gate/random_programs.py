@@ -1,9 +1,9 @@
-"""Random programs in C, whose lists by tools/from_c.py have to be the outcomes that an interpreter of their source finds.
+"""Makes random programs in C, whose lists by tools/from_c.py have to be the outcomes that an interpreter of their source finds.
 
     python3 tools gate.random_programs COUNT [--seed N] [--compilers N] [--log FILE] [--processes N]
 
-Runs COUNT programs of two or three threads, the first of which has the number --seed (0), each by --compilers (3) of the compilers and levels
-that are on this machine, in --processes (2) at once. Prints the programs whose lists differ, and writes a line for each list into the file
+It runs COUNT programs of two or three threads, the first of which has the number --seed (0), each by --compilers (3) of the compilers and levels
+on this machine, in --processes (2) at once. It prints the programs whose lists differ, and writes a line for each list into the file
 --log. The interpreter knows C's integers, atomic operations, pointers and arrays, and x86's store buffers, but no assembly. A relaxed
 store waits in a buffer, and every seq_cst operation except a load waits for the buffer: gcc and clang make no other code of them, and merge
 none of them. The last line is 'N lists the same, M differ, K refused'.
@@ -81,7 +81,7 @@ HEAD = (
 
 
 def evaluate_helper(a: int) -> int:
-    """Returns what `helper` of HEAD returns."""
+    """Returns the result of `helper` of HEAD."""
     return 2 if a == 1 else a & 6
 
 
@@ -288,7 +288,7 @@ class Interpreter:
         return ends
 
     def list_successors(self, state: State, thread: int) -> list[State]:
-        """Returns what a thread can do next: drain its oldest store, or execute its next statement."""
+        """Returns the next actions of a thread: drain its oldest store, or execute its next statement."""
         successors, buffer = [], state.buffers[thread]
         if buffer:
             (location, word), *rest = buffer
@@ -326,7 +326,7 @@ class Interpreter:
         return state._replace(next=replace_item(state.next, thread, next_index))
 
     def compute_effect(self, statement: Statement, location: int, found_word: int, registers: tuple[int, ...]) -> tuple[int | None, int | None]:
-        """Returns what a statement stores to its location, and to what it sets its variable, if it does."""
+        """Returns the word that a statement stores to its location, and the word to which it sets its variable, if it does."""
         kind, value = self.program.kinds[location], lambda text: EXPRESSIONS[text](*registers[:2])
         if statement.kind in ("set", "copy"):
             return None, value(statement.first) if statement.kind == "set" else registers[statement.target]
@@ -375,7 +375,7 @@ def compare_program(program: Program, compiler: str) -> str:
 
 
 def compare_random_program(seed: int, compilers: list[str], count: int) -> list[tuple[str, str, str]]:
-    """Returns what a random program gives by some compilers: each compiler, the result, and the program's text."""
+    """Returns the results of a random program by some compilers: each compiler, the result, and the program's text."""
     sys.setrecursionlimit(RECURSION)
     random = Random(f"c {seed}")
     program = Program(random)

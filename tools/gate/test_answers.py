@@ -1,8 +1,8 @@
-"""Whether an answer of a program that is not that of the sources is said to be not proved.
+"""Tests that an answer of a program of other sources is marked as not proved.
 
     python3 tools gate.test_answers, or in tools/ python3 -m unittest gate.test_answers
 
-A stand-in for the programs is put into a tree of these tools: what it is made of is that tree's sources, and then it is not. The tools are run
+A stand-in for the programs is put into a copy of these tools: first it is made from that copy's sources, and then from others. The tools run
 there. The programs are not needed. tools/check_documents.py calls all this (tools/gate/cases.py).
 """
 from __future__ import annotations
@@ -78,7 +78,7 @@ class Stale(cases.Case):
         self.room = room.name
 
     def test_program(self) -> None:
-        """What lw lists is proved, until the sources have changed."""
+        """The lists of lw are proved, until the sources change."""
         tree = Tree(self.room, lw=f"cat <<'END'\n{WRONG}END")
         self.assertEqual("Put together from 1 test, listed by lw", tree.run_tool("assume.py")[-1])
         self.assertEqual("SB-x86, by its question, exists (0:EAX=0 /\\ 1:EAX=0): fences 0, states 1", tree.run_tool("fences.py")[0])
@@ -96,7 +96,7 @@ class Stale(cases.Case):
         self.assertEqual(f"Put together from 1 test, listed by {STALE_BEYOND}, not proved", tree.run_tool("assume.py")[-1])
 
     def test_pack(self) -> None:
-        """Where there are no sources, the program is what was handed on."""
+        """Without sources, the program counts as current."""
         tree = Tree(self.room, lw=f"cat <<'END'\n{WRONG}END")
         os.remove(f"{self.room}/crates.txt")
         self.assertEqual("Put together from 1 test, listed by lw", tree.run_tool("assume.py")[-1])
@@ -114,7 +114,7 @@ class Stale(cases.Case):
 
 
 class Sentences(cases.Case):
-    """What the other tools say of answers of a program of other sources."""
+    """The words of the other tools on answers of a program of other sources."""
 
     def setUp(self) -> None:
         """Replaces the program by one that prints a wrong report."""
@@ -151,7 +151,7 @@ class Sentences(cases.Case):
             self.assertEqual(["lw", STALE], list(self.list_sentences(lambda: beyond.replay_all(test, read(SB), exploration))))
 
     def test_asked_once(self) -> None:
-        """It is asked once in a process, of each program."""
+        """A process asks once for each program."""
         with mock.patch.object(spawn, "is_current", mock.Mock(return_value=True)) as mocked:
             answers.is_current.cache_clear()
             for _ in range(3):

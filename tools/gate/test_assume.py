@@ -1,10 +1,10 @@
-"""Whether what tools/assume.py puts together is exact.
+"""Tests that the reports that tools/assume.py puts together are exact.
 
     python3 tools gate.test_assume, or in tools/ python3 -m unittest gate.test_assume
 
-- Random tests with LOCK CMPXCHG: the report is that of a machine that has the instruction.
+- Random tests with LOCK CMPXCHG: the report is that of a machine with this instruction.
 - Tests with loops that wait: each number of tries has the states of the loops themselves.
-- Random jumps backward: blocks that close no loop, and loops, beside a machine whose threads jump backward, and beside copies of them.
+- Random jumps backward: blocks that close no loop, and loops, compared with a machine whose threads jump backward, and with copies of them.
 - What the command prints if no run is left, or a list is not proved.
 
 Lists come from the program if it is built, otherwise from the search of tools/beyond.py. tools/check_documents.py calls all this
@@ -174,8 +174,8 @@ JumpCell = Tuple[str, Optional[int]]
 
 
 def make_random_cells(random: Random, is_loop: bool) -> list[JumpCell]:
-    """Returns the cells of a thread with jumps: of each its instruction, and where it jumps, if it does. With loops they jump to random places,
-    otherwise forward, before a block is put behind the end."""
+    """Returns the cells of a thread with jumps: for each its instruction, and where it jumps, if it does. With loops they jump to random places,
+    otherwise forward, before a block is put after the end."""
     size = random.randint(5, 8)
     jumps = random.sample(range(1, size), random.randint(1, 3))
     names = ("JE", "JNE", "JMP") if is_loop else ("JE", "JNE")
@@ -342,7 +342,7 @@ class Jumps(cases.Case):
                     self.assertEqual(set(), states - whole)
 
     def test_one_loop(self) -> None:
-        """A loop that is entered at its begin, and has one jump backward, is gone through as often as there are tries: no more, no less."""
+        """Runs go through a loop that is entered at its start, and has one jump backward, exactly as often as there are tries."""
         for seed, threads, _ in islice(list_random_threads(True, is_simple), RANDOM_JUMPS):
             for tries in (1, 2, 3):
                 with self.subTest(seed=seed, tries=tries):
@@ -368,10 +368,10 @@ def is_simple(cells: list[tuple[str, None] | tuple[str, int]]) -> bool:
 
 
 class Command(cases.Case):
-    """What the command prints."""
+    """The output of the command."""
 
     def test_block_behind_the_end(self) -> None:
-        """A compiler's block behind the end, which jumps back to the middle, is no loop: all states are there, without a number of tries."""
+        """A compiler's block after the end, which jumps back to the middle, is no loop: all states are there, without a number of tries."""
         printed, err, status = run(["assume.py"], BLOCK_BEHIND)
         self.assertEqual(("", 0), (err, status))
         self.assertEqual(["1:EAX=0; 1:ECX=0;", "1:EAX=1; 1:ECX=7;"], answers.filter_state_lines(printed))

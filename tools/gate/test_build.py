@@ -1,9 +1,9 @@
-"""Whether the minutes that ./lw says a build takes follow the machine.
+"""Tests that the minutes that ./lw says a build takes follow the machine.
 
     python3 tools gate.test_build, or in tools/ python3 -m unittest gate.test_build
 
-A build is played through by the times of one that was recorded, on four processors to which other work came during the build, and by the
-same times on machines that are slower and faster. Nothing is built. tools/check_documents.py calls all this (tools/gate/cases.py).
+A build is simulated with the times of a recorded one, on four processors that got other work during the build, and with the same times on
+slower and faster machines. Nothing is built. tools/check_documents.py calls all this (tools/gate/cases.py).
 """
 from __future__ import annotations
 
@@ -38,7 +38,7 @@ RECORD = {
     "lw": (["lw_bench"], 2.0, 730, 881),
 }
 PACES = (0.6, 0.8, 1, 1.3)
-# How many crates are proved when the bounds must hold on a machine of any pace.
+# The number of proved crates from which on the bounds must hold on a machine of any pace.
 FIRST_CRATES = 6
 
 
@@ -92,7 +92,7 @@ class Minutes(cases.Case):
                 self.assertTrue(widths[0] > 2.5 and widths[-1] <= 2)
 
     def test_one_processor(self) -> None:
-        """One processor takes the minutes of all crates, in whatever order."""
+        """One processor takes the minutes of all crates, in any order."""
         self.assertEqual(round(sum(row[1] for row in RECORD.values()), 6), round(make_plan(RECORD, 1).estimate_minutes(list(RECORD), {}), 6))
 
     def test_processors(self) -> None:

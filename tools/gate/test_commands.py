@@ -1,4 +1,4 @@
-"""Whether each command of tools/ answers `--help`, and ends quietly when nobody reads what it prints.
+"""Tests that each command of tools/ answers `--help`, and ends quietly when nobody reads what it prints.
 
     python3 tools gate.test_commands, or in tools/ python3 -m unittest gate.test_commands
 
@@ -20,7 +20,7 @@ from shared.home import HOME
 
 HELP = ("--help", "-h")
 # The first sentence of this file.
-SAYS = "Whether each command of tools/ answers `--help`, and ends quietly when nobody reads what it prints."
+SAYS = "Tests that each command of tools/ answers `--help`, and ends quietly when nobody reads what it prints."
 # Arguments for those commands that print quickly, so that something is written to each pipe.
 QUICK = (
     ["assume.py", "tools/herd/tests/Mcs.litmus"],
@@ -36,7 +36,7 @@ QUICK = (
 
 
 def list_commands() -> list[str]:
-    """Returns the names of the files that can be run, but for the one by which modules are run."""
+    """Returns the names of the files that can be run, except the one by which modules are run."""
     paths = sorted(glob.glob(os.path.join(TOOLS, "[!_]*.py")))
     return [os.path.basename(it) for it in paths if '__name__ == "__main__"' in read(it)]
 
@@ -47,7 +47,7 @@ def run_module(*arguments: str) -> subprocess.CompletedProcess:
 
 
 def run_without_reader(arguments: list[str], text: str = "", closes_both: bool = False) -> tuple[str, int]:
-    """Returns what a command prints on standard error, and its exit status, when nobody reads its standard output; or neither stream."""
+    """Returns the output of a command on standard error, and its exit status, when nobody reads its standard output; or neither stream."""
     reading, writing = os.pipe()
     os.close(reading)
     errors = writing if closes_both else subprocess.PIPE
@@ -95,7 +95,7 @@ class Help(cases.Case):
                 self.assertIn("./page [PORT]", ran.stdout)
 
     def test_commands(self) -> None:
-        """All commands are looked at, and each calls `start.run`."""
+        """All commands are checked, and each calls `start.run`."""
         self.assertTrue(len(list_commands()) >= 21)
         for name in list_commands():
             with self.subTest(name):
@@ -114,7 +114,7 @@ class Modules(cases.Case):
                 self.assertEqual(run([f"{name}.py", *words]), (ran.stdout, ran.stderr, ran.returncode))
 
     def test_no_command(self) -> None:
-        """What is no command ends with status 2: a module that is only imported, a package, and no module at all."""
+        """Words that are no command end with status 2: a module that is only imported, a package, and no module at all."""
         for name in ("given", "shared.home", "gate", "gate.none", "none", "../page", "os", "", "a.b.c", "--none"):
             ran = run_module(name)
             with self.subTest(name):
@@ -146,7 +146,7 @@ class Pipes(cases.Case):
                     self.assertEqual(("", start.CLOSED), run_without_reader([*words[:-1], "no-such-file"], closes_both=True))
 
     def test_full_disk(self) -> None:
-        """An output that can't be written is told, with status 1."""
+        """An output that can't be written is reported, with status 1."""
         message = "fences: standard output: No space left on device\n"
         with open("/dev/full", "wb") as full:
             words = [sys.executable, os.path.join(TOOLS, "fences.py"), "examples/SB.litmus"]

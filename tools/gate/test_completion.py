@@ -1,9 +1,9 @@
-"""Whether bash, zsh and fish complete the words of the programs and the options of the tools, by the files that the package for Debian has.
+"""Tests that bash, zsh and fish complete the words of the programs and the options of the tools, by the files of the package for Debian.
 
     python3 tools gate.test_completion, or in tools/ python3 -m unittest gate.test_completion
 
 - The table has the options that the --help of each tool names, and the words that the programs take.
-- Each shell that is here offers what the table says. zsh is tried by its function, and in a terminal.
+- Each installed shell offers what the table says. zsh is tried by its function, and in a terminal.
 
 The programs are not needed. tools/check_documents.py calls all this (tools/gate/cases.py).
 """
@@ -44,7 +44,7 @@ COMPLETED = (
     ("lw-fences exam", FILES),
 )
 BASH = 'COMP_WORDS=($2); COMP_CWORD=$((${#COMP_WORDS[@]} - 1)); compopt() { echo "(files)"; }; . "$1" && _lw && echo "${COMPREPLY[*]}"'
-# What zsh's own functions do, for one word: compadd offers the words that begin with it.
+# A replacement for zsh's own functions, for one word: compadd offers the words that begin with it.
 ZSH = """emulate zsh
 compadd() { shift; print -r -- ${(M)@:#$PREFIX*} }
 _files() { print -r -- "(files)" }
@@ -94,7 +94,7 @@ class Shells(cases.Case):
     """The shells that are here."""
 
     room: str
-    paths: dict[str, str]  # of each shell the file of its completion
+    paths: dict[str, str]  # for each shell the file of its completion
 
     @classmethod
     def setUpClass(cls) -> None:
@@ -109,7 +109,7 @@ class Shells(cases.Case):
                 file.write(text)
 
     def run_shell(self, *arguments: str) -> str:
-        """Returns what a shell prints. It has a folder of its own for its settings."""
+        """Returns the output of a shell. The shell has a folder of its own for its settings."""
         settings = {"PATH": os.environ["PATH"], "HOME": self.room, "LC_ALL": "C.UTF-8", "TERM": "dumb"}
         ran = subprocess.run(arguments, stdout=subprocess.PIPE, stderr=subprocess.STDOUT, env=settings, cwd=HOME, check=False, timeout=SECONDS)
         return ran.stdout.decode()
@@ -138,7 +138,7 @@ class Shells(cases.Case):
                 self.assertIn(completed, self.type_in_zsh(words, completed))
 
     def type_in_zsh(self, words: str, completed: str) -> str:
-        """Returns what a terminal shows in which zsh runs and words are typed, with a tab after them, until it shows the whole."""
+        """Returns the text of a terminal in which zsh runs, after words and a tab are typed, when the terminal shows the whole."""
         child, terminal = pty.fork()
         if not child:
             os.execvpe("zsh", ["zsh", "-f", "-i"], {"PATH": os.environ["PATH"], "HOME": self.room, "TERM": "dumb", "PS1": "> "})
@@ -155,7 +155,7 @@ class Shells(cases.Case):
 
     @staticmethod
     def read_terminal_until(terminal: int, text: str) -> str:
-        """Returns what a terminal shows, without its controls, until it shows a text, or some seconds are over."""
+        """Returns the text of a terminal, without its controls, when it shows a text or some seconds are over."""
         shown, end = "", time.monotonic() + SECONDS
         while time.monotonic() < end and text not in shown:
             if select.select([terminal], [], [], 0.3)[0]:
@@ -167,7 +167,7 @@ class Shells(cases.Case):
         """fish completes."""
 
         def list_offered(words: str) -> list[str]:
-            """Returns what fish offers."""
+            """Returns the completions of fish."""
             lines = self.run_shell("fish", "--no-config", "-c", "source $argv[1]; complete -C $argv[2]", self.paths["fish"], words).splitlines()
             offered = [it.partition("\t")[0] for it in lines]
             return [FILES] if offered == ["examples/"] else offered

@@ -1,9 +1,9 @@
-"""Whether editors and the page show tests in colours by the words that are read.
+"""Tests that editors and the page show tests in colours by the words that are read.
 
     python3 tools gate.test_editor, or in tools/ python3 -m unittest gate.test_editor
 
 - The table of tools/editor/words.py has the words of docs/FORMAT.md's tables and of its reserved names, and the reader of tools/plain.py takes them.
-- The files that are made of the table are as they would be written.
+- The files that are made from the table are up to date.
 - The grammar gives each token of each example the scope of its kind, as the reader has the tokens, by a small reader of such grammars
   (`Colours`).
 - By Oniguruma, whose regular expressions VS Code's engine has, each expression is one, and the scopes are the same, if the library is here.
@@ -33,10 +33,10 @@ from interpreter.reading import RESERVED, read_heading
 from interpreter.tokens import read_tokens, skip_notes
 from shared.home import HOME
 
-# Of a kind of token the scopes that it may have.
+# For a kind of token, the scopes that it may have.
 NUMBERS = ("constant.numeric", "entity.name.section")
 NAMES = ("variable.other", "entity.name.function", "entity.name.section")
-# What the reader takes and a list of words does not tell apart: a text, and of some of its words the scopes.
+# Words that the reader distinguishes and a list of words does not: a text, and the scopes of some of its words.
 TYPED = (
     ("X86 MOV\n{}\n P0 ;\n MOV: MOV [MOV],1 ;\nexists (MOV=1)\n", "MOV", (
         "entity.name.type", "entity.name.function", "keyword.control", "variable.other", "variable.other")),
@@ -53,7 +53,7 @@ TYPED = (
 )
 
 
-# Of a class of the page the scopes that it may have: 0:EAX is one piece there, and three here.
+# For a class of the page, the scopes that it may have: 0:EAX is one piece there, and three here.
 OF_PAGE = {
     "comment": ("comment.block",),
     "keyword": ("keyword.control", "keyword.control.question", "storage.type", "constant.language", "keyword.operator.logical"),
@@ -90,7 +90,7 @@ class Colours:
         self.open: list[Rule] = []  # the rules whose end is looked for
 
     def find_scopes(self, text: str) -> list[str | None]:
-        """Returns of each letter its innermost scope, or None."""
+        """Returns, for each letter, its innermost scope, or None."""
         scopes: list[str | None] = []
         self.open = []
         for line in text.splitlines(keepends=True):
@@ -123,7 +123,7 @@ class Colours:
         return min(matching, key=lambda it: it[2].start()) if matching else None
 
     def find_line_scopes(self, line: str) -> list[str | None]:
-        """Returns of each letter of a line its innermost scope, or `None`."""
+        """Returns, for each letter of a line, its innermost scope, or `None`."""
         scopes: list[str | None] = []
         index = 0
         while True:
@@ -142,7 +142,7 @@ class Colours:
 
     @staticmethod
     def find_match_scopes(rule: Rule, match: Found, captures: dict[str, dict[str, str]]) -> list[str | None]:
-        """Returns of each letter of a match its innermost scope, or `None`."""
+        """Returns, for each letter of a match, its innermost scope, or `None`."""
         scopes = [None if rule.get("name", "meta.").startswith("meta.") else rule["name"]] * len(match[0])
         for number, capture in captures.items():
             begin, end = (offset - match.start() for offset in match.span(int(number)))
@@ -211,7 +211,7 @@ class Words(cases.Case):
             self.assertEqual(word == "NOP", "is no instruction that is read" in why)
 
     def test_files(self) -> None:
-        """What is made of the table is as it would be written, and is JSON where it should be (tools/documents/make_grammar.py writes it)."""
+        """The files that are made from the table are up to date, and some are JSON (tools/documents/make_grammar.py writes them)."""
         for name, text in grammar.make_files().items():
             with self.subTest(name):
                 self.assertEqual(text, read(name))
@@ -256,7 +256,7 @@ class Page(cases.Case):
     """The colours of the page, by its own code."""
 
     def color_texts(self, texts: list[str]) -> list[list[tuple[str, str | None]]]:
-        """Returns of each text the pieces that the page shows, each with its class, or nothing."""
+        """Returns, for each text, the pieces that the page shows, each with its class, or nothing."""
         with tempfile.TemporaryDirectory(prefix="lw-editor-") as folder:
             shutil.copytree(os.path.join(HOME, "web"), folder, dirs_exist_ok=True)
             for name, content in (("package.json", '{"type": "module"}'), ("dom.js", DOM), ("colours.js", COLOURS_OF_PAGE)):

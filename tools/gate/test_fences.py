@@ -1,9 +1,9 @@
-"""Whether tools/fences.py finds the smallest sets of fences, and exchanges that need no lock.
+"""Tests that tools/fences.py finds the smallest sets of fences, and exchanges that need no lock.
 
     python3 tools gate.test_fences, or in tools/ python3 -m unittest gate.test_fences
 
-- The sets of fences that are enough, of each compiled example, are those of a search through all sets.
-- Of random x86 tests: no smaller set of places answers the question, wherever fences are put, and each set that is told does.
+- For each compiled example, the sets of fences that are enough are those of a search through all sets.
+- For random x86 tests: no smaller set of places answers the question, wherever fences are put, and each set that is printed does.
 - Exchanges without their lock have all states of those with it.
 - A fence that is called spare adds no state if it is left out, of examples and of random tests with fences anywhere.
 - An answer says that it is not proved, if the programs did not make all of its lists.
@@ -42,7 +42,7 @@ from shared import answers, python_lw
 
 lw = python_lw.load_lw()
 RANDOM_TESTS = 150
-# Tests with fences at random places, and how many of their spare fences at least have a store before them and a load behind.
+# Tests with fences at random places, and how many of their spare fences at least have a store before them and a load after them.
 FENCED_TESTS = 300
 MIN_SPARE = 30
 MAX_PLACES = 2
@@ -134,7 +134,7 @@ class Places(BySearch):
                 yield name, test, fences.find_helping_sets(test)
 
     def test_sets_help(self) -> None:
-        """With a fence at each place of a set that is told, nothing is unwanted."""
+        """With a fence at each place of a printed set, nothing is unwanted."""
         for name, test, sets in self.list_unwanted_tests():
             for chosen in sets:
                 with self.subTest(name, chosen=chosen):
@@ -168,10 +168,10 @@ class Exchanges(BySearch):
 
 
 class Command(cases.Case):
-    """What the command prints."""
+    """The output of the command."""
 
     def test_sb(self) -> None:
-        """Of store buffering: that it has no fence, and where one more would change what is asked about."""
+        """For store buffering it says that there is no fence, and where one more would change the answer."""
         printed, err, status = run(["fences.py"], read("examples/SB-x86.litmus"))
         lines = [line for line in printed.splitlines(keepends=True) if not line.startswith("Not proved: ")]
         self.assertEqual((TOLD_OF_SB, "", 0), ("".join(lines).replace(" (not proved)\n", "\n"), err, status))
@@ -188,7 +188,7 @@ class Command(cases.Case):
 
     def test_enough(self) -> None:
         """Fences are called enough only if the question is answered, or if a source test behaves as by interleaving. In particular no line says
-        that no fence is enough if what is asked about is present."""
+        that no fence is enough if the outcome of the question is present."""
         half = read("examples/SB+mfences-x86.litmus").replace(" MFENCE | MFENCE ;", " MFENCE | ;").replace("~exists", "exists")
         question = "by its question, exists (0:EAX=0 /\\ 1:EAX=0)"
         everything = "by all registers and locations"
@@ -298,7 +298,7 @@ class Makers(cases.Case):
     def run_command(
         self, path: str, choices: fences.Choices = fences.Choices(), program: str | None = None, beyond: str | None = None
     ) -> list[str]:
-        """Returns what the command prints of a file, with other programs if they are named."""
+        """Returns the output of the command on a file, with other programs if they are named."""
         out = io.StringIO()
         with mock.patch.object(answers, "PROGRAM", program or answers.PROGRAM), mock.patch.object(answers, "load_library", lambda: None):
             with mock.patch.object(answers, "BEYOND", beyond or answers.BEYOND), mock.patch.object(sys, "stdout", out):

@@ -1,4 +1,4 @@
-"""Which names tools/shared/antt_free.py says that a proof lacks, and where tools/documents/missing_names.py finds them.
+"""Tests which names tools/shared/antt_free.py finds missing in a proof, and where tools/documents/missing_names.py finds them.
 
     python3 tools gate.test_free_names, or in tools/ python3 -m unittest gate.test_free_names
 
@@ -29,7 +29,7 @@ BOUND = (
     ("fields of a record that is made", "f : A\nf = record { left = a; right = b }", ["A", "a", "b"]),
     ("what a record and its fields are called", "record R (x : A) : Type 0 where\n  pub left : B x\n\nf : R\nf = r.left", ["A", "B", "r"]),
     ("parameters of a module", "module _ (x : A) where\n  f : B x\n  f = x", ["A", "B"]),
-    ("what stands under a lemma", "f : A\nf = g\n  where\n    g : B\n    g = h", ["A", "B", "h"]),
+    ("the lines under a lemma", "f : A\nf = g\n  where\n    g : B\n    g = h", ["A", "B", "h"]),
 )
 NO_VARIABLES = (
     ("a constructor with arguments", "f : A\nf (con x) = x", ["A", "con"]),
@@ -61,7 +61,7 @@ class FreeNames(cases.Case):
                 self.assertEqual(names, list_free_names(write_proof(folder, text)))
 
     def test_bound(self) -> None:
-        """What a lemma binds is not free in it."""
+        """A name that a lemma binds is not free in it."""
         self.compare(BOUND)
 
     def test_no_variables(self) -> None:
@@ -69,7 +69,7 @@ class FreeNames(cases.Case):
         self.compare(NO_VARIABLES)
 
     def test_brought_in(self) -> None:
-        """What a file brings in is not free in it."""
+        """A name that a file imports is not free in it."""
         self.compare(BROUGHT_IN)
 
     def test_built_in(self) -> None:
@@ -78,7 +78,7 @@ class FreeNames(cases.Case):
 
 
 class Places(cases.Case):
-    """Where the names stand that a proof lacks."""
+    """The places of the names that a proof lacks."""
 
     missing: Missing
 
@@ -100,7 +100,7 @@ class Places(cases.Case):
         return sorted(module for module, _ in self.missing.find_modules(file, word))
 
     def test_definition(self) -> None:
-        """A definition of a lower crate is found where it stands."""
+        """A definition of a lower crate is found in its place."""
         self.assertEqual(["Rattle.lw_litmus.specs.WellFormed"], self.find_modules("lw_tso", "IsWellFormedOperation"))
 
     def test_generated(self) -> None:
@@ -112,11 +112,11 @@ class Places(cases.Case):
         self.assertEqual(["STD"], self.find_modules("lw_tso", "∷"))
 
     def test_upper_crate(self) -> None:
-        """A definition of a crate that does not stand below is not found."""
+        """A definition of a crate that is not below is not found."""
         self.assertFalse("Rattle.lw_litmus.specs.WellFormed" in self.find_modules("lw_memory", "IsWellFormedOperation"))
 
     def test_told(self) -> None:
-        """A proof is told what is imported, from where, and what stands nowhere."""
+        """The report says what is imported, from where, and what is nowhere."""
         with tempfile.TemporaryDirectory(prefix="lw-names-") as folder:
             file = write_proof(folder, "f : IsWellFormedOperation\nf = nowhere_at_all")
             file.crate = "lw_tso"
@@ -126,7 +126,7 @@ class Places(cases.Case):
         self.assertEqual("-- A trial.\nuse Rattle.lw_litmus.specs.WellFormed.{IsWellFormedOperation}\nf : IsWellFormedOperation\nf = nowhere_at_all\n", text)
         found_lines = [(is_found, line.split(": ", 1)[1]) for is_found, line in self.missing.reports]
         first = (True, "IsWellFormedOperation is imported from Rattle.lw_litmus.specs.WellFormed")
-        self.assertEqual([first, (False, "nowhere_at_all stands nowhere")], found_lines)
+        self.assertEqual([first, (False, "nowhere_at_all is nowhere")], found_lines)
 
 
 if __name__ == "__main__":

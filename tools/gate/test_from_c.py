@@ -1,11 +1,11 @@
-"""Whether tools/from_c.py converts programs rightly, and refuses what it can't know.
+"""Tests that tools/from_c.py converts programs correctly, and refuses what it can't know.
 
     python3 tools gate.test_from_c, or in tools/ python3 -m unittest gate.test_from_c
 
 - Fixed texts of assembly: how data, labels, operands, flags, parts of registers, memory, loops and locked instructions are read. Each of these
   rules is a trap in which a list was wrong once, or could be. They need no compiler.
 - Sources: threads, conditions, where values are seen, herd's form.
-- With the compilers that are there: the programs of examples/from_c and examples/from_rust, random programs beside an interpreter of their
+- With the installed compilers: the programs of examples/from_c and examples/from_rust, random programs compared with an interpreter of their
   source (tools/gate/random_programs.py), and some programs run on this processor (tools/gate/native_runs.py).
 
 Lists come from the program if it is built, otherwise from the search of tools/beyond.py. tools/check_documents.py calls all this
@@ -152,7 +152,7 @@ class Reading(cases.Case):
                 self.assertTrue("refused" in find_refusal(lambda text=text: parse_sum(text)))
 
     def test_aliases(self) -> None:
-        """A thread that is another name of a function is there, however it is said."""
+        """A thread that is another name of a function is found, however the name is declared."""
         for alias in ("P1 = P0", ".set P1, P0"):
             text = make_program(make_thread("movl x(%rip), %eax"), data=f"{alias}\n{DATA}").replace(".zero 8", ".long 7\n.long 0", 1)
             with self.subTest(alias):
@@ -236,7 +236,7 @@ class Reading(cases.Case):
 
 
 def find_refusal(work: Callable[..., object]) -> str:
-    """Returns what is said of a refusal: the cause after the word `refused`, or nothing."""
+    """Returns the words of a refusal: the cause after the word `refused`, or nothing."""
     try:
         work()
     except (Refused, given.Fault) as why:
@@ -255,7 +255,7 @@ class Values(cases.Case):
         return sorted(int(it.split("=")[1]) for it in states)
 
     def test_computed(self) -> None:
-        """What is computed from a load, word by word."""
+        """Values that are computed from a load, word by word."""
         load = "movl x(%rip), %eax"
         for instructions, expected in (
             (("addl $3, %eax",), [3, 4, 8]), (("subl $1, %eax",), [0, 4, 2**32 - 1]), (("negl %eax",), [0, 2**32 - 5, 2**32 - 1]),
@@ -322,7 +322,7 @@ class Values(cases.Case):
         self.assertEqual([2**32 - 1], self.list_values("movq $-1, %rax", "testl %eax, %eax", "cmove x(%rip), %eax"))
 
     def test_unset(self) -> None:
-        """What nothing has set is refused where it is used, and may be copied: also the bytes above a part that is set."""
+        """A value that nothing has set is refused where it is used, and may be copied: also the bytes above a part that is set."""
         from_stack = "movl -8(%rsp), %eax; movl %eax, x(%rip)"
         for text in ("addl $1, %ebx", "movl %ebx, x(%rip)", "cmpl $1, %ebx; je .L1; .L1: nop", "movl (%rbx), %eax", from_stack):
             with self.subTest(text):
@@ -441,7 +441,7 @@ class Places(cases.Case):
         self.assertIn("malloc succeeds", answer_assembly(text, "exists (1:r0=0)").notes[0])
 
     def test_conditions_on_places(self) -> None:
-        """What the condition names has to be there, and to be what is accessed at once."""
+        """The objects that the condition names have to exist, and to be accessed as a whole."""
         text = make_program("movq $1, x(%rip)", "movq x(%rip), %rax")
         for condition, why in (
             ("exists (w=0)", "no variable"), ("exists (x+8=0)", "has 8 bytes"), ("exists (x+4=0)", "is a part of"),
@@ -463,7 +463,7 @@ class Ways(cases.Case):
         self.assertEqual(["1:r0=0", "1:r0=1", "1:r0=2", "1:r0=3"], list_states(text, "exists (1:r0=0)"))
 
     def test_refused(self) -> None:
-        """What is elsewhere, ends the program, or runs over the end of a function is refused, with its line."""
+        """Code that is elsewhere, ends the program, or runs over the end of a function is refused, with its line."""
         for text, why in (
             ("call memcpy", "elsewhere"), ("pushl $1", "32 bits"), ("negl", "operands that are not known"),
             ("jmp *x(%rip)", "a jump leads to no code"), ("ud2", "an abort"), ("paddd %xmm1, %xmm0", "vectors"),
@@ -490,7 +490,7 @@ class Ways(cases.Case):
         self.assertEqual(["1:r0=0", "1:r0=1", "1:r0=2", "1:r0=3"], list_states(make_program(STORES_X, asks), "exists (1:r0=0)"))
 
     def test_tries(self) -> None:
-        """Any other loop is gone through as often as `--tries` says; without a try it is refused, and without a run there is no verdict."""
+        """Runs go through any other loop as often as `--tries` says; without a try it is refused, and without a run there is no verdict."""
         waits = ".L1: lock addl $1, y(%rip); movl x(%rip), %eax; testl %eax, %eax; je .L1\nmovl y(%rip), %ecx\n#lw see r0 %ecx"
         text = make_program(STORES_X, waits, "movl y(%rip), %eax")
         self.assertEqual(["1:r0=1"], list_states(text, "exists (1:r0=1)", 1))
@@ -546,7 +546,7 @@ class Ways(cases.Case):
 
 
 class Sources(cases.Case):
-    """What is read of the source."""
+    """The parts of the source that are read."""
 
     PROGRAM = (
         "#include <stdatomic.h>\natomic_int x; // P7() {\nvoid P0(void) { int r0 = x; if (r0) { r0 = 2; } }\n"
@@ -560,10 +560,10 @@ class Sources(cases.Case):
         self.assertIn("r0 = 2; }  lw_see(r0, r0); }\n", source.text)
 
     def test_faults(self) -> None:
-        """What is wrong in a source is reported with its place."""
+        """A fault of a source is reported with its place."""
         for old, new, why in (
             ("0:r0", "1:r0", "P1 has a return"), ("// lw: exists (0:r0=0)\n", "", "no comment says"), ("P1(", "P2(", "in a row"),
-            ("0:r0=0", "0:r0", "stands where"),
+            ("0:r0=0", "0:r0", "expected"),
             ("int P1(void) { x = 1; return x; }\n// lw: exists (0:r0", "short P1(void) { return x; }\n// lw: exists (1:return",
              "fewer than 32 bits"), ("0:r0", "2:r0", "P2, which is not there"),
             ("// lw", "// lw: exists (x=1)\n// lw", "a second comment"), ("return x; }", "return x;", "is not closed"),
@@ -597,14 +597,14 @@ def read_verdicts(folder: str) -> dict[str, list[str]]:
     return {name: verdicts for name, *verdicts in rows}
 
 
-# What other versions of compilers than those of the lists make of the examples, if it differs.
+# The lists by other versions of compilers than those of the tables, if they differ.
 OTHER_VERSIONS = []
-# What is refused: a level at which a program has too many ways.
+# The refusals: a level at which a program has too many ways.
 REFUSED = {("McsLock", "rustc -C opt-level=0")}
 
 
 class Compiled(cases.Case):
-    """Programs, by the compilers that are there."""
+    """Programs, by the installed compilers."""
 
     def setUp(self) -> None:
         """Leaves these out if no compiler is there."""
@@ -793,7 +793,7 @@ class Compiled(cases.Case):
                     self.assertEqual("same", result)
 
     def test_command(self) -> None:
-        """What the command prints, and its status."""
+        """The output of the command, and its status."""
         with tempfile.TemporaryDirectory() as folder:
             path = os.path.join(folder, "a.c")
             compiler = list_compilers(".c")[0]

@@ -1,4 +1,4 @@
-"""Whether tests are converted from herd's form and to it as docs/FROM-HERD.md says.
+"""Tests that tests are converted from herd's form and to it as docs/FROM-HERD.md says.
 
     python3 tools gate.test_herd, or in tools/ python3 -m unittest gate.test_herd
 
@@ -11,7 +11,7 @@
 - The reports of examples in the lines of a log of herd's, which tools/run_all.py reads.
 - Files: two tests of one name, byte order marks, and comparisons of converted tests with logs of the original ones.
 
-Lists come from the program where it is built, else from tools/plain.py. tools/check_documents.py calls all this (tools/gate/cases.py).
+Lists come from the program if it is built, otherwise from tools/plain.py. tools/check_documents.py calls all this (tools/gate/cases.py).
 """
 from __future__ import annotations
 
@@ -90,7 +90,7 @@ class BothForms(cases.Case):
     """Examples and random tests in herd's forms."""
 
     def test_there_and_back(self) -> None:
-        """What is written in a form, and read back, has its own canonical text."""
+        """A test that is written in a form, and read back, has its own canonical text."""
         for name, text in [*examples(), *list_random_x86_tests()]:
             program = plain.compile_test(plain.read_test(text))
             expected = plain.format_canonical_text(program)
@@ -185,7 +185,7 @@ class Rows(cases.Case):
     """Random rows of instructions that lw lacks."""
 
     def test_states(self) -> None:
-        """A row leaves the words that x86 leaves; one whose flags can't be kept is refused, by LEA alone."""
+        """A row leaves the words that x86 leaves; one whose flags can't be kept is refused, only for LEA."""
         for seed in range(ROWS_OF_INSTRUCTIONS):
             row = Row(seed)
             try:
@@ -339,7 +339,7 @@ class Words64(cases.Case):
     """Words of 64 bits."""
 
     def test_refused(self) -> None:
-        """What may not fit into 32 bits is refused."""
+        """A word that may not fit into 32 bits is refused."""
         fits = "and a word of lw has 32 bits"
         negative = f"it works on 64 bits, and its result may be negative, {fits}"
         for cells, initial, message in (
@@ -369,7 +369,7 @@ class Words64(cases.Case):
         self.assertTrue("as large as" in find_refusal(text.format(2**31)))
 
     def test_differences_of_threads(self) -> None:
-        """What several threads take off is refused only if there may be too little."""
+        """Subtractions by several threads are refused only if the word may be too small."""
         for cell in ("lock decq (x)", "decq (x)", "lock addq $-1,(x)"):
             text = f"X86_64 Dec\n{{{{ x={{}}; }}}}\n P0 | P1 ;\n {cell} | {cell} ;\nexists (x=0)\n"
             self.assertEqual([True, False], ["may be negative" in (find_refusal(text.format(word)) or "") for word in (1, 2)])
@@ -419,7 +419,7 @@ class Words64(cases.Case):
 
 
 class Causes(cases.Case):
-    """What is refused has its true cause, and what is taken is not taken for something else."""
+    """A refusal has its true cause, and a text that is taken is not taken for something else."""
 
     def test_mnemonics(self) -> None:
         """The cause of each mnemonic that is refused."""
@@ -467,7 +467,7 @@ class Causes(cases.Case):
         self.assertEqual(f"2:3: {message}", find_refusal(test_of("mov [x],1", initial="EAX=1;")))
 
     def test_two_initial_values(self) -> None:
-        """Of two values of one site the last is taken, with a note; an entry that only has a type has none."""
+        """If a site has two values the last one is taken, with a note; an entry that only has a type has none."""
         note = "'x' has two values in the initial block: the last one is taken"
         for initial, word, notes in (("x=1; x=2;", 2, [note]), ("x=-1; x=2;", 2, [note]), ("x=5; int x;", 5, []), ("int x; x=5;", 5, [])):
             conversion = convert(test_of("mov [x],eax", initial=initial))
@@ -475,13 +475,13 @@ class Causes(cases.Case):
         self.assertEqual(["MOV [x],$2"], list_cells(test_of("mov DWORD PTR [rbx],2", initial="0:rbx=1; 0:rbx=x;")))
 
     def test_byte_order_marks(self) -> None:
-        """A byte order mark is told as one."""
+        """A byte order mark is reported as one."""
         self.assertEqual("1:1: the text is a byte order mark (U+FEFF) and nothing else", find_refusal("\ufeff"))
         message = "1:1: the text begins with a byte order mark (U+FEFF): save it without one"
         self.assertEqual(message, find_refusal("\ufeff" + test_of("mov [x],1")))
 
     def test_unset_flag(self) -> None:
-        """A note says where the flag is read before an instruction has set it."""
+        """A note says where the flag is read before an instruction sets it."""
         says = "the zero flag is read here before an instruction has set it: it is taken as not set at first"
         for cells, notes in ((("je L", "movl $1,(x)", "L:"), [says]), (("cmpl $0,%eax", "je L", "movl $1,(x)", "L:"), [])):
             self.assertEqual(notes, [it for _, it in convert(test_of(*cells)).notes if "zero flag" in it])
@@ -511,12 +511,12 @@ class Reports(cases.Case):
 
 
 class Commands(cases.Case):
-    """The commands, and what they tell of files that are faulty or missing."""
+    """The commands, and their messages on files that are faulty or missing."""
 
     TOOLS = ("from_herd", "to_herd", "assume")
 
     def test_help(self) -> None:
-        """`--help` prints the head comment."""
+        """`--help` prints the module docstring."""
         for tool in self.TOOLS:
             with self.subTest(tool):
                 out, err, status = run([f"{tool}.py", "--help"])
@@ -524,23 +524,23 @@ class Commands(cases.Case):
                 self.assertIn(f"tools/{tool}.py", out)
 
     def test_missing_file(self) -> None:
-        """A file that is not there is told in the system's words."""
+        """A missing file is reported in the system's words."""
         for tool in self.TOOLS:
             with self.subTest(tool):
                 printed = run([f"{tool}.py", "nowhere.litmus"])
                 self.assertEqual(("", f"{tool}: nowhere.litmus: No such file or directory\n", 1), printed)
 
     def test_faults_of_from_herd(self) -> None:
-        """What is not converted is told with its place, and nothing is printed."""
+        """A text that is not converted is reported with its place, and nothing is printed."""
         out, err, status = run(["from_herd.py"], read("tools/herd/tests/Less.litmus"))
         self.assertEqual(("-:6:2: 'JL' is not converted", "", 1), (err.split(":  ")[0][:28], out, status))
         _, err, status = run(["from_herd.py"], read("tools/herd/tests/Cas.litmus"))
         self.assertEqual(("-:1:1: LOCK CMPXCHG makes 4 tests", 1), (err[:33], status))
 
     def test_faults_of_to_herd(self) -> None:
-        """A text that is no test, and a name that herd takes for a register, are told with their place."""
+        """A text that is no test, and a name that herd takes for a register, are reported with their place."""
         printed = run(["to_herd.py"], "SRC A\n{}\n P1 ;\n")
-        self.assertEqual(("", "-:3:2: 'P1' stands where 'P0' should\n", 1), printed)
+        self.assertEqual(("", "-:3:2: found 'P1', expected 'P0'\n", 1), printed)
         _, err, status = run(["to_herd.py"], "X86 A\n{}\n P0 ;\n MOV [rax],1 ;\nexists (rax=1)\n")
         self.assertEqual(("-:1:1: the location 'rax' has a name", 1), (err[:36], status))
 
@@ -556,7 +556,7 @@ class Files(cases.Case):
         return path
 
     def test_one_name(self) -> None:
-        """Of two tests with one name the second is refused, both inputs are named, and the first is not overwritten."""
+        """If two tests have one name the second is refused, both inputs are named, and the first is not overwritten."""
         with tempfile.TemporaryDirectory(prefix="lw-herd-") as folder:
             into = os.path.join(folder, "into")
             os.mkdir(into)
@@ -659,7 +659,7 @@ class Logs(cases.Case):
                 self.assertEqual(status, run(["run_all.py", folder, "--against", path])[2])
 
     def test_differences(self) -> None:
-        """A difference is told in the original's names."""
+        """A difference is reported in the original's names."""
         lines, status = self.compare_with_log("--against", self.make_log("SB-addresses").replace("1:r9=0", "1:r9=7", 1), ("SB-addresses",))
         expected = ["SB-addresses: missing 1, too much 1", "  missing: 0:R8=0; 1:R9=7;", "  too much: 0:R8=0; 1:R9=0;"]
         self.assertEqual(([*expected, "1 tests against 1 of LOG: 1 differ"], 1), (lines, status))

@@ -1,4 +1,4 @@
-"""Whether the parts of tools/on_machine.py that need no processor do what they say, on fixed texts and values.
+"""Tests the parts of tools/on_machine.py that need no processor, on fixed texts and values.
 
     python3 tools gate.test_machine_parts, or in tools/ python3 -m unittest gate.test_machine_parts
 
@@ -58,7 +58,7 @@ ALL = """X86 All
  END: | ;
 exists (0:EAX=0)
 """
-# What objdump prints of MP-x86 with another value in each register at first.
+# The output of objdump on MP-x86 with another initial value in each register.
 MP = """X86 MP
 { 1:EAX=3; 1:EBX=4294967295; }
  P0 | P1 ;
@@ -223,7 +223,7 @@ class Assembly(cases.Case):
                 )
 
     def test_nontemporal(self) -> None:
-        """Stores past the caches take a register, and jumps lead to where they led."""
+        """Stores past the caches take a register, and jumps keep their targets."""
         code = (
             plain.Statement("jmp", target=3),
             plain.Statement("store", location=0, value=plain.Number(1)),
@@ -271,7 +271,7 @@ class Scripts(cases.Case):
     """Schedules as scripts."""
 
     def test_pieces(self) -> None:
-        """A script has the instructions of each thread in turn, up to where a store waits while another thread goes on."""
+        """A script has the instructions of each thread in turn, up to the place at which a store waits while another thread continues."""
         test = plain.read_test(read("examples/SB-x86.litmus"))
         cut = (
             ("P0 D0 P0 P1 P1 D1", ((0, 2), (1, 2))),
@@ -285,7 +285,7 @@ class Scripts(cases.Case):
                 self.assertEqual(expected, scripts.make_script(test, schedule))
 
     def test_all(self) -> None:
-        """All scripts of examples do what their threads can do, and lead something."""
+        """All scripts of examples do only what their threads can do, and direct at least one instruction."""
         for name, text in examples()[::9]:
             test = plain.compile_test(plain.read_test(text))
             scripts_made = scripts.make_scripts(test, plain.format_canonical_text(test))
@@ -294,7 +294,7 @@ class Scripts(cases.Case):
                 self.assertTrue(all(map(all, counts)) and all(len(it) > 1 for it in scripts_made))
 
     def test_found(self) -> None:
-        """Where neither program lists schedules, a search finds as many."""
+        """If neither program lists schedules, a search finds as many."""
         test = plain.read_test(read("examples/MP-x86.litmus"))
         with mock.patch.multiple(answers, ask_program=lambda *_: None, run_command=lambda *_: None):
             schedules_made = scripts.list_schedules(test, plain.format_canonical_text(test))
@@ -347,7 +347,7 @@ class Processors(cases.Case):
         self.assertEqual([(0, 0, 0, 0)], processors.make_placements(flat, 4, Random(1)))
 
     def test_sentences(self) -> None:
-        """What keeps a run from showing much is said, and nothing of a machine that has it all."""
+        """The output says what keeps a run from showing much, and says nothing of a machine that has it all."""
         clock = frozenset(processors.INVARIANT_CLOCK)
         good = processors.Processors((0, 1), {0: "0", 1: "1"}, {0: 0, 1: 0}, clock)
         self.assertEqual([], processors.list_obstacles(good, 2))
@@ -369,13 +369,13 @@ def read_subject(path: str) -> Subject:
 
 
 def make_seen(counts: dict[Shown, int], **facts: int) -> Seen:
-    """Returns what was seen of SB-x86 in two seconds."""
+    """Returns the sightings of SB-x86 in two seconds."""
     states: dict[tuple[int, ...], Sighting] = {words: Sighting(count, 0.001, runs.KINDS[0]) for words, count in counts.items()}
     return Seen(states, sum(counts.values()), 2.0, {**FACTS, **facts})
 
 
 def make_result(counts: dict[tuple[int, int], int], against: str = "") -> Result:
-    """Returns a result of SB-x86, held against its list or that of another test."""
+    """Returns a result of SB-x86, compared with its list or that of another test."""
     subject = read_subject("examples/SB-x86.litmus")
     states = [(0, 0), (0, 1), (1, 0), (1, 1)]
     listed = subjects.Listed([it for it in states if not against or it != (0, 0)], answers.Maker.SEARCH)
@@ -476,7 +476,7 @@ class Logs(cases.Case):
 
 
 class Runs(cases.Case):
-    """What the harness prints."""
+    """The output of the harness."""
 
     def test_read(self) -> None:
         """Counts of several threads are added, and the first sight is the earliest."""
@@ -488,13 +488,13 @@ class Runs(cases.Case):
         self.assertEqual("the harness ends without its line of facts", find_refusal(runs.parse_seen, ["state 1 0.1 0 1"]))
 
     def test_ends(self) -> None:
-        """A harness that ends otherwise is told with its cause."""
+        """A harness that ends otherwise is reported with its cause."""
         self.assertEqual("the harness is ended by SIGSEGV", runs.explain_status(-11, b""))
         self.assertEqual("harness: Cannot allocate memory", runs.explain_status(4, b"harness: Cannot allocate memory\n"))
         self.assertEqual("it says nothing", runs.explain_status(4, b""))
 
     def test_sentences(self) -> None:
-        """What was missing in a run is said."""
+        """The output says what was missing in a run."""
         subject = read_subject("examples/SB-x86.litmus")
         plan = plans.Plan(subject, list_codes(subject.x86), [], [], [(0, 1)], True, False)
         self.assertEqual([], runs.list_missing(make_seen({}), plan))

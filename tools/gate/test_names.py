@@ -1,4 +1,4 @@
-"""What tools/gate/check_names.py finds in pages that name what is not there, and tools/gate/check_trusted.py in docs/TRUSTED.md.
+"""Tests what tools/gate/check_names.py finds in pages that name what does not exist, and tools/gate/check_trusted.py in docs/TRUSTED.md.
 
     python3 tools gate.test_names, or in tools/ python3 -m unittest gate.test_names
 
@@ -109,7 +109,7 @@ class Paths(cases.Case):
     """Links and whole paths of a page."""
 
     def test_paths(self) -> None:
-        """A link or a path that leads to nothing is told."""
+        """A link or a path that leads to nothing is reported."""
         for subject, text, expected in PATHS:
             with self.subTest(subject):
                 self.assertEqual(expected, list(find_path_faults("docs/X.md", text)))
@@ -123,12 +123,12 @@ class Paths(cases.Case):
                 self.assertEqual([f"docs/X.md names {it}, which is not there" for it in expected], faults)
 
     def test_path_with_sign(self) -> None:
-        """A path with a `+` is looked at too."""
+        """A path with a `+` is checked too."""
         names = Names()
         self.assertEqual((True, False), (names.exists("examples/SB+own.litmus", False), names.exists("examples/SB+none.litmus", False)))
 
     def test_path_of_a_build(self) -> None:
-        """A path in a folder out/ is not looked at: a clean checkout has none."""
+        """A path in a folder out/ is not checked: a clean checkout has none."""
         names = Names()
         self.assertEqual([None, None, None], [names.exists(it, False) for it in ("crates/lw/out/none", "out/none.o", "out/")])
 

@@ -1,14 +1,14 @@
-"""Whether tools/on_machine.py runs what a test says, and notices what is not listed.
+"""Tests that tools/on_machine.py runs what a test says, and notices what is not listed.
 
     python3 tools gate.test_on_machine, or in tools/ python3 -m unittest gate.test_on_machine
 
-- Controls, which run tests: SB held against the list of SB with fences; stores past the caches, which break 2+2W and MP; a program with two
+- Controls, which run tests: SB compared with the list of SB with fences; stores past the caches, which break 2+2W and MP; a program with two
   instructions swapped, or anything else changed, which is refused. A control that needs a race is tried again, longer, up to a limit.
 - Programs in C and Rust, by the tests that they are converted to, with the same controls.
-- Runs with fewer processors than threads, under a tracer, and where the trap flag is caught.
+- Runs with fewer processors than threads, under a tracer, and on a machine that catches the trap flag.
 - The messages and statuses of the command, and the column of tools/run_all.py.
 
-What a control needs and this machine lacks is told by `skipped`, and the control is left out. The programs are not needed.
+If this machine lacks what a control needs, the control is left out, and `skipped` says so. The programs are not needed.
 tools/gate/test_machine_parts.py tries what needs no processor. tools/check_documents.py calls all this (tools/gate/cases.py).
 """
 from __future__ import annotations
@@ -58,7 +58,7 @@ int sigaction(int number, const struct sigaction *new, struct sigaction *old)
 
 
 def list_missing() -> list[str]:
-    """Returns what the controls need and this machine lacks."""
+    """Returns the needs of the controls that this machine lacks."""
     lacking = [f"{it} is missing" for it in ("cc", "objdump") if not shutil.which(it)]
     try:
         build.check_system()
@@ -121,7 +121,7 @@ class Compiled(cases.Case):
         cls.builder = build.Builder(["cc"], cls.room.name)
 
     def find_fault(self, test: plain.Test, change: Callable[[str], str] = lambda text: text) -> str:
-        """Returns what is said of the compiled code of a test whose assembly is changed."""
+        """Returns the message on the compiled code of a test whose assembly is changed."""
         text_of = assembly.format_assembly
         with mock.patch.object(assembly, "format_assembly", lambda *words: change(text_of(*words))):
             return find_refusal(self.builder.build_program, list_codes(test), test.registers)
@@ -141,7 +141,7 @@ class Compiled(cases.Case):
                 self.assertIn(message, self.find_fault(plain.read_test(MP), partial(replace_once, old=old, new=new)))
 
     def test_both_copies(self) -> None:
-        """Each thread is there twice, and both are looked at."""
+        """Each thread is there twice, and both are checked."""
         for function in ("lw_run_0:", "lw_trapped_0:"):
 
             def swap(text: str, function: str = function) -> str:
@@ -229,7 +229,7 @@ class Controls(cases.Case):
         cls.laboratory = Laboratory(["cc"], cls.room.name)
 
     def run_test(self, text: str, **settings: Any) -> Result:
-        """Returns what a run shows."""
+        """Returns the result of a run."""
         return self.laboratory.run_and_compare("F", text, Settings(**settings))
 
     def shows_in_some_run(self, is_shown: Callable[..., bool], text: str, **settings: Any) -> bool:
@@ -237,7 +237,7 @@ class Controls(cases.Case):
         return any(is_shown(self.run_test(text, limits=Limits(seconds), **settings)) for seconds in TRIES)
 
     def test_against(self) -> None:
-        """SB held against the list of SB with fences: its fourth state is seen and not listed, with status 3. The first control."""
+        """SB compared with the list of SB with fences: its fourth state is seen and not listed, with status 3. The first control."""
         for seconds in TRIES:
             words = ["--seconds", str(seconds), "--against", "examples/SB+mfences-x86.litmus", "examples/SB-x86.litmus"]
             out, err, status = run(["on_machine.py", *words])
@@ -279,7 +279,7 @@ class Controls(cases.Case):
         self.assertEqual(1, len(result.seen.states))
 
     def test_complete(self) -> None:
-        """A run ends when all listed states were seen, or after so many runs."""
+        """A run ends when all listed states were seen, or after N runs."""
         result = self.run_test(read("examples/CoRR-x86.litmus"), limits=Limits(60.0, until_complete=True))
         self.assertEqual([], result.list_not_seen())
         self.assertTrue(result.seen.seconds < 59)
@@ -375,7 +375,7 @@ class Programs(cases.Case):
         return programs.compile_program(path, read(path), compiler, tries)
 
     def run_program(self, program: programs.Program, seconds: float = 0.2, **settings: Any) -> Result:
-        """Returns what the runs of a program show."""
+        """Returns the result of a program's runs."""
         return programs.run_program(self.laboratory, "F", program, Settings(Limits(seconds), **settings))
 
     def write_file(self, name: str, text: str) -> str:
@@ -396,7 +396,7 @@ class Programs(cases.Case):
                 self.assertEqual(sorted(states), sorted(map(program.subject.format_state, program.subject.listed.states)))
 
     def test_seen(self) -> None:
-        """What is seen is listed. A run that is given up is no run of the program, and is counted apart."""
+        """All seen states are listed. A run that is given up is no run of the program, and is counted apart."""
         paths = [f"examples/from_c/{it}.c" for it in ("TreiberStack", "ChaseLev")]
         for path in paths + ["examples/from_rust/EventCount.rs"] * bool(shutil.which("rustc")):
             result = self.run_program(self.make_program(path))
@@ -425,7 +425,7 @@ class Programs(cases.Case):
         self.assertIn("Condition exists (0:r0=0 /\\ 1:r0=0) is ", summary.format_result(result))
 
     def test_against(self) -> None:
-        """Store buffering by plain stores, as release makes them or a compiler that is none, is held against the list of the program with seq_cst: its
+        """Store buffering by plain stores, as release makes them or a fake compiler, is compared with the list of the program with seq_cst: its
         fourth state is seen and not listed, with status 3. The first control."""
         code = self.write_file("plain.s", PLAIN_STORES)
         fake = self.write_file("fake-cc", f'#!/bin/sh\nwhile [ "$1" != -o ]; do shift; done\ncp {code} "$2"\n')
@@ -469,7 +469,7 @@ class Programs(cases.Case):
         self.assertTrue(summary.format_summary(result)[-1].startswith(f"  {summary.NOT_LISTED}: "))
 
     def test_refused(self) -> None:
-        """A program that is not converted, one of which no run is left, and one of which everything is to be looked at."""
+        """A program that is not converted, one of which no run is left, and one with `--everything`."""
         waits = "#include <stdatomic.h>\natomic_int x;\nvoid P0(void) { while (!atomic_load(&x)); }\n// lw: exists (x=0)\n"
         path, sb = self.write_file("waits.c", waits), "examples/from_c/StoreBuffering.c"
         why = "no run comes to an end: each waits for what no other thread stores, or goes through a loop more often than --tries says"
@@ -482,7 +482,7 @@ class Programs(cases.Case):
 
 @unittest.skipIf(list_missing(), "something is missing")
 class Surroundings(cases.Case):
-    """Runs without something: they go on, and say so."""
+    """Runs without something: they continue, and say so."""
 
     room: tempfile.TemporaryDirectory
     laboratory: Laboratory
@@ -516,7 +516,7 @@ class Surroundings(cases.Case):
         self.assertTrue(any(result.list_seen_and_listed() for result in results))
 
     def test_caught(self) -> None:
-        """Where the trap flag is caught there are no halts, and no schedules lead; the run is not ended."""
+        """If the trap flag is caught there are no halts and no directed schedules; the run is not ended."""
         library, source = (os.path.join(self.room.name, it) for it in ("catches.so", "catches.c"))
         with open(source, "w", encoding="ascii") as file:
             file.write(CATCHES_TRAPS)

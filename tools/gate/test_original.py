@@ -1,11 +1,12 @@
-"""Whether fences and runs of tests that are converted are those of the original's own instructions.
+"""Tests that fences and runs of converted tests are those of the original's own instructions.
 
     python3 tools gate.test_original, or in tools/ python3 -m unittest gate.test_original
 
-- Of each x86 example, as a test in herd's form: the states, the sets of fences that are enough, and the places that help are those that
+- For each x86 example, as a test in herd's form: the states, the sets of fences that are enough, and the places that help are those that
   tools/fences.py finds in the test as lw reads it.
-- Of random tests with LOCK CMPXCHG and fences: the states without a fence are those of a machine that has the instruction, of the text without it.
-- Each run of `tools/assume.py --schedules` leads that machine to its state, line by line.
+- For random tests with LOCK CMPXCHG and fences: the states without a fence are those of a machine with this instruction, for the text without
+  the fence.
+- Each run of `tools/assume.py --schedules` takes that machine to its state, line by line.
 - What the commands print.
 
 Lists come from the program if it is built, otherwise from the search of tools/beyond.py. tools/check_documents.py calls all this
@@ -141,7 +142,7 @@ class Swaps(cases.Case):
 
 
 class Printed(cases.Case):
-    """What the commands print."""
+    """The output of the commands."""
 
     def run_and_filter(self, words: list[str], text: str) -> tuple[list[str], int]:
         """Returns the lines of standard output without what is said of proofs, and the status."""
@@ -160,7 +161,7 @@ class Printed(cases.Case):
         self.assertEqual(0, status)
 
     def test_places(self) -> None:
-        """Where a fence would help is said by the original's instructions."""
+        """Places where a fence would help are named by the original's instructions."""
         lines, _ = self.run_and_filter(["fences.py"], UNFENCED)
         self.assertEqual("What is asked about is there, in 1 of 4 states: an MFENCE more before these instructions changes that", lines[1])
         self.assertEqual(["  P1, line 5, MOV EDX,[z]", "  P1, line 6, MOV ECX,[x]"], lines[2:4])

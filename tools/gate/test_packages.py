@@ -1,14 +1,14 @@
-"""Whether the wheel and the package for Debian are well formed, and answer where they are installed.
+"""Tests that the wheel and the package for Debian are well formed, and answer when they are installed.
 
     python3 tools gate.test_packages, or in tools/ python3 -m unittest gate.test_packages
 
 - The wheel of tools/make_wheel.py is installed by pip in a venv without a network, and answers as the program: by its commands, by
   `python -m lw`, from Python, and by its tools.
-- The package of tools/make_deb.py is unpacked by dpkg-deb in a folder, and as root in a container of files with glibc, a shell and Python
-  alone; there its commands answer by their names, and programs in C and Python use the library.
+- The package of tools/make_deb.py is unpacked by dpkg-deb in a folder, and as root in a container of files with only glibc, a shell and
+  Python; there its commands answer by their names, and programs in C and Python use the library.
 - What their descriptions say of the commit, of the gate and of the licence; checksums; and that the same tree gives the same bytes.
 
-They are made of the built tree. What is not there is skipped, and a line says so. tools/check_documents.py calls all this
+They are made from the built tree. What is missing is skipped, and a line says so. tools/check_documents.py calls all this
 (tools/gate/cases.py).
 """
 from __future__ import annotations
@@ -57,7 +57,7 @@ WARNING = (
 )
 # Commands of tools/ that are no commands of those who install: for lists if beyond is not built, and for other tools.
 HELPERS = ("__main__", "beyond", "build_wasm", "random_tests", "replay_state")
-# Of each command that pip makes its name, the module of tools/ that it runs, and whether that is there.
+# For each command that pip makes its name, the module of tools/ that it runs, and whether the module exists.
 ENTRY_POINTS = """
 import os
 from importlib import metadata
@@ -88,7 +88,7 @@ PARTED = (
     ("beyond", "--budget 10", "--budget 10", None),
 )
 def describe_missing() -> str | None:
-    """Returns what is not built, or None."""
+    """Returns the part that is not built, or None."""
     is_there = check_library.is_built() and web_files.read_module() and os.path.exists(PROGRAM)
     return None if is_there else "the program, the library or its module is not built, or cc is missing"
 
@@ -113,7 +113,7 @@ def has_module(module: str) -> bool:
 
 
 def run_command(arguments: list[str], file: str | None = None, **options: Any) -> tuple[str, int]:
-    """Returns what a command prints on standard output, and its exit status. Its input is a file, or nothing."""
+    """Returns the output of a command on standard output, and its exit status. Its input is a file, or nothing."""
     with open(file or os.devnull, "rb") as stream:
         ran = subprocess.run(arguments, stdin=stream, stdout=subprocess.PIPE, stderr=subprocess.STDOUT, check=False, **options)
     return ran.stdout.decode(), ran.returncode
@@ -128,12 +128,12 @@ def find_status(main: Callable[[], int]) -> object:
 
 
 def run_program(*arguments: str, file: str = TEST) -> tuple[str, int]:
-    """Returns what the program prints."""
+    """Returns the output of the program."""
     return run_command([PROGRAM, *arguments], file)
 
 
 class Packed(cases.Case):
-    """What is made of the built tree, in a folder."""
+    """The packages of the built tree, in a folder."""
 
     room: str
     files: dict[str, bytes]
@@ -178,7 +178,7 @@ class Origins(cases.Case):
         self.assertEqual(sorted(run_by_name), sorted({tree.find_tool(it) for it in [*tree.TOOLS, *HELPERS]}))
 
     def test_gate_of_sources(self) -> None:
-        """What the gate said of other sources is not said of these."""
+        """The gate's verdict on other sources does not count for these."""
         made_of = ["crates.txt", "kit", "version", "the sum of these"]
         for sum_of_gate, gate in (("the sum of others", pack.NO_GATE), (None, pack.NO_GATE), ("the sum of these", "5 passed, 0 failed")):
             ended = [sum_of_gate, "5 passed, 0 failed"] if sum_of_gate else []
@@ -218,7 +218,7 @@ class Wheel(Packed):
     """The wheel."""
 
     path: str
-    inside: dict[str, tuple[bytes, int]]  # of each name its bytes and its mode
+    inside: dict[str, tuple[bytes, int]]  # for each name its bytes and its mode
 
     @classmethod
     def setUpClass(cls) -> None:
@@ -262,7 +262,7 @@ class Wheel(Packed):
             self.assertTrue(first.read() == second.read())
 
     def test_backend(self) -> None:
-        """What `pip install .` calls makes the same wheel, and pyproject.toml describes it as the wheel does."""
+        """The build backend of `pip install .` makes the same wheel, and pyproject.toml describes it as the wheel does."""
         with mock.patch.object(tree, "read_origin", lambda: ORIGIN):
             name = make_wheel.build_wheel(os.path.join(self.room, "by-pip"))
         with open(self.path, "rb") as first, open(os.path.join(self.room, "by-pip", name), "rb") as second:
@@ -329,7 +329,7 @@ class Debian(Packed):
     """The package for Debian."""
 
     path: str
-    unpacked_folder: str  # where it is unpacked
+    unpacked_folder: str  # the folder in which it is unpacked
 
     @classmethod
     def setUpClass(cls) -> None:
@@ -389,7 +389,7 @@ class Debian(Packed):
         self.assertEqual(run_program("states"), run_command([program, "states"], TEST, env={"LD_LIBRARY_PATH": lib}))
 
     def test_in_container(self) -> None:
-        """Where there is nothing but glibc, a shell and Python, its commands answer by their names."""
+        """With only glibc, a shell and Python, its commands answer by their names."""
         if not container.can_be_made():
             self.skipTest("a container can't be made")
         with container.Container() as system:
@@ -420,7 +420,7 @@ class Debian(Packed):
                     self.assertEqual((b"", 0), (ran.stderr, ran.returncode))
 
     def test_text_in_manual(self) -> None:
-        """A line of a head comment is no request of roff's."""
+        """A line of a module docstring is no request of roff's."""
         text = "Reads a text. Never writes.\n\n    python3 tools/fences.py --x\n\n.so \\\\fB\n'br\n\n- one\n  goes on\n- two\n"
         page = manual.make_page("fences", f'"""{text}"""')
         self.assertIn("lw\\-fences \\- reads a text\n.SH DESCRIPTION\n.PP\nNever writes.\n", page)

@@ -1,14 +1,14 @@
-"""How tools/plain.py and its kin read files, and what they tell of faults.
+"""Tests how tools/plain.py and similar tools read files, and how they report faults.
 
     python3 tools gate.test_plain, or in tools/ python3 -m unittest gate.test_plain
 
 - Each cause for which tools/plain.py takes a text for no test, with its line FILE:LINE:COLUMN.
-- plain.py, by each of its commands, fences.py, replay_state.py and picture.py: given a file by its name, by its name with line ends of
-  Windows, and as standard input, they print the same; and what they tell of a file that is missing, of a fault and of other words.
+- plain.py, by each of its commands, fences.py, replay_state.py and picture.py: for a file by its name, by its name with line ends of
+  Windows, and as standard input, they print the same; and how they report a missing file, a fault and other words.
 - What they print is UTF-8 with line ends of one byte, whatever the console has.
 
-Nothing here needs the program, or more than Python 3.8, on any system; picture.py, which needs the program, is looked at only for what it
-refuses before. tools/check_documents.py calls all this (tools/gate/cases.py).
+Nothing here needs the program, or more than Python 3.8, on any system; of picture.py, which needs the program, only refusals before
+that are tested. tools/check_documents.py calls all this (tools/gate/cases.py).
 """
 from __future__ import annotations
 
@@ -52,11 +52,11 @@ COMMANDS = (
     (["fences.py", "--everything"], FENCED),
     (["replay_state.py"], REPLAY),
 )
-# What they refuse, whatever the program says: the arguments, a text, and the message.
+# Texts that they refuse, whatever the program says: the arguments, a text, and the message.
 REFUSING = (
-    (["plain.py", "orders"], "SRC A\n{}\n P1 ;\n", "3:2: 'P1' stands where 'P0' should"),
-    (["plain.py", "replay", "Q"], "SRC A\n{}\n P1 ;\n", "3:2: 'P1' stands where 'P0' should"),
-    (["fences.py"], "SRC é\n", "1:5: the name of the test, 1 to 128 printing letters of ASCII, should stand here"),
+    (["plain.py", "orders"], "SRC A\n{}\n P1 ;\n", "3:2: found 'P1', expected 'P0'"),
+    (["plain.py", "replay", "Q"], "SRC A\n{}\n P1 ;\n", "3:2: found 'P1', expected 'P0'"),
+    (["fences.py"], "SRC é\n", "1:5: expected the name of the test, 1 to 128 printing characters of ASCII"),
     (["replay_state.py"], "Test A\nStops 1\n", "2:1: a replay prints no such line here"),
     (["picture.py", "P0", "--strip"], b"SRC A\n\xff", "2:1: the text is not UTF-8"),
 )
@@ -106,57 +106,57 @@ NO_COMMANDS = (
 )
 # Texts that are no tests, and the message.
 TEXTS = (
-    ("", "1:1: the end of the text stands where 'SRC' or 'X86' should"),
+    ("", "1:1: found the end of the text, expected 'SRC' or 'X86'"),
     ("(* a comment\nSRC A\n", "3:1: the comment that begins at 1:1 is left open"),
     ("(* one (* two *)\n\nSRC A", "3:6: the comment that begins at 1:1 is left open"),
-    ("X86_64 A\n", "1:1: 'X86_64' stands where 'SRC' or 'X86' should"),
-    ("SRC", "1:4: the end of the text stands where a blank should"),
-    ("SRC{} A", "1:4: '{' stands where a blank should"),
-    ("SRC ", "1:5: the name of the test, 1 to 128 printing letters of ASCII, should stand here"),
-    ("SRC Aé\n{}\n", "1:5: the name of the test, 1 to 128 printing letters of ASCII, should stand here"),
-    ("SRC A\n", "2:1: the end of the text stands where the initial block should"),
+    ("X86_64 A\n", "1:1: found 'X86_64', expected 'SRC' or 'X86'"),
+    ("SRC", "1:4: found the end of the text, expected a blank"),
+    ("SRC{} A", "1:4: found '{', expected a blank"),
+    ("SRC ", "1:5: expected the name of the test, 1 to 128 printing characters of ASCII"),
+    ("SRC Aé\n{}\n", "1:5: expected the name of the test, 1 to 128 printing characters of ASCII"),
+    ("SRC A\n", "2:1: found the end of the text, expected the initial block"),
     ('SRC A\n"a text\n{}\n', "4:1: the quoted text that begins at 2:1 is left open"),
-    ("SRC A\n// a test\n{}\n", "2:1: '/' stands where the initial block should"),
-    ("SRC A\n P0 ;\n x := 1 ;\nexists (true)\n", "2:2: 'P0' stands where the initial block should"),
-    ('SRC A\nKey=(* "é {\n(* é *) é{}\n', "3:9: 'é' stands where the initial block should"),
+    ("SRC A\n// a test\n{}\n", "2:1: found '/', expected the initial block"),
+    ("SRC A\n P0 ;\n x := 1 ;\nexists (true)\n", "2:2: found 'P0', expected the initial block"),
+    ('SRC A\nKey=(* "é {\n(* é *) é{}\n', "3:9: found 'é', expected the initial block"),
     ("SRC A\n{ x=-1; }\n", "2:5: '-' is no token"),
     ("SRC A\n{}\n P0 ;\n x := 1 ; # a store\nexists (true)\n", "4:11: '#' is no token"),
     ("SRC A\n{}\n P0 ;\n x := 1 ;\nexists (x=1 && x=2)\n", "5:13: '&' is no token"),
     ("SRC A\n{}\n P0 ;\n x := 1 ; \a\nexists (true)\n", "4:11: '\\x07' is no token"),
-    ("SRC A\n{ x=0", "2:6: the end of the text stands where ';' should"),
-    ("SRC A\n{ x=0;", "2:7: the end of the text stands where a location should"),
-    ("SRC A\n{ x=0 y=0 }\n", "2:7: 'y' stands where ';' should"),
-    ("SRC A\n{ x=y }\n", "2:5: 'y' stands where a number should"),
+    ("SRC A\n{ x=0", "2:6: found the end of the text, expected ';'"),
+    ("SRC A\n{ x=0;", "2:7: found the end of the text, expected a location"),
+    ("SRC A\n{ x=0 y=0 }\n", "2:7: found 'y', expected ';'"),
+    ("SRC A\n{ x=y }\n", "2:5: found 'y', expected a number"),
     ("SRC A\n{ x=4294967296 }\n", "2:5: the number is larger than 4294967295"),
-    ("SRC A\n{ 7=0 }\n", "2:4: '=' stands where ':' should"),
+    ("SRC A\n{ 7=0 }\n", "2:4: found '=', expected ':'"),
     ("SRC A\n{ 0:EAX=1 }\n", "2:5: 'EAX' is no register of a source test"),
     ("X86 A\n{ 0:r0=1 }\n", "2:5: 'r0' is no register of an x86 test"),
     ("SRC A\n{ exists=1 }\n", "2:3: 'exists' is a reserved name, and no location"),
-    ("SRC A\n{ [x=1 }\n", "2:5: '=' stands where ']' should"),
-    ("SRC A\n{ =1 }\n", "2:3: '=' stands where a location should"),
+    ("SRC A\n{ [x=1 }\n", "2:5: found '=', expected ']'"),
+    ("SRC A\n{ =1 }\n", "2:3: found '=', expected a location"),
     ("SRC A\n{ a_name_that_is_longer_than_32_bytes=1 }\n", "2:3: the name has more than 32 letters"),
     ("SRC A\n{ a=0;b=0;c=0;d=0;e=0;f=0;g=0;h=0;\n i=0 }\n", "3:2: there are more than 8 locations"),
     ("SRC A\n{ 1:r0=1 }\n P0 ;\nexists (true)\n", "2:3: there is no thread 1"),
-    ("SRC A\n{}\n P1 ;\n", "3:2: 'P1' stands where 'P0' should"),
-    ("SRC A\n{}\n P0 | P2 ;\n", "3:7: 'P2' stands where 'P1' should"),
-    ("SRC A\n{}\n P0 P1 ;\n", "3:5: 'P1' stands where ';' should"),
+    ("SRC A\n{}\n P1 ;\n", "3:2: found 'P1', expected 'P0'"),
+    ("SRC A\n{}\n P0 | P2 ;\n", "3:7: found 'P2', expected 'P1'"),
+    ("SRC A\n{}\n P0 P1 ;\n", "3:5: found 'P1', expected ';'"),
     ("SRC A\n{}\n P0|P1|P2|P3|P4;\n", "3:14: there are more than 4 threads"),
-    ("SRC A\n{}\n P0 ;\n x := 1\nexists (true)\n", "6:1: the end of the text stands where '|' or ';' should"),
+    ("SRC A\n{}\n P0 ;\n x := 1\nexists (true)\n", "6:1: found the end of the text, expected '|' or ';'"),
     ("SRC A\n{}\n P0 | P1 ;\n x := 1 ;\nexists (true)\n", "4:9: the row has fewer cells than there are threads"),
     ("SRC A\n{}\n P0 ;\n x := 1 | ;\nexists (true)\n", "4:9: the row has more cells than there are threads"),
-    ("SRC A\n{}\n P0 ;\nlocations [x, y]\nexists (true)\n", "4:13: ',' stands where ';' should"),
-    ("SRC A\n{}\n P0 ;\nlocations x\nexists (true)\n", "4:11: 'x' stands where '[' should"),
+    ("SRC A\n{}\n P0 ;\nlocations [x, y]\nexists (true)\n", "4:13: found ',', expected ';'"),
+    ("SRC A\n{}\n P0 ;\nlocations x\nexists (true)\n", "4:11: found 'x', expected '['"),
     ("SRC A\n{}\n P0 ;\nlocations [2:r0]\nexists (true)\n", "4:12: there is no thread 2"),
-    ("SRC A\n{}\n P0 ;\nfilter (x=1)\nexists (true)\n", "4:1: 'filter' stands where the condition should"),
-    ("SRC A\n{}\n P0 ;\n~forall (true)\n", "4:2: 'forall' stands where 'exists' should"),
-    ("SRC A\n{}\n P0 ;\nexists\n", "5:1: the end of the text stands where a location should"),
-    ("SRC A\n{}\n P0 ;\nexists (x==1)\n", "4:11: '=' stands where a number should"),
-    ("SRC A\n{}\n P0 ;\nexists (x=1\n", "5:1: the end of the text stands where ')' should"),
+    ("SRC A\n{}\n P0 ;\nfilter (x=1)\nexists (true)\n", "4:1: found 'filter', expected the condition"),
+    ("SRC A\n{}\n P0 ;\n~forall (true)\n", "4:2: found 'forall', expected 'exists'"),
+    ("SRC A\n{}\n P0 ;\nexists\n", "5:1: found the end of the text, expected a location"),
+    ("SRC A\n{}\n P0 ;\nexists (x==1)\n", "4:11: found '=', expected a number"),
+    ("SRC A\n{}\n P0 ;\nexists (x=1\n", "5:1: found the end of the text, expected ')'"),
     ("SRC A\n{}\n P0 ;\nexists (0:x=1)\n", "4:11: 'x' is no register of a source test"),
     ("SRC A\n{}\n P0 ;\nexists (r0=1)\n", "4:9: 'r0' is a reserved name, and no location"),
     ("SRC A\n{}\n P0 ;\nexists (3:r0=1)\n", "4:9: there is no thread 3"),
     ("SRC A\n{}\n P0 ;\nexists (true) x\n", "4:15: 'x' comes after the condition"),
-    ("SRC A\n{}\n P0 ;\nexists (x=1 /\\ /\\ x=1)\n", "4:16: '/\\' stands where a location should"),
+    ("SRC A\n{}\n P0 ;\nexists (x=1 /\\ /\\ x=1)\n", "4:16: found '/\\', expected a location"),
     ("SRC A\n{a=0;b=0;c=0;d=0;e=0;f=0;g=0}\n P0 ;\n h := 1 ;\n r0 := i ;\nexists (true)\n", "5:8: there are more than 8 locations"),
     ("SRC A\n{}\n P0 | P1 ;\n x := 1 | goto L ;\n L: | ;\nexists (true)\n", "4:16: the thread has no label 'L'"),
 )
@@ -165,35 +165,35 @@ CELLS = (
     ("X86", "MOV [x],10h", "4:10: '10h' is no token"),
     ("SRC", "r0 := 0x", "4:8: '0x' is no token"),
     ("SRC", "x := é", "4:7: 'é' is no token"),
-    ("SRC", "x = 1", "4:4: '=' stands where ':=' should"),
-    ("SRC", "x :=", "4:7: the end of the cell stands where a number or a register should"),
+    ("SRC", "x = 1", "4:4: found '=', expected ':='"),
+    ("SRC", "x :=", "4:7: found the end of the cell, expected a number or a register"),
     ("SRC", "x := y", "4:7: 'y' is no register of a source test"),
     ("SRC", "r9 := 1", "4:2: 'r9' is a reserved name, and no location"),
     ("SRC", "r0 := x 1", "4:10: '1' comes after a statement"),
-    ("SRC", "1 := x", "4:2: '1' stands where a location should"),
-    ("SRC", "r0 := swap x 1", "4:15: '1' stands where a register should"),
+    ("SRC", "1 := x", "4:2: found '1', expected a location"),
+    ("SRC", "r0 := swap x 1", "4:15: found '1', expected a register"),
     ("SRC", "r0 := r0 + x", "4:13: 'x' is no register of a source test"),
     ("SRC", "if r0 < 1 goto L", "4:8: '<' is no token"),
-    ("SRC", "if r0 := 1 goto L", "4:8: ':=' stands where '=' or '!=' should"),
-    ("SRC", "if r0", "4:8: the end of the cell stands where '=' or '!=' should"),
-    ("SRC", "if r0 = 1 L", "4:12: 'L' stands where 'goto' should"),
-    ("SRC", "goto", "4:7: the end of the cell stands where a label should"),
+    ("SRC", "if r0 := 1 goto L", "4:8: found ':=', expected '=' or '!='"),
+    ("SRC", "if r0", "4:8: found the end of the cell, expected '=' or '!='"),
+    ("SRC", "if r0 = 1 L", "4:12: found 'L', expected 'goto'"),
+    ("SRC", "goto", "4:7: found the end of the cell, expected a label"),
     ("SRC", "r0 := exists", "4:8: 'exists' is a reserved name, and no location"),
     ("X86", "INC EAX", "4:2: 'INC' is no instruction that is read"),
     ("X86", "XADD [x],EAX", "4:2: 'XADD' is no instruction that is read without LOCK"),
     ("X86", "LOCK INC [x]", "4:7: 'INC' is no instruction that is read after LOCK"),
-    ("X86", "LOCK", "4:7: the end of the cell stands where 'XCHG' or 'XADD' should"),
+    ("X86", "LOCK", "4:7: found the end of the cell, expected 'XCHG' or 'XADD'"),
     ("X86", "MOV y,1", "4:6: 'y' is no register of an x86 test"),
     ("X86", "MOV EAX,y", "4:10: 'y' is no register of an x86 test"),
-    ("X86", "MOV [x],[y]", "4:10: '[' stands where a number or a register should"),
-    ("X86", "MOV EAX", "4:10: the end of the cell stands where ',' should"),
-    ("X86", "1", "4:2: '1' stands where an instruction should"),
-    ("X86", "MOV EAX,$x", "4:11: 'x' stands where a number should"),
-    ("X86", "JE 1", "4:5: '1' stands where a label should"),
-    ("SRC", "L: x := 1 ;\n L: x := 2", "5:2: the label 'L' stands twice in its thread"),
-    ("SRC", "exists: x := 1", "4:8: ':' stands where a location should"),
+    ("X86", "MOV [x],[y]", "4:10: found '[', expected a number or a register"),
+    ("X86", "MOV EAX", "4:10: found the end of the cell, expected ','"),
+    ("X86", "1", "4:2: found '1', expected an instruction"),
+    ("X86", "MOV EAX,$x", "4:11: found 'x', expected a number"),
+    ("X86", "JE 1", "4:5: found '1', expected a label"),
+    ("SRC", "L: x := 1 ;\n L: x := 2", "5:2: the label 'L' is defined twice in its thread"),
+    ("SRC", "exists: x := 1", "4:8: found ':', expected a location"),
     ("SRC", "r1: x := 1", "4:2: 'r1' is a reserved name, and no label"),
-    ("SRC", "1: x := 1", "4:2: '1' stands where a label should"),
+    ("SRC", "1: x := 1", "4:2: found '1', expected a label"),
     ("SRC", "goto L", "4:7: the thread has no label 'L'"),
     ("SRC", "L: x := 1 ;\n if r0 = 1 goto L", "5:17: the jump to 'L' does not go forward"),
     ("X86", "L: JMP L", "4:9: the jump to 'L' does not go forward"),
@@ -209,7 +209,7 @@ BYTES = (
     (b"SRC A\n(* \xc3\xa9 \xff *)\n", "2:6: the text is not UTF-8"),
     (b"SRC A\n{}\xc3", "2:3: the text is not UTF-8"),
     (b"SRC A\n{}\n(* " + b"\xc3\xa9" * 32770, "3:32766: the text has more than 65536 bytes"),
-    (b"SRC " + b"a" * 129, "1:5: the name of the test, 1 to 128 printing letters of ASCII, should stand here"),
+    (b"SRC " + b"a" * 129, "1:5: expected the name of the test, 1 to 128 printing characters of ASCII"),
     (b"SRC A\n{}\n P0 ;\nexists (" + b"~" * 256 + b"\ntrue)", "5:1: the condition has more than 256 nodes"),
     (b"SRC A\n{}\n P0 ;\n r0 := " + b"9" * 9999 + b" ;\n exists (true)", "4:8: the number is larger than 4294967295"),
 )
@@ -251,10 +251,10 @@ def list_no_tests() -> Iterator[tuple[bytes, str]]:
 
 
 class Faults(cases.Case):
-    """What is told of a text that is none."""
+    """The faults of texts that are no test, or no replay."""
 
     def test_causes(self) -> None:
-        """Each cause for which a text is no test is told with its place."""
+        """Each cause for which a text is no test is reported with its place."""
         for text, message in list_no_tests():
             with self.subTest(text=text[:200]):
                 self.assertEqual(f"T:{message}", make_fault_line(text, plain.read_test))
@@ -268,7 +268,7 @@ class Faults(cases.Case):
                     self.assertEqual(f"T:{message}", make_fault_line(lines, plain.read_test))
 
     def test_replays(self) -> None:
-        """A text that no replay prints is told with its place."""
+        """A text that no replay prints is reported with its place."""
         for text, message in REPLAYS:
             with self.subTest(text=text):
                 self.assertEqual(f"T:{message}", make_fault_line(text.encode(), replay_state.read_state))
@@ -278,7 +278,7 @@ class Numbers(cases.Case):
     """Numbers of many digits."""
 
     def test_zeros(self) -> None:
-        """A number is what its last digits say, however many zeros stand before them."""
+        """A number is what its last digits say, however many zeros are before them."""
         for number in ("0" * 9999 + "7", "0x" + "0" * 9999 + "7", "0", "00"):
             with self.subTest(number=number[:9]):
                 test = plain.read_test(make_test("SRC", [f"r0 := {number}"]).decode())
@@ -289,7 +289,7 @@ class Numbers(cases.Case):
 
 
 def run_tool(arguments: list[str], text: bytes = b"") -> tuple[bytes, bytes, int]:
-    """Returns what a tool prints on both streams, and its exit status, if the console has another encoding."""
+    """Returns the output of a tool on both streams, and its exit status, if the console has another encoding."""
     ran = subprocess.run(
         [sys.executable, os.path.join(TOOLS, arguments[0]), *arguments[1:]],
         input=text,
@@ -315,7 +315,7 @@ def format_arguments(words: list[str]) -> str:
 
 
 def make_refused_output(text: str) -> tuple[bytes, bytes, int]:
-    """Returns what a tool prints that reports one line, and has no answer."""
+    """Returns the output of a tool that reports one line, and has no answer."""
     return b"", f"{text}\n".encode(), 1
 
 
@@ -362,10 +362,10 @@ class Files(InRoom):
 
 
 class Refusals(InRoom):
-    """What a tool tells where it has no answer: one line, and the status 1."""
+    """The line of a tool that has no answer, and the status 1."""
 
     def test_faults(self) -> None:
-        """A fault is told by the file's name, or a hyphen for standard input, its place and its cause."""
+        """A fault is reported by the file's name, or a hyphen for standard input, its place and its cause."""
         for words, text, message in REFUSING:
             text = text if isinstance(text, bytes) else str(text).encode()
             path = write_file(self.room, "c.litmus", text)
@@ -375,7 +375,7 @@ class Refusals(InRoom):
                 self.assertEqual(make_refused_output(f"-:{message}"), run_tool(words, text))
 
     def test_missing_file(self) -> None:
-        """A file that is not there is told in the system's words."""
+        """A missing file is reported in the system's words."""
         missing = os.path.join(self.room, "é")
         for words, _, _ in REFUSING:
             with self.subTest(format_arguments(words)):
@@ -388,7 +388,7 @@ class Refusals(InRoom):
         self.assertEqual(output, run_tool(["plain.py", "orders"], deep.encode()))
 
     def test_schedules(self) -> None:
-        """A schedule that is none is told as lw tells it."""
+        """A faulty schedule is reported as by lw."""
         for schedule, message in (("P0 Q", "1 Word at 3"), ("P9", "2 Cpu at 0"), ("P0 E0:z", "3 Location at 3")):
             with self.subTest(schedule):
                 path = write_file(self.room, "d", TEST.encode())
@@ -405,7 +405,7 @@ class Refusals(InRoom):
 
 
 class WithoutProgram(InRoom):
-    """Where the program does not start, as one of Linux does not on Windows."""
+    """A system on which the program does not start, as a program of Linux on Windows."""
 
     def test_fences(self) -> None:
         """tools/fences.py does without it."""

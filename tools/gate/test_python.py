@@ -1,4 +1,4 @@
-"""Whether python/lw.py looks at its arguments, refuses what is no answer, and whether threads may share a workbench; and what is said of stacks.
+"""Tests that python/lw.py checks its arguments, refuses what is no answer, and lets threads share a workbench; and what it says of stacks.
 
     python3 tools gate.test_python, or in tools/ python3 -m unittest gate.test_python
 
@@ -133,7 +133,7 @@ OF_SCHEDULES = ((r"^Test ", "Tests "), (r"^States (\d+)", r"States 1\1"), (r"\n\
 
 
 class Answers(cases.Case):
-    """What is read from answers, here those of tools/plain.py."""
+    """The values that are read from answers, here those of tools/plain.py."""
 
     def is_refused(self, read_answer: Callable[[bytes], object], text: str) -> bool:
         """Returns whether a text is no answer."""
@@ -195,7 +195,7 @@ class Calls(cases.Case):
         self.assertEqual(("3.7", "3.7"), (lw.version(self.library), lw.Workbench(self.library, memory=1 << 16).version))
 
     def find_refusal(self, call: Callable[..., object], *arguments: object) -> tuple[type, str]:
-        """Returns what a call raises: the exception's type and message."""
+        """Returns the exception of a call: its type and message."""
         try:
             return type(None), repr(call(*arguments))
         except (TypeError, ValueError) as why:
@@ -257,7 +257,7 @@ class Calls(cases.Case):
 
 
 class Documents(cases.Case):
-    """What is said of the stack that a call takes."""
+    """The words on the stack that a call takes."""
 
     def test_stack(self) -> None:
         """docs/LIBRARY.md, docs/TRUSTED.md and include/lw.h name the same bytes: less than what is called ample, more than what is too small."""

@@ -1,9 +1,9 @@
-"""Whether tools/replay_state.py and web/replays.js take the same pages, and read the same from them.
+"""Tests that tools/replay_state.py and web/replays.js take the same pages, and read the same from them.
 
     python3 tools gate.test_replay_state, or in tools/ python3 -m unittest gate.test_replay_state
 
 The pages are those of replays of examples by tools/plain.py, which both take, and the same with a line left out, doubled, exchanged or
-changed, which both refuse. web/replays.js is run by node, where that is. The program is not needed. tools/check_documents.py calls all
+changed, which both refuse. node runs web/replays.js, if it is there. The program is not needed. tools/check_documents.py calls all
 this (tools/gate/cases.py).
 """
 from __future__ import annotations
@@ -153,7 +153,7 @@ class Pages(cases.Case):
                 self.assertEqual(state, read_in_python(page.replace("\n", "\r\n")))
 
     def test_refused(self) -> None:
-        """It refuses what no replay prints."""
+        """It refuses texts that no replay prints."""
         for page in list_wrong_pages():
             with self.subTest(page):
                 self.assertEqual(None, read_in_python(page))

@@ -1,4 +1,4 @@
-"""Whether tools/run_all.py answers a folder of mixed files by one table: tests of lw and of herd, and programs.
+"""Tests that tools/run_all.py answers a folder of mixed files by one table: tests of lw and of herd, and programs.
 
     python3 tools gate.test_run_all, or in tools/ python3 -m unittest gate.test_run_all
 
@@ -57,7 +57,7 @@ Positive: 1 Negative: 3
 Condition exists (0:R8=0 /\\ 1:R9=0)
 Observation SB-addresses Sometimes 1 3
 """
-# Of each file of the folder what its row has: the verdict, the observation, the method, how it was converted, and the cause.
+# For each file of the folder what its row has: the verdict, the observation, the method, how it was converted, and the cause.
 Row = Dict[str, Any]
 ANSWERED = {
     "Cas.litmus": ("Ok", "Sometimes 1 1", "assume.py, X86: 4 tests", None),
@@ -119,7 +119,7 @@ def make_folder(temporary_folder: str) -> str:
 
 
 def list_wanted_rows() -> dict[str, tuple[str | None, ...]]:
-    """Returns what the rows of the folder are to have, by file."""
+    """Returns the expected rows of the folder, by file."""
     return {**ANSWERED, **(PROGRAMS if HAS_GCC else {})}
 
 
@@ -323,7 +323,7 @@ class Statuses(cases.Case):
             self.assertEqual(["Test", "Asked"], run(["run_all.py", "examples/SB.litmus"])[0].split()[:2])
 
     def test_sequence(self) -> None:
-        """What a machine contradicts comes first; then a verdict that is not Ok, a file without a verdict, and one that is refused."""
+        """A contradiction by a machine comes first; then a verdict that is not Ok, a file without a verdict, and one that is refused."""
         row = rows.make_refused_row("a", "why")
         verdicts = [row._replace(verdict=it) for it in ("Ok", "No", rows.NO_VERDICT, rows.REFUSED)]
         with mock.patch.object(sys, "stderr", io.StringIO()):
@@ -336,7 +336,7 @@ class Statuses(cases.Case):
             self.assertEqual(3, statuses.choose_status({statuses.SEEN_AND_NOT_LISTED, 7, 6}))
 
     def test_tries_and_order(self) -> None:
-        """Loops are gone through as often as --tries says; --order decides if marks contradict one another."""
+        """Runs go through loops as often as --tries says; --order decides if marks contradict one another."""
         out, _, status = run(["run_all.py", "--as", "csv", "--tries", "2", "tools/herd/tests/Spin.litmus"])
         self.assertEqual((True, 0), ("loops gone through at most 2 times" in out, status))
         _, err, status = run(["run_all.py", "--tries", "0", "tools/herd/tests/Loop.litmus"])
@@ -401,7 +401,7 @@ class Parts(cases.Case):
                 self.assertEqual((seen, expected), (json.loads(out)[0]["seen"], status))
 
     def test_no_tables(self) -> None:
-        """What is no table, or was cut off, is refused by name, and nothing is printed; so are tables of two splits."""
+        """A file that is no table, or was cut off, is refused by name, and nothing is printed; so are tables of two splits."""
         row = {**rows.make_refused_row("a", "why")._asdict()}
         with tempfile.TemporaryDirectory(prefix="lw-run-all-") as folder:
             whole = write_file(folder, "whole", json.dumps([row]))
@@ -421,7 +421,7 @@ class Parts(cases.Case):
 
 
 class Answers(cases.Case):
-    """Who answers."""
+    """The makers of answers."""
 
     def test_not_built(self) -> None:
         """Without the programs of the sources nothing is said to be proved."""
@@ -449,7 +449,7 @@ class Answers(cases.Case):
                              [(it["name"], it["verdict"], it["cause"]) for it in json.loads(out)])
 
     def test_addresses(self) -> None:
-        """States of programs are compared by their addresses and by what is after the begin of a global, too."""
+        """States of programs are compared by their addresses, and by the bytes after the start of a global, too."""
         states = ["0:p=&x; x+8=1; y+8=1;", "0:p=&y; x+8=1; y+8=1;", "0:p=&y; x+8=1; y+8=2;", "0:p=0; x+8=2; y+8=1;"]
         states_read = logs.read_states(["Test A Allowed", "States 4", *states, "Ok"])["A"]
         self.assertEqual({frozenset(line.rstrip(";").split("; ")) for line in states}, states_read)
@@ -470,7 +470,7 @@ class Answers(cases.Case):
 
 
 def skipped() -> str | None:
-    """Returns what was left out. None if nothing was."""
+    """Returns the line on skipped parts. None if there are none."""
     return None if HAS_GCC else "run_all.py on C was left out: there is no gcc"
 
 

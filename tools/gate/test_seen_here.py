@@ -1,9 +1,9 @@
-"""Whether the page's server runs tests on this processor for the page, and for nobody else.
+"""Tests that the page's server runs tests on this processor for the page, and for nobody else.
 
     python3 tools gate.test_seen_here, or in tools/ python3 -m unittest gate.test_seen_here
 
 The server is started in this process, and asked as the page asks it. A run needs a C compiler, objdump and the processor of tools/on_machine.py;
-without them it is looked that the reason comes back. tools/check_documents.py calls all this (tools/gate/cases.py); the page's own
+without them the answer has to be the reason. tools/check_documents.py calls all this (tools/gate/cases.py); the page's own
 part is tried in a browser (tools/gate/browser/seen_here.py).
 """
 from __future__ import annotations
@@ -74,7 +74,7 @@ class Served(cases.Case):
         self.assertEqual((500, True), (status, "on_machine: there is no objdump" in answer["error"]))
 
     def test_refused(self) -> None:
-        """What the page does not ask is refused, and nothing is run."""
+        """A request that is not the page's is refused, and nothing is run."""
         with mock.patch.object(web_runs.Runs, "run_on_machine", side_effect=AssertionError):
             for request in ({"text": SB}, {"text": SB, "seconds": 0}, {"text": SB, "seconds": 11}, {"text": SB, "seconds": "1"}):
                 self.assertEqual(400, self.ask_server(request)[0])

@@ -1,15 +1,15 @@
-"""Whether tools/cycles.py makes the shapes of docs/FAMILIES.md, and others as it says.
+"""Tests that tools/cycles.py makes the shapes of docs/FAMILIES.md, and others as it says.
 
     python3 tools gate.test_shapes, or in tools/ python3 -m unittest gate.test_shapes
 
-- Each row of docs/FAMILIES.md is made from its cycle: its threads are those of the row, and what interleaving and x86-TSO say of it, and how
-  many states it has, are those of the example.
-- Of all critical cycles up to a size: they are there once, interleaving forbids each, and x86-TSO allows those in which a load goes ahead.
-- So it is of all cycles up to six edges of the letters of docs/FAMILIES.md, loads of own stores among them, if no thread has two of the
+- Each row of docs/FAMILIES.md is made from its cycle: its threads are those of the row, and the verdicts of interleaving and x86-TSO and the
+  number of states are those of the example.
+- All critical cycles up to a size are made without duplicates, interleaving forbids each, and x86-TSO allows those in which a load goes ahead.
+- The same holds of all cycles up to six edges of the letters of docs/FAMILIES.md, loads of own stores among them, if no thread has two of the
   letters that lead to another location: docs/AXIOMS.md says so.
-- A quiz has the tests that its answers speak of, and is the same for the same seed.
+- A quiz has the tests that its answers name, and is the same for the same seed.
 
-All this is by tools/plain.py; the program is not needed. tools/check_documents.py calls all this (tools/gate/cases.py).
+All answers are those of tools/plain.py; the program is not needed. tools/check_documents.py calls all this (tools/gate/cases.py).
 """
 from __future__ import annotations
 
@@ -55,7 +55,7 @@ def parse_shape(cycle: str) -> Shape:
 
 
 def find_observation(text: str) -> str:
-    """Returns what the last line of a test's report says after its name."""
+    """Returns the last line of a test's report after its name."""
     return plain.make_report(plain.read_test(text)).splitlines()[-1].split(" ", 2)[2]
 
 
@@ -79,7 +79,7 @@ class Families(cases.Case):
                 self.assertEqual(sorted(threads.split(", ")), sorted(format_threads(parse_shape(cycle)).split(", ")))
 
     def test_words(self) -> None:
-        """What interleaving and x86-TSO say of it is what the row says."""
+        """The verdicts of interleaving and x86-TSO are those of the row."""
         for name, _, cycle, *words in read_rows():
             with self.subTest(name):
                 self.assertEqual(tuple(words), plain.find_verdicts(plain.read_test(format_test(parse_shape(cycle), name, SRC))))
@@ -101,7 +101,7 @@ class CriticalCycles(cases.Case):
     SIZES = ((4, ("Pod",), 6), (5, ("Pod",), 12), (6, ("Pod",), 26), (4, ("Pod", "MFenced"), 21))
 
     def test_count(self) -> None:
-        """Each is there once."""
+        """Each is made once."""
         for max_edges, orders, count in self.SIZES:
             with self.subTest(most=max_edges, orders=orders):
                 cycles = list(list_critical_cycles(max_edges, 4, orders))
@@ -187,7 +187,7 @@ class Letters(cases.Case):
 
 
 class Between(cases.Case):
-    """What stands between accesses, and locked accesses."""
+    """Fences between accesses, and locked accesses."""
 
     def test_both_sides(self) -> None:
         """A fence or a locked instruction on both sides forbids store buffering, and names it."""
@@ -198,11 +198,11 @@ class Between(cases.Case):
                 self.assertEqual("Never 0 3", find_observation(format_test(made_shape, name, X86)))
 
     def test_name_of_one_side(self) -> None:
-        """A fence on one side stands in the name with the order of the other."""
+        """A fence on one side is in the name with the order of the other."""
         self.assertEqual("SB+mfence+po", make_name(parse_shape("PodWR Fre MFencedWR Fre").edges))
 
     def test_locked_accesses(self) -> None:
-        """Locked stores, and locked loads, forbid store buffering where they are on both sides, and not on one."""
+        """Locked stores, and locked loads, forbid store buffering if they are on both sides, and not on one."""
         for cycle, expected in (
             ("PodWRAP FrePA PodWRAP FrePA", "Never 0 3"),
             ("PodWRPA FreAP PodWRPA FreAP", "Never 0 3"),
@@ -226,7 +226,7 @@ class Quizzes(cases.Case):
                 self.assertEqual([it.text for it in quiz], [it.text for it in make_quiz(len(quiz), seed)])
 
     def test_questions_differ(self) -> None:
-        """Nothing is asked twice."""
+        """No question appears twice."""
         for seed, quiz in self.quizzes:
             with self.subTest(seed=seed):
                 self.assertEqual(len(quiz), len({choose_rotation(tuple(it.cycle.split())) for it in quiz}))
@@ -245,7 +245,7 @@ class Quizzes(cases.Case):
                     self.assertFalse(question.name in FAMILIES)
 
     def test_verdicts(self) -> None:
-        """The outcome is allowed where a load goes ahead."""
+        """The outcome is allowed if a load goes ahead."""
         for seed, quiz in self.quizzes:
             for question in quiz:
                 with self.subTest(question.name, seed=seed):

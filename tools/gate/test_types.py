@@ -1,8 +1,8 @@
-"""Whether the types of tools/ agree, by mypy (Debian's package), as pyproject.toml configures it.
+"""Tests that the types of tools/ agree, by mypy (Debian's package), as pyproject.toml configures it.
 
     python3 tools gate.test_types, or in tools/ python3 -m unittest gate.test_types
 
-Without mypy this is left out, which is said. tools/check_documents.py calls this (tools/gate/cases.py).
+Without mypy the test is skipped, and a line says so. tools/check_documents.py calls this (tools/gate/cases.py).
 """
 from __future__ import annotations
 
@@ -37,7 +37,7 @@ class Types(cases.Case):
     """The types of tools/."""
 
     def test_tools(self) -> None:
-        """All annotations agree with what they annotate."""
+        """All annotations agree with the code."""
         status, printed = run_mypy()
         self.assertEqual("", "\n".join(it for it in printed.splitlines() if ": error: " in it))
         self.assertEqual(0, status, printed)

@@ -1,4 +1,4 @@
-"""What tools/gate/check_wings.py finds in lines of crates.txt that break a rule.
+"""Tests what tools/gate/check_wings.py finds in lines of crates.txt that break a rule.
 
     python3 tools gate.test_wings, or in tools/ python3 -m unittest gate.test_wings
 
@@ -13,7 +13,7 @@ from gate import cases, check_wings
 BROKEN = (
     ("lw", "lw_search", "lw -> lw_search: the program does without the search"),
     ("lw_bench", "lw_beyond", "lw -> lw_bench -> lw_beyond: the program does without the search"),
-    ("lw_search", "lw_text", "lw_search -> lw_text: meaning stands on reading"),
+    ("lw_search", "lw_text", "lw_search -> lw_text: meaning depends on reading"),
 )
 
 

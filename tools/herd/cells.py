@@ -1,7 +1,7 @@
-"""The instructions of a test in herd's form: a cell's labels, mnemonic and operands, in the order of Intel or of AT&T.
+"""Reads the instructions of a test in herd's form: a cell's labels, mnemonic and operands, in the order of Intel or of AT&T.
 
-An operand is a register, by its name, a number, the address of a location, or what stands in brackets or parentheses. The destination comes
-first, whatever the order in the text.
+An operand is a register, by its name, a number, the address of a location, or a place in memory, in brackets or parentheses. The destination
+comes first, whatever the order in the text.
 """
 from __future__ import annotations
 
@@ -29,7 +29,7 @@ REASONS = (
     (r"J[ER]?CXZ|LOOP\w*", "it tests a register without the flags: write a comparison and a branch"),
     (r"J\w+|CMOV\w+", "it reads another flag than the zero flag, which is the only one that lw has"),
     (r"ADC.?|SBB.?|ADCX|ADOX", "it reads the carry flag, and lw has the zero flag only"),
-    (r"MOVNT\w+|CLFLUSH\w*|CLWB|MASKMOV\w*", "it goes past write-back memory, of which the model of x86-TSO speaks alone"),
+    (r"MOVNT\w+|CLFLUSH\w*|CLWB|MASKMOV\w*", "it goes past write-back memory, and the model of x86-TSO covers only that"),
     (r"I?MUL.?|I?DIV.?|(SH|SA|RO|RC)[LR]\w*|NEG.?|NOT.?|BT\w*|ANDN.?", "lw has sums and no other arithmetic"),
     (r"PUSH\w*|POP\w*|CALL\w*|RET\w*|ENTER\w*|LEAVE\w*", "lw has no stack"),
     (r"CPUID|RDTSC\w*|X(BEGIN|END|ABORT|TEST)|XACQUIRE|XRELEASE|RD\w+|WR\w+", "it is outside the model of x86-TSO"),
@@ -63,7 +63,7 @@ Operand = Union[Register, Number, AddressOf, InMemory]
 
 @dataclass(frozen=True)
 class Instruction:
-    """An instruction: its operands, and where it jumps, the number of an instruction; while cells are read, a label.
+    """An instruction: its operands, and the target of its jump, the number of an instruction; while cells are read, a label.
 
     `bits` says how many bits it works on, and `address_bits` how many the registers of its address have; None if nothing says that.
     `number` is the number among its operands as the text has it, with its sign.
@@ -332,7 +332,7 @@ def read_code(cells: list[list[Token]], is_att: bool) -> tuple[list[Instruction]
         reader = CellReader(tokens, is_att)
         for label in reader.read_labels():
             if label.text in labels:
-                raise Refused(f"the label '{label.text}' stands twice in its thread", label.offset)
+                raise Refused(f"the label '{label.text}' is defined twice in its thread", label.offset)
             labels[label.text] = len(code)
         if reader.token.kind != "end":
             code.append(reader.read_instruction())

@@ -37,7 +37,7 @@ class Conversion:
     guesses: tuple
     filter: Proposition | None = None
     shown_here_only: list[Site] = field(default_factory=list)
-    # Of each thread's instructions the places in the text from which they come, and which of them begin what comes from one instruction. Those that
+    # For each thread the places in the text of its instructions, and the indices at which the code of one instruction of the text begins. Those that
     # set marks come from none.
     places: list[list[int]] = field(default_factory=list)
     begins: list[list[int]] = field(default_factory=list)
@@ -45,7 +45,7 @@ class Conversion:
 
 @dataclass
 class Converted:
-    """What a text is converted to, what is to be said of it, how often each loop is written down, if there is one, and all registers and locations
+    """The result of a conversion: the tests, the notes, the number of copies of each loop, if there is one, and all registers and locations
     of the text, as sites of its tests."""
 
     frame: Frame
@@ -58,7 +58,7 @@ class Converted:
 
 @dataclass
 class ThreadCode:
-    """A thread's instructions of lw under a guess, by names, each with its place; where each instruction of the text begins."""
+    """A thread's instructions of lw under a guess, by names, each with its place; and the index at which each instruction of the text begins."""
 
     statements: list[Statement] = field(default_factory=list)
     places: list[int] = field(default_factory=list)
@@ -132,7 +132,7 @@ class Converter:
         return [rewrite_thread(code, addresses, guesses_of_thread) for code, addresses, guesses_of_thread in zip(self.codes, self.held, by_thread)]
 
     def number_registers(self, thread: int, extremes: list[ThreadCode]) -> dict[str, int]:
-        """Returns the number of each register of a thread, and of its mark where there is room for one. `extremes` is the thread's code if
+        """Returns the number of each register of a thread, and of its mark if there is room for one. `extremes` is the thread's code if
         all guesses succeed, and if all fail.
         """
         names: dict[str, int] = {}
@@ -231,7 +231,7 @@ class Converter:
 
 
 def list_width_notes(frame: Frame) -> list[tuple[int, str]]:
-    """Returns what is said of words of 64 bits."""
+    """Returns the notes on words of 64 bits."""
     return [(0, "words of 64 bits are taken as words of 32 bits, into which all words of this test fit")] if frame.is_wide else []
 
 
@@ -245,7 +245,7 @@ def read_back(test: plain.Test, offset: int) -> None:
 
 
 def convert(text: str, tries: int = 0, is_att: bool | None = None) -> Converted:
-    """Returns what a text in herd's form is converted to. Raises Refused, or another fault of a text, if that can't be."""
+    """Returns the conversion of a text in herd's form. Raises Refused, or another fault of a text, if there is none."""
     frame = read_frame(text)
     order = find_order(text, frame.language, frame.threads) if is_att is None else Order(is_att)
     read = [read_code(cells, order.is_att) for cells in frame.threads]

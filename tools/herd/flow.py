@@ -93,7 +93,7 @@ def update_held(instruction: Instruction, addresses: dict[str, str]) -> dict[str
 
 
 def intersect_held(first: dict[str, str] | None, second: dict[str, str]) -> dict[str, str]:
-    """Returns what is held where two ways meet."""
+    """Returns the addresses that registers hold where two ways meet."""
     if first is None:
         return dict(second)
     names = {*first, *second}

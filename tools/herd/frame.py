@@ -47,7 +47,7 @@ class Frame:
     language: str
     name: str
     entries: list[Entry] = field(default_factory=list)
-    threads: list[list[list[Token]]] = field(default_factory=list)  # of each thread, the tokens of its cells, each with an end
+    threads: list[list[list[Token]]] = field(default_factory=list)  # for each thread, the tokens of its cells, each with an end
     listed: list[tuple[Site, int]] = field(default_factory=list)  # sites with their places
     named: list[tuple[Site, int]] = field(default_factory=list)  # the sites of the condition and the filter, with their places
     filter: Proposition | None = None
@@ -156,7 +156,7 @@ class FrameReader(PropositionReader):
         offset, text = self.token.offset, self.take_token().text
         digits = text[1:] if text[:1] == "P" else text
         if not digits.isdigit():
-            raise Refused(f"'{text}' stands where the number of a thread should", offset)
+            raise Refused(f"found '{text}', expected the number of a thread", offset)
         return int(digits[:9])
 
     def read_site(self) -> Site:
@@ -239,7 +239,7 @@ class FrameReader(PropositionReader):
             else:
                 self.frame.listed += self.read_list_of_names()
         if self.token.kind == "end":
-            self.frame.notes.append((self.token.offset, "there is no condition: forall (true) stands in its place"))
+            self.frame.notes.append((self.token.offset, "there is no condition: forall (true) is used instead"))
             self.frame.quantifier = "forall"
             return
         self.frame.quantifier = self.read_quantifier()

@@ -32,7 +32,7 @@ class Text:
         return " ".join(self.text[offset:end].split())
 
     def describe_place(self, place: tuple[int, int]) -> str:
-        """Returns what a place is called: its thread, its line, and the instruction."""
+        """Returns the name of a place: its thread, its line, and the instruction."""
         return f"P{place[0]}, line {self.find_line(place[1])}, {self.read_instruction(place[1])}"
 
     def describe_place_briefly(self, place: tuple[int, int]) -> str:

@@ -36,7 +36,7 @@ IN_ANY_ORDER = ("XCHG", "TEST")
 
 @dataclass(frozen=True)
 class Mark:
-    """What says an order, in words, and its place."""
+    """A mark of an order, in words, and its place."""
 
     is_att: bool
     offset: int
@@ -45,7 +45,7 @@ class Mark:
 
 @dataclass(frozen=True)
 class Order:
-    """Whether a test is in AT&T's order, and the note on it, with its place, if there is something to say."""
+    """The order of a test: whether it is AT&T's, and the note on it with its place, if there is one."""
 
     is_att: bool
     note: tuple[int, str] | None = None

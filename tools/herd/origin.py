@@ -1,6 +1,6 @@
-"""Where a converted test comes from: the comment that tools/from_herd.py writes into it, and what tools/run_all.py reads there.
+"""Writes and reads the origin of a converted test: the comment that tools/from_herd.py writes into it, and that tools/run_all.py reads.
 
-A comparison with a log of the original test speaks of the original's names. So the comment has each name that was replaced, what marks the
+A comparison with a log of the original test uses the original's names. So the comment has each name that was replaced, what marks the
 runs that are given up, the filter, and the guesses; and a converted test's states are translated back.
 """
 from __future__ import annotations
@@ -41,7 +41,7 @@ def make_comment(original: Converted, conversion: Conversion) -> str:
 
 @dataclass
 class Origin:
-    """What the comment of a converted test says: the original's name, its names by those of the test, the filter, the guesses, the marks,
+    """The contents of a converted test's comment: the original's name, its names by those of the test, the filter, the guesses, the marks,
     the sites that only the last two name, and how often each loop is written down."""
 
     name: str
@@ -93,7 +93,7 @@ class Translated:
     extra: set[str] = field(default_factory=set)
     guesses: dict[tuple, set[str]] = field(default_factory=dict)  # each with its lines
     tries: int = 0
-    is_twice: bool = False  # whether two tests with different lines stand for one guess
+    is_twice: bool = False  # whether two tests with different lines represent one guess
 
     def count_missing_guesses(self) -> int:
         """Returns the number of guesses for which there is no test."""

@@ -1,6 +1,6 @@
 """The instructions of a test in herd's form, each as instructions of lw. Registers and locations still have their names.
 
-A rewriting that sets the zero flag where the instruction does not, or does not set it where the instruction does, is done only where no
+A rewriting that sets the zero flag although the instruction does not, or does not set it although the instruction does, is used only if no
 later branch reads the flag.
 """
 from __future__ import annotations
@@ -69,7 +69,7 @@ class Rewriter:
     def rewrite_register(self, operand: Operand) -> str:
         """Returns a register that is read as a word. Raises Refused if it is none."""
         if not isinstance(operand, Register):
-            raise self.make_refusal("a register should stand here")
+            raise self.make_refusal("expected a register")
         self.rewrite_value(operand)
         return operand.register
 
@@ -105,7 +105,7 @@ class Rewriter:
         if isinstance(target, InMemory):
             return [Statement("store", location=self.rewrite_location(target), value=self.rewrite_value(source))]
         if not isinstance(target, Register):
-            raise self.make_refusal("a register or a location should stand here")
+            raise self.make_refusal("expected a register or a location")
         if isinstance(source, InMemory):
             return [Statement("load", target.register, self.rewrite_location(source))]
         return [] if find_address(source, self.held) else [Statement("set", target.register, value=self.rewrite_value(source))]
@@ -161,7 +161,7 @@ class Rewriter:
         """Rewrites a comparison with 0. Raises Refused unless a register is tested with itself or with -1."""
         first, second = self.instruction.operands
         if not isinstance(first, Register) or second not in (first, Number(MINUS_ONE)):
-            raise self.make_refusal("TEST is converted for a register and itself alone")
+            raise self.make_refusal("TEST is converted only for a register and itself")
         return self.set_flag(self.rewrite_register(first))
 
     def rewrite_cmp(self) -> list[Statement]:
@@ -225,7 +225,7 @@ class Rewriter:
         name, operands = self.instruction.mnemonic, self.instruction.operands
         memory = [operand for operand in operands if isinstance(operand, InMemory)]
         if not memory or name in ("MOV", "LEA", "CMP", "TEST") or operands[0] is not memory[0] and name != "XCHG":
-            raise self.make_refusal(f"LOCK stands before {name} without a location that is written")
+            raise self.make_refusal(f"LOCK is before {name}, which writes no location")
         if memory[0].registers == ("ESP",) and not memory[0].location:
             return self.rewrite_locked_stack()
         if name in ("XCHG", "XADD", "CMPXCHG"):

@@ -39,7 +39,7 @@ def read_heading(text: str) -> tuple[str, str, int]:
         offset = plain.skip_comment(text, offset) if text.startswith("(*", offset) else offset + 1
     match = HEADING.match(text, offset)
     if not match:
-        raise Refused("the language and the name of a test should stand here", offset)
+        raise Refused("expected the language and the name of a test", offset)
     if match[1] not in LANGUAGES:
         raise Refused(f"a test of '{match[1]}' is not converted: only tests of X86 and X86_64 are", offset)
     if len(match[2]) > 128:
@@ -96,7 +96,7 @@ class Reader:
         """Returns the fault of the next token if something else is expected."""
         token = self.token
         shown = plain.quote(token.text) if token.kind != "end" else "the end of the text" if not token.text else "the end of the cell"
-        return Refused(f"{shown} stands where {expected} should", token.offset)
+        return Refused(f"found {shown}, expected {expected}", token.offset)
 
     def take_token(self, *texts: str) -> Token:
         """Reads the next token, which must be one of the texts, if there are any. Raises Refused if it is not."""

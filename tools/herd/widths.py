@@ -1,4 +1,4 @@
-"""Whether the words of 64 bits of a test fit into the 32 bits of a word of lw.
+"""Decides whether the words of 64 bits of a test fit into the 32 bits of a word of lw.
 
 An instruction of 64 bits does in 32 bits what it does in 64 if the words that it reads and the word that it writes are numbers below 2 to
 the 32. So each register and each location gets a range of the words that it may have, and an instruction of 64 bits is refused if a word
@@ -193,7 +193,7 @@ class Step:
         self.write_operand(target, self.wrap_range((old[0] + added[0], old[1] + added[1]), self.bits))
 
     def compute_addend(self, name: str) -> Range:
-        """Returns what ADD, SUB, INC or DEC adds."""
+        """Returns the number that ADD, SUB, INC or DEC adds."""
         if name in ("INC", "DEC"):
             return (1, 1) if name == "INC" else (-1, -1)
         if not isinstance(self.instruction.operands[1], Number) or self.instruction.number >= 0:
@@ -322,7 +322,7 @@ class Widths:
         return self.merge_words(initial, memories), ends
 
     def run_round(self, seen: list[Words], seen_by_updates: list[Words]) -> tuple[list[Memory], list[Registers]]:
-        """Returns what each thread stores, and its registers at its end, if it reads some words of others."""
+        """Returns the stores of each thread, and its registers at its end, if it reads some words of others."""
         memories = [Memory(*words) for words in zip(seen, seen_by_updates)]
         return memories, [follow_thread(thread, memory, self.wide) for thread, memory in zip(self.threads, memories)]
 

@@ -10,7 +10,7 @@ from interpreter.tests import Statement, Test
 
 
 class Accesses(NamedTuple):
-    """What a path of a thread contributes to the orders: its accesses, its number of items, and its number of conflicts within.
+    """The part of a thread's path in the orders: its accesses, its number of items, and its number of conflicts within.
 
     An access is a location, and whether it is written.
     """
@@ -29,7 +29,7 @@ def list_paths(statements: Sequence[Statement], position: int = 0) -> list[tuple
 
 
 def count_accesses(statements: Sequence[Statement], path: Sequence[int], is_x86: bool) -> Accesses:
-    """Returns what a path of a thread contributes to the orders."""
+    """Returns the part of a thread's path in the orders."""
     accesses: list[tuple[int, bool]] = []
     waiting: list[int] = []
     inner = 0

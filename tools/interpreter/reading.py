@@ -63,7 +63,7 @@ class Reader:
     def make_misplaced_fault(self, expected: str) -> NoTest:
         """Returns the fault of the next token if something else is expected."""
         end, text = "the end of the text" if self.index == len(self.tokens) else "the end of the cell", self.peek_text()
-        return self.make_fault(f"{end if text is None else quote(text)} stands where {expected} should")
+        return self.make_fault(f"found {end if text is None else quote(text)}, expected {expected}")
 
     def take_token(self, expected: str | None = None) -> str:
         """Reads the next token, which must be the wanted one, if one is. Returns its text, which is empty at the end. Raises NoTest if it is another.
@@ -336,7 +336,7 @@ class Reader:
             if RESERVED.fullmatch(label):
                 raise self.make_fault_at_last(f"{self.quote_last()} is a reserved name, and no label")
             if label in labels:
-                raise self.make_fault_at_last(f"the label {self.quote_last()} stands twice in its thread")
+                raise self.make_fault_at_last(f"the label {self.quote_last()} is defined twice in its thread")
             labels[label] = position
             self.take_token(":")
 
@@ -409,14 +409,14 @@ def read_heading(text: str) -> tuple[str, str, int]:
         offset = skip_comment(text, offset) if text.startswith("(*", offset) else offset + 1
     language = LANGUAGE.match(text, offset)
     if not language:
-        raise NoTest(f"{quote_at(text, offset)} stands where 'SRC' or 'X86' should", offset)
+        raise NoTest(f"found {quote_at(text, offset)}, expected 'SRC' or 'X86'", offset)
     blanks = BLANKS.match(text, language.end())
     offset = blanks.end() if blanks else language.end()
     if offset == language.end():
-        raise NoTest(f"{quote_at(text, offset)} stands where a blank should", offset)
+        raise NoTest(f"found {quote_at(text, offset)}, expected a blank", offset)
     name = NAME_OF_TEST.match(text, offset)
     if not name:
-        raise NoTest("the name of the test, 1 to 128 printing letters of ASCII, should stand here", offset)
+        raise NoTest("expected the name of the test, 1 to 128 printing characters of ASCII", offset)
     return language[1], name[0], name.end()
 
 

@@ -67,14 +67,14 @@ def format_schedules(test: Test) -> str:
 
 
 def find_verdicts(test: Test) -> tuple[str, str]:
-    """Returns what interleaving and x86-TSO say of a test's condition. A source test is taken without fences, each store a plain store."""
+    """Returns the verdicts of interleaving and x86-TSO on a test's condition. A source test is taken without fences, each store a plain store."""
     program = compile_test(test, has_fences=False)
     interleaved = explore_states(program, make_x86_start(program), list_interleaved_moves)[0]
     return find_verdict(test, interleaved), find_verdict(test, list_outcomes(program))
 
 
 def find_verdict(test: Test, reached: Iterable[Outcome]) -> str:
-    """Returns what outcomes say of a test's condition: `allowed`, `forbidden`, `required` or `not required`."""
+    """Returns the verdict of outcomes on a test's condition: `allowed`, `forbidden`, `required` or `not required`."""
     truths = [is_true(test.proposition, outcome) for outcome in reached]
     if test.quantifier == "forall":
         return "required" if all(truths) else "not required"

@@ -135,13 +135,13 @@ class Test:
     language: str
     name: str
     locations: list[str] = field(default_factory=list)  # names
-    registers: list[tuple[int, ...]] = field(default_factory=list)  # of each thread, the words that its registers begin with
+    registers: list[tuple[int, ...]] = field(default_factory=list)  # for each thread, the words that its registers begin with
     words: tuple[int, ...] = ()  # the words that the locations begin with
-    threads: list[Sequence[Statement]] = field(default_factory=list)  # of each thread, its statements
+    threads: list[Sequence[Statement]] = field(default_factory=list)  # for each thread, its statements
     listed: set[Site] = field(default_factory=set)
     quantifier: str = "exists"
     proposition: Proposition = Constant(True)
-    columns: list[list[list[tuple[str, str]]]] = field(default_factory=list)  # of each thread, its cells, each a list of tokens
+    columns: list[list[list[tuple[str, str]]]] = field(default_factory=list)  # for each thread, its cells, each a list of tokens
 
 
 def join_lines(lines: Iterable[str]) -> str:

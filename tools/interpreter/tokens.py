@@ -23,7 +23,7 @@ def quote(text: str) -> str:
 
 
 def quote_at(text: str, offset: int) -> str:
-    """Returns what is at an offset, in quotes: a word, one character, or the end."""
+    """Returns the text at an offset, in quotes: a word, one character, or the end."""
     match = LETTERS.match(text, offset)
     return quote(match[0]) if match and offset < len(text) else "the end of the text"
 
@@ -77,7 +77,7 @@ def skip_notes(text: str, offset: int) -> int:
             return offset
         else:
             break
-    raise NoTest(f"{quote_at(text, offset)} stands where the initial block should", offset)
+    raise NoTest(f"found {quote_at(text, offset)}, expected the initial block", offset)
 
 
 def skip_quoted(text: str, offset: int) -> int:

@@ -10,7 +10,7 @@ from interpreter.tests import Outcome, Refused, State, Test
 
 # An event, and the state after it.
 Move = Tuple[str, State]
-# Of each state that a walk has reached, the event and the state before it; `None` for the start.
+# For each state that a walk has reached, the event and the state before it; `None` for the start.
 Origins = Dict[State, Optional[Tuple[str, State]]]
 
 

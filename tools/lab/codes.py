@@ -1,6 +1,6 @@
-"""The codes that students hand in: which quiz, who, and what was answered, in letters and digits with a check sum.
+"""Writes and reads the codes that students hand in: which quiz, who, and what was answered, in letters and digits with a check sum.
 
-A code says a number to the base 32, and behind it, in four symbols, what is left of the number when it is divided by a prime: no code with
+A code is a number to the base 32, and after it, in four symbols, the remainder of the number's division by a prime: no code with
 one wrong symbol, or with two neighbours exchanged, is a code. The number holds digits of several bases: the mark of the tests, how many they
 are, the seed, the student, and an answer for each test. A student's name in other letters than those of seeds is an empty name, and after it
 the bytes of its UTF-8. tools/lab/quiz.html writes the same codes.
@@ -10,7 +10,7 @@ from __future__ import annotations
 from typing import NamedTuple
 
 SYMBOLS = "0123456789ABCDEFGHJKMNPQRSTVWXYZ"
-# What is often read for another symbol.
+# The characters that are often read for another symbol.
 MISREAD = {"O": "0", "I": "1", "L": "1"}
 PRIME = 1048573
 LENGTH_OF_SUM = 4
@@ -19,16 +19,16 @@ LETTERS = "0123456789abcdefghijklmnopqrstuvwxyz "
 MARKS, MAX_TESTS, MAX_LETTERS = 1024, 40, 16
 # The base of a byte of UTF-8, counted from 1: 0 ends; and how many a name has at most.
 BYTES, MAX_BYTES = 257, 4 * MAX_LETTERS
-# What may stand between the symbols of a code.
+# The characters that may be between the symbols of a code.
 BETWEEN = " \t\r-\ufeff"
 
 
 class BadCode(Exception):
-    """What is wrong in a code: the cause, and the place of it in the text, from 0."""
+    """A fault of a code: the cause, and its place in the text, from 0."""
 
 
 class HandedIn(NamedTuple):
-    """What a code says: the mark of the tests, the seed, the student, and of each test the answers: 1 for interleaving, and 2 more for x86."""
+    """The contents of a code: the mark of the tests, the seed, the student, and the answers on each test: 1 for interleaving, plus 2 for x86."""
 
     mark: int
     seed: str
@@ -104,7 +104,7 @@ class Digits:
 
 
 def take_student(digits: Digits) -> str:
-    """Returns the name of a student; empty where there is none."""
+    """Returns the name of a student; empty if there is none."""
     if name := digits.take_letters(MAX_LETTERS):
         return name
     student = bytearray()
@@ -117,7 +117,7 @@ def take_student(digits: Digits) -> str:
 
 
 def read_code(line: str) -> HandedIn:
-    """Returns what the code of a line says. Raises BadCode if it is too long, mistyped, or of no quiz."""
+    """Returns the contents of a line's code. Raises BadCode if it is too long, mistyped, or of no quiz."""
     begin = next((index for index, letter in enumerate(line) if letter not in BETWEEN), 0)
     values = read_symbols(line)
     if len(values) <= LENGTH_OF_SUM:

@@ -1,6 +1,6 @@
 """Renders the Markdown of documents as HTML: headings, paragraphs, items, tables, pictures, and text that is fenced or indented.
 
-Of a link only the words remain, unless a renderer knows where it leads. An item is a paragraph with its number: text in a fence may follow it.
+Of a link only the words remain, unless a renderer knows its target. An item is a paragraph with its number: text in a fence may follow it.
 """
 from __future__ import annotations
 
@@ -14,14 +14,14 @@ FENCE = "```"
 INDENTED = "    "
 IMAGE = re.compile(r"!\[([^]]*)\]\((pictures/[\w-]+\.svg)\)")
 ITEM = re.compile(r"(\d+\.|-) ")
-# What is marked within a paragraph. Code comes first, since it has no other marks; a link's words and strong words may have code.
+# The marks within a paragraph. Code comes first, since it has no other marks; a link's words and strong words may have code.
 MARKED = re.compile(
     r"`(?P<code>[^`]*)`|\[(?P<words>(?:`[^`]*`|[^]`])*)\]\((?P<target>[^)]*)\)|\*\*(?P<strong>.+?)\*\*|\*(?P<em>[^*\s][^*]*)\*"
 )
 
 
 def find_section(text: str, heading: str) -> str:
-    """Returns what is below a heading of the second level, up to the next. Raises ValueError if there is no such heading."""
+    """Returns the text below a heading of the second level, up to the next. Raises ValueError if there is no such heading."""
     match = re.search(rf"^## {re.escape(heading)}\n(.*?)(?=^## |\Z)", text, re.M | re.S)
     if match is None:
         raise ValueError(f"there is no heading {heading!r}")
@@ -29,7 +29,7 @@ def find_section(text: str, heading: str) -> str:
 
 
 def find_block_kind(line: str) -> str:
-    """Returns what a block is that begins with a line."""
+    """Returns the kind of a block that begins with a line."""
     if line.startswith("#"):
         return "heading"
     if line.startswith("|"):
@@ -131,7 +131,7 @@ class Renderer:
         return escape(text, quote=False)
 
     def render_mark(self, match: "re.Match[str]") -> str:
-        """Returns what one mark makes of its words."""
+        """Returns the HTML of one mark and its words."""
         if match["code"] is not None:
             return self.render_code(match["code"])
         if match["target"] is not None:
@@ -144,5 +144,5 @@ class Renderer:
         return f"<code>{escape(text)}</code>"
 
     def render_link(self, words: str, target: str) -> str:
-        """Returns a link if it is known where it leads, and otherwise its words."""
+        """Returns a link if its target is known, and otherwise its words."""
         return f'<a href="{self.links[target]}" target="_blank">{words}</a>' if target in self.links else words

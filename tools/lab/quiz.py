@@ -1,8 +1,8 @@
-"""The quiz of tools/make_quiz.py: its tests, and what interleaving and x86-TSO say of each.
+"""Makes the quiz of tools/make_quiz.py: its tests, and the verdicts of interleaving and x86-TSO on each.
 
-The tests are those of tools/shapes/quiz.py, which interleaving forbids all: in a third of them another word is asked about, so that the end
-is possible by interleaving. Verdicts are read off reports: that of the x86 test, and that of its source form, which is interleaved: the same loads
-and stores, without fences.
+The tests are those of tools/shapes/quiz.py, all of which interleaving forbids: a third of them get a question about another word, so that the
+end is possible by interleaving. The verdicts come from two reports: that of the x86 test, and that of its source form, which is interleaved: the
+same loads and stores, without fences.
 """
 from __future__ import annotations
 
@@ -28,7 +28,7 @@ Report = Callable[[str], str]
 
 
 class Data(TypedDict):
-    """What the page holds of a quiz: its seed and its mark, the hidden answers, the tests' texts, and the hidden reasons."""
+    """The contents of a quiz's page: its seed and its mark, the hidden answers, the tests' texts, and the hidden reasons."""
 
     seed: str
     mark: int
@@ -64,7 +64,7 @@ def make_report_by_plain(text: str) -> str:
 
 
 def choose_reporter() -> Report:
-    """Returns who reports: the program if it is that of the sources, and otherwise tools/plain.py."""
+    """Returns the maker of reports: the program if it is that of the sources, and otherwise tools/plain.py."""
     try:
         films.check_program()
     except (films.NoFilm, ImportError, OSError):
@@ -130,7 +130,7 @@ def make_possible_by_interleaving(text: str, random: Random, report: Report) -> 
 
 
 def make_tests(count: int, seed: str, report: Report) -> list[Asked]:
-    """Returns the tests of a quiz. The same seed makes the same tests, whoever reports. Raises NoQuiz if the seed or the count is not allowed."""
+    """Returns the tests of a quiz. The same seed makes the same tests, with any program. Raises NoQuiz if the seed or the count is not allowed."""
     if not re.fullmatch(f"[0-9a-z]{{1,{MAX_SEED_LETTERS}}}", seed):
         raise NoQuiz(f"a seed has up to {MAX_SEED_LETTERS} letters, all small, and digits")
     if not 0 < count <= MAX_TESTS:
@@ -143,7 +143,7 @@ def make_tests(count: int, seed: str, report: Report) -> list[Asked]:
     return tests
 
 
-# What the page holds.
+# The contents of the page.
 
 
 def hash_text(text: str) -> int:
@@ -184,7 +184,7 @@ def hash_tests(texts: list[str], seed: str) -> int:
 
 
 def make_data(seed: str, tests: list[Asked]) -> Data:
-    """Returns what the page holds of a quiz. No answer is in plain sight; readers of the page's code can read all."""
+    """Returns the contents of a quiz's page. No answer is in plain sight; readers of the page's code can read all."""
     texts = [it.text for it in tests]
     hidden = "".join(SYMBOLS[hash_text(seed + it.text) ^ it.encode_answers()] for it in tests)
     return {"seed": seed, "mark": hash_tests(texts, seed), "hidden": hidden, "tests": texts, "reasons": [hide_reason(seed, it) for it in texts]}

@@ -1,4 +1,4 @@
-"""Why a test of a quiz can end as it is asked, or can't: a run, step by step in words, or the events of a cycle.
+"""Says why a test of a quiz can end as it asks, or can't: a run, step by step in words, or the events of a cycle.
 
 Runs are those of tools/plain.py, and cycles those of tools/executions.py, so a quiz has the same bytes with the program and without.
 """
@@ -30,7 +30,7 @@ def list_asked_schedules(test: plain.Test, start: Callable[[plain.Test], State],
 
 
 def describe_steps(test: plain.Test, schedule: str) -> list[str]:
-    """Returns what each event of a run does, in words."""
+    """Returns the effect of each event of a run, in words."""
     events = schedule.split()
     states = [read_state(plain.replay(test, " ".join(events[:number]))[0]) for number in range(len(events) + 1)]
     cells = films.list_x86_cells(plain.format_canonical_text(test)) if test.language == "X86" else films.list_source_cells(test)

@@ -42,7 +42,7 @@ th, td { border: 1px solid #888; padding: .25em .6em; text-align: left; vertical
 @page { margin: 16mm } @page card { margin: 10mm }
 """
 TITLE = "What can this program do?"
-# What the sheet says of the tests' files, up to what it says of a link.
+# The sheet's sentence on the tests' files, up to the words on a link.
 FILES = "The tests are files in `tests`, and *open* "
 # Links from the sheet of a site to its other documents, on a screen.
 WAY_BACK = '<p class="screen"><a href="index.html" target="lw">lw</a> · <a href="tutorial.html">Tutorial</a> · <a href="card.html">Syntax</a></p>\n'
@@ -51,12 +51,12 @@ WHO = '<p class="who"><span>Name:</span> <span>Group:</span> <span>Points:</span
 WHY = "<th>why</th>"
 # A line that names tests, to be played by hand or not.
 TESTS = re.compile(r"Tests( by hand)?: (.*)")
-# What a sheet has links to besides tests.
+# The documents to which a sheet has links, besides tests.
 GIVEN_OUT = {"CARD.md": "card.html"}
-# Where a picture of docs/ is shown, and how many letters a document has at most that is a card.
+# The place of a picture of docs/, and the largest number of letters of a document that is a card.
 PICTURE = re.compile(r'<figure data-picture="([^"]*)">')
 MAX_CARD_LETTERS = 10000
-# What begins on a new page of paper: what is given out when the first task is done, and the hints.
+# The headings that begin on a new page of paper: the tasks that are given out after the first, and the hints.
 ON_NEW_PAGES = ("### 2. ", "### Hints")
 
 
@@ -123,14 +123,14 @@ def make_sheet(lab: str, tests: dict[str, str], site: str | None, is_of_site: bo
 
 
 def make_index(has_site: bool) -> str:
-    """Returns the page on which a folder or a server opens: where the sheet is, the card, and the workbench."""
+    """Returns the page on which a folder or a server opens: links to the sheet, the card, and the workbench."""
     site = [("site/index.html", "The page: all examples")] if has_site else []
     links = [("sheet.html", "The sheet"), ("card.html", "The syntax, on one card"), *site]
     return make_page("A lab", "<ul>\n" + "".join(f'<li><a href="{link}">{title}</a></li>\n' for link, title in links) + "</ul>\n", "index")
 
 
 def make_timetable(lab: str) -> str:
-    """Returns what the teacher prepares, the time and the tests."""
+    """Returns the teacher's page: the preparations, the times and the tests."""
     return make_page("A lab of 90 minutes", markdown.Renderer().render_body(markdown.find_section(lab, "For the teacher")), "teacher")
 
 

@@ -1,7 +1,7 @@
-"""The slides of the introduction: what stands on each, and what is drawn of it from the program's answers.
+"""Makes the slides of the introduction: the words on each, and the pictures from the program's answers.
 
-A test goes by its name on the sheet of docs/LAB.md; one more test has its name here. Each picture and each list says in the page of which
-test it is, and by which schedule, so that a check can ask the program again.
+A test has its name from the sheet of docs/LAB.md; one more test has its name here. Each picture and each list names in the page its
+test and its schedule, so that a check can ask the program again.
 """
 from __future__ import annotations
 
@@ -35,20 +35,20 @@ class Code(NamedTuple):
 
 
 class States(NamedTuple):
-    """What `lw states` prints of a test."""
+    """The report of `lw states` on a test."""
 
     test: str
 
 
 class Film(NamedTuple):
-    """Where a schedule leads: a picture of the machine, without its caches."""
+    """The state that a schedule reaches: a picture of the machine, without its caches."""
 
     test: str
     schedule: str
 
 
 class Note(NamedTuple):
-    """What the teacher may say: shown by a key."""
+    """A note for the teacher, which a key shows."""
 
     text: str
 
@@ -139,7 +139,7 @@ def read_texts() -> dict[str, bytes]:
 
 
 def keep_light_styles(style: str) -> str:
-    """Styles for paper and projectors alone."""
+    """Returns styles without the rules for dark mode, for paper and projectors."""
     return DARK.sub("", style)
 
 
@@ -192,6 +192,6 @@ def render_part(part: Part, tests: dict[str, bytes]) -> str:
 
 
 def render_slides() -> list[tuple[str, str]]:
-    """Returns of each slide its title and its HTML."""
+    """Returns, for each slide, its title and its HTML."""
     tests = read_texts()
     return [(title, "".join(render_part(part, tests) for part in parts)) for title, parts in SLIDES]

@@ -39,7 +39,7 @@ def read_text(file: str) -> str:
 def run_column(
     texts: dict[str, str | None], seconds: float, report: Callable[[str], None], compiler: str | None = None, tries: int = 1
 ) -> Column:
-    """Runs the test of each file, by its text or what that is converted to, or a program's tests, for so many seconds. The files are run
+    """Runs the test of each file, by its text or its conversion, or a program's tests, for that number of seconds. The files are run
     one after another, since runs disturb each other, and `report` is called with each that is done. `compiler` is that of programs in C and
     C++. Without a compiler or objdump nothing is run, and `NotRun` says why.
     """

@@ -1,6 +1,6 @@
 """Reads what objdump prints of the compiled test, in Intel's syntax, and compares it with the test, instruction by instruction.
 
-This shares nothing with machine/assembly.py, which writes the other syntax, but the names of the labels: both have their own tables.
+This shares nothing with machine/assembly.py, which writes the other syntax, except the names of the labels: both have their own tables.
 machine/frames.py looks at what is around the test's instructions.
 """
 from __future__ import annotations
@@ -28,7 +28,7 @@ NUMBER = re.compile(r"0x[0-9a-f]+")
 
 
 class Listing(NamedTuple):
-    """What is read of a disassembly: the address of each label, and the text of the instruction at each address."""
+    """A disassembly that was read: the address of each label, and the text of the instruction at each address."""
 
     labels: dict[str, int]
     instructions: dict[int, str]

@@ -41,7 +41,7 @@ def list_unsaved_changes(code: Sequence[Statement], saved: list[str]) -> list[st
 
 
 def find_fault_before(texts: list[str], code: Sequence[Statement], first: Sequence[int], is_trapped: bool) -> str | None:
-    """Returns what is wrong between the saved registers and the test's instructions, or None. Addresses are loaded before EDI changes."""
+    """Returns the fault between the saved registers and the test's instructions, or None. Addresses are loaded before EDI changes."""
     if texts[:1] != ["mov rbp,rsi"]:
         return "the place of the results is not taken"
     texts = texts[1:]
@@ -58,7 +58,7 @@ def find_fault_before(texts: list[str], code: Sequence[Statement], first: Sequen
 
 
 def find_fault_after(texts: list[str], code: Sequence[Statement], saved: list[str]) -> str | None:
-    """Returns what is wrong with the instructions after the test's, or None."""
+    """Returns the fault of the instructions after the test's, or None."""
     results: dict[str, int] = {it[2]: int(it[1], 16) for it in take_leading_matches(RESULT, texts)}
     expected = {REGISTERS[it]: 4 * it for it in list_used_registers(code)}
     if results != expected:
@@ -70,7 +70,7 @@ def find_fault_after(texts: list[str], code: Sequence[Statement], saved: list[st
 
 
 def find_fault(before: list[str], after: list[str], code: Sequence[Statement], first: Sequence[int], is_trapped: bool) -> str | None:
-    """Returns what is wrong with the instructions around a test's, or None."""
+    """Returns the fault of the instructions around a test's, or None."""
     before, after = ([re.sub(r"\s+", " ", it) for it in texts] for texts in (before, after))
     saved = [it[1] for it in take_leading_matches(SAVED, before)]
     lacking = list_unsaved_changes(code, saved)

@@ -40,7 +40,7 @@ def list_threads(subject: Subject, knobs: Knobs) -> list[Code]:
 
 
 class Ran(NamedTuple):
-    """What was seen in a run, its plan, and the processors that it was made on."""
+    """The sightings of a run, its plan, and the processors on which it ran."""
 
     seen: runs.Seen
     plan: Plan
@@ -48,7 +48,7 @@ class Ran(NamedTuple):
 
 
 def list_notes(seen: runs.Seen, ran: Ran, settings: Settings) -> list[str]:
-    """Returns what must be known of what was seen, in runs of which one is passed."""
+    """Returns the notes that qualify the sightings of runs, of which one is passed."""
     control = [NONTEMPORAL] * bool(settings.knobs["stores"])
     return control + processors.list_obstacles(ran.here, len(ran.plan.threads)) + runs.list_missing(seen, ran.plan)
 

@@ -29,7 +29,7 @@ UNLIMITED = 10**12
 
 
 class Plan(NamedTuple):
-    """What is run, for how long, on which processors, and by which knobs."""
+    """A plan: the test that runs, for how long, on which processors, and by which knobs."""
 
     subject: Subject
     threads: Sequence[Code]
@@ -48,7 +48,7 @@ def format_numbers(words: Sequence[int]) -> str:
 
 
 def format_test(plan: Plan) -> list[str]:
-    """Returns what the harness must know of the test."""
+    """Returns the harness's lines on the test."""
     test, sites = plan.subject.x86, plan.subject.sites
     pairs = [(it.thread, it.register) if isinstance(it, plain.RegisterSite) else (-1, it.location) for it in sites]
     return [

@@ -1,8 +1,8 @@
-"""A program in C, C++ or Rust on this machine: the tests of lw that its compiler's code is are run one after another, and put together.
+"""Runs a program in C, C++ or Rust on this machine: the tests of lw to which its code is converted run one after another, and are put together.
 
 A test stands for a guess of what the program's locked instructions find. A run that contradicts the guess, or goes through a loop more often than it
 is tried, is given up: it ends without the mark of its thread, and is no run of the program. A run in which all marks are set is one. So the states
-with all marks are put together, and held against the program's list; all states of each test are held against its own.
+with all marks are put together and compared with the program's list; all states of each test are compared with its own.
 """
 from __future__ import annotations
 
@@ -47,7 +47,7 @@ class Part(NamedTuple):
 
 
 class Program(NamedTuple):
-    """A program: what is asked, with its list; its tests; and what is said of how it was made."""
+    """A program: its question, with its list; its tests; and the words on its conversion."""
 
     subject: Subject
     parts: Sequence[Part]
@@ -94,7 +94,7 @@ def compile_program(file: str, text: str, compiler: str | None, tries: int) -> P
 
 
 def list_program_notes(answer: Answer, compiler: str, tries: int) -> list[str]:
-    """Returns what is said of how a program was made."""
+    """Returns the words on a program's conversion."""
     return [*(f"note: {it}" for it in answer.notes), describe_answer(answer, compiler, tries), INSTEAD]
 
 
@@ -118,7 +118,7 @@ def run_parts(laboratory: Laboratory, program: Program, settings: Settings) -> I
 
 
 def merge_seen(done: Sequence[tuple[Part, Ran]]) -> Seen:
-    """Returns what was seen of the program in the runs of its tests. Seconds are counted from the begin of the first one."""
+    """Returns the states of the program that were seen in the runs of its tests. Seconds are counted from the start of the first one."""
     states: dict[Words, Sighting] = {}
     seconds = 0.0
     for part, ran in done:

@@ -13,7 +13,7 @@ from machine.subjects import Words
 
 # How a state was first seen, as the harness numbers it.
 KINDS = ("by a race", "by a halt", "by a schedule")
-# What became of the trap flag, as the harness numbers it.
+# The result of setting the trap flag, as the harness numbers it.
 TRAPS_UNUSED, TRAPS_WORK, TRAPS_TRACED, TRAPS_CAUGHT = range(4)
 # The maximal number of times a second that threads lose their processor on a machine that is not busy.
 MAX_SWITCHES = 100
@@ -28,7 +28,7 @@ class Sighting(NamedTuple):
 
 
 class Seen(NamedTuple):
-    """What was seen in a run: how each state was seen; the number of runs, the seconds, and the facts that the harness reports."""
+    """The sightings of a run: how each state was seen; the number of runs, the seconds, and the facts that the harness reports."""
 
     states: dict[Words, Sighting]
     runs: int

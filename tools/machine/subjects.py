@@ -53,7 +53,7 @@ class Listed(NamedTuple):
     of_tests: str = ""
 
     def describe_maker(self) -> str:
-        """Returns who made the list, and whether that is proved."""
+        """Returns the maker of the list, and whether the list is proved."""
         is_proved = answers.are_proved(it for it in (self.by, self.compiled_by) if it)
         compiled = f", of the test that {self.compiled_by.value} compiled" if self.compiled_by else self.of_tests and f", {self.of_tests}"
         return f"{self.by.value}{compiled}, {'proved complete' if is_proved else 'not proved'}"

@@ -1,4 +1,4 @@
-"""What is said of a run after its log: how many of the listed states were seen, which not, and which are not listed; or all of it as JSON."""
+"""Writes the summary of a run after its log: how many of the listed states were seen, which not, and which are not listed; or all as JSON."""
 from __future__ import annotations
 
 from collections.abc import Sequence
@@ -43,7 +43,7 @@ class Result(NamedTuple):
         return sorted(set(self.seen.states) - set(self.listed.states))
 
     def describe_list(self) -> str:
-        """Returns who made the list, and of which test it is."""
+        """Returns the maker of the list, and the test of which it is."""
         whose = f" of {self.against}" if self.against else ""
         return f"The list{whose} by {self.listed.describe_maker()}"
 

@@ -52,7 +52,7 @@ class Clock:
         return time.process_time() + used.children_user + used.children_system
 
     def measure_seconds(self) -> float:
-        """Returns the processor time since the begin."""
+        """Returns the processor time since the start."""
         return self.read_time() - self.begin
 
 
@@ -62,7 +62,7 @@ def format_times(count: int) -> str:
 
 
 def describe_tests(count: int, tries: int) -> str:
-    """Says how many tests a report is put together from, and how often its runs go through loops, if that has a limit."""
+    """Returns the number of tests from which a report is put together, and its number of tries of loops, if it has a limit."""
     tests = f"{count} tests" if count != 1 else "1 test"
     return tests + (f", loops gone through at most {format_times(tries)}" if tries else "")
 

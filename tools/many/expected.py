@@ -12,7 +12,7 @@ from many import rows
 from many.statuses import NoTable
 
 VERDICTS = (rows.AS_ASKED, "No", rows.NO_VERDICT, rows.REFUSED)
-# Of each word the observations that it allows.
+# For each word the observations that it allows.
 OBSERVATIONS: Dict[str, Tuple[str, ...]] = {
     **{it: (it,) for it in ("Never", "Sometimes", "Always")},
     **{it: ("Sometimes", "Always") for it in ("Allowed", "Allow")},
@@ -23,7 +23,7 @@ WORDS = (*VERDICTS, *OBSERVATIONS)
 
 
 def read_expectations(name: str) -> dict[str, str]:
-    """Reads a table. Returns of each name its word. Raises NoTable if a line is none of a table, or contradicts another."""
+    """Reads a table. Returns, for each name, its word. Raises NoTable if a line is none of a table, or contradicts another."""
     expectations: Dict[str, str] = {}
     with open(name, encoding="utf-8", errors="replace") as file:
         for number, line in enumerate(file, 1):
@@ -51,7 +51,7 @@ def find_name(row: rows.Row, table: dict[str, str]) -> str | None:
 
 
 class Expected:
-    """What is expected of rows: by a table, if there is one, and Ok of all others, if that is expected."""
+    """The expected verdicts of rows: those of a table, if there is one, and Ok for all others, if that is expected."""
 
     def __init__(self, name: str | None, is_ok_expected: bool, is_shard: bool = False) -> None:
         self.name, self.others, self.is_shard = name, rows.AS_ASKED if is_ok_expected else None, is_shard
@@ -59,7 +59,7 @@ class Expected:
         self.met_names: set[str] = set()
 
     def find_word(self, row: rows.Row) -> str | None:
-        """Returns what is expected of a row, or None."""
+        """Returns the expected word for a row, or None."""
         name = find_name(row, self.table)
         if name is None:
             return self.others

@@ -1,4 +1,4 @@
-"""Who answers each file: lw, beyond, or a part of tools/ that is not proved; and files that are converted before."""
+"""Chooses the maker of each file's list: lw, beyond, or a part of tools/ that is not proved; and converts files before."""
 from __future__ import annotations
 
 import os
@@ -16,7 +16,7 @@ if TYPE_CHECKING:
 
 # The status of a test that lw refuses for its size.
 LIMIT = 3
-# What a conversion needs: how often loops are gone through, the order of operands, or None to conclude it, and the compiler, or None.
+# The options of a conversion: the number of tries of loops, the order of operands, or None to conclude it, and the compiler, or None.
 Choices = namedtuple("Choices", "tries order compiler")
 
 

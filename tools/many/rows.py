@@ -1,4 +1,4 @@
-"""The rows of the table: a file, what is answered of it, and by which method; or why it is refused."""
+"""Makes the rows of the table: a file, the answer on it, and the method; or why it is refused."""
 from __future__ import annotations
 
 import os
@@ -12,7 +12,7 @@ NOT_PROVED = ", not proved"
 ENUMERATED_UNPROVED, SEARCHED_UNPROVED, PLAIN_UNPROVED = ENUMERATED + NOT_PROVED, SEARCHED + NOT_PROVED, "plain" + NOT_PROVED
 # The verdict of a file that has no answer, and of one of which no run is left.
 REFUSED, NO_VERDICT, AS_ASKED = "Refused", "None", "Ok"
-# What each row has, and what only some tables have: the listed states seen on this machine, how a file was converted, why it is refused.
+# The columns of each row, and those of only some tables: the listed states seen on this machine, how a file was converted, why it is refused.
 Row = namedtuple("Row", "file name asked verdict observation states milliseconds method seen converted cause notes listed")
 ALWAYS, MORE = Row._fields[:8], Row._fields[8:11]
 # A file's answer: its row, its report, and its tests of lw with their reports, if it was converted from herd's form; whether its loops have a
@@ -21,7 +21,7 @@ Answered = namedtuple("Answered", "row report tests tries")
 
 
 def format_name(file: str) -> str:
-    """Returns what a refused file is called, whose test may have no name."""
+    """Returns the name of a refused file, whose test may have no name."""
     return os.path.splitext(os.path.basename(file))[0]
 
 

@@ -1,4 +1,4 @@
-"""The table, as text, CSV or JSON. What a form needs is imported where it is printed, so that the command starts quickly."""
+"""The table, as text, CSV or JSON. What a form needs is imported when it is printed, so that the command starts quickly."""
 from __future__ import annotations
 
 import sys

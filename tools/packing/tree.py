@@ -1,4 +1,4 @@
-"""What the wheel and the package for Debian carry, and where it comes from.
+"""Collects the files of the wheel and of the package for Debian, and their origin.
 
 Both have the programs, the library, and a tree of files in which each tool finds them as in the archive of tools/pack.py: what that has,
 without its shell scripts and its site. A version is that of the library, as include/lw.h has it and the library says of itself, then the time of
@@ -24,7 +24,7 @@ from shared.matches import require_match
 SUMMARY = "An x86-TSO litmus workbench that is proved correct"
 LICENCE = "No licence has been chosen yet: that is for the owner to do, and until then nobody else has the right to change lw or to hand it on"
 LW, BEYOND, LIBRARY = "crates/lw/out/lw", "crates/beyond/out/beyond", "python/liblw.so"
-# What tools/pack.py has, and the tree has not: the scripts for what is installed as commands, and the library for C.
+# The files of tools/pack.py that the tree leaves out: the scripts of installed commands, and the library for C.
 LEFT_OUT = ("lw", "beyond", "page", "crates/lw_library/out/*.a")
 # The tools that are commands: `lw-from-c` is tools/from_c.py, `lw-page` is ./page. Each is a module of tools/. The others make documents, or help these.
 TOOLS = """assume cycles fences from_c from_herd graph make_lab make_quiz make_site make_slides on_machine page picture plain read_codes run_all
@@ -32,7 +32,7 @@ TOOLS = """assume cycles fences from_c from_herd graph make_lab make_quiz make_s
 
 
 class Origin(NamedTuple):
-    """Of which commit and by which toolchain something is made, when that commit was made, and how the gate ended that proved it."""
+    """The origin of a package: the commit, its time, the toolchain, and how the gate ended that proved it."""
 
     commit: str
     seconds: int
@@ -60,7 +60,7 @@ def read_library_version() -> str:
 
 
 def read_origin() -> Origin:
-    """Returns where the sources come from. They have to be as the commit has them."""
+    """Returns the origin of the sources. They have to be those of the commit."""
     commit = pack.read_commit()
     seconds = int(pack.run_command("git", "show", "-s", "--format=%ct", commit)[0])
     return Origin(commit, seconds, " ".join(pack.run_command("rt", "version")), pack.describe_gate())
@@ -77,7 +77,7 @@ def find_tool(tool: str) -> str:
 
 
 def read_files() -> dict[str, bytes]:
-    """Returns the tree: of each name its bytes. The program beyond is in it if it is built. Raises NoPack if another part is not built."""
+    """Returns the tree: for each name its bytes. The program beyond is in it if it is built. Raises NoPack if another part is not built."""
     if not pack.is_built(build.LW):
         raise pack.NoPack("there is no program lw of these sources: run ./lw")
     if not web_files.read_modules():

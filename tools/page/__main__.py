@@ -1,10 +1,10 @@
-"""The workbench in a browser, on this machine alone.
+"""Serves the workbench in a browser, on this machine only.
 
     ./page [PORT]
 
-Builds the program first where there is none for the sources as they are, as ./lw does. Then it listens on 127.0.0.1, on the port
-that is given or on the first free one of 8017 to 8116, prints the address of the page, and opens a browser where there is a
-display. Ctrl-C ends it. Where the sources change meanwhile, the page says so, and ./page has to be started again.
+It first builds the program if there is none of the present sources, as ./lw does. Then it listens on 127.0.0.1, on the named
+port or on the first free one of 8017 to 8116, prints the address of the page, and opens a browser if there is a
+display. Ctrl-C ends it. If the sources change meanwhile, the page says so, and ./page has to be started again.
 """
 from __future__ import annotations
 
@@ -52,7 +52,7 @@ def parse_port(word: str) -> int:
 
 
 def open_browser(address: str) -> None:
-    """Opens a browser, but only where there is a display for it."""
+    """Opens a browser, but only if there is a display for it."""
     if os.environ.get("DISPLAY") or os.environ.get("WAYLAND_DISPLAY"):
         threading.Thread(target=webbrowser.open, args=(address,), daemon=True).start()
 
@@ -63,7 +63,7 @@ def main() -> int:
     reader.add_argument("port", nargs="?", type=parse_port, metavar="PORT")
     port = reader.read().port
     ports = PORTS if port is None else [port]
-    # A port that is in use is told before a long build. Nobody is kept waiting at one meanwhile.
+    # A port that is in use is reported before a long build. No client waits at the port during the build.
     if not (listening := listen(ports)):
         return 1
     listening.close()

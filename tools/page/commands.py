@@ -1,6 +1,6 @@
-"""What the commands in the documents of a made site do on the page: the test that a command reads, and what it asks about that test.
+"""Finds what the commands in the documents of a made site do on the page: the test that a command reads, and its question about the test.
 
-A text that commands make (with sed, printf and the like) is made by them when the site is made; tools/plain.py stands in for the program, and
+If commands make a text (with sed, printf and the like), they run when the site is made; tools/plain.py stands in for the program, and
 prints the same. Commands that do more than make the text of a test are not run. If the text is no test, the page shows its fault: a command that asks
 lw about it shows that on purpose, and another has no view.
 """
@@ -34,7 +34,7 @@ FAULT = "see this fault"
 
 
 class View(NamedTuple):
-    """What a link opens: its words, and the fields of the page's address."""
+    """A link to the page: its words, and the fields of the page's address."""
 
     words: str
     fields: dict[str, str]
@@ -46,7 +46,7 @@ def is_example(name: str) -> bool:
 
 
 def list_views(command: str) -> Iterator[View]:
-    """Yields what a command does with tests, as views of the page."""
+    """Yields the views of the page that show what a command does with tests."""
     loop = EACH.fullmatch(command)
     if not loop:
         yield from list_pipeline_views(command)

@@ -24,7 +24,7 @@ class Document(NamedTuple):
     about: str
 
 
-# Of each file of a site its document. Those up to `LAST_LISTED` are in the list at the top of each.
+# For each file of a site its document. Those up to `LAST_LISTED` are in the list at the top of each.
 DOCUMENTS = {
     "tutorial.html": Document("TUTORIAL", "Tutorial", "an hour's walk"),
     "page.html": Document("PAGE", "The page", "all that it shows"),
@@ -49,17 +49,17 @@ SHAPES = "families.html"
 CARDS = ("card.html", "terms.html", SHAPES)
 SHEET, SLIDES = "sheet.html", "slides.html"
 STYLE, SCRIPT = "reading.css", "reading.js"
-# What the site says of the links above commands at the start of a document, and of the commands themselves at its end.
+# The site's words on the links above commands, at the start of a document, and on the commands themselves, at its end.
 OPEN_NOTE = "You need nothing installed: a link with ▸ does on this site's page what the command below it does, with the same test or run."
 COMMAND_NOTE = "The commands themselves are for readers who have lw's repository."
 # The tags of links, of which none may be within another.
 WITHIN = re.compile(r"</?a\b[^>]*>")
 NAMED = re.compile(r"(?:docs/)?\b([A-Z][A-Z-]+\.md)\b")
 FIRST_LINE = re.compile(r"(?:SRC|X86) \S+")
-# What a picture changes if the system is dark. Here it is on white, whatever the reader has chosen.
+# The styles of a picture for a dark system. Here the picture is on white, whatever the reader has chosen.
 BY_DARK = re.compile(r"@media \(prefers-color-scheme: dark\) \{(?:[^{}]*\{[^{}]*\})*\s*\}")
 QUESTION = re.compile(r"(?:~?exists|forall)\b")
-# A command in a listing, as HTML: what it prints stands out beside it.
+# A command in a listing, as HTML: it looks different from its output.
 COMMAND = re.compile(r"(?:(?<=>)|^)\$ [^\n<]*", re.M)
 
 
@@ -199,7 +199,7 @@ def make_next_link(file: str) -> str:
 
 
 def make_hand_out_steps(has_slides: bool) -> str:
-    """Returns what a teacher does with the site alone, in steps, and what needs the repository."""
+    """Returns what a teacher does with only the site, in steps, and what needs the repository."""
     sheet = f'Print <a href="{SHEET}">the sheet for students</a>, or send its link: it opens the tests here.'
     slides = f'Show <a href="{SLIDES}">the slides</a>; N shows notes for the teacher.'
     compared = f'Solve one test with the class: {make_page_link("SB beside the same test with fences", example="SB-x86", beside="SB+mfences-x86")}.'
@@ -235,7 +235,7 @@ def list_documents() -> list[list[str]]:
 
 
 def make_pages(policy: str, slides: str | None = None) -> dict[str, str]:
-    """Returns the documents of a site, the sheet of the lab, and its slides if there are some: of each file its text."""
+    """Returns the documents of a site, the sheet of the lab, and its slides if there are some: for each file its text."""
     lab = read_file("docs/LAB.md")
     tests = make_tests(lab)
     pages = {file: make_page(file, tests, policy, slides is not None) for file in DOCUMENTS}

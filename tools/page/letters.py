@@ -5,7 +5,7 @@
 from __future__ import annotations
 
 
-# What of ASCII is printed, except the blank, `"`, `<` and a backslash, which may not be in a string of a script in place.
+# The printing characters of ASCII, except the blank, `"`, `<` and a backslash, which may not be in a string of a script in place.
 LETTERS = "".join(it for it in map(chr, range(33, 127)) if it not in '"<\\')
 # Two letters have 8281 values, 89 more than 13 bits: a pair whose 13 bits are at most 88 can carry a 14th.
 MAX_WITH_14 = 88

@@ -1,4 +1,4 @@
-"""Where a made site comes from: the commit of its sources, and how the gate ended that proved them; and that no licence has been chosen."""
+"""Says where a made site comes from: the commit of its sources, and how the gate ended on them; and that no licence has been chosen."""
 from __future__ import annotations
 
 import os
@@ -9,7 +9,7 @@ from typing import NamedTuple
 from shared.home import HOME, read_lines
 
 OUT = f"{HOME}/crates/lw/out"
-# How many digits of a commit are shown.
+# The number of shown digits of a commit.
 DIGITS = 12
 # The last line of a gate that has passed.
 ENDING = re.compile(r"\d+ passed, 0 failed")
@@ -26,7 +26,7 @@ class Origin(NamedTuple):
 
 
 def read_origin() -> Origin:
-    """Returns where the sources come from. The gate counts only if it has passed for these sources in this checkout."""
+    """Returns the origin of the sources. The gate counts only if it has passed for these sources in this checkout."""
     is_checkout = run_command("git", "rev-parse", "--show-toplevel") == [os.path.realpath(HOME)]
     if not is_checkout and (description := read_lines(f"{HOME}/PACK.txt")):
         return parse_origin(description)
@@ -38,14 +38,14 @@ def read_origin() -> Origin:
 
 
 def parse_origin(description: list[str]) -> Origin:
-    """Returns where an archive of tools/pack.py comes from, by the lines of its PACK.txt."""
+    """Returns the origin of an archive of tools/pack.py, by the lines of its PACK.txt."""
     fields = dict(line.split(":", 1) for line in description if line.startswith(("Commit:", "The gate:")))
     gate = fields.get("The gate", "").strip()
     return Origin(fields.get("Commit", "").strip() or None, False, gate if ENDING.fullmatch(gate) else None)
 
 
 def describe_origin(origin: Origin) -> str:
-    """Returns what a site says of its origin."""
+    """Returns a site's words on its origin."""
     commit = f", at commit {origin.commit[:DIGITS]}" if origin.commit else ""
     changed = ", with changes" if origin.is_changed else ""
     gate = "Whether its gate has passed is not recorded here."

@@ -1,8 +1,8 @@
 """The files that the web page is made of: a fixed table, read when the server starts.
 
-Those of web/, and two that are made of the repository's own: the examples by family (examples/INDEX.md, with each test's comment),
-and what docs/FORMAT.md says of each fault, limit and refusal. And the workbench as a WebAssembly module, where it is built of the
-sources as they are; else that file is empty, and the page asks the server.
+They are those of web/, and two that are made from the repository's own: the examples by family (examples/INDEX.md, with each test's comment),
+and what docs/FORMAT.md says of each fault, limit and refusal. The workbench as a WebAssembly module is a further file. It is empty if the
+module is not built from the present sources; then the page asks the server.
 """
 from __future__ import annotations
 
@@ -25,7 +25,7 @@ KINDS = {
 JSON = "application/json"
 # Where tools/build_wasm.py puts the modules: with a memory of 64 bits, and one that more browsers take.
 MODULES = [f"{HOME}/crates/lw_library/out/{name}" for name in ("lw.wasm", "lw32.wasm")]
-# Of each path the type of its file, and its bytes.
+# For each path the type of its file, and its bytes.
 Files = Dict[str, Tuple[str, bytes]]
 KNOWN = re.compile(r"Interleaving: [^.]*\. x86-TSO: .*", re.S)
 

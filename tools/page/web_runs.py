@@ -1,8 +1,8 @@
 """The runs of the proved program that the web page asks for, and of tests on this processor, each a process group of its own, with limits.
 
 At most four run at once, and one on this processor; others wait for their turn. A run has 1 GiB of memory, and is ended after 20 seconds,
-when the client goes away, and when the server ends. A server that is killed ends nothing: then the system ends its runs at once where it can
-(by setpriv of util-linux), and else when they have had their processor time. A run that crashes is told of, and ends nothing else.
+when the client goes away, and when the server ends. A server that is killed ends nothing: then the system ends its runs at once if it can
+(by setpriv of util-linux), and otherwise when they have used their processor time. A run that crashes is reported, and ends nothing else.
 """
 from __future__ import annotations
 
@@ -28,7 +28,7 @@ MAX_RUNS = 4
 MAX_SECONDS = 20
 MAX_MEMORY_BYTES = 1 << 30
 MAX_ANSWER_BYTES = 64 << 20
-# What each run may take, at most. The clock ends it first, as long as the server lives.
+# The limits of each run. The clock ends it first, as long as the server lives.
 LIMITS = {resource.RLIMIT_AS: MAX_MEMORY_BYTES, resource.RLIMIT_CPU: MAX_SECONDS + 1, resource.RLIMIT_CORE: 0}
 # Words that have the system end a process when its server ends.
 WITH_SERVER = ["setpriv", "--pdeathsig", "KILL"]
@@ -52,7 +52,7 @@ class Gone(Exception):
 
 
 class Runs:
-    """All runs that are going on."""
+    """All present runs."""
 
     def __init__(self) -> None:
         """Starts with no run."""
@@ -71,7 +71,7 @@ class Runs:
         return self.run_process([*IS_CURRENT, name], b"", connection, self.place_of_current).status == 0
 
     def run_command(self, arguments: list[str], text: bytes, connection: socket.socket) -> dict[str, object]:
-        """Returns what the program answers to the words of a command and a text: its exit status, what it prints, and the line of a fault. Raises
+        """Returns the program's answer to the words of a command and a text: its exit status, its output, and the line of a fault. Raises
         NoRun if the program fails or is ended.
         """
         program = PROGRAM
@@ -90,7 +90,7 @@ class Runs:
         return {"status": status, "printed": printed.decode("utf-8", "replace"), "fault": fault}
 
     def run_on_machine(self, text: bytes, seconds: int, connection: socket.socket) -> dict[str, Any]:
-        """Returns what tools/on_machine.py says of a text's test after some seconds, or why it runs nothing. Raises NoRun if the tool fails."""
+        """Returns the output of tools/on_machine.py on a text's test after some seconds, or why it runs nothing. Raises NoRun if the tool fails."""
         words = [sys.executable, ON_MACHINE, "--seconds", str(seconds), "--json", "-"]
         status, printed, complaint = self.run_process(words, text, connection, self.place_of_machine)
         try:
@@ -168,7 +168,7 @@ def limit_process(process: subprocess.Popen) -> None:
 
 
 def check_connection(connection: socket.socket) -> None:
-    """Raises Gone where the client has gone away, or says more than its one request."""
+    """Raises Gone if the client has gone away, or sends more than its one request."""
     with selectors.DefaultSelector() as ready:
         ready.register(connection, selectors.EVENT_READ)
         if ready.select(0):
@@ -176,7 +176,7 @@ def check_connection(connection: socket.socket) -> None:
 
 
 class Communication:
-    """What goes to a run and comes from it, with an eye on the client and on the clock."""
+    """The communication with a run, which also watches the client and the clock."""
 
     def __init__(self, process: subprocess.Popen, connection: socket.socket) -> None:
         """Prepares to wait for the process and for the client at the same time."""

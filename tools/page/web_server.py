@@ -1,12 +1,12 @@
 """The server of the web page, for this machine's own user: what it takes and what it refuses.
 
-It listens on 127.0.0.1 alone. Every request names this address as its Host, so that no other name can lead to it: not another site's,
+It listens only on 127.0.0.1. Every request names this address as its Host, so that no other name can lead to it: not another site's,
 and not localhost, at which another user may listen by IPv6. GET gives the files of a fixed table, and runs nothing. POST /run hands the
 words of a command of lw, or of a list of beyond, and a text to the program, and what that prints back; POST /machine runs the test of a text on
 this processor for some seconds, as tools/on_machine.py does; POST /current says whether the program is that of the sources as they are. All
-three are for the page itself alone: Origin says so, which a browser sets and no other site can. There is one request
-on a connection, of known size, in known time. Where there are too many connections, those that have been idle longest are cut, and some
-places are never taken by runs. Nothing that is asked or answered is read here, nothing is kept, and nothing is logged.
+three are only for the page itself: Origin says so, which a browser sets and no other site can. Each connection has one request,
+of known size, in known time. If there are too many connections, those that have been idle longest are cut, and some
+places are never taken by runs. The server reads neither questions nor answers, stores nothing, and logs nothing.
 """
 from __future__ import annotations
 
@@ -30,7 +30,7 @@ MAX_ANSWER_SECONDS = 20
 MAX_HEAD_BYTES = 1 << 20
 MAX_BODY_BYTES = 512 << 10
 MAX_SCHEDULE_BYTES = 16 << 10
-# What is read and thrown away behind a refusal, so that it reaches a client that is still sending.
+# The number of bytes that are read and discarded after a refusal, so that it reaches a client that is still sending.
 MAX_DISCARDED = 4 << 20
 REASONS = {
     200: "OK",
@@ -47,7 +47,7 @@ REASONS = {
     503: "Service Unavailable",
     504: "Gateway Timeout",
 }
-# The fields of a request that are looked at.
+# The fields of a request that are read.
 USED = ("host", "origin", "content-type", "content-length", "transfer-encoding")
 # `wasm-unsafe-eval` lets the page compile its WebAssembly module, and no text.
 HEADERS = {
@@ -63,12 +63,12 @@ HEADERS = {
     "Connection": "close",
 }
 COMMANDS = (["states"], ["schedules"], ["compile"])
-# What the program beyond lists, behind a budget of so many states at most.
+# The lists of the program beyond, and its option for the most states that it may visit.
 LISTS = ("states", "schedules")
 BUDGET = "--budget"
 MAX_BUDGET = 10_000_000
 PROTOCOLS = ("mesi", "moesi")
-# What a body has: of each key the type.
+# The keys of a body, each with the type of its value.
 SHAPE = {"words": list, "text": str}
 SHAPE_ON_MACHINE = {"text": str, "seconds": int}
 MAX_MACHINE_SECONDS = 10
@@ -78,11 +78,11 @@ class Refusal(Exception):
     """A request is refused: the status of HTTP, and why."""
 
 
-# What a request says.
+# Requests.
 
 
 class Head:
-    """The first lines of a request: the method, the path, and the fields that are used. Of others the values are not looked at."""
+    """The first lines of a request: the method, the path, and the fields that are used. The values of others are not read."""
 
     def __init__(self, text: str) -> None:
         """Reads the head of a request, or refuses it."""
@@ -111,9 +111,9 @@ def check_head(head: Head, port: int) -> None:
     """Refuses what is not for this server, and what has a body of unknown size."""
     # Of the port of HTTP a browser says nothing.
     if head.find_single_field("host") not in (f"127.0.0.1:{port}", *(["127.0.0.1"] if port == 80 else [])):
-        raise Refusal(403, f"The page is at http://127.0.0.1:{port}/ alone.")
+        raise Refusal(403, f"The page is only at http://127.0.0.1:{port}/.")
     if head.method not in ("GET", "POST"):
-        raise Refusal(405, "There is GET and POST alone.")
+        raise Refusal(405, "Only GET and POST are possible.")
     if head.has_field("transfer-encoding"):
         raise Refusal(400, "A body has to come with its length.")
     if head.method == "GET" and head.has_field("content-length") and head.find_single_field("content-length") != "0":
@@ -201,7 +201,7 @@ def encode_text(text: str) -> bytes:
 def make_object(pairs: list[tuple[str, object]]) -> dict[str, object]:
     """Returns an object of JSON, whose keys must differ. Raises ValueError if they do not."""
     if len(dict(pairs)) != len(pairs):
-        raise ValueError("a key stands twice")
+        raise ValueError("a key is there twice")
     return dict(pairs)
 
 
@@ -252,7 +252,7 @@ class Reader:
 
 
 class Places:
-    """Who is attended to: who still asks, to whom a run is promised, and to whom is sent, the oldest first."""
+    """The connections: those that still ask, those with a place for a run, and those to which the server sends, the oldest first."""
 
     def __init__(self) -> None:
         """Starts with no connection."""
@@ -262,7 +262,7 @@ class Places:
         self.sending: dict[socket.socket, None] = {}
 
     def add_connection(self, connection: socket.socket) -> None:
-        """Attends to one more. Where that is too many, who asks for longest is cut off, or else to whom is sent for longest."""
+        """Adds a connection. If there are too many, it cuts off the one that has asked for longest, or otherwise the oldest to which it sends."""
         with self.lock:
             while len(self.asking) + len(self.running) + len(self.sending) >= MAX_CONNECTIONS:
                 among = self.asking or self.sending

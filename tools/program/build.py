@@ -3,16 +3,16 @@
     python3 tools program.build [--program NAME]
     python3 tools program.build [--program NAME] --first-answer WORD..
 
-The program is lw where none is named. For each, no crate is proved that it does not stand on.
+The program is lw if none is named. Only crates on which it depends are proved.
 
-Each crate begins as soon as those that it stands on are proved, on as many processors as there are. How long this takes and how
-far it is goes to standard error: bounds in minutes, by those of each crate in tools/program/minutes.txt, and by what the crates that are
-proved have taken here. Ctrl-C ends all that was started; what is proved stays proved, and the next build goes on from there. If two are
-called at once, the second waits, whichever program it builds.
+Each crate begins as soon as those that it depends on are proved, on all processors. Standard error shows how long this takes and how
+far it is: bounds in minutes, by those of each crate in tools/program/minutes.txt, and by what the proved crates have taken here. Ctrl-C
+ends all that was started; what is proved stays proved, and the next build continues from there. If two are called at once, the second waits,
+whichever program it builds.
 
-With --first-answer the proof is not waited for: `rt try` compiles the program unproved, in about a minute, and what that answers
-to the words and to standard input is shown on standard error, as unproved. Standard output gets the proved program's bytes alone,
-once the proof is done, and it is told where the two differ. The exit status is then that of the proved program.
+With --first-answer there is an answer before the proof: `rt try` compiles the program unproved, in about a minute, and standard error shows
+its answer to the words and to standard input, as unproved. Standard output gets only the proved program's bytes, after the proof, and
+a line says so if the two differ. The exit status is then that of the proved program.
 
 A build that fails ends with status 5, and nothing goes to standard output.
 """
@@ -71,12 +71,12 @@ BEYOND = Program("beyond")
 
 
 def make_clear_sequence() -> str:
-    """Returns what clears the line of progress on a terminal."""
+    """Returns the characters that clear the line of progress on a terminal."""
     return "\r\033[K" if sys.stderr.isatty() else ""
 
 
 def ask_program_sh(command: str, program: Program = LW) -> bytes | None:
-    """Returns what a command over the functions of tools/program/program.sh prints, or `None` if it fails."""
+    """Returns the output of a command over the functions of tools/program/program.sh, or `None` if it fails."""
     words = ["sh", "-c", f'home=$1; . "$home/tools/program/program.sh"; use_program {program.name}; {command}', "sh", HOME]
     ran = subprocess.run(words, stdout=subprocess.PIPE, check=False)
     return None if ran.returncode else ran.stdout

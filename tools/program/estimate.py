@@ -1,7 +1,7 @@
-"""How long a build takes by the clock: a plan, by the minutes of each crate in minutes.txt, and bounds that follow this machine.
+"""Estimates how long a build takes by the clock: a plan, by the minutes of each crate in minutes.txt, and bounds that follow this machine.
 
-The plan is the build itself, played through: which crates run side by side, each with how many jobs. minutes.txt was measured on another
-machine, or on this one in another hour, so nobody knows at first how much longer this build takes than planned. What is proved shows
+The plan simulates the build: which crates run in parallel, each with how many jobs. minutes.txt was measured on another
+machine, or on this one in another hour, so it is unknown at first how much longer this build takes than planned. The proved crates show
 it, and the bounds become narrower.
 """
 from __future__ import annotations
@@ -11,10 +11,10 @@ from typing import Any, NamedTuple
 
 # A crate, or its name: what is hashable.
 Crate = Any
-# What a check gains by each further job: less than it does on a crate by itself, since a build has several in parallel.
+# The gain of a check by each further job: less than on a crate by itself, since a build checks several in parallel.
 GAIN = 0.1
 MAX_JOBS = 4
-# How many times the planned minutes a build takes, before anything is proved; and how many planned minutes count as much as that guess.
+# The guessed ratio of a build's minutes to the planned ones, before anything is proved; and the planned minutes that weigh as much as that guess.
 USUAL_PACE = 1.1
 GUESSED_MINUTES = 4.0
 # The planned minutes that show the machine's present pace: others may start and end work on it while a build runs.

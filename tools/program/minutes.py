@@ -1,4 +1,4 @@
-"""What the gate took, crate by crate, as minutes.txt records it."""
+"""Reads the minutes of the gate, crate by crate, from minutes.txt."""
 from __future__ import annotations
 
 import os

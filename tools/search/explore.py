@@ -47,7 +47,7 @@ class Search:
         start = (0, *(thread.start for thread in self.threads))
         self.numbers: dict[State, int] = {start: 0}
         self.states: list[State] = [start]
-        # Of each state, except the start, the number of the one before, a thread, a kind of move, and the number of statements.
+        # For each state, except the start, the number of the one before, a thread, a kind of move, and the number of statements.
         self.origins: list[tuple[int, int, int, int]] = [(0, 0, STEP, 0)]
 
     def replace_word(self, memory: int, location: int, word: int) -> int:

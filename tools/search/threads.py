@@ -24,7 +24,7 @@ class ThreadNode:
         self.location = 0
         self.word = 0
         self.end: Any = None  # an End, of a step that no word decides
-        self.ends: dict[int, tuple[int, int, int]] = {}  # of each word that is found: the word behind, and the end
+        self.ends: dict[int, tuple[int, int, int]] = {}  # for each word that may be found: the word after it, and the end
         self.drain: Any = None  # location, word, and the end, if an entry can drain
         self.reads = code.reads[state.position]
         self.writes = code.writes[state.position]

@@ -26,8 +26,8 @@ class Edge:
     target: str
     is_external: bool
     is_same_location: bool
-    between: str | None = None  # what stands between the two in one thread
-    marks: str = "PP"  # of each access: plain, or by a locked instruction
+    between: str | None = None  # the fence or locked instruction between the two in one thread
+    marks: str = "PP"  # for each access: plain, or by a locked instruction
 
     @property
     def is_order(self) -> bool:

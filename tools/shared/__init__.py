@@ -1,1 +1,1 @@
-"""What several commands of tools/ share: files and faults, and lists of states."""
+"""The common parts of several commands of tools/: files and faults, and lists of states."""

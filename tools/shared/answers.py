@@ -1,9 +1,9 @@
-"""Lists of states and other answers of the program: by whom each is made, and how that is chosen.
+"""Makes lists of states and other answers, and chooses the program that makes each.
 
 The program lw makes it if it is built, or the library in a pack, which has no sources, unless the test is refused for its size. Otherwise the
 program beyond makes a list of states if it is built, and if that is not whole either, the search of tools/beyond.py; every other answer is
 made by tools/plain.py. The two programs are proved if they are those of the sources, which is asked once; the search and the interpreter are
-not. So each answer carries its maker, and whoever prints it says which answers are not proved. A further maker is added to `Maker` and to
+not. So each answer carries its maker, and each command says which of its answers are not proved. A further maker is added to `Maker` and to
 `answer`.
 """
 from __future__ import annotations
@@ -44,16 +44,16 @@ class Maker(Enum):
         return self in (Maker.PROGRAM, Maker.BEYOND)
 
 
-# Of each program its maker if it is that of the sources, and if it is not.
+# For each program its maker if it is that of the sources, and if it is not.
 PROGRAMS = {"lw": (Maker.PROGRAM, Maker.STALE_PROGRAM), "beyond": (Maker.BEYOND, Maker.STALE_BEYOND)}
 
 
 class NoList(given.Fault):
-    """Nobody here makes a list of the states of a test: the cause, and an offset in its text."""
+    """No maker lists the states of a test: the cause, and an offset in its text."""
 
 
 class Answer(NamedTuple):
-    """What is answered, and by whom it is made."""
+    """An answer and its maker."""
 
     text: str
     by: Maker
@@ -100,7 +100,7 @@ def ask_library(bench: Any, words: list[str], text: str) -> str | None:
 
 
 def ask_program(arguments: list[str], text: str) -> str | None:
-    """Returns what the program prints, or None if it is not built, does not start on this system, or refuses the test. If the library is present it
+    """Returns the program's output, or None if it is not built, does not start on this system, or refuses the test. If the library is present it
     is asked instead, in this process.
     """
     bench = load_library()
@@ -110,7 +110,7 @@ def ask_program(arguments: list[str], text: str) -> str | None:
 
 
 def run_command(command: list[str], text: str, may_stop: bool = False) -> str | None:
-    """Returns what a command prints, or None if it does not start, or ends with another status than 0, unless it may stop before its end."""
+    """Returns a command's output, or None if it does not start, or ends with another status than 0, unless it may stop before its end."""
     try:
         ran = subprocess.run(command, input=text.encode(), stdout=subprocess.PIPE, stderr=subprocess.DEVNULL, check=False)
     except OSError:
@@ -153,7 +153,7 @@ def make_answer(arguments: list[str], test: plain.Test, text: str | None = None)
 
 
 def format_no_verdict(test: plain.Test, why: str) -> str:
-    """Returns what is printed in place of a report if no state was found, which says nothing of the question. A report would say Ok or No.
+    """Returns the lines in place of a report if no state was found, which says nothing of the question. A report would say Ok or No.
     """
     heading = plain.make_report(test, set()).splitlines()[0]
     return plain.join_lines([heading, "States 0", f"None: {why}, so nothing is said of the condition", f"Condition {plain.format_condition(test)}"])

@@ -1,7 +1,7 @@
 """Reads the text of .antt files: tokens, and the sentences that they make.
 
-A sentence is what begins at the column of its block: a signature, a clause, the head of a block, an import. What stands between
-sentences, blank lines and comments, is kept line by line.
+A sentence begins at the column of its block: a signature, a clause, the head of a block, an import. Blank lines and comments between
+sentences are kept line by line.
 """
 from __future__ import annotations
 

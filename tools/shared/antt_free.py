@@ -1,6 +1,6 @@
-"""Which names a file of proofs uses that it neither brings in nor declares nor binds.
+"""Finds the names that a file of proofs uses and neither imports nor declares nor binds.
 
-What a lemma binds (parameters, `λ`, `let`, patterns, fields) is gathered over the lemma and what stands under it, so that a name that is
+What a lemma binds (parameters, `λ`, `let`, patterns, fields) is gathered over the lemma and the lines under it, so that a name that is
 bound in one place counts as bound in all of them. A name that is said to be free is not bound anywhere in its lemma.
 """
 from __future__ import annotations
@@ -57,7 +57,7 @@ def find_pattern(tokens: list[str], end: int) -> list[str]:
 
 
 def list_variables(pattern: list[str]) -> set[str]:
-    """Returns what patterns bind: their words, except constructors, which have arguments, or are capitalized with more than two letters."""
+    """Returns the names that patterns bind: their words, except constructors, which have arguments, or are capitalized with more than two letters."""
     variables = set()
     for before, word, after in zip(["", *pattern], pattern, [*pattern[1:], ""]):
         has_arguments = before == "(" and (after[:1].isalpha() or after in ("(", "{", "_"))
@@ -68,7 +68,7 @@ def list_variables(pattern: list[str]) -> set[str]:
 
 
 def list_bound_by_words(tokens: list[str]) -> set[str]:
-    """Returns what `λ`, `let`, the cases of `elim`, parameters and fields bind."""
+    """Returns the names that `λ`, `let`, the cases of `elim`, parameters and fields bind."""
     bound = set()
     for index, token in enumerate(tokens):
         if token == "λ":
@@ -87,7 +87,7 @@ def list_bound_by_words(tokens: list[str]) -> set[str]:
 
 
 def split_head(tokens: list[str]) -> tuple[list[str], str]:
-    """Returns what precedes the sign of an equation or a signature, and that sign."""
+    """Returns the tokens before the sign of an equation or a signature, and that sign."""
     depth = 0
     for index, token in enumerate(tokens):
         depth += (token in antt.OPENING) - (token in antt.CLOSING)
@@ -97,7 +97,7 @@ def split_head(tokens: list[str]) -> tuple[list[str], str]:
 
 
 def list_bound(sentence: antt.Sentence) -> set[str]:
-    """Returns what a sentence binds."""
+    """Returns the names that a sentence binds."""
     opened = OPENED.match(sentence.text)
     if opened:
         return {it.strip() for it in opened[1].split(",")}

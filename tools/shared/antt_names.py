@@ -1,4 +1,4 @@
-"""Which names .antt files declare and import, and what a name in a file means."""
+"""Finds the names that .antt files declare and import, and what a name in a file means."""
 from __future__ import annotations
 
 import os
@@ -60,8 +60,8 @@ class File:
         self.module = "Rattle." + re.sub(r"/Lib$", "", inner).replace("/", ".")
         self.everything = antt.read_sentences(self.text)
         self.sentences = [it for it in self.everything if not it.is_between]
-        self.brings: dict[str, tuple[str, str]] = {}  # of each name that is imported, its module and its name there
-        self.modules: dict[str, str] = {}  # of each name of a module that is imported, the whole name
+        self.brings: dict[str, tuple[str, str]] = {}  # for each name that is imported, its module and its name there
+        self.modules: dict[str, str] = {}  # for each name of a module that is imported, the whole name
         self.passes: set[str] = set()  # the names that are exported again
         self.read_imports()
         self.declarations: list[Declaration] = []
@@ -156,7 +156,7 @@ class Files:
         return module, name
 
     def find_meaning(self, file: File, word: str) -> str:
-        """Returns what a word means in a file: a whole name, or the word itself if the file does not import it."""
+        """Returns the meaning of a word in a file: a whole name, or the word itself if the file does not import it."""
         first, dot, rest = word.partition(".")
         if first in file.own:
             return f"{file.module}.{word}"

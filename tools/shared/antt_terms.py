@@ -20,7 +20,7 @@ LEVELS = {operator: level for level, row in enumerate(OPERATORS) for operator in
 ATOMS = {"?", "[]", "⊥", "¬", "←"}
 UNREAD = {"do", "unfold", "where", "mutual"}
 CLOSED_BY = dict(zip(OPENING, CLOSING))
-# What the tokens of a term are grouped into: words, and groups in brackets.
+# A group of a term's tokens: a word, or a group in brackets.
 Node = Union[str, "Group"]
 
 
@@ -69,7 +69,7 @@ class Term:
     is_chained: bool
 
 
-# What precedes a term in a list of items, and the term.
+# An item of a list: the text before its term, and the term.
 Item = Tuple[str, Term]
 
 

@@ -1,9 +1,9 @@
-"""Where the parts of an execution's picture are: of each event its box, of each edge its way and its label. No edge crosses a box: between
-neighbouring threads it goes through the gutter, past a thread in a lane behind a row of boxes, and within a thread around its side.
+"""Places the parts of an execution's picture: the box of each event, and the way and the label of each edge. No edge crosses a box: between
+neighbouring threads it goes through the gutter, past a thread in a lane after a row of boxes, and within a thread around its side.
 web/graph_layout.js does the same, number by number.
 
 Threads are columns; if that would be much wider they are rows, and the picture is turned. Places are found along two axes, `across` the
-threads and `along` program order, and turned at last.
+threads and `along` program order, and turned at the end.
 """
 from __future__ import annotations
 
@@ -15,25 +15,25 @@ from picture import EDGE, LETTER, LINE
 
 BOX = 24  # the height of an event's box
 BASE = 16  # from the top of a box to the base of its text
-LANE = 11  # from one lane to the next, where there is room
+LANE = 11  # from one lane to the next, if there is room
 STUB = 24  # the length of an arrow from the initial word
 OUTER, MORE = 16, 12  # at the edge, and for each end more
-FREE_ENDS = 4  # so many ends find room in a gutter
+FREE_ENDS = 4  # the number of ends that find room in a gutter
 MAX_ENDS = 8
 LABEL = 16  # the height of a label
 APART = 8  # from one label to the next beside it
 HEAD = 5  # how far the head of an arrow reaches from its end
 CLEAR = 1  # from a label to an arrow of another edge
-PARTS = 24  # the number of parts of a curve at whose ends it is looked at
-NARROWER = 0.85  # a picture is turned if it is so much narrower then
-# Where along its way the label of an edge may be, and how far beside it, in widths of the label and in pixels below: the best first.
+PARTS = 24  # the number of parts of a curve, whose ends are checked
+NARROWER = 0.85  # a picture is turned if that makes it narrower by this factor
+# The places of an edge's label along its way, and its distances beside it, in widths of the label and in pixels below: the best first.
 PLACES = (0.24, 0.34, 0.16, 0.46, 0.58, 0.7, 0.8, 0.88, 0.1, 0.94, 0.05)
 ON, BESIDE = ((0, 0), (0, -12), (0, 12)), ((0.7, 0), (-0.7, 0))
 SHORT = 50  # the label of an arrow that is shorter is beside it
 
 
 class Room(NamedTuple):
-    """What is free at a side with ends, between threads, between the events of one, and after the last event."""
+    """The free space at a side with ends, between threads, between the events of one, and after the last event."""
 
     side: int
     gutter: int
@@ -46,7 +46,7 @@ UPRIGHT, TURNED = Room(48, 84, 28, 14), Room(32, 34, 42, 26)
 
 # A place in the picture, or one along its two axes.
 Point = Tuple[float, float]
-# The four points of a cubic curve: where it begins, two that direct it, and where it ends.
+# The four points of a cubic curve: its start, two that direct it, and its end.
 Curve = Sequence[Point]
 # A box: its left edge, its top, its width and its height.
 Box = Tuple[float, float, float, float]
@@ -55,7 +55,7 @@ Box = Tuple[float, float, float, float]
 class Route:
     """The way of an edge: `next` to the next event, `around` a thread's side, `across` a gutter, by a `lane`; or the `start` of a read.
 
-    A route in a lane is behind the row `gap`. One around a side spans `rows` rows, and has `beside` earlier ones next to it. `sides` are the
+    A route in a lane is after the row `gap`. One around a side spans `rows` rows, and has `beside` earlier ones next to it. `sides` are the
     sides of its events at which it ends (0 is that of the thread before, 1 that of the thread after), and `ports` the places on them.
     """
 
@@ -111,7 +111,7 @@ class GraphLayout:
         self.box = max([len(texts[it]) for it in events] + [4]) * LETTER + 18, BOX
         # The ends of routes at each side of an event: the route, and 0 for its source or 1 for its target.
         self.ends: dict[tuple[Event, int], list[tuple[Route, int]]] = {}
-        self.lanes: dict[int, list[Route]] = {}  # by the row behind which they are
+        self.lanes: dict[int, list[Route]] = {}  # by the row that they follow
         self.pairs: dict[tuple[Event, ...], int] = {}  # of two events, the number of earlier edges around a side between them
         self.routes = [self.make_route(edge, number) for number, edge in enumerate(edges)]
         self.starts = [self.make_start_route(event, len(edges) + number) for number, event in enumerate(initial)]
@@ -126,7 +126,7 @@ class GraphLayout:
             self.place_threads()
         self.sort_ends()
         self.taken = [(*self.find_corner(it), *self.box) for it in events] + [self.make_title_box(thread) for thread in range(len(self.threads))]
-        # Of each route points along its arrow.
+        # For each route points along its arrow.
         self.passed = {it.number: self.sample_arrow(it) for it in [*self.routes, *self.starts]}
 
     # Which way an edge goes.
@@ -167,7 +167,7 @@ class GraphLayout:
         self.ends.setdefault((event, 0), []).append((route, 1))
         return route
 
-    # Where the threads are.
+    # The places of the threads.
 
     def place_threads(self) -> None:
         """Places the threads, and finds the size of the picture."""
@@ -195,7 +195,7 @@ class GraphLayout:
         return (point[1], point[0]) if self.is_turned else point
 
     def find_spot(self, event: Event) -> Point:
-        """Returns where the box of an event begins, along the two axes."""
+        """Returns the start of an event's box, along the two axes."""
         return self.lefts[event.thread], self.begin + self.rows[event] * self.pitch
 
     def find_corner(self, event: Event) -> Point:
@@ -203,7 +203,7 @@ class GraphLayout:
         return self.to_picture(self.find_spot(event))
 
     def find_title(self, thread: int) -> Point:
-        """Returns where the name of a thread begins, at its base."""
+        """Returns the start of a thread's name, at its base."""
         return (EDGE, self.lefts[thread] + BASE) if self.is_turned else (self.lefts[thread], EDGE + LINE - 4)
 
     def make_title_box(self, thread: int) -> Box:
@@ -220,11 +220,11 @@ class GraphLayout:
     # Where on the side of its box an edge ends.
 
     def sort_ends(self) -> None:
-        """Puts the ends at each side of a box apart, in the order of where they come from."""
+        """Puts the ends at each side of a box apart, in the order of their sources."""
         middle = lambda event: self.find_spot(event)[1] + self.deep / 2
 
         def sort_key(item: tuple[Route, int]) -> tuple[float, int]:
-            """Returns where an end comes from, and the number of its route."""
+            """Returns the source of an end, and the number of its route."""
             route, end = item
             position = self.find_lane(route) if route.way == "lane" else middle(route.source if end else route.target)
             return position, route.number
@@ -267,7 +267,7 @@ class GraphLayout:
     # The labels.
 
     def place_label(self, route: Route, letters: int) -> Point:
-        """Returns where the middle of a label of so many letters is, near an edge: inside the picture, over no box and no other label, and over
+        """Returns the middle of a label of `letters` letters, near an edge: inside the picture, over no box and no other label, and over
         no arrow of another edge, if there is such a place.
         """
         width = letters * LETTER + APART
@@ -297,7 +297,7 @@ class GraphLayout:
         return [find_curve_point(curve, part / PARTS) for curve in self.make_picture_curves(route) for part in range(PARTS + 1)]
 
     def list_label_spots(self, route: Route, width: float) -> list[Point]:
-        """Returns where a label may be: at a part of its edge, or beside a straight arrow."""
+        """Returns the possible places of a label: at a part of its edge, or beside a straight arrow."""
         curves = self.make_picture_curves(route)
         x, y = curves[0][0]
         if route.way == "start":
@@ -309,7 +309,7 @@ class GraphLayout:
         return [(left + right + beside * width, top + down + below) for beside, below in offsets for left, top in points]
 
     def list_start_label_spots(self, route: Route, x: float, y: float, width: float) -> list[Point]:
-        """Returns where the label of an arrow from an initial word may be: first on that side of it on which no other arrow ends."""
+        """Returns the possible places of the label of an arrow from an initial word: first on that side of it on which no other arrow ends."""
         is_last = route.ports[1] > self.find_spot(route.source)[1] + self.deep / 2
         sideways, downwards = width / 2 + 4, 11
         spots = [(x + 4, y - downwards), (x + 4, y + downwards), (x - width / 2, y), (x - 8, y - downwards), (x - 8, y + downwards)]

@@ -1,4 +1,4 @@
-"""What the tools share: the paths of the repository and its programs, the contents of crates.txt and of other files, and how a check ends."""
+"""Has the paths of the repository and its programs, reads crates.txt and other files, and ends checks."""
 from __future__ import annotations
 
 import os
@@ -31,9 +31,9 @@ def read_lines(path: str) -> list[str]:
 
 
 def format_difference(comparison: tuple[str, object, object]) -> str | None:
-    """Returns what differs in a comparison: what is compared, what is expected, and what was found. `None` if nothing does."""
+    """Returns the lines on a difference: the name of the comparison, the expected value, and the value that was found. `None` if they agree."""
     subject, expected, actual = comparison
-    return None if expected == actual else f"{subject}\n  wanted: {expected!r}\n  told:   {actual!r}"[:2000]
+    return None if expected == actual else f"{subject}\n  wanted: {expected!r}\n  found:  {actual!r}"[:2000]
 
 
 def close_check(

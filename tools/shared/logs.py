@@ -15,7 +15,7 @@ COUNT = re.compile(r"(?:States|Histogram \()\s*(\d+)")
 # A name and its word. Programs in C have x+8 for what is 8 bytes after the start of x, and words that are addresses, such as &x.
 ATOM = re.compile(r"(?:(P?\d+):)?\[?%?([\w.+]+)\]?=(-?(?:0x[0-9a-fA-F]+|\d+)|&[^;]+)")
 State = FrozenSet[str]
-NOT_IN_LOG, IN_LOG_ONLY = "it is not in the log", "it is in the log alone"
+NOT_IN_LOG, IN_LOG_ONLY = "it is not in the log", "it is only in the log"
 
 
 class Difference(NamedTuple):
@@ -160,7 +160,7 @@ def split_site(site: str) -> tuple[str, str]:
 
 
 def restrict_states(states: Iterable[State], names: set[str]) -> set[State]:
-    """Returns what states say of some names."""
+    """Returns the parts of states on some names."""
     return {frozenset(atom for atom in state if atom.rpartition("=")[0] in names) for state in states}
 
 
@@ -179,7 +179,7 @@ def find_differences(listed: ListedTests, log: dict[str, set[State]]) -> Iterato
 
 
 def compare_states(name: str, listed: Listed, seen: set[State]) -> Iterator[Difference]:
-    """Yields how the states of a test that both have differ, if they do."""
+    """Yields the differences between the states of a test that both have."""
     names = list_names(seen)
     states = restrict_states(listed.states, names) if seen else listed.states
     if seen and listed.states and (names - list_names(listed.states) or list_names(listed.states) - names - listed.extra):

@@ -15,7 +15,7 @@ if TYPE_CHECKING:
     from collections.abc import Callable
     from typing import Any
 
-# What a shell reports of a process that wrote into a closed pipe.
+# The status that a shell reports for a process that wrote into a closed pipe.
 CLOSED = 141
 
 

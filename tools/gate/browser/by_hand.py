@@ -58,7 +58,7 @@ def follow(user: User, schedule: str) -> None:
 
 
 class Clicks(PageCase):
-    """What a click does."""
+    """The effect of a click."""
 
     def test_to_the_end(self) -> None:
         """By hand to the state that interleaving lacks, which is found."""
@@ -74,7 +74,7 @@ class Clicks(PageCase):
         self.assertEqual(["0 · · ·", "0 · · ·"], [it.split(" ", 1)[1] for it in user.texts("table.strip tbody tr")[:2]])
 
     def test_nothing_is_given_away(self) -> None:
-        """Who looks for the states sees the question, and neither the verdict nor the comment, also after a run that decides nothing; a button
+        """A reader who looks for the states sees the question, but no verdict and no comment, also after a run that decides nothing; a button
         shows the answer, and so does the list.
         """
         user = self.user
@@ -146,7 +146,7 @@ class Clicks(PageCase):
         self.assertTrue(user.text("#watching .hint").startswith("By keys: 0 to 3 carry out the next instruction"))
 
     def test_another_way(self) -> None:
-        """Who carries out another event than the next of a listed run goes another way from there."""
+        """A reader who carries out another event than the next of a listed run leaves that run."""
         user = self.user
         user.open_listed("#example=SB-x86&view=states&state=0%3AEAX%3D0%3B+1%3AEAX%3D0%3B&step=1")
         user.click("#watching [data-event=D0]")
@@ -154,7 +154,7 @@ class Clicks(PageCase):
         self.assertIn("view=hand", user.link())
 
     def test_back(self) -> None:
-        """A step back, and a link to where the run is."""
+        """A step back, and a link to the step of the run."""
         user = self.user
         begin(user, "#example=SB-x86&view=hand&schedule=P0+P0+P1+P1+D0+D1")
         user.click("#back")
@@ -208,7 +208,7 @@ class Schedules(PageCase):
     """A schedule that is written."""
 
     def test_followed(self) -> None:
-        """It is followed, or what is wrong with it is said, and the run stays where it is."""
+        """The schedule is followed, or a message says what is wrong with it, and the run stays at its step."""
         user = self.user
         begin(user, "#example=SB-x86&view=hand")
         follow(user, "P0 P0 P1 P1 D1 D0")
@@ -244,7 +244,7 @@ class Sources(PageCase):
         self.assertEqual(["P0", "P1"], user.run("return [...document.querySelectorAll('#watching [data-event]')].map((it) => it.dataset.event)"))
 
     def test_programs(self) -> None:
-        """What it is compiled to, with its fences and without."""
+        """The compiled program, with its fences and without."""
         user = self.user
         begin(user, "#example=SB&view=hand")
         user.choose("#hand-runs", "bare")

@@ -29,7 +29,7 @@ const drawn = [...place.querySelectorAll("svg.graph > path[data-to]")];
 const names = [...new Set([...drawn.map(nameOf), ...drawn.some((it) => it.classList.contains("marked")) ? ["bold"] : []])];
 return [[...place.querySelectorAll(".legend b")].map((it) => it.textContent).sort(), names.sort()];
 """
-# Of the bold arrows of each relation whether their lines are broken.
+# Whether the bold arrows of each relation are broken lines.
 BROKEN = """
 const bold = [...document.querySelectorAll(arguments[0] + " svg.graph > path.marked")];
 return Object.fromEntries(bold.map((it) => [it.classList[0], getComputedStyle(it).strokeDasharray !== "none"]));
@@ -53,7 +53,7 @@ const lies = (it) => [...others, ...labels].some((other) => other !== it && over
 const crosses = (it) => arrows.filter((points) => points.some((point) => isIn(point, boxOf(it)))).length > 1;
 return [labels.length, labels.filter(lies).map((it) => it.textContent), labels.filter(crosses).map((it) => it.textContent)];
 """
-# What says what a graph means, the graph, and what its arrows are.
+# The explanation of a graph, the graph, and the explanation of its arrows.
 GRAPH = "#graph-place .graph-head, #graph-place svg.graph, #graph-place .legend"
 POINT = "document.querySelector(arguments[0]).dispatchEvent(new PointerEvent('pointerover', { bubbles: true }))"
 POINTED = "return [...document.querySelectorAll('.pointed')].map((it) => `${it.tagName.toLowerCase()} ${it.textContent.trim()}`)"
@@ -76,7 +76,7 @@ class Readable(PageCase):
         """At 1280 by 720 a graph is in sight together with its sentence and its legend; one below the machine is brought there by its button."""
         user = self.user
         user.resize(1280, 720)
-        # A reader who has written a test has one button more.
+        # A reader who has written a test has one more button.
         open_anew(user, "")
         for name in ("SB-x86", "n6-x86", "n7-x86", "IRIW-x86", "3.SB-x86", "4.SB-x86"):
             user.open_listed(f"#example={name}")
@@ -136,7 +136,7 @@ class Explained(PageCase):
         self.assertIn("rfi", user.run(LEGEND, "#graph-place")[0])
 
     def test_one_line(self) -> None:
-        """What is drawn alike is explained together, with its line once."""
+        """Relations with equal lines are explained together, and the line is shown once."""
         user = self.user
         user.open_listed("#example=n6-x86")
         user.find("#graph-place svg.graph")
@@ -158,7 +158,7 @@ class OfSource(PageCase):
     """The graph of a source run is that of the compiled program's run."""
 
     def test_listed(self) -> None:
-        """It is said whose it is, a click shows that run, and no event of it lights the code of the source."""
+        """The graph says whose run it shows, a click shows that run, and no event of it highlights the code of the source."""
         user = self.user
         user.open_listed("#example=SB")
         user.find("#graph-place svg.graph")
@@ -196,7 +196,7 @@ class Switched(PageCase):
 
 
 class Pointed(PageCase):
-    """What the pointer is on is lit wherever it appears."""
+    """The item under the pointer is highlighted wherever it appears."""
 
     def test_event(self) -> None:
         """An event of the graph lights its instruction and its events of the schedule, and the other way."""

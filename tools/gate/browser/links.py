@@ -47,7 +47,7 @@ class Links(PageCase):
         self.assertStep("Step 6 of 6:")
 
     def test_names(self) -> None:
-        """A bare plus in the name of an example is a plus; of an example that does not exist it is said, and it shows the first test."""
+        """A bare plus in the name of an example is a plus; a link to a missing example says so, and shows the first test."""
         user = self.user
         user.open_listed("#example=SB+mfences-x86")
         self.assertEqual("SB+mfences-x86", user.text("#example-name"))
@@ -101,7 +101,7 @@ class Links(PageCase):
         self.assertIn("view=fences", user.link())
 
     def test_by_itself(self) -> None:
-        """What a link runs by itself is ended after a while, and says so; what the reader runs is not."""
+        """A run that a link starts is ended after a while, with a message; a run that the reader starts is not."""
         user = self.user
         user.open_listed("#example=SB-x86")
         user.run("Worker.prototype.postMessage = () => null; location.hash = '#example=MP-x86'")
@@ -112,7 +112,7 @@ class Links(PageCase):
         self.assertSays("Cancelled.", "#outcome .notice")
 
     def test_copied(self) -> None:
-        """A link is copied, or shown to be copied where no way to copy is open."""
+        """A link is copied, or shown for copying if the browser allows no other way."""
         user = self.user
         user.open_listed("#example=SB-x86")
         user.click("#link")

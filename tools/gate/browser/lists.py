@@ -7,7 +7,7 @@ from gate.browser.page_case import PageCase
 from gate.browser.user import User, lw, read, schedule_to
 from gate.examples import examples
 
-# Whether all elements of a selector are in sight.
+# Returns whether all elements of a selector are in sight.
 IN_SIGHT = """
 const isIn = ({ top, left, bottom, right }) => top >= 0 && left >= 0 && bottom <= innerHeight + 1 && right <= innerWidth + 1;
 return [...document.querySelectorAll(arguments[0])].every((it) => isIn(it.getBoundingClientRect()));
@@ -21,7 +21,7 @@ MANY = f"SRC Many\n{{}}\n P0 | P1 | P2 ;\n{ROWS}exists (1:r0=1 /\\ 1:r1=1{WORDS}
 
 
 def columns(user: User) -> list[str]:
-    """Returns the list as columns: of each row its name and its words."""
+    """Returns the list as columns: for each row its name and its words."""
     return user.texts("#outcome table.strip tbody tr")
 
 
@@ -64,7 +64,7 @@ class FirstView(PageCase):
         self.assertSoon(["SB+mfences-x86", "SB-x86"], lambda: user.texts(".side h2"))
 
     def test_says_where_it_runs(self) -> None:
-        """What the page is, its words and its keys are a click away."""
+        """An explanation of the page, of its words and of its keys is a click away."""
         user = self.user
         user.open_listed()
         user.click("#open-about")
@@ -80,7 +80,7 @@ class AllExamples(PageCase):
     """The examples, one after another."""
 
     def test_in_sight(self) -> None:
-        """Of nearly all examples text, verdict, list, code, buffers and memory are in sight together at 1280 by 720."""
+        """For nearly all examples text, verdict, list, code, buffers and memory are in sight together at 1280 by 720."""
         user = self.user
         user.resize(1280, 720)
         user.open_listed()
@@ -189,7 +189,7 @@ class LongLists(PageCase):
         self.assertEqual(lw("states", text=MANY), user.saved("Many.states.txt"))
 
     def test_only_true(self) -> None:
-        """The rows in which the condition holds are shown alone."""
+        """Only the rows in which the condition holds are shown."""
         user = self.user
         user.open_listed()
         user.run_text(MANY)

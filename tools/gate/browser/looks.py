@@ -9,7 +9,7 @@ from gate.browser.lists import IN_SIGHT, MANY
 from gate.browser.page_case import PageCase
 from gate.browser.user import User
 
-# The threads whose code, registers or entries stand out of their boxes.
+# The threads whose code, registers or entries extend beyond their boxes.
 OVERLAPPING = """
 const isOut = (box) => [...box.querySelectorAll("li, span")].some((it) => {
   const range = document.createRange();
@@ -19,7 +19,7 @@ const isOut = (box) => [...box.querySelectorAll("li, span")].some((it) => {
 });
 return [...document.querySelectorAll(".thread")].filter(isOut).map((it) => it.textContent);
 """
-# What can be used, and has no name.
+# The controls that have no name.
 UNNAMED = """
 const isNamed = (it) => it.textContent.trim() || it.getAttribute("aria-label") || it.getAttribute("title") || it.labels?.length;
 return [...document.querySelectorAll("button, select, input, textarea, summary")].filter((it) => !isNamed(it)).map((it) => it.outerHTML);
@@ -37,7 +37,7 @@ HEADINGS = """
 return [...document.querySelectorAll("h1, h2, h3, h4, h5, h6")]
   .filter((it) => it.getClientRects().length && !it.closest("dialog:not([open])")).map((it) => Number(it.tagName[1]));
 """
-# The texts whose contrast with what is behind them is below a least value, each with its contrast. Large letters are looked at as all others.
+# The texts whose contrast with their background is below a least value, each with its contrast. Large letters count as all others.
 CONTRAST = """
 const [least] = arguments;
 const paint = document.createElement("canvas").getContext("2d", { willReadFrequently: true });
@@ -198,7 +198,7 @@ class Reading(PageCase):
             user.driver.execute_cdp_cmd("Emulation.setEmulatedMedia", {"features": []})
 
     def test_names(self) -> None:
-        """All that can be used has a name, no two elements have one id, and no reference is dead; headings go down by one level each."""
+        """All controls have a name, no two elements have one id, and no reference is dead; headings go down by one level each."""
         user = self.user
         for view in VIEWS:
             user.open(f"#{view}")

@@ -22,7 +22,7 @@ class WhyNot(PageCase):
     """Why a test does not end in a state."""
 
     def test_drawn(self) -> None:
-        """The state that the condition asks about is answered at once: the cycle that forbids it is told and drawn; no other graph is in sight."""
+        """The state that the condition asks about is answered at once: the cycle that forbids it is named and drawn; no other graph is in sight."""
         user = self.user
         user.open_listed("#example=MP-x86")
         user.find("#graph-place svg.graph")
@@ -35,7 +35,7 @@ class WhyNot(PageCase):
         self.assertEqual(4, user.run("return document.querySelectorAll('#why figure path.marked').length"))
 
     def test_source(self) -> None:
-        """A source test is asked about in its own names: what is proposed is answered."""
+        """The question about a source test is in its own names, and the proposed state is answered."""
         user = self.user
         for name in ("SB", "MP", "LB", "IRIW", "Peterson"):
             user.open_listed(f"#example={name}")
@@ -94,7 +94,7 @@ class WhyNot(PageCase):
         self.assertSoon(True, lambda: chosen() not in ([], ["never"]))
 
     def test_other_words(self) -> None:
-        """A state of words that no thread has is answered in one sentence, and what was answered before is gone."""
+        """A state of words that no thread has is answered in one sentence, and the answer before it disappears."""
         user = self.user
         user.open_listed("#example=MP-x86&view=why")
         user.find("#why figure")
@@ -107,7 +107,7 @@ class WhyNot(PageCase):
 
 
 class Compiling(PageCase):
-    """A test beside what it is compiled to."""
+    """A test beside its compiled program."""
 
     def test_fences(self) -> None:
         """Fences are marked, and so is what the list without them has more; a state of it is watched."""
@@ -122,7 +122,7 @@ class Compiling(PageCase):
         self.assertSoon(["EAX 0", "EAX 0"], lambda: [it.replace(" put", "") for it in user.texts("#compile .register")])
 
     def test_no_fence(self) -> None:
-        """Of a program that needs no fence nothing is said to be with fences."""
+        """For a program that needs no fence no caption speaks of fences in it."""
         user = self.user
         user.open_listed("#example=TestThenSet&view=compile")
         self.assertSays("The source test, and what it is compiled to. No fence is needed.", "#compile p")
@@ -154,7 +154,7 @@ class Compiling(PageCase):
         self.assertEqual(2, len(user.all("#compile table.code")))
 
     def test_by_hand(self) -> None:
-        """A run of another text goes on by hand over that text, also over caches of another protocol."""
+        """A run of another text continues by hand over that text, also over caches of another protocol."""
         user = self.user
         user.open_listed("#example=SB&view=compile")
         user.click("#compile .columns:last-of-type > div:last-child .watch")
@@ -181,7 +181,7 @@ class Compiling(PageCase):
 
 
 class Fences(PageCase):
-    """Which fences matter."""
+    """The table of fences that matter."""
 
     def test_table(self) -> None:
         """Each fence with what it takes away, which is watched."""
@@ -197,7 +197,7 @@ class Fences(PageCase):
         self.assertEqual("#example=SB&view=fences", user.link())
 
     def test_verdicts(self) -> None:
-        """What is said of fences that are needed, that are not, and that do not make a test right."""
+        """The words on fences that are needed, that are not, and that do not make a test right."""
         user = self.user
         for example, verdict in (
             ("SB-x86", "The program has no MFENCE: the condition holds in 1 of 4 states."),
@@ -213,7 +213,7 @@ class Fences(PageCase):
         self.assertEqual(len(names), len(set(names)))
 
     def test_more(self) -> None:
-        """Of a test whose question is answered otherwise, the fewest fences that would change that are offered, and tried."""
+        """If an outcome is allowed, the page offers the fewest fences that forbid it, and tries them on a click."""
         user = self.user
         user.open_listed("#example=SB-x86&view=fences")
         before = user.value()
@@ -229,7 +229,7 @@ class Fences(PageCase):
         self.assertEqual([], user.all("#fences .find-fences"))
 
     def test_search(self) -> None:
-        """Where lw refuses a list, a search is offered, and then all lists come from lw."""
+        """If lw refuses a list, a search is offered, and then all lists come from lw."""
         user = self.user
         user.open_listed()
         user.paste(FIVE.replace("x := 2", "r0 := x", 1))
@@ -239,7 +239,7 @@ class Fences(PageCase):
         self.assertEqual([], user.all("#search-fences"))
 
     def test_names(self) -> None:
-        """Which register of the source each one is that the compiled program names is said."""
+        """For each register of the compiled program the page names the register of the source."""
         user = self.user
         user.open_listed("#example=SB&view=fences")
         self.assertSays("In the compiled program EAX is r0 of the source.", "#fences p")
@@ -308,7 +308,7 @@ class FenceEdits(PageCase):
         self.assertEqual("true", user.find("#tab-hand").get_attribute("aria-selected"))
 
     def test_found(self) -> None:
-        """What was found by hand before a fence is put is not found of the test with it."""
+        """States that were found by hand before a fence was added do not count as found for the test with the fence."""
         user = self.user
         user.open_listed("#example=SB-x86&view=hand")
         user.carry_out("P0", "P0", "D0", "P1", "P1", "D1")
@@ -317,7 +317,7 @@ class FenceEdits(PageCase):
         self.assertSays("Found 0 of 4 states.", "#outcome .found")
 
     def test_where(self) -> None:
-        """None is offered in a source test, in another program than that in the editor, and before the guess."""
+        """No fence button is in a source test, in another program than that in the editor, and before the guess."""
         user = self.user
         for link in ("example=SB", "example=SB-x86&beside=MP-x86", "example=SB-x86&predict=1"):
             open_anew(user, f"#{link}")

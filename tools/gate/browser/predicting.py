@@ -1,4 +1,4 @@
-"""Predict first: nothing answers before the guess, and no question is asked twice over."""
+"""Predict first: no answer is shown before the guess, and no question is asked twice."""
 from __future__ import annotations
 
 from gate.browser.page_case import PageCase
@@ -23,7 +23,7 @@ class Guess(PageCase):
     """The guess on a test."""
 
     def test_nothing_is_told(self) -> None:
-        """What is known is folded, titles are names, and no state is shown; the machine is shown before its run."""
+        """Known answers are folded, titles are names, and no state is shown; the machine is shown before its run."""
         user = self.user
         open_anew(user, "#example=SB-x86&predict=1")
         self.assertEqual(QUESTION, read_question(user, "#outcome"))
@@ -65,7 +65,7 @@ class Guess(PageCase):
         self.assertSays("The program has no MFENCE", "#fences .verdict")
 
     def test_reason(self) -> None:
-        """Of a wrong guess it is said which state shows that, with a link to its run, or to why no run ends in it; of a right one nothing."""
+        """After a wrong guess the page names the state that shows it, with a link to its run, or to why no run ends in it; after a right one none."""
         user = self.user
         open_anew(user, "#example=SB-x86&predict=1")
         user.click("#no")
@@ -85,7 +85,7 @@ class Guess(PageCase):
         self.assertEqual([], user.all("#outcome .reason"))
 
     def test_no_more(self) -> None:
-        """Who does not want to predict any more is shown what was asked for."""
+        """A reader who stops predicting sees the answer that was asked for."""
         user = self.user
         open_anew(user, "#example=SB-x86&predict=1")
         user.find("#yes")
@@ -94,7 +94,7 @@ class Guess(PageCase):
         self.assertEqual([], user.all("#yes"))
 
     def test_questions(self) -> None:
-        """What must not be is asked about without a no; and the guess on what is, though it must not be."""
+        """Questions about outcomes that must not be have no `not`; and the guess on one that is possible although it must not be."""
         user = self.user
         open_anew(user, "#example=MP-x86&predict=1&state=0%3AEAX%3D0%3B")
         self.assertEqual("Can a run on x86-TSO end this way? P1 reads y=1, then x=0. (1:EAX=1 /\\ 1:EBX=0)", read_question(user, "#outcome"))
@@ -138,7 +138,7 @@ class Kept(PageCase):
         self.assertEqual(QUESTION, read_question(user, "#outcome"))
 
     def test_by_hand(self) -> None:
-        """Who looks for the states by hand is not shown the verdict with the guess; Watch shows it."""
+        """A reader who looks for the states by hand does not see the verdict with the guess; Watch shows it."""
         user = self.user
         open_anew(user, "#example=SB-x86&predict=1&view=hand")
         user.click("#yes")
@@ -150,7 +150,7 @@ class Kept(PageCase):
         self.assertSays("The condition holds in 1 of 4 final states.", "#outcome .asked")
 
     def test_open(self) -> None:
-        """While the prediction is open, no other tab tells the answer; the button that shows it shows them, too."""
+        """While the prediction is open, no other tab shows the answer; the button that shows it shows them, too."""
         user = self.user
         open_anew(user, "#example=SB-x86&predict=1&view=hand")
         user.click("#yes")
@@ -167,7 +167,7 @@ class Kept(PageCase):
         self.assertSays("A run ends in this state", "#why .why-head")
 
     def test_told_by_hand(self) -> None:
-        """Who was told the answer to a guess sees it by hand, too, and after a reload."""
+        """A reader who has seen the answer to a guess sees it by hand, too, and after a reload."""
         user = self.user
         open_anew(user, "#example=SB-x86&predict=1")
         user.click("#no")

@@ -20,7 +20,7 @@ def count_pages(printed: bytes) -> int:
 
 
 def unpack(stream: bytes) -> bytes:
-    """Returns what a stream of a PDF holds, or nothing if it is packed in another way."""
+    """Returns the contents of a stream of a PDF, or nothing if it is packed in another way."""
     try:
         return zlib.decompressobj().decompress(stream)
     except zlib.error:

@@ -96,7 +96,7 @@ class Steps(PageCase):
         self.assertTrue(max(least) < MAX_MILLISECONDS, least)
 
     def test_motion(self) -> None:
-        """A step moves a word; where the system asks for less motion nothing moves, and a run that is chosen does not play."""
+        """A step moves a word; if the system asks for less motion nothing moves, and a chosen run does not play."""
         user = self.user
         user.open_listed(f"{LISTED}&step=0")
         moving = "document.getElementById('forward').click(); return document.getAnimations().length"
@@ -113,7 +113,7 @@ class Steps(PageCase):
 
 
 class Starts(PageCase):
-    """What a run begins with."""
+    """The start of a run."""
 
     def test_own(self) -> None:
         """The run that the comment of an example describes is shown first; a link keeps it, and the run that lw lists is in the menu."""
@@ -136,7 +136,7 @@ class Starts(PageCase):
         self.assertSoon(own, user.schedule)
 
     def test_own_of_others(self) -> None:
-        """Of a source test the source run is its own, and the compiled program follows it; a run that is no run to the end is brought there."""
+        """A source test's comment gives its source run, which the compiled program follows; a run that does not reach the end is continued to it."""
         user = self.user
         user.open_listed("#example=Counter")
         self.assertSoon("P1 P0", user.schedule)
@@ -213,7 +213,7 @@ class Sources(PageCase):
         self.assertFalse("run=" in user.link())
 
     def test_source_words(self) -> None:
-        """Beside the comment of a source test it is said that fences forbid its outcome on x86, and which test is without them."""
+        """Beside the comment of a source test the page says that fences forbid its outcome on x86, and which test is without them."""
         user = self.user
         user.open_listed("#example=SB")
         self.assertTrue(user.text("#about").endswith("On x86 the compiler's fences forbid this outcome; without them it is allowed: SB-x86."))
@@ -251,7 +251,7 @@ class Caches(PageCase):
             self.user.click("#caches")
 
     def test_words(self) -> None:
-        """Words name memory, and the cache that has the word if caches are looked at."""
+        """Words name memory, and the cache that has the word if caches are shown."""
         user = self.user
         user.open_listed(self.LINK)
         self.assertStep("P1 reads y=1 from P0's cache into EBX.")
@@ -311,7 +311,7 @@ class Pictures(PageCase):
 
 
 def lit(user: User, css: str) -> list[str]:
-    """Returns the texts of what is lit, with what is said to those who do not see colours."""
+    """Returns the texts of highlighted items, with the words for readers who do not see colours."""
     return [" ".join(it.split()) for it in cells(user, css)]
 
 

@@ -67,7 +67,7 @@ class Search(PageCase):
         self.assertSays("The condition holds in 1 of 4 final states.", "#outcome .asked")
 
     def test_beside_and_compiled(self) -> None:
-        """It is offered for a test beside another, and for what a test is compiled to."""
+        """The search is offered for a test beside another, and for a compiled program."""
         user = self.user
         user.open_listed()
         user.type(FIVE)

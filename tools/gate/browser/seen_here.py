@@ -1,4 +1,4 @@
-"""What this machine shows of a test, if a server stands behind the page."""
+"""What this machine shows of a test, if a server is behind the page."""
 from __future__ import annotations
 
 from gate.browser.page_case import PageCase

@@ -1,4 +1,4 @@
-"""What is in sight, in windows of all sizes: the verdict, the step, the next instruction and memory; and no scroll bar inside another."""
+"""The parts in sight, in windows of all sizes: the verdict, the step, the next instruction and memory; and no scroll bar inside another."""
 from __future__ import annotations
 
 from gate.browser.lists import IN_SIGHT
@@ -7,7 +7,7 @@ from gate.browser.page_case import PageCase
 SIZES = ((1280, 720), (1920, 1080), (1024, 640), (390, 844), (360, 640))
 # Tests with two threads and long code, with three threads, and with four.
 NAMES = ("SB-x86", "ChaseLev-x86", "n7-x86", "IRIW-x86", "Seqlock-x86")
-# What is scrolled by a bar of its own inside something that is scrolled by one.
+# The elements with a scroll bar inside an element with a scroll bar.
 NESTED = """
 const isScrolled = (it) => {
   const style = getComputedStyle(it);
@@ -21,7 +21,7 @@ const isInScrolled = (it) => {
 return [...document.querySelectorAll("#test, #test *, #answers, #answers *")]
   .filter((it) => it.checkVisibility() && !it.closest(".rows-box") && isScrolled(it) && isInScrolled(it)).map((it) => it.id || it.className);
 """
-# What is scrolled by a bar of its own, the page included.
+# The elements with a scroll bar, the page included.
 BARS = """
 const isScrolled = (it) => {
   const style = getComputedStyle(it);
@@ -57,7 +57,7 @@ return [...document.querySelectorAll(".machine :is(.register, .entry, .slot, .wo
 
 
 class InSight(PageCase):
-    """What is in sight together."""
+    """Parts that are in sight together."""
 
     def open_at(self, name: str, width: int, height: int) -> None:
         """Opens an example in a window of a size, in the middle of its run."""
@@ -113,7 +113,7 @@ class InSight(PageCase):
             user.click("#large")
 
     def test_compared(self) -> None:
-        """Of two tests side by side nothing of the machines is covered, also with large type, at 1280 by 720."""
+        """With two tests side by side no part of the machines is covered, also with large type, at 1280 by 720."""
         user = self.user
         user.resize(1280, 720)
         for _ in range(2):
@@ -153,7 +153,7 @@ class InSight(PageCase):
                 self.assertEqual([], self.user.run(NESTED), (name, width))
 
     def test_compile(self) -> None:
-        """What tests are compiled to has one scroll bar at most, at 1280 by 720; of two threads all three codes are beside each other."""
+        """Compiled programs have one scroll bar at most, at 1280 by 720; of two threads all three codes are beside each other."""
         user = self.user
         user.resize(1280, 720)
         for name in ("SB", "Peterson", "IRIW"):
@@ -189,7 +189,7 @@ class InSight(PageCase):
         self.assertEqual([], [it for it in user.texts("#watching .lines-in-sight") if it])
 
     def test_long_code(self) -> None:
-        """Of long code it is said which lines are shown, and the next one is among them at each step."""
+        """Long code says which lines are shown, and the next one is among them at each step."""
         user = self.user
         self.open_at("ChaseLev-x86", 1280, 720)
         self.assertSoon(True, lambda: any(it.startswith("lines ") for it in user.texts("#watching .lines-in-sight")))
@@ -205,7 +205,7 @@ class InSight(PageCase):
             self.assertTrue(user.run(script), user.step())
 
     def test_step_is_announced(self) -> None:
-        """What has happened in a step is said in a live sentence above the machine, with the number of the step."""
+        """A live sentence above the machine says what has happened in a step, with the number of the step."""
         user = self.user
         user.resize(390, 844)
         user.open_listed("#example=SB-x86")
@@ -241,7 +241,7 @@ class Phone(PageCase):
         self.assertSoon(True, lambda: all(it.startswith("lines ") for it in user.texts("#watching .lines-in-sight")))
 
     def test_list(self) -> None:
-        """Of a list of 15 states most are in sight, and so is the chosen one; it is scrolled sideways, below the titles of its rows."""
+        """Most of a list of 15 states is in sight, and so is the chosen one; the list is scrolled sideways, below the titles of its rows."""
         user = self.user
         user.open_listed("#example=IRIW-x86")
         script = """

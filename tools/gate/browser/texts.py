@@ -11,12 +11,12 @@ OWN = "SRC Own\n{}\n P0 | P1 ;\n x := 1 | r0 := x ;\nexists (1:r0=1)\n"
 
 
 class Faults(PageCase):
-    """What is wrong in a text."""
+    """The faults of texts."""
 
     TEXT = "SRC Mine (* é *)\n{}\n P0 ;\n (* é *) x = 1 ;\nexists (x=1)\n"
 
     def test_place(self) -> None:
-        """A fault is said in a sentence with its place and lw's own line, and marked on its line and at its token; the old verdict goes."""
+        """A sentence explains a fault with its place and lw's own line; its line and its token are marked, and the old verdict disappears."""
         user = self.user
         user.open_listed()
         user.run_text(self.TEXT)
@@ -31,7 +31,7 @@ class Faults(PageCase):
         self.assertEqual("text", user.focused().get_attribute("id"))
 
     def test_token(self) -> None:
-        """The whole token of a fault is marked, and what is expected there is said."""
+        """The whole token of a fault is marked, and a sentence says what is expected there."""
         user = self.user
         user.open_listed()
         rows = lambda row: f"X86 A\n{{}}\n P0 ;\n {row} ;\nexists (0:EAX=1)\n"
@@ -67,7 +67,7 @@ class Faults(PageCase):
         self.assertSays("lw has no instruction of this name. An instruction is", "#fault")
 
     def test_other_notations(self) -> None:
-        """What is written as in other notations or in the other language is named, and a button puts what is meant into the text."""
+        """A message names notations of other tools or of the other language, and a button replaces them in the text."""
         user = self.user
         user.open_listed()
         text = "X86 A\n{}\n P0 | P1 ;\n MOV [x],$1 | MOV EAX,[x] ;\nexists (x=1 /\\ 1:EAX=0)\n"
@@ -95,7 +95,7 @@ class Faults(PageCase):
             self.assertSoon([], lambda: user.texts("#fault p"))
 
     def test_question(self) -> None:
-        """What a question lacks is said, and a thread that the test does not have; no line of the question is called a row."""
+        """A message says what a question lacks, or which thread the test does not have; no line of the question is called a row."""
         user = self.user
         user.open_listed()
         rows = "X86 A\n{}\n P0 | P1 ;\n MOV [x],$1 | MOV EAX,[x] ;\nexists "
@@ -153,7 +153,7 @@ class Faults(PageCase):
         self.assertEqual(f"{text}(* typed *)", user.value())
 
     def test_limit(self) -> None:
-        """A limit is told, and the machine can be run by hand."""
+        """A limit is reported, and the machine can be run by hand."""
         user = self.user
         user.open_listed()
         user.run_text(FIVE)
@@ -279,7 +279,7 @@ class OwnTest(PageCase):
         self.assertSoon(OWN, user.value)
 
     def test_begun(self) -> None:
-        """Who has written no test yet begins with a small one, in the editor."""
+        """A reader who has written no test yet begins with a small one, in the editor."""
         user = self.user
         user.open_listed("#example=CoRR-x86")
         user.click("#next-example")
@@ -289,7 +289,7 @@ class OwnTest(PageCase):
         self.assertSoon("text", lambda: user.focused().get_attribute("id"))
 
     def test_program_and_file(self) -> None:
-        """It comes back from behind a program that is taken, and from behind a file; and the file from behind it."""
+        """The own text comes back after a program was taken, and after a file was opened; and the file comes back after it."""
         user = self.user
         user.open_listed()
         user.type(OWN)
@@ -363,7 +363,7 @@ class Gallery(PageCase):
             self.assertSoon(name, lambda: user.text("#example-name"))
 
     def test_notes(self) -> None:
-        """What the format has not is said, and what it has instead."""
+        """A message says what the format lacks, and what it has instead."""
         user = self.user
         user.open_listed()
         user.click("#open-gallery")
@@ -379,7 +379,7 @@ class Gallery(PageCase):
             self.assertTrue(bool(user.all("#gallery .example")))
 
     def test_words(self) -> None:
-        """Words find how words begin: names first, and what is known by other words; what is said of a test can be read."""
+        """A search finds the starts of words: names first, and synonyms; the description of a found test can be read."""
         user = self.user
         user.open_listed()
         user.click("#open-gallery")

@@ -14,7 +14,7 @@ OWN = "SRC Own\n{}\n P0 ;\n x = 1 ;\nexists (x=1)\n"
 STEPS = "return [...document.querySelectorAll('.side .step')].map((it) => it.textContent.split(':')[0])"
 
 
-# What lies over what it should not: memory over registers, and the button that closes the view over anything that can be used or read.
+# Overlaps that should not be: memory over registers, and the button that closes the view over anything that can be used or read.
 LIES_OVER = """
 const boxOf = (it) => it.getBoundingClientRect();
 const overlap = (one, other) => one.left < other.right - 1 && other.left < one.right - 1 && one.top < other.bottom - 1 && other.top < one.bottom - 1;
@@ -33,7 +33,7 @@ return [...document.querySelectorAll(".side :is(.program, .code, .code .line, .s
 
 
 class Compared(PageCase):
-    """What both have, and each alone."""
+    """The states that both have, and those that only one has."""
 
     def test_partner(self) -> None:
         """The same test with fences is set beside a test, or the nearest by its name; its choice has the focus, and both runs are at the start."""
@@ -51,7 +51,7 @@ class Compared(PageCase):
         self.assertEqual("SB-x86 beside SB+mfences-x86 - lw", user.driver.title)
 
     def test_difference(self) -> None:
-        """Each has its verdict, and a state of one alone is marked; all is in sight at 1280 by 720."""
+        """Each has its verdict, and a state of only one is marked; all is in sight at 1280 by 720."""
         user = self.user
         user.resize(1280, 720)
         user.open(BOTH)
@@ -63,7 +63,7 @@ class Compared(PageCase):
         self.assertEqual([" P0          | P1          ;", " MOV [x],$1  | MOV [y],$1  ;"], text[2:4])
 
     def test_four_threads(self) -> None:
-        """Of two tests with four threads nothing is cut off, and all of both machines is in sight, at 1280 by 720 and at 1920 by 1080."""
+        """With two tests of four threads no part is cut off, and all of both machines is in sight, at 1280 by 720 and at 1920 by 1080."""
         user = self.user
         for width, height in ((1280, 720), (1920, 1080)):
             user.resize(width, height)
@@ -146,7 +146,7 @@ class Together(PageCase):
     """Both runs step together."""
 
     def test_steps(self) -> None:
-        """What both schedules have is carried out in both, and what one has alone in that one, to both ends; keys do so too."""
+        """An event of both schedules is carried out in both, an event of only one in that one, to both ends; keys do so too."""
         user = self.user
         user.open(BOTH)
         user.wait(lambda: len(user.all(".side .machine")) == 2, "both runs")
@@ -167,7 +167,7 @@ class Together(PageCase):
         self.assertTrue(any(first[0] < second[0] and first[1] < second[1] for first, second in zip(steps, steps[1:])))
 
     def test_one_alone(self) -> None:
-        """One side can still be stepped alone; the count of both follows."""
+        """One side can still be stepped by itself; the count of both follows."""
         user = self.user
         user.open(BOTH)
         user.wait(lambda: len(user.all(".side .machine")) == 2, "both runs")
@@ -228,7 +228,7 @@ class OneAgain(PageCase):
 
 
 class Predicted(PageCase):
-    """Who predicts is told nothing of either test before the guess on it."""
+    """A reader who predicts sees no answer of either test before the guess on it."""
 
     def test_guesses(self) -> None:
         """The guess on one shows that one, and the guess on the other the other."""

@@ -44,7 +44,7 @@ Found = TypeVar("Found")
 
 
 class Element(Protocol):
-    """What is used of an element of the page."""
+    """The attributes and methods of a page's element that the tests use."""
 
     @property
     def text(self) -> str: ...
@@ -117,12 +117,12 @@ def start_firefox(room: str) -> firefox.Firefox:
 
 
 def browsers() -> dict[str, Start]:
-    """Returns how each browser that is there is started, by its name."""
+    """Returns the functions that start the installed browsers, by name."""
     starts: dict[str, Start] = {"Chromium": start_chromium} if is_there() else {}
     return {**starts, "Firefox": start_firefox} if firefox.is_there() and import_selenium() else starts
 
 
-# What is compared with.
+# The values that the tests compare with.
 
 
 def read(name: str) -> str:
@@ -132,12 +132,12 @@ def read(name: str) -> str:
 
 
 def run(*words: str, text: str) -> str:
-    """Returns what a command prints about a text."""
+    """Returns the output of a command on a text."""
     return subprocess.run(words, input=text.encode(), capture_output=True, timeout=60, check=False).stdout.decode()
 
 
 def lw(*words: str, text: str) -> str:
-    """Returns what lw prints about a text."""
+    """Returns the output of lw on a text."""
     return run(f"{HOME}/crates/lw/out/lw", *words, text=text)
 
 
@@ -203,7 +203,7 @@ class User:
             return False
 
     def click(self, css: str) -> None:
-        """Clicks on an element, once it is there and nothing lies over it."""
+        """Clicks on an element when it is there and nothing covers it."""
 
         def clicked() -> bool:
             """Clicks once. Returns whether nothing lay over the element."""
@@ -284,7 +284,7 @@ class User:
         return self.run("return location.hash")
 
     def saved(self, name: str) -> str:
-        """Returns what a file holds that the page has saved. The file is removed, so that the next of this name is a new one."""
+        """Returns the contents of a file that the page has saved. The file is removed, so that the next of this name is a new one."""
         path = f"{self.room}/{name}"
         self.wait(lambda: os.path.exists(path) and os.path.getsize(path) and not os.path.exists(path + ".crdownload"), path)
         with open(path, encoding="utf-8", newline="") as file:
@@ -293,7 +293,7 @@ class User:
         return text
 
     def run(self, script: str, *arguments: object) -> Any:
-        """Returns what a script returns."""
+        """Returns the result of a script."""
         return self.driver.execute_script(script, *arguments)
 
     def stage(self, name: str) -> None:
@@ -303,7 +303,7 @@ class User:
             self.driver.save_screenshot(f"{folder}/{self.stages:02}-{name}.png")
 
     def complaints(self) -> list[str]:
-        """Returns what the browser reports in its log."""
+        """Returns the messages of the browser's log."""
         return [it["message"] for it in self.driver.get_log("browser")]
 
     # A run.
@@ -325,7 +325,7 @@ class User:
             self.wait(lambda: self.done().split() == before, " ".join(before))
 
     def step(self) -> str:
-        """Returns what is said of the step, with what is hidden of it."""
+        """Returns the sentence on the step, with its hidden parts."""
         return " ".join((self.run("return document.querySelector('#watching .step')?.textContent ?? ''")).split())
 
     def record_steps(self) -> None:
@@ -337,6 +337,6 @@ class User:
         return list(self.run("return window.recordedSteps"))
 
     def says(self, words: str) -> str:
-        """Returns what is said of the step, once that holds some words; after a while whatever it is."""
+        """Returns the sentence on the step when it has some words, or after a while the present one."""
         self.is_soon(lambda: words in self.step())
         return self.step()
