@@ -1,7 +1,7 @@
 // Shows why there is no answer: a fault, with its place and the sentence of docs/FORMAT.md for it, or an error.
 
 import { button, byId, el, sentence } from "./dom.js";
-import { hintOn, misspeltQuestion, questionIn } from "./faults.js";
+import { endOfRowBefore, hintOn } from "./faults.js";
 import { table } from "./supplies.js";
 
 let sentences = {};
@@ -62,21 +62,6 @@ function errorWords({ error, refused }) {
   return sentence(`Event ${refused.at + 1} of the schedule, \`${refused.event}\`, is refused. ${refusalOf(refused.event, refused)}`);
 }
 
-/**
- * Returns that the row before a fault has no `;` at its end, if that is so. A line of the question is no row.
- * @param {Fault} fault
- * @param {string} text
- * @returns {(Node | string)[] | string}
- */
-function endOfRowBefore({ kind, row }, text) {
-  const lines = text.split("\n").slice(0, row - 1);
-  const last = lines.findLastIndex((it) => it.trim());
-  const begin = lines.findIndex((it) => /^\s*P0\b/.test(it));
-  if (!isInText({ kind }) || begin < 0 || last < begin || /;|\(\*|\*\)/.test(lines[last]) || misspeltQuestion(text)) return "";
-  if (questionIn(lines.slice(0, last + 1).join("\n")) !== null) return "";
-  return sentence(`Line ${last + 1} has no \`;\` at its end: perhaps that is the fault. `);
-}
-
 // Why a list is refused, by the name of the limit.
 const LIMITS = {
   TooManyItems: "One choice of its branches and words has more than 128 events and fences",
@@ -95,7 +80,7 @@ function wordsOf(fault, text, known = isInText(fault) ? hintOn(fault, text).word
   if (fault.kind === "limit") return [`The list could take too long, so it is refused. ${LIMITS[fault.name]}. `, line];
   const place = fault.row ? el("b", {}, `Line ${fault.row}, column ${fault.column}: `) : "";
   const cause = known ? sentence(`${known} `) : fault.name ? [fault.name, ": ", sentence(sentenceOf(fault.kind, fault.number)), ". "] : [];
-  return [place, ...cause, ...endOfRowBefore(fault, text), line];
+  return [place, ...cause, ...(isInText(fault) ? sentence(endOfRowBefore(fault, text)) : []), line];
 }
 
 /**

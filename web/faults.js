@@ -15,6 +15,7 @@ const INSTRUCTIONS =
 const MNEMONICS = ["MOV", "ADD", "CMP", "JE", "JNE", "JMP", "MFENCE", "XCHG", "LOCK", "XADD"];
 const MNEMONIC = new RegExp(`^(?:${MNEMONICS.join("|")})$`, "i");
 const REGISTERS = { X86: ["EAX", "EBX", "ECX", "EDX", "ESI", "EDI"], SRC: ["r0", "r1", "r2", "r3", "r4", "r5"] };
+const CONSTANT = "A constant is a whole number from 0 to 4294967295.";
 const QUESTIONS = ["exists", "forall"];
 const HEADS = ["SRC", "X86"];
 // How other notations write what connects the parts of a question, and how lw does.
@@ -23,6 +24,8 @@ const CONNECTIVES = {
 };
 // The labels before an instruction in its cell.
 const LABELS = /^(?:\w+\s*:\s*)*$/;
+// An instruction with the first of its two operands.
+const ONE_OPERAND = /\b(?:MOV|ADD|CMP|XCHG|XADD)\s+[\w[\]]+$/i;
 
 /**
  * Returns the token at an index of a text; it is empty at the end of the text.
@@ -94,12 +97,21 @@ function cellBefore(text, index) {
 }
 
 /**
+ * Returns a text with spaces in place of its comments, whose ends of lines stay.
+ * @param {string} text
+ * @returns {string}
+ */
+function withoutComments(text) {
+  return text.replace(/\(\*[^]*?\*\)/g, (it) => it.replace(/./g, " "));
+}
+
+/**
  * Returns the text after `exists` or `forall` in the question at the end of a text, without comments; or null if there is none.
  * @param {string} text
  * @returns {string | null}
  */
-export function questionIn(text) {
-  const code = text.replace(/\(\*[^]*?\*\)/g, " ");
+function questionIn(text) {
+  const code = withoutComments(text);
   const end = code.slice(code.lastIndexOf(";") + 1);
   return /^(?:\s*locations\s*\[[^\]]*\]|[^\][]*\])?\s*~?\s*(?:exists|forall)\b([^]*)$/.exec(end)?.[1] ?? null;
 }
@@ -109,7 +121,7 @@ export function questionIn(text) {
  * @param {string} text
  * @returns {string | null}
  */
-export function misspeltQuestion(text) {
+function misspeltQuestion(text) {
   const begin = /;\s*~?\s*([A-Za-z]+)\s*\([^;]*$/.exec(text)?.[1];
   return begin && nearest(begin, QUESTIONS) ? begin : null;
 }
@@ -136,7 +148,7 @@ function missingThread({ token, after, text }) {
   const names = /^[ \t]*P0\b[^;]*(?=;)/m.exec(text)?.[0].split("|").map((_, thread) => `\`P${thread}\``);
   if (!names || !/^\d+$/.test(token) || !/^\s*:/.test(after) || Number(token) < names.length) return "";
   const threads = names.length === 1 ? names[0] : `${names.slice(0, -1).join(", ")} and ${names.at(-1)}`;
-  return `There is no thread ${token}: the test has ${names.length === 1 ? "only " : ""}${threads}.`;
+  return `There is no thread ${token}: the test has ${threads}.`;
 }
 
 /**
@@ -147,7 +159,8 @@ function missingThread({ token, after, text }) {
 function otherNotation(place) {
   const { token, text, index } = place;
   const front = text.slice(0, index);
-  if (questionIn(`${front} `) === null && !/\{[^}]*$/.test(front)) return "";
+  const isInBlock = /\{[^}]*$/.test(front);
+  if (questionIn(`${front} `) === null && !isInBlock) return "";
   const thread = /\bP(\d)\s*$/i.exec(front);
   const register = /^:\s*([A-Za-z]\w*)(?=\s*[=;])/.exec(text.slice(index));
   if (thread && register) {
@@ -159,6 +172,7 @@ function otherNotation(place) {
   if (token === "=" && front.endsWith("=")) return `A question compares with one \`=\`.${place.propose("=", index - 1)}`;
   const connective = Object.hasOwn(CONNECTIVES, token.toLowerCase()) && CONNECTIVES[token.toLowerCase()];
   if (!connective) return "";
+  if (isInBlock) return `Initial values have a \`;\` between them.${place.propose(";")}`;
   return `In a question, and is \`/\\\`, or is \`\\/\`, not is \`~\`.${place.propose(connective)}`;
 }
 
@@ -172,6 +186,31 @@ function firstWord(place) {
   if (place.token === "C") return "lw reads tests that begin with `SRC` or `X86`. This one begins as a test in C does.";
   const meant = /86/.test(place.token) ? place.propose(HEADS[1]) : place.meant(HEADS);
   return meant && `A test begins with \`SRC\` or \`X86\`.${meant}`;
+}
+
+/** Returns that the initial values have no end, if that is so; or "". */
+function openBlock({ text }) {
+  return /\{[^}]*$/.test(withoutComments(text)) ? "The initial values lack a `}` at their end." : "";
+}
+
+/** Returns that a constant is negative or no whole number, if that is so; or "". */
+function badConstant({ text, index }) {
+  return /(?:[=,$+]\s*|\b\d+)$/.test(text.slice(0, index)) && /^[-.]\s*\d/.test(text.slice(index)) ? CONSTANT : "";
+}
+
+/**
+ * Returns that the row before a fault in a text has no `;` at its end, if that is so; or "". A comment and a line of the question are no rows.
+ * @param {Fault} fault
+ * @param {string} text
+ * @returns {string}
+ */
+export function endOfRowBefore({ row }, text) {
+  const [rows] = withoutComments(text).split(/~?\s*\b(?:exists|forall|locations|filter)\b/);
+  const lines = rows.split("\n").slice(0, row - 1);
+  const last = lines.findLastIndex((it) => it.trim());
+  const begin = lines.findIndex((it) => /^\s*P0\b/.test(it));
+  if (begin < 0 || last < begin || /;|\(\*|\*\)/.test(lines[last]) || misspeltQuestion(text)) return "";
+  return `Line ${last + 1} has no \`;\` at its end: perhaps that is the fault. `;
 }
 
 /** Returns that a text is empty, and proposes a small test in its place, if that is so; or "". */
@@ -211,10 +250,15 @@ function formOfSource(place) {
  * @returns {string}
  */
 function formOfX86(place) {
-  const { token, before } = place;
+  const { token, before, index, text } = place;
   if (/^xadd$/i.test(token) && before === "") return "Write `LOCK XADD`.";
   if (token === "=" || token === ":=") return "The operands of an instruction have a comma between them: `MOV [x],$1`.";
   if (token === "[" && before.includes("[")) return "An instruction has one location at most: load it into a register first.";
+  if (ONE_OPERAND.test(before) && /^[[$\w]/.test(token)) {
+    const [rest] = /^[^|;\n]*\b\]?/.exec(text.slice(index));
+    const proposal = place.propose(`${before},${rest}`, text.lastIndexOf(before, index), index + rest.length);
+    return `The operands of an instruction have a comma between them.${proposal}`;
+  }
   if (token === "[") return "Only `MOV`, `XCHG` and `LOCK XADD` take a location.";
   if (token === "$") return "What is written comes first: `MOV [x],$1`.";
   if (token === ";" || token === "|") return `The instruction before it is not complete. ${INSTRUCTIONS}`;
@@ -229,14 +273,17 @@ const SENTENCES = {
   "text TooLong": () => "The text is too long: it may have 65,536 bytes.",
   "text Unterminated": (place) =>
     emptyText(place) ||
+    openBlock(place) ||
     missingInQuestion(place) ||
     "The text ends too early. The last row may lack its `;`, a comment its `*)`, or the test its question, as `exists (x=1)`.",
   "text Unexpected": (place) =>
+    openBlock(place) ||
+    badConstant(place) ||
     otherNotation(place) ||
     firstWord(place) ||
     `${place.tokenWords} is not expected here. A test is \`SRC\` or \`X86\` and a name, the initial values in \`{ }\`, the row \`P0 | P1 ;\`, ` +
     "the rows of code, and a question.",
-  "text Number": ({ tokenWords }) => `${tokenWords} is no number that lw takes: one up to 4294967295, also as \`0x10\`, with no letter after it.`,
+  "text Number": ({ tokenWords }) => `${tokenWords} is no constant. ${CONSTANT} In base 16 it begins with \`0x\`.`,
   "text Name": (place) =>
     missingThread(place) ||
     (otherRegister(place.token, place.isX86) !== null && otherHead(place)) ||

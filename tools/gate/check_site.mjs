@@ -175,8 +175,8 @@ async function loadPage() {
     for (const name of names) fs.copyFileSync(`${HOME}/web/${name}`, `${room}/${name}`);
     const load = (name) => import(pathToFileURL(`${room}/${name}.js`).href);
     const parts = [
-      "aligned", "condition_words", "differences", "fence_edit", "finding", "module", "nearest", "program", "questions", "replays", "seen_here", "served",
-      "slips", "verdicts",
+      "aligned", "condition_words", "differences", "faults", "fence_edit", "finding", "module", "nearest", "program", "questions", "replays", "seen_here",
+      "served", "slips", "verdicts",
     ];
     const loaded = await Promise.all(parts.map(load));
     return Object.fromEntries(parts.map((name, at) => [name, loaded[at]]));
@@ -620,6 +620,43 @@ function compareSlips(page, tally) {
   tally.compare("no slips", [], page.slips.slipsIn(example("SB-x86")));
 }
 
+/** Compares the page's words on faults, each made by a change of a text; and the texts that it proposes in place of a part. */
+function compareHints(page, program, tally) {
+  const right = "X86 A\n{ x=0 }\n P0 | P1 ;\n MOV [x],$1 | MOV EAX,[x] ;\n MFENCE | XCHG [y],EAX ;\nexists (x=1 /\\ 1:EAX=0)\n";
+  for (const [part, wrong, words, line, proposed] of HINTS) {
+    const text = right.replace(part, () => wrong);
+    const { fault } = page.questions.answerTo(program, "states", { text });
+    const hint = page.faults.hintOn(fault, text);
+    const row = page.faults.endOfRowBefore(fault, text).match(/^Line (\d+) has no `;`/)?.[1];
+    tally.compare(`the words on ${wrong}`, [true, line, proposed], [hint.words.includes(words), row && Number(row), hint.change?.text]);
+  }
+}
+
+const NO_COMMA = "The operands of an instruction have a comma between them.";
+const NO_CONSTANT = "A constant is a whole number from 0 to 4294967295.";
+const NO_END = "The initial values lack a `}` at their end.";
+// A part of a text, what is there in place of it, some of the page's words, the line of a row that lacks its end, and the proposed text.
+const HINTS = [
+  ["[y],EAX ;", "[y],EAX", "The text ends too early.", 5, undefined],
+  ["[y],EAX ;", "[y],EAX (* ; *)\n\n(* a; b\n *)", "The text ends too early.", 5, undefined],
+  ["[y],EAX ;", "[y],EAX\n locations [x;]\n", "The text ends too early.", 5, undefined],
+  ["[y],EAX ;\n", "[y],EAX ", "The text ends too early.", 5, undefined],
+  ["[x] ;", "[x]", "This row has too few or too many cells", 4, undefined],
+  ["(x=1 /\\ 1:EAX=0)", "(x=1 /\\\n 2:EAX=0)", "There is no thread 2", undefined, undefined],
+  ["{ x=0 }", "{ x=0", NO_END, undefined, undefined],
+  ["{ x=0 }", "{x=1;", NO_END, undefined, undefined],
+  ["{ x=0 }", "{(* } *)", NO_END, undefined, undefined],
+  ["{ x=0 }", "{ x=0 && y=1 }", "Initial values have a `;` between them.", undefined, ";"],
+  ["EAX,[x]", "EAX [x]", NO_COMMA, undefined, "MOV EAX,[x]"],
+  ["[x],$1", "[x] $1", NO_COMMA, undefined, "MOV [x],$1"],
+  ["[y],EAX", "[y] EAX", NO_COMMA, undefined, "XCHG [y],EAX"],
+  ["MOV EAX,[x]", "ADD EAX,[x]", "Only `MOV`, `XCHG` and `LOCK XADD` take a location.", undefined, undefined],
+  ["$1", "$-1", NO_CONSTANT, undefined, undefined],
+  ["$1", "1.5", NO_CONSTANT, undefined, undefined],
+  ["x=0", "x=-1", NO_CONSTANT, undefined, undefined],
+  ["$1", "$4294967296", NO_CONSTANT, undefined, undefined],
+];
+
 /** Returns the examples by family, as tools/page/web_files.py makes them. */
 function familiesOfPage() {
   const lines = ["import json", "from page import web_files", "print(json.dumps(web_files.list_families()))"];
@@ -740,6 +777,7 @@ async function main() {
   compareOwnRuns(page, program, tally, texts);
   compareFenceEdits(page, tally, texts);
   compareSlips(page, tally);
+  compareHints(page, program, tally);
   if (!chosen.length) compareFinding(page, tally, familiesOfPage());
   if (!chosen.length) compareTyped(page, program, tally);
   const work = async () => {

@@ -80,6 +80,8 @@ class Faults(PageCase):
             (text, "1:EAX", "P1:EAX", "The thread of a register is a number, without P. Did you mean 1:EAX?"),
             (text, "1:EAX", "1:r0", "Did you mean EAX?"),
             (text, "MOV EAX,[x]", "r0 := x", "This is a statement of a source test, and the text begins with X86. Did you mean MOV EAX,[x]?"),
+            (text, "MOV EAX,[x]", "MOV EAX [x]", "The operands of an instruction have a comma between them. Did you mean MOV EAX,[x]?"),
+            (text, "[x],$1", "[x] $1", "Did you mean MOV [x],$1?"),
             (text, "X86", "X86_64", "A test begins with SRC or X86. Did you mean X86?"),
             (source, "SRC", "X86", "All code is that of a source test, and the text begins with X86. Did you mean SRC?"),
             (text, "X86", "SRC", "All code is x86 code, and the text begins with SRC. Did you mean X86?"),
@@ -112,8 +114,29 @@ class Faults(PageCase):
         """A row that lacks its end is named."""
         user = self.user
         user.open_listed()
-        user.run_text("X86 Open\n{}\n P0 | P1 ;\n | MFENCE\n MOV [x],$1 | MOV EAX,[x] ;\nexists (x=1)\n")
-        self.assertSays("Line 4 has no ; at its end: perhaps that is the fault.", "#fault")
+        for rows, line in (
+            (" | MFENCE\n MOV [x],$1 | MOV EAX,[x] ;\nexists (x=1)\n", 4),
+            (" | MFENCE ;\n MOV [x],$1 | MOV EAX,[x]\n(* the end; *)\n\nexists (x=1)\n", 5),
+        ):
+            user.run_text(f"X86 Open\n{{}}\n P0 | P1 ;\n{rows}")
+            self.assertSays(f"Line {line} has no ; at its end: perhaps that is the fault.", "#fault")
+
+    def test_open_block(self) -> None:
+        """Initial values without their end are named, and nothing is put into the text."""
+        user = self.user
+        user.open_listed()
+        user.run_text("X86 Open\n{x=1;\n P0 | P1 ;\n MOV [x],$1 | MOV EAX,[x] ;\nexists (x=1)\n")
+        self.assertSays("The initial values lack a } at their end.", "#fault")
+        self.assertEqual([], user.all("#fault .apply"))
+
+    def test_constant(self) -> None:
+        """A constant is a whole number, in code, in the initial values and in the question."""
+        user = self.user
+        user.open_listed()
+        text = "X86 A\n{ x=0 }\n P0 ;\n MOV [x],$1 ;\nexists (x=1)\n"
+        for right, wrong in (("$1", "$-1"), ("$1", "1.5"), ("x=0", "x=-1"), ("(x=1", "(x=1.5"), ("$1", "$4294967296")):
+            user.run_text(text.replace(right, wrong))
+            self.assertSays("A constant is a whole number from 0 to 4294967295.", "#fault")
 
     def test_no_test(self) -> None:
         """An empty text has a button that puts a small test into it; a test in C is named; and a changed text says which keys list its states."""
