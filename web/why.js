@@ -14,9 +14,11 @@ import { showError } from "./errors.js";
 import { headingOf } from "./tokens.js";
 
 const CIRCLE = "Each arrow means “comes before”. The bold ones form a cycle, so no run can end this way.";
-const RULE =
-  "Program order counts here, but not from a store to a later load: that load may read while the store waits in its buffer. It counts again if " +
-  "an `MFENCE` or a locked instruction is between them.";
+const RULE = "Program order counts here, but not";
+const RULE_OF_RUN = "By interleaving the bold arrows forbid this state. x86-TSO does not keep program order";
+const EXCEPTION =
+  " from a store to a later load: that load may read while the store waits in its buffer. It counts again if an `MFENCE` or a locked instruction " +
+  "is between them.";
 
 /** The panel that says why a test does not end in a state. */
 export class Why {
@@ -128,7 +130,7 @@ export class Why {
     if (!film?.films || this.askedOf !== state) return;
     const answer = await ask(this.editor, "graph", { text, schedule: film.schedule }, { place: drawn, name: "the graph of that run" });
     if (!answer || this.askedOf !== state) return;
-    drawn.replaceChildren(...(answer.graph ? [...graphParts(answer, this.tints), ruleNote()] : []));
+    drawn.replaceChildren(...(answer.graph ? [...graphParts(answer, this.tints), answer.hasCycle ? ruleNote(RULE_OF_RUN) : ""] : []));
     this.bringIntoSight();
   }
 
@@ -139,12 +141,12 @@ export class Why {
     const head = el("p", { class: "why-head" }, of, el("b", {}, lines[0]), " ", plainMark());
     const inWords = el("details", { open: !drawn.length && lines.length > 1 }, el("summary", {}, "In words"), el("pre", {}, lines.join("\n")));
     if (!drawn.length) return [head, lines.length > 1 ? inWords : ""];
-    const notes = el("div", { class: "why-notes" }, el("p", { class: "small" }, CIRCLE), legend(...drawn), ruleNote());
+    const notes = el("div", { class: "why-notes" }, el("p", { class: "small" }, CIRCLE), legend(...drawn), ruleNote(RULE));
     return [head, el("div", { class: "why-drawn" }, el("div", { class: "figures" }, drawn), notes), inWords];
   }
 }
 
-/** Returns a note on which program order counts. */
-function ruleNote() {
-  return el("p", { class: "rule small" }, sentence(RULE));
+/** Returns a note on which program order counts, which begins with a rule. */
+function ruleNote(rule) {
+  return el("p", { class: "rule small" }, sentence(rule + EXCEPTION));
 }
