@@ -8,17 +8,15 @@ const TERMS = [
   ["drain", "the oldest entry of a store buffer goes to memory; in a schedule `D0` is a drain of P0, and `P0` its next instruction"],
   ["final state", "what the registers and locations that the test asks about have when all threads and buffers are done"],
   ["condition", "what the test asks about a final state. `exists`: can a run end this way; `~exists`: can none; `forall`: does every run"],
-  ["fence", "an instruction that waits until the own store buffer is empty: `MFENCE`, `XCHG`, `LOCK XADD`. Point between two instructions of an x86 " +
-    "test: `+ fence` puts one into the text"],
+  ["fence", "`MFENCE`: waits until the own store buffer is empty. The locked instructions, `XCHG` and `LOCK XADD`, wait for this too"],
   ["interleaving", "the threads take turns on one memory, without store buffers"],
   ["arrows of a graph", "`po`: program order; `rf`: a read has its word from that write; `co`: that write comes later to the same location; `fr`: " +
     "that write comes after the one that was read. They run from what comes before"],
   ["global happens-before", "the order that all processors agree on: `rf` between threads, `co`, `fr`, and program order, but not from a store to a " +
-    "later load without a fence between them. A state that needs a cycle of it is forbidden"],
+    "later load without a fence or a locked instruction between them. A state that needs a cycle of it is forbidden"],
   ["coherence", "the accesses to one location have one order, which all processors agree on. A state that needs a cycle of it is forbidden"],
   ["complete (proved)", "the list has every final state and no other. lw finds them by going through all orders of accesses that conflict (two to one " +
     "location, at least one of them a store), or by a search of the machine's states"],
-  ["not proved", "found by the page's own code: graphs, why a state is missing, texts with other fences, and how two lists differ"],
 ];
 const KEYS = [
   ["← →", "a step back, a step forward"],
