@@ -3,7 +3,7 @@
     python3 tools gate.check_slides
 
 - There are twelve slides, each with a title of its own; the page names no other site and loads nothing; the same sources give the same bytes.
-- What is shown of a test is what the program says of it: each list is its report, and each picture of the machine has the registers,
+- What is shown of a test is what the program says of it: each list is that of its report, with the verdict, and each picture of the machine has the registers,
   the store buffers and the words of its replay. An execution's loads have the words that the replay ends with.
 - The slides are in the order of the timetable. Before the tasks none shows a test of tasks 2 to 4, except the text of A1 and A2 and the
   list of A1 by turns, and no picture shows cache lines. Slide and sheet ask the same.
@@ -80,8 +80,14 @@ def check_lists(page: str, tests: dict[str, bytes]) -> Iterator[Comparison]:
     lists = LIST.findall(page)
     yield "how many lists there are", True, sum(kind == "states" for kind, _, _ in lists) >= 2
     for kind, name, text in lists:
-        expected = tests[name].decode() if kind == "code" else ask_program(["states"], tests[name])
-        yield f"the {kind} of {name}", expected, unescape(text)
+        if kind == "code":
+            yield f"the code of {name}", tests[name].decode(), unescape(text)
+            continue
+        lines = ask_program(["states"], tests[name]).splitlines()
+        count = int(lines[1].split()[1])
+        yield f"the list of {name}", [*lines[1 : count + 2], lines[-1]], unescape(text).splitlines()
+        _, _, verdict, positive, negative = lines[-1].split()
+        yield f"the verdict on {name} is glossed", True, f"<p>{verdict} {positive} {negative}: the end that we ask about is " in page
 
 
 def parse_picture(svg: str) -> tuple[list[list[str]], list[str] | None]:
@@ -91,7 +97,7 @@ def parse_picture(svg: str) -> tuple[list[list[str]], list[str] | None]:
     for kind, text in TEXT.findall(svg):
         if kind == "title" and re.fullmatch(r"P\d", text):
             threads.append([])
-        elif kind == "title" and text in ("content", "memory"):
+        elif kind == "title" and text == "memory":
             content = []
         elif content is not None:
             content.append(text)

@@ -35,7 +35,7 @@ class Code(NamedTuple):
 
 
 class States(NamedTuple):
-    """The report of `lw states` on a test."""
+    """The list of the report of `lw states` on a test, and how often the condition holds there."""
 
     test: str
 
@@ -78,8 +78,9 @@ SLIDES: list[Slide] = [
     ]),
     ("All that interleaving can do", [
         States("A1-turns"),
+        Words("Never 0 3: the end that we ask about is none of the three states."),
         Words("Some load is the last statement of all. By then both stores are done, so it finds a 1."),
-        Note("No is the verdict: no run ends this way. That is a proof for all runs, since the list is complete."),
+        Note("Never is the verdict: no run ends this way. That is a proof for all runs, since the list is complete."),
     ]),
     ("Predict", [
         Code("A2"),
@@ -109,6 +110,7 @@ SLIDES: list[Slide] = [
     ]),
     ("The same program on x86", [
         States("A1"),
+        Words("Sometimes 1 3: the end that we ask about is one of the four states."),
         Words("One state more than by interleaving. The program lists all states and no others; that is proved."),
         Note("After the tasks. Compare with slide 3."),
     ]),
@@ -165,7 +167,7 @@ def draw_film(part: Film, text: bytes) -> str:
         for thread in state["threads"]:
             if "lines" in thread:
                 thread["lines"] = []
-    return make_figure(part, "state", picture.draw_film_state(film, len(film["events"])))
+    return make_figure(part, "state", picture.draw_film_state(film, len(film["events"])).replace(">content<", ">memory<"))
 
 
 def draw_graph(part: Graph, text: bytes) -> str:
@@ -174,6 +176,13 @@ def draw_graph(part: Graph, text: bytes) -> str:
     return make_figure(
         part, "graph", graph.draw_execution(executions.make_execution(test, part.schedule), f"{part.test}, the execution of {part.schedule}")
     )
+
+
+def shorten_report(report: str) -> str:
+    """Returns the lines of a report that list the states, and the line `Observation`, which says how often the condition holds. The other lines
+    need the words of docs/FORMAT.md: a reader takes `Allowed`, a kind of question, for the verdict.
+    """
+    return "".join(it for it in report.splitlines(keepends=True) if it.startswith(("States ", "Observation ")) or it.endswith(";\n"))
 
 
 def render_part(part: Part, tests: dict[str, bytes]) -> str:
@@ -186,7 +195,7 @@ def render_part(part: Part, tests: dict[str, bytes]) -> str:
     if isinstance(part, Code):
         return f'<pre data-kind="code" data-test="{part.test}">{escape(text.decode(), quote=False)}</pre>\n'
     if isinstance(part, States):
-        report = films.ask_program(["states"], text)
+        report = shorten_report(films.ask_program(["states"], text))
         return f'<pre data-kind="states" data-test="{part.test}">{escape(report, quote=False)}</pre>\n'
     return draw_film(part, text) if isinstance(part, Film) else draw_graph(part, text)
 
