@@ -8,7 +8,7 @@ const TERMS = [
   ["drain", "the oldest entry of a store buffer goes to memory; in a schedule `D0` is a drain of P0, and `P0` its next instruction"],
   ["final state", "what the registers and locations that the test asks about have when all threads and buffers are done"],
   ["condition", "what the test asks about a final state. `exists`: can a run end this way; `~exists`: can none; `forall`: does every run"],
-  ["fence", "`MFENCE`: waits until the own store buffer is empty. The locked instructions, `XCHG` and `LOCK XADD`, wait for this too"],
+  ["fence", "`MFENCE`: waits until the own store buffer is empty, as the locked instructions `XCHG` and `LOCK XADD` do"],
   ["interleaving", "the threads take turns on one memory, without store buffers"],
   ["arrows of a graph", "`po`: program order; `rf`: a read has its word from that write; `co`: that write comes later to the same location; `fr`: " +
     "that write comes after the one that was read. They run from what comes before"],

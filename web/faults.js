@@ -151,6 +151,11 @@ function missingThread({ token, after, text }) {
   return `There is no thread ${token}: the test has ${threads}.`;
 }
 
+/** Returns whether a text ends within the initial values. */
+function isInBlock(text) {
+  return text.lastIndexOf("{") > text.lastIndexOf("}");
+}
+
 /**
  * Returns that a question is written as in another notation, if that is so; or "".
  * @param {Place} place
@@ -159,8 +164,7 @@ function missingThread({ token, after, text }) {
 function otherNotation(place) {
   const { token, text, index } = place;
   const front = text.slice(0, index);
-  const isInBlock = /\{[^}]*$/.test(front);
-  if (questionIn(`${front} `) === null && !isInBlock) return "";
+  if (questionIn(`${front} `) === null && !isInBlock(front)) return "";
   const thread = /\bP(\d)\s*$/i.exec(front);
   const register = /^:\s*([A-Za-z]\w*)(?=\s*[=;])/.exec(text.slice(index));
   if (thread && register) {
@@ -172,7 +176,7 @@ function otherNotation(place) {
   if (token === "=" && front.endsWith("=")) return `A question compares with one \`=\`.${place.propose("=", index - 1)}`;
   const connective = Object.hasOwn(CONNECTIVES, token.toLowerCase()) && CONNECTIVES[token.toLowerCase()];
   if (!connective) return "";
-  if (isInBlock) return `Initial values have a \`;\` between them.${place.propose(";")}`;
+  if (isInBlock(front)) return `Initial values have a \`;\` between them.${place.propose(";")}`;
   return `In a question, and is \`/\\\`, or is \`\\/\`, not is \`~\`.${place.propose(connective)}`;
 }
 
@@ -190,7 +194,7 @@ function firstWord(place) {
 
 /** Returns that the initial values have no end, if that is so; or "". */
 function openBlock({ text }) {
-  return /\{[^}]*$/.test(withoutComments(text)) ? "The initial values lack a `}` at their end." : "";
+  return isInBlock(withoutComments(text)) ? "The initial values lack a `}` at their end." : "";
 }
 
 /** Returns that a constant is negative or no whole number, if that is so; or "". */
@@ -205,12 +209,10 @@ function badConstant({ text, index }) {
  * @returns {string}
  */
 export function endOfRowBefore({ row }, text) {
-  const [rows] = withoutComments(text).split(/~?\s*\b(?:exists|forall|locations|filter)\b/);
-  const lines = rows.split("\n").slice(0, row - 1);
-  const last = lines.findLastIndex((it) => it.trim());
-  const begin = lines.findIndex((it) => /^\s*P0\b/.test(it));
-  if (begin < 0 || last < begin || /;|\(\*|\*\)/.test(lines[last]) || misspeltQuestion(text)) return "";
-  return `Line ${last + 1} has no \`;\` at its end: perhaps that is the fault. `;
+  const front = withoutComments(text).split("\n", row - 1).join("\n");
+  const rows = front.split(/~?\s*\b(?:exists|forall|locations|filter)\b/)[0].trimEnd();
+  if (!/^\s*P0\b/m.test(rows) || /(?:;|\(\*|\*\)).*$/.test(rows) || misspeltQuestion(text)) return "";
+  return `Line ${rows.split("\n").length} has no \`;\` at its end: perhaps that is the fault. `;
 }
 
 /** Returns that a text is empty, and proposes a small test in its place, if that is so; or "". */

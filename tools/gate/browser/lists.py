@@ -72,7 +72,7 @@ class FirstView(PageCase):
         self.assertIn("The program, its sources and its proof are in the repository that ", user.text("#about-dialog .origin"))
         terms = user.texts("#about-dialog dt")
         self.assertTrue("store buffer" in terms and "global happens-before" in terms)
-        fence = "MFENCE: waits until the own store buffer is empty. The locked instructions, XCHG and LOCK XADD, wait for this too"
+        fence = "MFENCE: waits until the own store buffer is empty, as the locked instructions XCHG and LOCK XADD do"
         self.assertEqual(fence, user.texts("#about-dialog dd")[terms.index("fence")])
         user.press(user.keys.ESCAPE)
         self.assertSoon([], lambda: user.all("#about-dialog"))
