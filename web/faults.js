@@ -257,7 +257,7 @@ function formOfX86(place) {
   if (token === "=" || token === ":=") return "The operands of an instruction have a comma between them: `MOV [x],$1`.";
   if (token === "[" && before.includes("[")) return "An instruction has one location at most: load it into a register first.";
   if (ONE_OPERAND.test(before) && /^[[$\w]/.test(token)) {
-    const [rest] = /^[^|;\n]*\b\]?/.exec(text.slice(index));
+    const rest = text.slice(index).split(/[|;\n]/, 1)[0].trimEnd();
     const proposal = place.propose(`${before},${rest}`, text.lastIndexOf(before, index), index + rest.length);
     return `The operands of an instruction have a comma between them.${proposal}`;
   }

@@ -175,8 +175,8 @@ async function loadPage() {
     for (const name of names) fs.copyFileSync(`${HOME}/web/${name}`, `${room}/${name}`);
     const load = (name) => import(pathToFileURL(`${room}/${name}.js`).href);
     const parts = [
-      "aligned", "condition_words", "differences", "faults", "fence_edit", "finding", "module", "nearest", "program", "questions", "replays", "seen_here",
-      "served", "slips", "verdicts",
+      "aligned", "condition_words", "differences", "faults", "fence_edit", "finding", "module", "nearest", "program", "questions", "replays",
+      "seen_here", "served", "slips", "verdicts",
     ];
     const loaded = await Promise.all(parts.map(load));
     return Object.fromEntries(parts.map((name, at) => [name, loaded[at]]));
@@ -650,6 +650,7 @@ const HINTS = [
   ["EAX,[x]", "EAX [x]", NO_COMMA, undefined, "MOV EAX,[x]"],
   ["[x],$1", "[x] $1", NO_COMMA, undefined, "MOV [x],$1"],
   ["[y],EAX", "[y] EAX", NO_COMMA, undefined, "XCHG [y],EAX"],
+  ["EAX,[x]", "EAX [", NO_COMMA, undefined, "MOV EAX,["],
   ["MOV EAX,[x]", "ADD EAX,[x]", "Only `MOV`, `XCHG` and `LOCK XADD` take a location.", undefined, undefined],
   ["$1", "$-1", NO_CONSTANT, undefined, undefined],
   ["$1", "1.5", NO_CONSTANT, undefined, undefined],

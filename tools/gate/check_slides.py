@@ -3,8 +3,8 @@
     python3 tools gate.check_slides
 
 - There are twelve slides, each with a title of its own; the page names no other site and loads nothing; the same sources give the same bytes.
-- What is shown of a test is what the program says of it: each list is that of its report, with the verdict, and each picture of the machine has the registers,
-  the store buffers and the words of its replay. An execution's loads have the words that the replay ends with.
+- What is shown of a test is what the program says of it: each list is that of its report, with the verdict, and each picture of the
+  machine has the registers, the store buffers and the words of its replay. An execution's loads have the words that the replay ends with.
 - The slides are in the order of the timetable. Before the tasks none shows a test of tasks 2 to 4, except the text of A1 and A2 and the
   list of A1 by turns, and no picture shows cache lines. Slide and sheet ask the same.
 - In Chromium, if it is there with its driver and python3-selenium: keys and clicks lead from slide to slide, a key shows notes, and each is a
