@@ -2,7 +2,7 @@
 ghost use Rattle.std.specs.Prelude.{◌≡◌, ◌↔◌, [], ◌∷◌, ◌++◌, ◌<◌, ◌==◌, ℕ, length, OnOk, OnErr, IfOk, IsTrue, MatchOption, Contains, Some, slice_get};
 ghost use Rattle.std.specs.Prelude.{IsPermutation};
 ghost use Rattle.lw_base.specs.Outcomes.{FinalState};
-ghost use Rattle.lw_outcome_map.specs.Listings.{OutcomeEntries, outcomes_of, schedules_of, IsStrictlySorted};
+ghost use Rattle.lw_outcome_map.specs.Listings.{InsertsOutcome, OutcomeEntries, outcomes_of, schedules_of, IsStrictlySorted};
 
 use indexmap::IndexMap;
 use lw_base::{Event, Outcome, Sequence};
@@ -67,6 +67,17 @@ impl<A: Allocator, K: Drop> OutcomeMap<A, K> {
         let mut found = self.found;
         found.sort_unstable_keys()?;
         Ok(Listing { found })
+    }
+}
+
+impl<A: Allocator> OutcomeMap<A, ()> {
+    /// Inserts an outcome without a value, unless the map has it. If memory runs out, the map is unchanged.
+    pub fn insert(&mut self, outcome: Outcome<A>) -> Result<(), AllocError>
+        ensures inserted { OnOk result (InsertsOutcome self.old outcome self.new) }
+        ensures err { OnErr result (self.new ≡ self.old) }
+    {
+        self.found.insert(outcome, ())?;
+        Ok(())
     }
 }
 

@@ -1,13 +1,12 @@
 -- Sets of accesses as bits: what a set has after an access is added, and after two sets are joined. Lemmas for `accesses.rt`.
-use Rattle.lw_search.proofs.Common.{◌≡◌, ◌≢◌, ◌∙◌, ◌+◌, ◌*◌, ◌%◌, ◌^◌, ◌<◌, ◌≤◌, ◌||◌, ℕ, Bool, true, false}
-use Rattle.lw_search.proofs.Common.{inl, inr, sym, ap, subst, arith, zero, suc, cases_eq, cases_lt, List}
-use Rattle.lw_search.proofs.Common.{length, slice_get, same_Some, Some, Instr, location_of, x86_operation}
-use Rattle.lw_search.proofs.Common.{writes, access_bit, Lacks, HasConflictsBetween, w32, bit_or, bit_at}
-use Rattle.lw_search.proofs.Common.{bit_at_or, bit_at_set_same, bit_at_set_other, bit_at-lt, and_pow, one_shl}
-use Rattle.lw_search.proofs.Common.{pow_pos, bit_and, nat_eq, unsigned_Decides, refl, Outlook, Outlooks}
-use Rattle.lw_search.proofs.Common.{Processor, [], ◌∷◌, ◌++◌, take, if◌then◌else◌, slice_get-append_cases}
-use Rattle.lw_search.proofs.Common.{DescribeRows, DescribeThread, length-append, length-take-le, slice_set}
-use Rattle.lw_search.proofs.Common.{get-set_same, get-set_other, le-max_left, le-max_right, slice_get_within}
+use Rattle.lw_search.proofs.Common.{◌≡◌, ◌∙◌, ◌+◌, ◌*◌, ◌%◌, ◌^◌, ◌<◌, ◌≤◌, ℕ, Bool, true, false, inl, inr}
+use Rattle.lw_search.proofs.Common.{sym, ap, subst, arith, zero, suc, cases_eq, List, length, slice_get, Some}
+use Rattle.lw_search.proofs.Common.{Instr, access_bit, Lacks, w32, bit_or, bit_at, bit_at_or, bit_at_set_same}
+use Rattle.lw_search.proofs.Common.{bit_at_set_other, bit_at-lt, and_pow, one_shl, pow_pos, bit_and, nat_eq}
+use Rattle.lw_search.proofs.Common.{unsigned_Decides, refl, Outlook, Outlooks, Processor, [], ◌∷◌, ◌++◌, take}
+use Rattle.lw_search.proofs.Common.{if◌then◌else◌, slice_get-append_cases, DescribeRows, DescribeThread}
+use Rattle.lw_search.proofs.Common.{length-append, length-take-le, slice_set, get-set_same, get-set_other}
+use Rattle.lw_search.proofs.Common.{le-max_left, le-max_right, slice_get_within}
 
 -- A set without an access that one more is added to lacks it still: the set before lacked it.
 pub Lacks-before : (set k x : ℕ) (w : Bool) → k < 32 → Lacks (bit_or set (1 * 2 ^ k % 4294967296)) x w → Lacks set x w

@@ -10,10 +10,10 @@ use Rattle.lw_search.proofs.Common.{list_all_zip-at_index, RunsTo-append, get_or
 use Rattle.lw_search.proofs.Common.{get_or_from_slice_get, get_or_past, Event, flat_memory, Instr, Processor}
 use Rattle.lw_search.proofs.Common.{MachineTransition, MachineRunsTo, has_terminated, is_final, FinalState}
 use Rattle.lw_search.proofs.Common.{All, machine_outcome, Contains, Contains-append_left, Contains-push}
-use Rattle.lw_search.proofs.Common.{All-push, take-suc, OutcomesWith, outcomes_of, Origin, State, Components}
-use Rattle.lw_search.proofs.Common.{Visited, Represents, events_of, SearchInvariant, ReportsThreadEnd}
-use Rattle.lw_search.proofs.Common.{LeadsTo, ReachesIndex, CollectsState, CollectsAll, events_at}
-use Rattle.lw_search.proofs.Common.{All-permutation, IsPermutation, Contains-permuted_outcomes}
+use Rattle.lw_search.proofs.Common.{All-push, take-suc, outcomes_of, Origin, State, Components, Visited}
+use Rattle.lw_search.proofs.Common.{Represents, events_of, SearchInvariant, ReportsThreadEnd, LeadsTo}
+use Rattle.lw_search.proofs.Common.{ReachesIndex, CollectsState, CollectsAll, events_at, All-permutation}
+use Rattle.lw_search.proofs.Common.{IsPermutation, Contains-permuted_outcomes}
 use Rattle.lw_search.proofs.Start.{length-past}
 
 -- The item of a loop over a list is the list's at the loop's index.

@@ -64,10 +64,10 @@ pub use Rattle.lw_tso.proofs.api.Neighbours.{EventsCommute-independent, position
 pub use Rattle.lw_tso.proofs.api.Operations.{Buffers, OperationTransition, OperationTransition-of_effect}
 pub use Rattle.lw_tso.proofs.api.Operations.{accessed_location-of_operation}
 pub use Rattle.lw_outcome_map.proofs.api.Listings.{Contains-permuted_outcomes}
-pub use Rattle.lw_outcome_map.specs.Listings.{OutcomeEntries, OutcomesWith, outcomes_of}
+pub use Rattle.lw_outcome_map.specs.Listings.{InsertsOutcome, OutcomeEntries, OutcomesWith, outcomes_of}
 pub use Rattle.lw_tso_caches.proofs.api.CompleteLists.{HasOutcomeShape-of_compiled, IsListedOutcome-of_source}
 pub use Rattle.lw_tso_caches.proofs.api.CompleteLists.{on_machine, without_evictions-flat_run}
-pub use Rattle.lw_tso_caches.specs.CompleteLists.{AreAllOutcomes, IsComplete}
+pub use Rattle.lw_tso_caches.specs.CompleteLists.{IsComplete}
 pub use Rattle.lw_tso_caches.specs.OverCaches.{OutcomeOverCaches, ReplaysToOverCaches}
 pub use Rattle.lw_search.specs.Reachability.{AreReachable, ExceedsBudget, IsReachable, Visits}
 pub use Rattle.lw_search.specs.declared.accesses.Outlook.{Outlook}
@@ -88,11 +88,11 @@ pub use Rattle.lw_search.specs.inner.Invariant.{SearchInvariant, Settled, Settle
 pub use Rattle.lw_search.specs.inner.InvisibleEvents.{IsForward, IsInvisible, IsUncontended, NeverConflicts}
 pub use Rattle.lw_search.specs.inner.InvisibleEvents.{drain_access, event_access, operation_access}
 pub use Rattle.lw_search.specs.inner.InvisibleEvents.{step_access}
-pub use Rattle.lw_search.specs.inner.ObservedStates.{AddsOutcome, AreObserved, HasWords, InsertsObserved}
-pub use Rattle.lw_search.specs.inner.ObservedStates.{InsertsOutcome, ObservedWords, ObservesState}
+pub use Rattle.lw_search.specs.inner.ObservedStates.{AreObserved, InsertsObserved, InsertsWords}
+pub use Rattle.lw_search.specs.inner.ObservedStates.{ObservedWords, ObservesState}
 pub use Rattle.lw_search.specs.inner.StateKeys.{AppendsOrigin, AreDistinct, Components, Extends, InsertsKey}
 pub use Rattle.lw_search.specs.inner.StateKeys.{IsPrefix, Represents, RepresentsOthers, RepresentsThreads}
 pub use Rattle.lw_search.specs.inner.StateKeys.{State, Visited, event_of, events_of, set_thread}
 pub use Rattle.lw_search.specs.inner.ThreadStates.{ActResult}
-pub use Rattle.lw_search.specs.inner.Transitions.{AppendsRows, AreTransitions, Caches, CopiesRow}
-pub use Rattle.lw_search.specs.inner.Transitions.{IsNeverEnabled, IsTransition}
+pub use Rattle.lw_search.specs.inner.Transitions.{AppendsRows, AreTransitions, CopiesRow, IsNeverEnabled}
+pub use Rattle.lw_search.specs.inner.Transitions.{IsTransition}

@@ -2,11 +2,11 @@
 -- The main theorem of this crate, from AllFound.
 use Rattle.lw_search.proofs.Common.{IsFinished, ContainsAgreeing, AreSame, IsScheduleOf, ◌≡◌, ◌↔◌, List, []}
 use Rattle.lw_search.proofs.Common.{◌∷◌, length, refl, sym, subst, inl, inr, All, Event, FinalState}
-use Rattle.lw_search.proofs.Common.{flat_memory, ReplaysTo, IsMachineOutcome, AreAllOutcomes}
-use Rattle.lw_search.proofs.Common.{initial_machine_state, without_evictions, X86Test, Contains, All-weaker}
-use Rattle.lw_search.proofs.Common.{All-contains, not-Contains-nil, Contains-head, Contains-tail}
-use Rattle.lw_search.proofs.Common.{Contains-cons, IsListedOutcome, OutcomeEntries, OutcomesWith, outcomes_of}
-use Rattle.lw_search.proofs.Common.{Mesi, Protocol, ReplaysToOverCaches, OutcomeOverCaches}
+use Rattle.lw_search.proofs.Common.{flat_memory, ReplaysTo, IsMachineOutcome, initial_machine_state}
+use Rattle.lw_search.proofs.Common.{without_evictions, X86Test, Contains, All-weaker, All-contains}
+use Rattle.lw_search.proofs.Common.{not-Contains-nil, Contains-head, Contains-tail, Contains-cons}
+use Rattle.lw_search.proofs.Common.{IsListedOutcome, OutcomeEntries, OutcomesWith, outcomes_of, Mesi}
+use Rattle.lw_search.proofs.Common.{Protocol, ReplaysToOverCaches, OutcomeOverCaches}
 use Rattle.lw_search.proofs.Common.{without_evictions-flat_run, State, Components, Visited, SearchInvariant}
 use Rattle.lw_search.proofs.Common.{CollectsAll, LeadsTo, HasOutcomeShape, All-map, IsComplete, ListsAgreeing}
 use Rattle.lw_search.proofs.AllFound.{final_state-found}
@@ -112,7 +112,7 @@ module _ (test : X86Test)
       let has : (o : FinalState) → IsMachineOutcome flat_memory test test.head.init_words o → Contains (outcomes_of entries) o =
       λ o m. (let p = lists.covered o m in subst (Contains (outcomes_of entries)) p.2 p.1) in
       record {
-        all = record {
+        has_all_outcomes = record {
           exactly = λ o. (lists.reached o, has o);
           over_caches =
               λ protocol o. (λ c. (lists.flat protocol o).1 (lists.reached o c), λ over. has o ((lists.flat protocol o).0 over));

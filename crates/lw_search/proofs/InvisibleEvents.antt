@@ -432,8 +432,8 @@ module _ (program : List (List Instr)) (forward : IsForward program) where
 
         x : (other : State) × TransitionAt flat_memory program e k.0 s other × TransitionAt flat_memory program f j.0 other z.0
         x =
-            EventsCommute-independent program f e s independent j.0 k.0 mid z.0 (record { stands = j.1; done = done })
-            (record { stands = k.1; done = z.1 })
+            EventsCommute-independent program f e s independent j.0 k.0 mid z.0 (record { is_at_position = j.1; done = done })
+            (record { is_at_position = k.1; done = z.1 })
 
         once : x.0 ≡ first
         once = (MachineTransition-deterministic program e s x.0 first (Ok tt) (Ok tt) x.1.done enabled).1

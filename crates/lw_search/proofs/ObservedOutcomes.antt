@@ -1,13 +1,13 @@
 -- The states that a report shows: an outcome is kept for each list of words that a final state has for some names. The words of the kept
 -- outcomes are those of all final states that were looked at.
-use Rattle.lw_search.proofs.Common.{Register, zero, same_Some, Processor, slice_index, get_or_from_slice_get}
-use Rattle.lw_search.proofs.Common.{ObservesState, take, final_word, ap₂, map, take-suc, Bool, List}
+use Rattle.lw_search.proofs.Common.{not, true≢false, Register, zero, same_Some, Processor, slice_index}
+use Rattle.lw_search.proofs.Common.{get_or_from_slice_get, ObservesState, take, final_word, map, Bool, List}
 use Rattle.lw_search.proofs.Common.{if◌then◌else◌, ◌++◌, ◌∷◌, [], ℕ, slice_get, Some, ◌⊎◌, true, inl, ap, sym}
 use Rattle.lw_search.proofs.Common.{◌∙◌, false, slice_get-append_cases, inr, OutcomesWith, FinalState}
-use Rattle.lw_search.proofs.Common.{AddsOutcome, Contains, outcomes_of, subst, map-append, Contains-push}
+use Rattle.lw_search.proofs.Common.{InsertsOutcome, Contains, outcomes_of, subst, map-append, Contains-push}
 use Rattle.lw_search.proofs.Common.{Contains-append_left, All, All-push, Seen, Instr, Components, Visited}
 use Rattle.lw_search.proofs.Common.{ObservedWords, State, Represents, length, IsTrue, is_final, final_words}
-use Rattle.lw_search.proofs.Common.{machine_outcome, flat_memory, HasWords, InsertsObserved, suc, arith}
+use Rattle.lw_search.proofs.Common.{machine_outcome, flat_memory, InsertsWords, InsertsObserved, suc, arith}
 use Rattle.lw_search.proofs.Common.{LeadsTo, IsOfSomeRun, SearchInvariant, ◌<◌, slice_get_within}
 use Rattle.lw_search.proofs.Common.{slice_get-in_range, AreObserved, ContainsWordsOf, All-nil, ◌+◌, cases_lt}
 use Rattle.lw_search.proofs.Common.{◌≤◌, IsPermutation, CollectsAll, HaveSameWords}
@@ -55,9 +55,18 @@ words-inserted false ks new k e i other at = elim (slice_get-append_cases ks k o
   | inr last ↦ inr (sym last.1)
 ]
 
+-- Inserting a list of words that is not new changes nothing.
+pub words-unchanged : {X : Type 0} (found is_new : Bool) (ks new : List X) (k : X)
+    → is_new ≡ not found
+    → is_new ≡ false
+    → new ≡ (if found then ks else (ks ++ k ∷ []))
+    → new ≡ ks
+words-unchanged true is_new ks new k says known e = e
+words-unchanged false is_new ks new k says known e = absurd (true≢false (sym says ∙ known))
+
 -- After an insertion the outcome is among the others, which are kept.
 pub Contains-inserted_outcome : (old new : OutcomesWith (Unit {0})) (o : FinalState)
-    → AddsOutcome old o new
+    → InsertsOutcome old o new
     → Contains (outcomes_of new) o
 Contains-inserted_outcome old new o (inl there) = subst (λ es. Contains (outcomes_of es) o) (sym there.1) there.0
 Contains-inserted_outcome old new o (inr grown) =
@@ -65,7 +74,7 @@ Contains-inserted_outcome old new o (inr grown) =
 
 -- An insertion preserves the outcomes that are listed.
 pub outcomes-kept : (old new : OutcomesWith (Unit {0})) (o p : FinalState)
-    → AddsOutcome old o new
+    → InsertsOutcome old o new
     → Contains (outcomes_of old) p
     → Contains (outcomes_of new) p
 outcomes-kept old new o p (inl there) has = subst (λ es. Contains (outcomes_of es) p) (sym there.1) has
@@ -75,7 +84,7 @@ outcomes-kept old new o p (inr grown) has =
 
 -- What holds of the old entries and of the new one holds of all.
 pub All-inserted_entries : (P : FinalState × Unit {0} → Type 0) (old new : OutcomesWith (Unit {0})) (o : FinalState)
-    → AddsOutcome old o new
+    → InsertsOutcome old o new
     → All P old
     → P (o, tt)
     → All P new
@@ -99,23 +108,32 @@ module _ (names : List Seen) (program : List (List Instr)) (tables : Components)
   }
 
   -- The words of the state at an index are observed already, so nothing changes.
-  pub observes-known : (at : ℕ) (key words : List ℕ) (observed : ObservedWords)
+  pub observes-known : (at : ℕ) (key words : List ℕ) (is_new : Bool) (old new : ObservedWords)
       → slice_get visited.keys at ≡ Some key
       → ((s : State)
       → Represents tables key s
       → length s.processors ≡ length program
       → words ≡ final_words names (machine_outcome flat_memory s))
-      → HasWords observed words
-      → ObservesState names program tables visited at observed observed
-  observes-known at key words observed keyed are_words has = record {
-    observed = λ start found closed invariant are. are;
-    covered = λ start found closed s invariant are stood final.
-        let is = are_words s (invariant.represents at key s keyed stood) (invariant.thread_count at s stood) in
-        let p = are has.0 words has.1 in
-        (p.0, p.1, p.2 ∙ is);
-    kept = λ p c. c;
-    lead = λ start found closed invariant all. all;
-  }
+      → InsertsWords old words is_new new
+      → is_new ≡ false
+      → ObservesState names program tables visited at old new
+  observes-known at key words is_new old new keyed are_words inserts known =
+      let has = inserts.known known in
+      let listed : (p : FinalState) → Contains (outcomes_of old.outcomes) p → Contains (outcomes_of new.outcomes) p =
+      λ p c. subst (λ es. Contains (outcomes_of es) p) (sym inserts.outcomes) c in
+      record {
+        observed = λ start found closed invariant are i others there. elim (inserts.words_are i others there) [
+          | inl before ↦ let p = are i others before in (p.0, listed p.0 p.1, p.2)
+          | inr last ↦ let p = are has.0 words has.1 in (p.0, listed p.0 p.1, p.2 ∙ sym last)
+        ];
+        covered = λ start found closed s invariant are stood final.
+            let is = are_words s (invariant.represents at key s keyed stood) (invariant.thread_count at s stood) in
+            let p = are has.0 words has.1 in
+            (p.0, listed p.0 p.1, p.2 ∙ is);
+        kept = listed;
+        lead = λ start found closed invariant all.
+            subst (λ es. All (LeadsTo IsOfSomeRun program start) es) (sym inserts.outcomes) all;
+      }
 
   -- The outcome of the state at an index is inserted, with its words.
   pub observes-new : (at : ℕ) (key words : List ℕ) (o : FinalState) (old new : ObservedWords)

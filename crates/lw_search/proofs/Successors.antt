@@ -8,7 +8,7 @@ use Rattle.lw_search.proofs.Common.{slice_get_past, same_Some, slice_get_within,
 use Rattle.lw_search.proofs.Common.{get_or_from_slice_get, Event, Step, Drain, Evict, flat_memory, Instr}
 use Rattle.lw_search.proofs.Common.{Processor, cpu_of, MachineTransition, MachineRunsTo, Bool, true, false}
 use Rattle.lw_search.proofs.Common.{Operation, operation_effect, x86_operation, Ended, Refused, event_effect}
-use Rattle.lw_search.proofs.Common.{step_effect, Stop, state, EffectLeadsTo, EventOccurrence}
+use Rattle.lw_search.proofs.Common.{step_effect, Stop, EffectLeadsTo, EventOccurrence}
 use Rattle.lw_search.proofs.Common.{EventOccurrence-of_event, MachineTransition-deterministic}
 use Rattle.lw_search.proofs.Common.{not-EffectLeadsTo-evict_event, slice_get-append_cases, get-append_middle}
 use Rattle.lw_search.proofs.Common.{Origin, State, Components, Visited, Extends, Represents, IsPrefix}

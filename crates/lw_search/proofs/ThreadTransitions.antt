@@ -1,16 +1,14 @@
 -- Transitions of threads that were computed once: what they are, that larger tables keep them, and that the state to which one leads is
 -- found. Lemmas for `transitions.rt` and for the functions of `search.rt` that take events.
-use Rattle.lw_search.proofs.Common.{◌≡◌, ◌≢◌, ℕ, zero, suc, ◌+◌, ◌<◌, ◌⊎◌, inl, inr, Bool, true, false}
-use Rattle.lw_search.proofs.Common.{Option, Some, None, Ok, List, [], ◌∷◌, length, refl, sym, ap, ◌∙◌, subst}
-use Rattle.lw_search.proofs.Common.{arith, slice_get, slice_set, slice_index, same_Some, slice_get_within}
-use Rattle.lw_search.proofs.Common.{slice_get-in_range, cases_eq, get-set_same, get-set_other, if◌then◌else◌}
-use Rattle.lw_search.proofs.Common.{Instr, Processor, Event, Step, Drain, flat_memory, MachineTransition}
-use Rattle.lw_search.proofs.Common.{cpu_of, event_effect, EffectLeadsTo, EffectLeadsTo-if_done}
-use Rattle.lw_search.proofs.Common.{MachineTransition-of_effect, state, ActResult, Stop, Refused, State}
-use Rattle.lw_search.proofs.Common.{Components, Visited, Extends, Represents, IsPrefix, InsertsKey, event_of}
-use Rattle.lw_search.proofs.Common.{events_of, set_thread, IsCovered, SearchInvariant, Expansion}
+use Rattle.lw_search.proofs.Common.{◌≡◌, ◌≢◌, ℕ, suc, ◌+◌, ◌<◌, inl, inr, Bool, true, false, Option, Some}
+use Rattle.lw_search.proofs.Common.{None, Ok, List, [], ◌∷◌, length, refl, sym, ap, ◌∙◌, subst, slice_get}
+use Rattle.lw_search.proofs.Common.{slice_set, slice_index, same_Some, slice_get_within, slice_get-in_range}
+use Rattle.lw_search.proofs.Common.{Instr, Processor, flat_memory, MachineTransition, cpu_of, event_effect}
+use Rattle.lw_search.proofs.Common.{EffectLeadsTo, EffectLeadsTo-if_done, MachineTransition-of_effect, state}
+use Rattle.lw_search.proofs.Common.{ActResult, State, Components, Visited, Extends, Represents, IsPrefix}
+use Rattle.lw_search.proofs.Common.{InsertsKey, event_of, events_of, set_thread, IsCovered, SearchInvariant}
 use Rattle.lw_search.proofs.Common.{ExpandsState, Settles, SettlesFrom, IsLoaded, IsWorking, Successor}
-use Rattle.lw_search.proofs.Common.{Transition, CopiesRow, Caches, AppendsRows, IsTransition, AreTransitions}
+use Rattle.lw_search.proofs.Common.{Transition, CopiesRow, AppendsRows, IsTransition, AreTransitions}
 use Rattle.lw_search.proofs.Common.{IsNeverEnabled, HasConflictsOfOthers}
 use Rattle.lw_search.proofs.Settling.{settles_from-loaded, settles_from-trans}
 use Rattle.lw_search.proofs.Successors.{IsCovered-after_event, cpu_of-event, invariant-extended}

@@ -255,6 +255,11 @@ pub(crate) fn outlooks_of<A: Allocator>(program: &Program<A>, thread: &ThreadSta
 }
 
 impl Outlooks {
+    /// Threads that have no event.
+    pub(crate) const NONE: Outlooks = Outlooks {
+        threads: [Outlook::NONE; 4],
+    };
+
     /// Returns what conflicts with the threads but one, now or later.
     pub(crate) fn conflicts_with_others(&self, cpu: Cpu) -> Conflicts
         ensures { (program : List (List Instr)) (s : State) → DescribeState program s self.now.threads → HasConflictsOfOthers program s cpu result }

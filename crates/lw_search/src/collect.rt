@@ -117,8 +117,8 @@ fn push_events<A: Allocator>(run: &[RunEvent], events: &mut Vec<Event, A>) -> Re
     Ok(())
 }
 
-/// Appends a schedule that leads from the start to a state. The start, which is its own parent, needs none; no other state has a parent
-/// that was not found before it.
+/// Appends a schedule that leads from the start to a state. The start, which is its own parent, needs none; the parent of every other state
+/// was found before that state.
 fn push_schedule<A: Allocator>(
     states: &StateTable<A>,
     index: usize,

@@ -1,5 +1,5 @@
 //! What a report shows of the final states of a search: one outcome for each list of words that the observed names have there.
-ghost use Rattle.std.specs.Prelude.{◌≡◌, ◌<◌, [], true, ℕ, length, IfOk, OnOk};
+ghost use Rattle.std.specs.Prelude.{◌≡◌, ◌<◌, [], ℕ, length, IfOk, OnOk};
 ghost use Rattle.lw_base.specs.FinalWords.{final_word, final_words};
 ghost use Rattle.lw_base.specs.declared.head.Seen.TheVariants.{Location, Register};
 ghost use Rattle.lw_memory.specs.Flat.{flat_memory};
@@ -7,7 +7,7 @@ ghost use Rattle.lw_tso.specs.Runs.{machine_outcome};
 ghost use Rattle.lw_outcome_map.specs.Listings.{IsStrictlySorted};
 ghost use Rattle.lw_search.specs.inner.StateKeys.{State, Represents};
 ghost use Rattle.lw_search.specs.inner.Invariant.{CollectsAll, HaveSameWords, IsOfSomeRun};
-ghost use Rattle.lw_search.specs.inner.ObservedStates.{HasWords, InsertsOutcome, InsertsObserved, ObservesState};
+ghost use Rattle.lw_search.specs.inner.ObservedStates.{InsertsWords, ObservesState};
 
 use crate::collect::{is_final, outcome_of, registers_of};
 use crate::search::Search;
@@ -15,7 +15,7 @@ use crate::states::StateKey;
 use crate::tables::Tables;
 use crate::thread_state::word_at;
 use indexmap::IndexSet;
-use lw_base::{Cpu, Loc, Outcome, Reg, Seen, Sequence, Word};
+use lw_base::{Cpu, Loc, Reg, Seen, Sequence, Word};
 use lw_litmus::Program;
 use lw_outcome_map::{OutcomeList, OutcomeMap};
 use std::alloc::{AllocError, Allocator};
@@ -110,33 +110,12 @@ impl<A: Allocator + Copy> ObservedStates<A> {
         }
     }
 
-    /// Returns whether the set has these words.
-    fn contains(&self, words: &Sequence<Word, A>) -> bool
-        ensures { result ≡ true → HasWords self.now words.now }
+    /// Inserts words without an outcome, unless the set has them. Returns whether they are new.
+    fn insert_words(&mut self, words: Sequence<Word, A>) -> Result<bool, AllocError>
+        ensures { IfOk result (λ is_new. InsertsWords self.old words is_new self.new) }
     {
-        match self.words.get_index_of(words) {
-            Some(_) => true,
-            None => false,
-        }
-    }
-
-    /// Inserts an outcome, unless the set has it, with its words.
-    fn insert(&mut self, words: Sequence<Word, A>, outcome: Outcome<A>) -> Result<(), AllocError>
-        ensures { OnOk result (InsertsObserved self.old words outcome self.new) }
-    {
-        self.insert_outcome(outcome)?;
-        self.words.insert_full(words)?;
-        Ok(())
-    }
-
-    /// Inserts an outcome, unless the set has it.
-    fn insert_outcome(&mut self, outcome: Outcome<A>) -> Result<(), AllocError>
-        ensures { OnOk result (InsertsOutcome self.old outcome self.new) }
-    {
-        if self.outcomes.contains(&outcome) {
-            return Ok(());
-        }
-        self.outcomes.insert_new(outcome, ())
+        let (_, is_new) = self.words.insert_full(words)?;
+        Ok(is_new)
     }
 
     /// Inserts the state at an index of a search, if the state is final and its words of some names are new.
@@ -155,11 +134,12 @@ impl<A: Allocator + Copy> ObservedStates<A> {
             return Ok(());
         }
         let words = words_of(alloc, search.program, &search.tables, &key, names)?;
-        if self.contains(&words) {
+        let is_new = self.insert_words(words)?;
+        if !is_new {
             return Ok(());
         }
         let outcome = outcome_of(alloc, search.program, &search.tables, &key)?;
-        self.insert(words, outcome)
+        self.outcomes.insert(outcome)
     }
 }
 

@@ -26,7 +26,7 @@ use lw_litmus::{Instr, Program, Statement};
 use std::alloc::{AllocError, Allocator};
 
 /// A search: the program, the states that were found, the transitions of threads that were computed, and a working copy of one thread's
-/// state and of the memory, with the run that reached them.
+/// state and of the memory, with the run that reached them, and with what the threads may access then. No contract depends on `outlooks`.
 #[derive(Drop)]
 pub(crate) struct Search<'a, A: Allocator> {
     pub(crate) program: &'a Program<A>,
@@ -36,6 +36,7 @@ pub(crate) struct Search<'a, A: Allocator> {
     thread: ThreadState<A>,
     words: Sequence<Word, A>,
     run: Run<A>,
+    outlooks: Outlooks,
 }
 
 /// Copies the words of a memory.
@@ -202,7 +203,9 @@ impl<'a, A: Allocator + Copy> Search<'a, A> {
             return Ok(*key);
         }
         let thread = self.tables.thread_number(&self.thread)?;
-        Ok(with_numbers(key, key[0], cpu, thread))
+        let next = with_numbers(key, key[0], cpu, thread);
+        self.outlooks = self.outlooks.with(cpu, &self.tables.outlook(&next, cpu));
+        Ok(next)
     }
 
     /// Takes the invisible events of each thread of a key in turn, if it may have any. Returns the key with the threads' numbers.
@@ -216,13 +219,11 @@ impl<'a, A: Allocator + Copy> Search<'a, A> {
             self.old.tables self.new.tables next self.new.words self.old.run self.new.run) }
     {
         let mut next = *key;
-        let mut outlooks = self.tables.outlooks(key);
         let program = self.program;
         for (thread, code) in program.threads.as_slice().iter().enumerate() {
             let cpu = cpu_at(thread);
-            let may_settle = outlooks.may_settle(cpu);
+            let may_settle = self.outlooks.may_settle(cpu);
             next = self.settle_thread(&next, cpu, code.as_slice(), may_settle)?;
-            outlooks = outlooks.with(cpu, &self.tables.outlook(&next, cpu));
         }
         Ok(next)
     }
@@ -242,7 +243,7 @@ impl<'a, A: Allocator + Copy> Search<'a, A> {
         for _ in 0..MOST_ROUNDS {
             let count = self.run.len();
             next = self.settle_in_turn(&next)?;
-            if self.run.len() == count || !self.tables.outlooks(&next).some_may_settle() {
+            if self.run.len() == count || !self.outlooks.some_may_settle() {
                 return Ok(next);
             }
         }
@@ -383,15 +384,26 @@ impl<'a, A: Allocator + Copy> Search<'a, A> {
             .insert(with_memory(&all, memory), row_number(at)?, &self.run)
     }
 
-    /// Returns whether the state to which a transition of a thread leads from a state with these outlooks may have invisible events that are
-    /// enabled. All states but the start are settled, and so is the thread after its transition, so others have become able to settle
-    /// only if the thread's accesses changed. No contract depends on the answer.
-    fn may_settle(&self, at: usize, outlooks: &Outlooks, own: &StateKey, cpu: Cpu) -> bool {
+    /// Returns the outlooks of the state to which a transition of a thread leads from a state with these outlooks, if it may have invisible
+    /// events that are enabled. All states but the start are settled, and so is the thread after its transition, so others have become able
+    /// to settle only if the thread's accesses changed. No contract depends on the answer.
+    fn unsettled(
+        &self,
+        at: usize,
+        outlooks: &Outlooks,
+        own: &StateKey,
+        cpu: Cpu,
+    ) -> Option<Outlooks> {
         let next = self.tables.outlook(own, cpu);
         if at != 0 && outlooks.has_same_conflicts(cpu, &next) {
-            return false;
+            return None;
         }
-        outlooks.with(cpu, &next).some_may_settle()
+        let after = outlooks.with(cpu, &next);
+        if after.some_may_settle() {
+            Some(after)
+        } else {
+            None
+        }
     }
 
     /// Inserts the successor of a state by an event of a thread, after the invisible events that follow, if the event is enabled.
@@ -418,9 +430,10 @@ impl<'a, A: Allocator + Copy> Search<'a, A> {
             return Ok(());
         };
         let own = with_numbers(key, next.memory, cpu, next.thread);
-        if !self.may_settle(at, outlooks, &own, cpu) {
+        let Some(unsettled) = self.unsettled(at, outlooks, &own, cpu) else {
             return self.states.insert_numbered(own, row_number(at)?, next.run);
-        }
+        };
+        self.outlooks = unsettled;
         self.add_settled(at, key, &own, cpu, event, code, conflicts, next)
     }
 
@@ -580,6 +593,7 @@ impl<'a, A: Allocator + Copy> Search<'a, A> {
             thread: ThreadState::new(alloc, [0; REGISTERS]),
             words: Sequence::new(alloc),
             run: Queue::new(alloc),
+            outlooks: Outlooks::NONE,
         };
         search.insert_start(alloc)?;
         Ok(search)

@@ -48,7 +48,7 @@ impl<A: Allocator> Model for TransitionCache<A> {
 }
 
 /// The number of slots of the smallest cache that has any. Like that of each larger cache it is a power of 2.
-const LEAST_SLOTS: usize = 64;
+const LEAST_SLOTS: usize = 4096;
 
 /// The number of slots of the largest cache.
 const MOST_SLOTS: usize = 65536;

@@ -1,7 +1,7 @@
 -- Outcomes as keys of a map: `==` is an equivalence and `cmp` a total order of them, so a sorted list without duplicates is strictly
 -- ascending.
 use Rattle.std.proofs.Common.{◌≡◌, ◌≢◌, ◌↔◌, refl, sym, ap, ◌∙◌, ℕ, Bool, true, false, true≢false, ◌&&◌, ◌<◌}
-use Rattle.std.proofs.Common.{⊎_elim, List, [], ◌∷◌, ◌++◌, nat_eq, get_or, slice_get, position, is_some}
+use Rattle.std.proofs.Common.{◌⊎◌, inl, inr, if◌then◌else◌, ⊎_elim, List, [], ◌∷◌, ◌++◌, nat_eq, get_or, slice_get, position, is_some}
 use Rattle.std.proofs.Common.{Contains, MatchOption, IsTrue, arith, Option, None, Some, IsPermutation}
 use Rattle.std.proofs.Common.{IsSorted, Decides, is_eq, is_lt, nat_cmp, Ordering, Less, Equal, Greater}
 use Rattle.std.specs.List.{IsDistinct}
@@ -22,8 +22,9 @@ use Rattle.std.proofs.lemmas.Option.{slice_get-get_or, slice_get_within, get_or_
 use Rattle.indexmap.specs.IndexMap.{insert_entry}
 use Rattle.indexmap.specs.Layout.{hash_map}
 use Rattle.indexmap.proofs.CallerLemmas.{insert_entry-new}
+use Rattle.lw_base.proofs.api.Members.{Contains-head, Contains-tail}
 use Rattle.lw_base.specs.Outcomes.{FinalState, final_state_cmp}
-use Rattle.lw_outcome_map.specs.Listings.{OutcomesWith, outcomes_of, IsStrictlySorted}
+use Rattle.lw_outcome_map.specs.Listings.{OutcomesWith, outcomes_of, InsertsOutcome, IsStrictlySorted}
 
 -- The test of `==` on outcomes.
 abbrev pub final_eq : FinalState → FinalState → Bool
@@ -110,6 +111,23 @@ insert_entry-appends es fs o s new e =
     e
     ∙ insert_entry-new final_eq (hash_map es (tt {0}) 0) o s
     (None-if_not_some (lookup (final_eq o) es) (λ h. new (Contains-if_lookup es o h)))
+
+-- Of an outcome and the first entry: whether they are the same (b) decides whether the entry stays, or the rest changes.
+InsertsOutcome-cons : (b : Bool) (e : FinalState × Unit {0}) (es new : OutcomesWith (Unit {0})) (o : FinalState)
+    → b ≡ final_eq o e.0
+    → InsertsOutcome es o new
+    → InsertsOutcome (e ∷ es) o (if b then (e.0, tt) ∷ es else e ∷ new)
+InsertsOutcome-cons true e es new o is rest =
+    inl (Contains-head e.0 o (outcomes_of es) (sym ((final_eq-Decides o e.0).0 (sym is))), refl)
+InsertsOutcome-cons false e es new o is (inl there) = inl (Contains-tail e.0 o (outcomes_of es) there.0, ap (λ l. e ∷ l) there.1)
+InsertsOutcome-cons false e es new o is (inr grown) = inr (ap (λ l. e ∷ l) grown)
+
+-- Inserting an outcome without a value changes nothing if it is listed, and appends it otherwise.
+pub insert_entry-InsertsOutcome : (es : OutcomesWith (Unit {0})) (o : FinalState)
+    → InsertsOutcome es o (insert_entry final_eq es o tt)
+insert_entry-InsertsOutcome [] o = inr refl
+insert_entry-InsertsOutcome (e ∷ es) o =
+    InsertsOutcome-cons (final_eq o e.0) e es (insert_entry final_eq es o tt) o refl (insert_entry-InsertsOutcome es o)
 
 -- An outcome that is neither greater than another nor equal to it is less.
 final_state_cmp-Less : (o p : FinalState) (c : Ordering)

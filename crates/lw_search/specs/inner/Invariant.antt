@@ -1,7 +1,6 @@
 -- The invariant of a search. It speaks of a list `found` of machine states that the code does not store: one for each key of the table.
 -- Used only within the crate.
-use Rattle.std.specs.Prelude.{◌≡◌, ◌≢◌, ◌↔◌, ℕ, suc, ◌+◌, ◌<◌, ◌≤◌, ◌==◌, ◌&&◌, Bool, true, false, nat_le, Some, Ok, List, [], ◌++◌, length, slice_get, slice_index, slice_index_or, IsTrue, All, Contains}
-use Rattle.lw_base.specs.Threads.{thread_code}
+use Rattle.std.specs.Prelude.{◌≡◌, ◌↔◌, ℕ, suc, ◌+◌, ◌<◌, ◌≤◌, ◌==◌, ◌&&◌, Bool, true, false, nat_le, Some, Ok, List, [], ◌++◌, length, slice_get, slice_index, slice_index_or, IsTrue, All, Contains}
 use Rattle.lw_base.specs.declared.event.Event.{Event}
 use Rattle.lw_base.specs.declared.event.Event.TheVariants.{Step, Drain}
 use Rattle.lw_base.specs.FinalWords.{final_words}

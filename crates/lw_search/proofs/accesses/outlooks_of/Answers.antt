@@ -12,7 +12,7 @@ loop-index-preserved g c =
     let lt : n < length program = omega (arith, c.loop-index-test.true, ap length c.as_slice-code-items.ensures) in
     let formed = c.args.program.now.well_formed in
     let within : n < length c.loop-index.threads =
-    omega (arith, lt, formed.as_many, formed.head.few, c.loop-index.invariant.size) in
+    omega (arith, lt, formed.as_many, formed.head.bounded, c.loop-index.invariant.size) in
     let coded = slice_get-loop_item program _ n _ c.as_slice-code-items.ensures lt c.code-item.is in
     let at =
     slice_get-loop_item c.loop-index.threads c.loop-index.threads n c.index-threads-index.result refl within

@@ -5,7 +5,7 @@ use Rattle.lw_search.proofs.list.reach_program.Goals as goal
 
 pub returns-clause-exactly : goal.returns-clause-exactly
 returns-clause-exactly g c =
-    IfOk-weaker c.search_schedules.result _ _ (λ s is. is.all.over_caches) c.search_schedules.ensures.complete
+    IfOk-weaker c.search_schedules.result _ _ (λ s is. is.has_all_outcomes.over_caches) c.search_schedules.ensures.complete
 
 pub returns-clause-replays : goal.returns-clause-replays
 returns-clause-replays g c = IfOk-weaker c.search_schedules.result _ _ (λ s is. is.replays) c.search_schedules.ensures.complete

@@ -7,8 +7,8 @@ use Rattle.lw_search.proofs.list.reach_source.Goals as goal
 pub returns-clause-exactly : goal.returns-clause-exactly
 returns-clause-exactly g c =
     IfOk-weaker c.search_schedules.result _ _ (λ s is o. (
-      λ there. (c.in_ok-compiled.ensures.outcomes o).0 ((is.all.exactly o).0 there),
-      λ has. (is.all.exactly o).1 ((c.in_ok-compiled.ensures.outcomes o).1 has),
+      λ there. (c.in_ok-compiled.ensures.outcomes o).0 ((is.has_all_outcomes.exactly o).0 there),
+      λ has. (is.has_all_outcomes.exactly o).1 ((c.in_ok-compiled.ensures.outcomes o).1 has),
     )) c.search_schedules.ensures.complete
 
 pub returns-clause-machine : goal.returns-clause-machine

@@ -9,7 +9,7 @@ returns-clause-complete g c =
     let test = program_of c.args.program.now in
     let formed = c.args.program.now.well_formed in
     let ok = IsWellScoped-well_formed x86_language formed in
-    let few = formed.head.few in
+    let few = formed.head.bounded in
     let replays = c.replays_over_caches_are_flat.ensures in
     let search = c.in_ok-search.search in
     IsComplete-of_schedules test (λ protocol events o kept. replays.flat protocol test events o ok few kept)

@@ -1,5 +1,5 @@
 -- `register_of` returns the word of a register of a thread that the program has: the key's number leads to the thread's registers.
-use Rattle.lw_search.proofs.Common.{◌∙◌, ◌<◌, ap, arith, length, slice_index, slice_get-in_range, slice_get}
+use Rattle.lw_search.proofs.Common.{◌∙◌, ◌<◌, ap, arith, length, slice_index, slice_get-in_range}
 use Rattle.lw_search.proofs.ObservedOutcomes.{final_word-register}
 use Rattle.lw_search.proofs.observed.register_of.Goals as goal
 

@@ -1,6 +1,7 @@
--- `observe` looks at one state of a search. A state that is not final, or whose words are there, changes nothing; another one adds its outcome
--- and its words.
-use Rattle.lw_search.proofs.Common.{on_ok_weaker}
+-- `observe` looks at one state of a search. A state that is not final changes nothing, and one whose words are known adds no outcome; another
+-- one adds its outcome and its words.
+use Rattle.lw_search.proofs.Common.{InsertsObserved, InsertsOutcome, ObservedWords, subst, sym, ap, ◌∙◌}
+use Rattle.lw_search.proofs.Common.{slice_get, on_ok_weaker}
 use Rattle.lw_search.proofs.ObservedOutcomes.{observes-not_final, observes-known, observes-new}
 use Rattle.lw_search.proofs.observed.ObservedStates.observe.Goals as goal
 
@@ -10,16 +11,27 @@ returns-then-not-is_final g c =
     observes-not_final c.args.names.now search.program.now.threads search.tables search.states c.args.at c.key-key.result
     c.args.self.now c.key-key.ensures (c.is_final.ensures.no c.if-not-is_final.true)
 
-pub returns-then-contains : goal.returns-then-contains
-returns-then-contains g c =
+pub returns-then-not-is_new : goal.returns-then-not-is_new
+returns-then-not-is_new g c =
     let search = c.args.search.now in
     observes-known c.args.names.now search.program.now.threads search.tables search.states c.args.at c.key-key.result
-    c.in_ok-words.words c.args.self.now c.key-key.ensures c.in_ok-words.ensures (c.contains.ensures c.if-contains.true)
+    c.in_ok-words.words c.in_ok-is_new.is_new c.args.self.now c.insert_words.new.self c.key-key.ensures c.in_ok-words.ensures
+    c.in_ok-is_new.ensures c.if-not-is_new.true
 
 pub returns : goal.returns
 returns g c =
     let search = c.args.search.now in
-    on_ok_weaker c.insert.result
-    (observes-new c.args.names.now search.program.now.threads search.tables search.states c.args.at c.key-key.result
-    c.in_ok-words.words c.in_ok-outcome.outcome c.args.self.now c.insert.new.self c.key-key.ensures c.in_ok-words.ensures
-    c.in_ok-outcome.ensures (c.is_final.ensures.yes c.if-not-is_final.false)) c.insert.ensures
+    let inserts : InsertsOutcome c.self.inside.outcomes c.in_ok-outcome.outcome c.insert.new.self
+    → InsertsObserved c.args.self.now c.in_ok-words.words c.in_ok-outcome.outcome
+    (record { words = c.self.inside.words.keys; outcomes = c.insert.new.self }) = λ adds. record {
+      outcomes =
+          subst (λ es. InsertsOutcome es c.in_ok-outcome.outcome c.insert.new.self)
+          (ap (λ (v : ObservedWords). v.outcomes) c.self.view_is ∙ c.in_ok-is_new.ensures.outcomes) adds;
+      words_are = λ i others at.
+          c.in_ok-is_new.ensures.words_are i others (ap (λ (v : ObservedWords). slice_get v.words i) (sym c.self.view_is) ∙ at);
+    } in
+    on_ok_weaker c.insert.result (λ adds.
+    observes-new c.args.names.now search.program.now.threads search.tables search.states c.args.at c.key-key.result
+    c.in_ok-words.words c.in_ok-outcome.outcome c.args.self.now
+    (record { words = c.self.inside.words.keys; outcomes = c.insert.new.self }) c.key-key.ensures c.in_ok-words.ensures
+    c.in_ok-outcome.ensures (c.is_final.ensures.yes c.if-not-is_final.false) (inserts adds)) c.insert.ensures.inserted

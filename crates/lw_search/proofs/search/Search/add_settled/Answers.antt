@@ -1,7 +1,7 @@
 -- Of `add_settled`, which inserts the state to which a transition leads, after the invisible events of all threads that follow: if the
 -- event leads there, the successor is covered. `IsCovered-transition` does the work, whether the key of the state at the end is new or known.
-use Rattle.lw_search.proofs.Common.{◌∙◌, ◌∷◌, ap, sym, subst, refl, slice_get, on_ok_weaker, Successor}
-use Rattle.lw_search.proofs.Common.{Transition, SettlesFrom, IsWorking}
+use Rattle.lw_search.proofs.Common.{◌∙◌, ◌∷◌, ap, subst, refl, slice_get, on_ok_weaker, Transition}
+use Rattle.lw_search.proofs.Common.{SettlesFrom, IsWorking}
 use Rattle.lw_search.proofs.Rows.{extends-trans}
 use Rattle.lw_search.proofs.ThreadTransitions.{copied-row, IsCovered-transition, AreTransitions-extended}
 use Rattle.lw_search.proofs.ThreadTransitions.{IsPrefix-inserted_runs}

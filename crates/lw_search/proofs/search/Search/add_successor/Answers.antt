@@ -2,8 +2,8 @@
 -- enabled, the successor is covered. An event that is enabled in no state of the key needs nothing. If no thread has an invisible event,
 -- the state after the transition is inserted as it is; otherwise `add_settled` promises the rest. `expands-prepared` says that the rows
 -- that `successor` appended change nothing.
-use Rattle.lw_search.proofs.Common.{◌∙◌, ◌∷◌, ap, sym, refl, slice_get, slice_index, on_ok_weaker, Transition}
-use Rattle.lw_search.proofs.Common.{IsCovered, HasConflictsOfOthers, event_of}
+use Rattle.lw_search.proofs.Common.{◌∙◌, ◌∷◌, ap, refl, slice_get, on_ok_weaker, Transition, IsCovered}
+use Rattle.lw_search.proofs.Common.{HasConflictsOfOthers, event_of}
 use Rattle.lw_search.proofs.Rows.{extends-refl}
 use Rattle.lw_search.proofs.Settling.{settles_from-none}
 use Rattle.lw_search.proofs.ThreadTransitions.{AreTransitions-extended, IsCovered-transition}
@@ -19,8 +19,8 @@ returns-in_default-clause-covered g c =
     (expands-never_enabled program c.args.at c.args.key.now c.args.event
     (λ s. HasConflictsOfOthers program s c.args.cpu c.args.conflicts) (rw c.in_default.is at c.in_ok-next.ensures.taken))
 
-pub returns-then-not-may_settle-clause-covered : goal.returns-then-not-may_settle-clause-covered
-returns-then-not-may_settle-clause-covered g c =
+pub returns-in_default-unsettled-clause-covered : goal.returns-in_default-unsettled-clause-covered
+returns-in_default-unsettled-clause-covered g c =
     let program = c.args.self.now.program.now.threads in
     let tables = c.successor.new.self.tables in
     let is = rw c.in-Some.is at c.in_ok-next.ensures.taken in
@@ -36,8 +36,8 @@ returns-then-not-may_settle-clause-covered g c =
     (extends-refl tables) refl (ap (slice_get tables.memories) c.with_numbers-own.ensures.memory ∙ is.next_memory_row) (λ u. refl)
     c.in_ok-row_number.ensures (adds (c.args.event ∷ is.more) is.next_run_row))) c.insert_numbered.ensures
 
-pub returns-then-not-may_settle-clause-kept : goal.returns-then-not-may_settle-clause-kept
-returns-then-not-may_settle-clause-kept g c =
+pub returns-in_default-unsettled-clause-kept : goal.returns-in_default-unsettled-clause-kept
+returns-in_default-unsettled-clause-kept g c =
     let program = c.args.self.now.program.now.threads in
     let is = rw c.in-Some.is at c.in_ok-next.ensures.taken in
     on_ok_weaker c.insert_numbered.result (λ adds.

@@ -1,8 +1,8 @@
 -- Of `compute_successor`, which takes an event in the working copies, with the invisible events that follow it, and numbers what it leads to. Two
 -- exits are for keys that have no rows, and so represent no state; the third is for an event that is refused. Otherwise
 -- `IsTransition-taken` says what was done.
-use Rattle.lw_search.proofs.Common.{◌∙◌, ◌∷◌, Some, Bool, true, ap, subst, slice_get, slice_index, ◌+◌}
-use Rattle.lw_search.proofs.Common.{ActResult, event_effect, event_of}
+use Rattle.lw_search.proofs.Common.{◌∙◌, Some, Bool, ap, subst, slice_index, ◌+◌, ActResult, event_effect}
+use Rattle.lw_search.proofs.Common.{event_of}
 use Rattle.lw_search.proofs.ThreadTransitions.{AppendsRows-refl, IsTransition-taken}
 use Rattle.lw_search.proofs.ThreadTransitions.{IsNeverEnabled-without_thread, IsNeverEnabled-without_memory}
 use Rattle.lw_search.proofs.ThreadTransitions.{IsNeverEnabled-refused, copied-found, copied-missing}

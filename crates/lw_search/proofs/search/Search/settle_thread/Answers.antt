@@ -46,12 +46,12 @@ returns-clause-settled g c =
     let a = c.in_ok-settle.ensures in
     settles_from-weaker program
     (IsLoaded program tables c.args.key.now set c.args.cpu c.load_thread.new.thread c.args.self.now.words)
-    (IsWorking program tables c.args.key.now c.args.self.now.words) c.with_numbers.result c.settle.new.words c.args.self.now.run
-    c.settle.new.run (λ s.
+    (IsWorking program tables c.args.key.now c.args.self.now.words) c.with_numbers-next.result c.settle.new.words
+    c.args.self.now.run c.settle.new.run (λ s.
     working-loaded program c.args.key.now set c.args.cpu c.args.code.now c.load_thread.new.thread c.args.self.now.words s
     c.requires.code (copied-row _ _ _ c.in_ok-load_thread.ensures) (beside s))
-    (settles_from-loaded program c.args.key.now c.with_numbers.result set c.args.cpu c.load_thread.new.thread c.settle.new.thread
-    c.args.self.now.words c.settle.new.words c.args.self.now.run c.settle.new.run a.0 a.1 a.2 c.in_ok-thread.ensures.extended
-    c.with_numbers.ensures.size
-    (ap (slice_get c.thread_number.new.self.threads) c.with_numbers.ensures.thread ∙ c.in_ok-thread.ensures.found)
-    c.with_numbers.ensures.others)
+    (settles_from-loaded program c.args.key.now c.with_numbers-next.result set c.args.cpu c.load_thread.new.thread
+    c.settle.new.thread c.args.self.now.words c.settle.new.words c.args.self.now.run c.settle.new.run a.0 a.1 a.2
+    c.in_ok-thread.ensures.extended c.with_numbers-next.ensures.size
+    (ap (slice_get c.thread_number.new.self.threads) c.with_numbers-next.ensures.thread ∙ c.in_ok-thread.ensures.found)
+    c.with_numbers-next.ensures.others)

@@ -18,7 +18,7 @@ loop-index-preserved g c =
       c.loop-index-test.true,
       c.len-index-end.ensures,
       formed.as_many,
-      formed.head.few,
+      formed.head.bounded,
       c.loop-index.invariant.size,
     ) in
     let at =
@@ -43,4 +43,4 @@ returns g c s stands as_many u p at =
     ap (λ (t : Components). length t.program) (sym c.self.view_is) in
     let o = c.loop-index.invariant.holds u (omega (arith, lt, few, c.loop-index-test.false, c.len-index-end.ensures)) in
     let formed = c.self.inside.program.now.well_formed in
-    (omega (arith, lt, few, formed.as_many, formed.head.few), o.0, o.1, o.2 p lt (stands.threads u p at))
+    (omega (arith, lt, few, formed.as_many, formed.head.bounded), o.0, o.1, o.2 p lt (stands.threads u p at))
