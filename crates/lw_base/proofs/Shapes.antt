@@ -115,7 +115,7 @@ HasEventShape-event_text names table (Evict c l) is = (
   (c, is.0, refl),
   (
     are_digits-cpu_index c is.0,
-    inr (inr (slice_index_or names l [], (All-from_recursion IsLocationName names table.all l [] is.1).0.0, refl)),
+    inr (inr (slice_index_or names l [], (All-from_recursion IsLocationName names table.are_location_names l [] is.1).0.0, refl)),
   ),
 )
 
@@ -219,13 +219,13 @@ HasEventParts-step_or_drain w rest (inl e) = inl e
 HasEventParts-step_or_drain w rest (inr e) = inr (inl e)
 
 -- A piece that begins with `P` or `D`, followed by anything else than digits, does not have the shape of an event.
-not-HasEventShape-no_digits : (w rest : Bytes)
+not-HasEventShape-if_no_digits : (w rest : Bytes)
     → (w ≡ 80 ∷ rest) ⊎ (w ≡ 68 ∷ rest)
     → are_digits rest ≡ false
     → (ds : Bytes)
     → HasEventShape w ds
     → ⊥
-not-HasEventShape-no_digits w rest is bad ds shape =
+not-HasEventShape-if_no_digits w rest is bad ds shape =
     true≢false (sym (subst (λ r. are_digits r ≡ true) (sym (HasEventParts-digits_eq_rest w rest ds is shape.1)) shape.0) ∙ bad)
 
 -- A piece that begins with `P` or `D` is rejected for a cause for which its rest is rejected as digits.
@@ -234,7 +234,7 @@ IsFaultyPiece-bad_digits : (names : NameTable) (w rest : Bytes)
     → (cause : ScheduleCause)
     → HasBadDigits rest cause
     → IsFaultyPiece names w cause
-IsFaultyPiece-bad_digits names w rest is Word bad = not-HasEventShape-no_digits w rest is bad
+IsFaultyPiece-bad_digits names w rest is Word bad = not-HasEventShape-if_no_digits w rest is bad
 IsFaultyPiece-bad_digits names w rest is Cpu bad = (rest, (bad.0, HasEventParts-step_or_drain w rest is), bad.1)
 IsFaultyPiece-bad_digits names w rest is _ bad = absurd bad
 

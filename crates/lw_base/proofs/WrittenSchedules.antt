@@ -67,7 +67,7 @@ HasNoBlank-location_name : (names : NameTable) (l : ℕ)
     → l < length names
     → HasNoBlank (slice_index_or names l [])
 HasNoBlank-location_name [] l all lt = absurd (omega (arith, lt))
-HasNoBlank-location_name (n ∷ names) zero all lt = HasNoBlank-name_bytes n all.0.0.0.all
+HasNoBlank-location_name (n ∷ names) zero all lt = HasNoBlank-name_bytes n all.0.0.0.are_name_bytes
 HasNoBlank-location_name (n ∷ names) (suc l) all lt = HasNoBlank-location_name names l all.1 (omega (arith, lt))
 
 -- The text of an event has no blank.
@@ -75,7 +75,7 @@ HasNoBlank-event_text : (names : NameTable) (e : Event) → IsNameTable names �
 HasNoBlank-event_text names (Step c) table is = (refl, (is_blank-false_of_digit c is, tt))
 HasNoBlank-event_text names (Drain c) table is = (refl, (is_blank-false_of_digit c is, tt))
 HasNoBlank-event_text names (Evict c l) table is =
-    (refl, (is_blank-false_of_digit c is.0, (refl, HasNoBlank-location_name _ l table.all is.1)))
+    (refl, (is_blank-false_of_digit c is.0, (refl, HasNoBlank-location_name _ l table.are_location_names is.1)))
 
 -- The texts of events, concatenated.
 module _ (names : NameTable) (table : IsNameTable names) where

@@ -11,7 +11,7 @@ use Rattle.lw_base.specs.Characters.{byte, is_name_byte, first_byte_is}
 -- The text is a letter or `_`, followed by letters, digits and `_`.
 pub record IsNameShaped (w : Bytes) : Type 0 where
   pub not_empty : 0 < length w
-  pub all : AllByRecursion (λ b. is_name_byte b ≡ true) w
+  pub are_name_bytes : AllByRecursion (λ b. is_name_byte b ≡ true) w
   pub front : first_byte_is is_ascii_digit w ≡ false
 
 -- The text is a name: name-shaped, and at most 32 bytes long.
@@ -51,12 +51,12 @@ IsLocationName w = IsName w × (is_reserved w ≡ false)
 
 -- The names are a table of locations: at most eight valid names, without duplicates.
 pub record IsNameTable (names : NameTable) : Type 0 where
-  pub few : length names ≤ most_locations
-  pub all : AllByRecursion IsLocationName names
+  pub bounded : length names ≤ most_locations
+  pub are_location_names : AllByRecursion IsLocationName names
   pub without_duplicates : IsDuplicateFree names
 
 -- The text is a test's name: 1 to 128 printable ASCII bytes.
 pub record IsTestName (name : Bytes) : Type 0 where
   pub not_empty : 0 < length name
   pub short : length name ≤ most_test_name_bytes
-  pub all : AllByRecursion (λ b. is_ascii_graphic b ≡ true) name
+  pub are_graphic_bytes : AllByRecursion (λ b. is_ascii_graphic b ≡ true) name

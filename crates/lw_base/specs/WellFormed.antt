@@ -59,7 +59,7 @@ MentionsLocationsBelow locs (Or p q) = MentionsLocationsBelow locs p × Mentions
 pub record IsWellFormedHead (h : TestHead) : Type 0 where
   pub name : IsTestName h.name
   pub has_thread : 1 ≤ h.threads
-  pub few : h.threads ≤ most_threads
+  pub bounded : h.threads ≤ most_threads
   pub table : IsNameTable h.locs
   pub regs : length h.init_regs ≡ h.threads
   pub register_counts : AllByRecursion (λ row. length row ≡ registers) h.init_regs
@@ -68,5 +68,5 @@ pub record IsWellFormedHead (h : TestHead) : Type 0 where
   pub location_words : AllByRecursion IsWordNumber h.init_words
   pub listed_in_range : AllByRecursion (IsSeenInRange h.threads (length h.locs)) h.listed
   pub ascending : IsAscending h.listed
-  pub nodes_few : nodes h.condition ≤ most_nodes
+  pub nodes_bounded : nodes h.condition ≤ most_nodes
   pub condition : MentionsOnly h.threads (length h.locs) h.condition

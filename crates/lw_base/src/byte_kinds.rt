@@ -42,7 +42,7 @@ impl ByteKind {
 /// Splits a text after its longest prefix of bytes of a kind. Returns the prefix and the rest.
 pub fn prefix_of_kind(bytes: &[u8], kind: ByteKind) -> (&[u8], &[u8])
     ensures parts { bytes.now ≡ result.0.now ++ result.1.now }
-    ensures all { AllByRecursion (λ b. is_of_kind kind b ≡ true) result.0.now }
+    ensures bytes_pass { AllByRecursion (λ b. is_of_kind kind b ≡ true) result.0.now }
     ensures longest { first_byte_is (is_of_kind kind) result.1.now ≡ false }
 {
     let count = bytes

@@ -76,7 +76,7 @@ impl<A: Allocator> LocNames<A> {
 impl<A: Allocator + Copy> LocNames<A> {
     /// Appends a name and returns its location. If memory runs out, the table is unchanged.
     pub fn add(&mut self, name: &str) -> Result<Loc, AllocError>
-        requires few { length self.old < most_locations }
+        requires bounded { length self.old < most_locations }
         requires name { IsLocationName name.now }
         requires fresh { ¬ Contains self.old name.now }
         ensures index { IfOk result (λ loc. loc ≡ length self.old) }

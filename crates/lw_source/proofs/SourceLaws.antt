@@ -17,26 +17,28 @@ use Rattle.lw_source.specs.inner.Operands.{statement_of_operands}
 IsMade-each_form : (x to : ℕ) (form : SourceForm) (f : Filling (source_slots form))
     → IsMade source_spelling statement_of_operands x to form f
 IsMade-each_form x to Store (n, (_, (Register r, _))) =
-    record { is = refl; located = refl; target_is = refl; given = λ p q. (p, q) }
+    record { statement_is = refl; located = refl; target_is = refl; given = λ p q. (p, q) }
 IsMade-each_form x to Store (n, (_, (Number m, _))) =
-    record { is = refl; located = refl; target_is = refl; given = λ p q. (p, q) }
-IsMade-each_form x to Load (d, (_, (n, _))) = record { is = refl; located = refl; target_is = refl; given = λ p q. (p, q) }
+    record { statement_is = refl; located = refl; target_is = refl; given = λ p q. (p, q) }
+IsMade-each_form x to Load (d, (_, (n, _))) =
+    record { statement_is = refl; located = refl; target_is = refl; given = λ p q. (p, q) }
 IsMade-each_form x to Swap (d, (_, (_, (n, (a, _))))) =
-    record { is = refl; located = refl; target_is = refl; given = λ p q. (p, q) }
+    record { statement_is = refl; located = refl; target_is = refl; given = λ p q. (p, q) }
 IsMade-each_form x to FetchAdd (d, (_, (_, (n, (a, _))))) =
-    record { is = refl; located = refl; target_is = refl; given = λ p q. (p, q) }
+    record { statement_is = refl; located = refl; target_is = refl; given = λ p q. (p, q) }
 IsMade-each_form x to Set (d, (_, (Register r, _))) =
-    record { is = refl; located = refl; target_is = refl; given = λ p q. (p, q) }
-IsMade-each_form x to Set (d, (_, (Number m, _))) = record { is = refl; located = refl; target_is = refl; given = λ p q. (p, q) }
+    record { statement_is = refl; located = refl; target_is = refl; given = λ p q. (p, q) }
+IsMade-each_form x to Set (d, (_, (Number m, _))) =
+    record { statement_is = refl; located = refl; target_is = refl; given = λ p q. (p, q) }
 IsMade-each_form x to Sum (d, (_, (a, (_, (Register r, _))))) =
-    record { is = refl; located = refl; target_is = refl; given = λ p q. (p, q) }
+    record { statement_is = refl; located = refl; target_is = refl; given = λ p q. (p, q) }
 IsMade-each_form x to Sum (d, (_, (a, (_, (Number m, _))))) =
-    record { is = refl; located = refl; target_is = refl; given = λ p q. (p, q) }
+    record { statement_is = refl; located = refl; target_is = refl; given = λ p q. (p, q) }
 IsMade-each_form x to IfEqual (_, (a, (_, (n, (_, (l, _)))))) =
-    record { is = refl; located = refl; target_is = refl; given = λ p q. (p, q) }
+    record { statement_is = refl; located = refl; target_is = refl; given = λ p q. (p, q) }
 IsMade-each_form x to IfNotEqual (_, (a, (_, (n, (_, (l, _)))))) =
-    record { is = refl; located = refl; target_is = refl; given = λ p q. (p, q) }
-IsMade-each_form x to Goto (_, (l, _)) = record { is = refl; located = refl; target_is = refl; given = λ p q. (p, q) }
+    record { statement_is = refl; located = refl; target_is = refl; given = λ p q. (p, q) }
+IsMade-each_form x to Goto (_, (l, _)) = record { statement_is = refl; located = refl; target_is = refl; given = λ p q. (p, q) }
 
 -- The spelling of the source language is lawful: its forms are distinguishable, and its statements made from their operands.
 pub source_forms_are_spelled : IsSpelling source_spelling statement_of_operands

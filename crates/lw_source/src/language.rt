@@ -62,7 +62,7 @@ impl StatementReader for SourceLanguage {
     }
 
     /// Returns the maximum number of statements of a thread.
-    fn most() -> usize {
+    fn max_statements() -> usize {
         MAX_STATEMENTS
     }
 

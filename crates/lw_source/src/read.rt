@@ -50,7 +50,7 @@ pub fn a_frame_has_one_source()
 
 /// States that at most one fault of the same cells is true, and none of the cells of a source test.
 pub fn source_cells_have_one_fault()
-    ensures one { (names : NameTable) (columns : List (List PlacedCell)) (f g : CellFault) → f.cause ≢ Memory → g.cause ≢ Memory
+    ensures one_fault { (names : NameTable) (columns : List (List PlacedCell)) (f g : CellFault) → f.cause ≢ Memory → g.cause ≢ Memory
         → CellFaultIsTrue source_grammar names columns f → CellFaultIsTrue source_grammar names columns g → f ≡ g }
     ensures none { (frame : TestFrame) (columns : List (List PlacedCell)) (f : CellFault) (s : SourceTest)
         → texts_of_grid columns ≡ frame.cells → HasSource frame s → f.cause ≢ Memory

@@ -12,8 +12,8 @@ use Rattle.lw_statements.proofs.Common.{HasSlotAfter, IsLocationSlot, IsRegister
 use Rattle.lw_statements.proofs.Common.{is_operand_slot, is_word_slot, is_register_free, tokens_differ}
 use Rattle.lw_statements.proofs.Common.{names_register, names_none, names_one, IsSpelling}
 use Rattle.lw_statements.proofs.api.Forms.{list_all-get}
-use Rattle.lw_statements.proofs.Slots.{not_given_to_differing_slots, location_slot, no_register-keyword}
-use Rattle.lw_statements.proofs.Slots.{not_register_and_location, register_no_number}
+use Rattle.lw_statements.proofs.Slots.{not-given_to_differing_slots, location_slot, no_register-keyword}
+use Rattle.lw_statements.proofs.Slots.{not-register_and_location, register_no_number}
 use Rattle.lw_base.specs.declared.operand.Operand.TheVariants as operand
 
 module _ {W Form Stmt : Type 0} (spelling : Spelling W Form Stmt) where
@@ -120,7 +120,7 @@ module _ {W Form Stmt : Type 0} (spelling : Spelling W Form Stmt) where
   is_word_slot-false_after (t ∷ ts) (s ∷ first) (u ∷ second) a b clear x y o =
       let behind = (and_parts _ (tokens_differ spelling s u || are_clear_forms spelling first second) clear).1 in
       elim (cases_Bool (tokens_differ spelling s u)) [
-        | inl differ ↦ absurd (not_given_to_differing_slots spelling t s u x.0.0.0 y.0.0.0 differ x.0.1.0 y.0.1.0)
+        | inl differ ↦ absurd (not-given_to_differing_slots spelling t s u x.0.0.0 y.0.0.0 differ x.0.1.0 y.0.1.0)
         | inr same ↦
             is_word_slot-false_after ts first second a b
             (let h : (false || are_clear_forms spelling first second) ≡ true =
@@ -214,10 +214,10 @@ module _ {W Form Stmt : Type 0} (spelling : Spelling W Form Stmt) where
       → IsRegisterSlot slot
   register_slot (Keyword w) g q r free reg h = absurd (no_register-keyword spelling q w r (free w refl) h reg)
   register_slot Register g q r free reg h = inl refl
-  register_slot Location x q r free reg h = absurd (not_register_and_location _ q r reg (subst IsLocationName (sym h.0) h.1))
+  register_slot Location x q r free reg h = absurd (not-register_and_location _ q r reg (subst IsLocationName (sym h.0) h.1))
   register_slot Value g q r free reg h = inr refl
   register_slot Number n q r free reg h = absurd (register_no_number _ q r n reg h)
-  register_slot Label x q r free reg h = absurd (not_register_and_location _ q r reg (subst IsLocationName (sym h.0) h.1))
+  register_slot Label x q r free reg h = absurd (not-register_and_location _ q r reg (subst IsLocationName (sym h.0) h.1))
 
   module _ (made : Form → Operands → Option Stmt) (lawful : IsSpelling spelling made) (ts : TokenList) where
     -- If a register may follow the tokens, some form has one there.
@@ -237,8 +237,10 @@ module _ {W Form Stmt : Type 0} (spelling : Spelling W Form Stmt) where
         )
 
     -- If some form has a location after the tokens, a location may follow.
-    pub not_before_register : HasSlotAfter spelling IsLocationSlot ts → IsBeforeRegister (grammar_of spelling) ts → ⊥
-    not_before_register (form, there, (slot, after, is)) b =
+    pub not-IsBeforeRegister-before_location : HasSlotAfter spelling IsLocationSlot ts
+        → IsBeforeRegister (grammar_of spelling) ts
+        → ⊥
+    not-IsBeforeRegister-before_location (form, there, (slot, after, is)) b =
         let x = codes "x" in
         let loc : IsLocationName x = (name_by_test (codes "x") refl, refl) in
         b.no_location x loc

@@ -8,7 +8,7 @@ use Rattle.lw_statements.proofs.Common.{CellCause, TooMany, LabelTwice, most_loc
 use Rattle.lw_statements.proofs.Common.{IsLocationName, insert_name, Bytes, NameTable, TokenList, Grammar}
 use Rattle.lw_statements.proofs.Common.{IsGrammar, BeginsStatement, CanBegin, IsLocationAfter, MaybeStatement}
 use Rattle.lw_statements.proofs.Common.{Labels, BeginsFitting, BeginsWithLabel, IsMeantAsRegister}
-use Rattle.lw_statements.proofs.Common.{IsMisfitCause, IsUnknownRegister, insert_name-new}
+use Rattle.lw_statements.proofs.Common.{IsMisfitCause, IsUnknownRegister, insert_name-if_new}
 use Rattle.lw_statements.proofs.FrontLabels.{Labels-unique, IsDuplicateFree-not_in_both}
 use Rattle.lw_statements.proofs.OneReading.{no_label-MaybeStatement as no_label_begins}
 use Rattle.lw_base.specs.declared.fault.CellCause.TheVariants as cause
@@ -169,7 +169,7 @@ module _ {Syntax Stmt : Type 0} (grammar : Grammar Syntax Stmt) where
         loc.only b.rest b.syntax
         (subst (λ (us : TokenList). grammar.says us b.syntax) (append_assoc mid (t ∷ []) b.rest) b.says) in
         let room : length (insert_name table t) ≤ most_locations = rw named at b.room in
-        omega (arith, full, room, ap length (insert_name-new table t new), length-append table (t ∷ []))
+        omega (arith, full, room, ap length (insert_name-if_new table t new), length-append table (t ∷ []))
 
     -- A token with a `:` after it is a label.
     begins_with_label : (rest more : TokenList) (t : Bytes) → rest ≡ t ∷ codes ":" ∷ more → BeginsWithLabel rest
@@ -246,19 +246,19 @@ module _ {Syntax Stmt : Type 0} (grammar : Grammar Syntax Stmt) where
     index_within ks far after f = omega (arith, labels_length ts ks (far ++ after) f.says, length-append far after)
 
     -- No front is longer than one that is stuck.
-    pub not_longer-IsStuck : (labels : List Bytes) (mid rest : TokenList) (c : CellCause)
+    pub not-longer-IsStuck : (labels : List Bytes) (mid rest : TokenList) (c : CellCause)
         → IsFront labels mid rest
         → IsStuck labels mid rest c
         → (ks : List Bytes) (far after : TokenList)
         → IsFront ks far after
         → index_of labels mid < index_of ks far
         → ⊥
-    not_longer-IsStuck labels mid rest c g (inl (none, t, more, is, bad)) ks far after f less =
+    not-longer-IsStuck labels mid rest c g (inl (none, t, more, is, bad)) ks far after f less =
         label_past labels rest more t c (subst (λ (us : TokenList). Labels ts labels (us ++ rest)) none g.says) is bad ks far
         after f (omega (arith, less, ap length none))
-    not_longer-IsStuck labels mid rest c g (inr (stops, inl (t, back, is, bad))) ks far after f less =
+    not-longer-IsStuck labels mid rest c g (inr (stops, inl (t, back, is, bad))) ks far after f less =
         token_past labels mid rest back t c g.says stops is bad ks far after f less
-    not_longer-IsStuck labels mid rest c g (inr (stops, inr (is, some, e, none))) ks far after f less = omega (
+    not-longer-IsStuck labels mid rest c g (inr (stops, inr (is, some, e, none))) ks far after f less = omega (
       arith,
       less,
       index_within ks far after f,
@@ -384,7 +384,7 @@ module _ {Syntax Stmt : Type 0} (grammar : Grammar Syntax Stmt) where
     -- ---- a cell with a fault has no content that fits
 
     -- No content of the cell goes on from a front that is stuck.
-    pub not_IsStuck-whole_cell : IsGrammar grammar
+    pub not-IsStuck-whole_cell : IsGrammar grammar
         → (labels : List Bytes) (mid rest : TokenList) (c : CellCause)
         → IsFront labels mid rest
         → IsStuck labels mid rest c
@@ -392,8 +392,8 @@ module _ {Syntax Stmt : Type 0} (grammar : Grammar Syntax Stmt) where
         → IsFront ks far []
         → MaybeStatement grammar far o
         → ⊥
-    not_IsStuck-whole_cell lawful labels mid rest c g (inl (none, t, more, is, bad)) ks far o f says =
-        not_longer-IsStuck labels mid rest c g (inl (none, t, more, is, bad)) ks far [] f (omega (
+    not-IsStuck-whole_cell lawful labels mid rest c g (inl (none, t, more, is, bad)) ks far o f says =
+        not-longer-IsStuck labels mid rest c g (inl (none, t, more, is, bad)) ks far [] f (omega (
           arith,
           labels_length ts labels (mid ++ rest) g.says,
           length-append mid rest,
@@ -401,8 +401,8 @@ module _ {Syntax Stmt : Type 0} (grammar : Grammar Syntax Stmt) where
           labels_length ts ks (far ++ []) f.says,
           length-append far [],
         ))
-    not_IsStuck-whole_cell lawful labels mid rest c g (inr (stops, inl (t, back, is, bad))) ks far o f says =
-        not_longer-IsStuck labels mid rest c g (inr (stops, inl (t, back, is, bad))) ks far [] f (omega (
+    not-IsStuck-whole_cell lawful labels mid rest c g (inr (stops, inl (t, back, is, bad))) ks far o f says =
+        not-longer-IsStuck labels mid rest c g (inr (stops, inl (t, back, is, bad))) ks far [] f (omega (
           arith,
           labels_length ts labels (mid ++ rest) g.says,
           length-append mid rest,
@@ -410,7 +410,7 @@ module _ {Syntax Stmt : Type 0} (grammar : Grammar Syntax Stmt) where
           labels_length ts ks (far ++ []) f.says,
           length-append far [],
         ))
-    not_IsStuck-whole_cell lawful labels mid rest c g (inr (stops, inr (is, some, e, none))) ks far o f says =
+    not-IsStuck-whole_cell lawful labels mid rest c g (inr (stops, inr (is, some, e, none))) ks far o f says =
         let halts = no_label_begins grammar lawful far o says in
         let one =
         Labels-unique ts (mid ++ rest) (far ++ []) labels ks g.says f.says stops

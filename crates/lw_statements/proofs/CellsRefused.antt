@@ -61,7 +61,7 @@ module _ {Syntax Stmt : Type 0} (grammar : Grammar Syntax Stmt) where
         count_fits : column.count + length (statements (bare cut.here.stmt ∷ [])) ≤ grammar.language.most
         count_fits = omega (
           arith,
-          fits.0.few,
+          fits.0.bounded,
           ap (λ (ss : List (CellSyntax Syntax)). length (statements ss)) cut.whole,
           count-append cut.above (cut.here ∷ cut.below),
           count-append (cut.here ∷ []) cut.below,
@@ -95,7 +95,7 @@ module _ {Syntax Stmt : Type 0} (grammar : Grammar Syntax Stmt) where
               without_duplicates = labels_duplicate_free-with_cell t fits;
             });
         cause =
-            ColumnFaultIsTrue-labels grammar front rest cell drafted.read.syntax drafted.read.says drafted.few before mid
+            ColumnFaultIsTrue-labels grammar front rest cell drafted.read.syntax drafted.read.says drafted.bounded before mid
             drafted.read.names drafted.room f.at f.cause drafted.without_duplicates column.labels
             (HasExactlyLabels-drafted grammar draft_of front before mid column drafted) r.cause;
         place = λ len within. r.place len (All-middle (EndsBefore len) front rest cell within).0;
@@ -120,11 +120,11 @@ module _ {Syntax Stmt : Type 0} (grammar : Grammar Syntax Stmt) where
             let rest_is : y.says.0 ≡ token_texts phrase.tokens.now = one.1 ∙ ap token_texts (sym behind) in
             r.none known y.here.stmt (record {
               says = subst (λ u. MaybeStatement grammar u y.here.stmt) rest_is y.says.2;
-              few = count_fits t fits;
+              bounded = count_fits t fits;
               room = names_fit t fits;
             });
         cause =
-            ColumnFaultIsTrue-statement grammar front rest cell _ drafted.read.says drafted.few before mid drafted.read.names
+            ColumnFaultIsTrue-statement grammar front rest cell _ drafted.read.says drafted.bounded before mid drafted.read.names
             drafted.room f.at f.cause drafted.without_duplicates column.labels
             (HasExactlyLabels-drafted grammar draft_of front before mid column drafted) after next (rw drafted.counted at taken)
             (rw (drafted.counted, behind, ends) at r.cause);

@@ -36,16 +36,16 @@ pub use Rattle.lw_base.proofs.Common.{insert_name, insert_names, is_name_byte, i
 pub use Rattle.lw_base.proofs.Common.{is_reserved, keywords, lowercase_if_x86, most_locations}
 pub use Rattle.lw_base.proofs.Common.{position_of_name, register_name, set_location_names, x86_registers}
 pub use Rattle.lw_base.proofs.api.Elements.{All-append_inv, AllByRecursion-append}
-pub use Rattle.lw_base.proofs.api.GrowingTables.{IsDuplicateFree-insert_names, contains_name-insert_name}
-pub use Rattle.lw_base.proofs.api.GrowingTables.{contains_name-insert_names, insert_names-append}
+pub use Rattle.lw_base.proofs.api.GrowingTables.{IsDuplicateFree-insert_names, contains_name-insert_names}
+pub use Rattle.lw_base.proofs.api.GrowingTables.{contains_name-of_inserted, insert_names-append}
 pub use Rattle.lw_base.proofs.api.GrowingTables.{insert_names-longer, position_of_name-insert_names}
 pub use Rattle.lw_base.proofs.api.GrowingTables.{position_of_name-within}
 pub use Rattle.lw_base.proofs.api.Lists.{at_index, cons-head_eq, drop-cons_at, drop-past_end}
 pub use Rattle.lw_base.proofs.api.Lists.{get-append_middle, slice_get-append_cases, take-suc, take_drop-at}
 pub use Rattle.lw_base.proofs.api.Registers.{register_of_name-unique}
 pub use Rattle.lw_base.proofs.api.Returns.{Err-clause_known}
-pub use Rattle.lw_base.proofs.api.Tables.{IsDuplicateFree-push, contains_name-Contains, insert_name-new}
-pub use Rattle.lw_base.proofs.api.Tables.{insert_name-there}
+pub use Rattle.lw_base.proofs.api.Tables.{IsDuplicateFree-push, contains_name-Contains}
+pub use Rattle.lw_base.proofs.api.Tables.{insert_name-if_in_table, insert_name-if_new}
 pub use Rattle.lw_base.proofs.api.WellFormedHeads.{set_location_names-well_formed}
 pub use Rattle.lw_base.specs.declared.fault.CellCause.{CellCause}
 pub use Rattle.lw_base.specs.declared.fault.CellCause.TheVariants.{Backward, Form, LabelMissing, LabelTwice}

@@ -55,8 +55,8 @@ module _ {Syntax Stmt D : Type 0} (grammar : Grammar Syntax Stmt) (draft_of : �
     tokens = phrase.tokens.now
 
     -- At least one token follows the labels.
-    tokens_not_empty : token_texts tokens ≡ [] → ⊥
-    tokens_not_empty e =
+    not-empty-tokens : token_texts tokens ≡ [] → ⊥
+    not-empty-tokens e =
         let none : slice_get (token_texts tokens) 0 ≡ None = ap (λ (ts : TokenList). slice_get ts 0) e in
         let some = get_text tokens 0 t (sym first) in
         absurd cc
@@ -66,16 +66,16 @@ module _ {Syntax Stmt D : Type 0} (grammar : Grammar Syntax Stmt) (draft_of : �
         → (s : Option Syntax)
         → FitsBelow grammar above names (token_texts tokens) s
         → ⊥
-    no_statement_fits full None h = tokens_not_empty h.says
-    no_statement_fits full (Some s) h = omega (arith, full, h.few)
+    no_statement_fits full None h = not-empty-tokens h.says
+    no_statement_fits full (Some s) h = omega (arith, full, h.bounded)
 
     -- What follows the labels is not nothing, so if it is no statement with room it does not fit.
-    no_FitsBelow-no_Fits : ((s : Syntax) → Fits grammar names (token_texts tokens) s → ⊥)
+    no_FitsBelow-if_no_Fits : ((s : Syntax) → Fits grammar names (token_texts tokens) s → ⊥)
         → (s : Option Syntax)
         → FitsBelow grammar above names (token_texts tokens) s
         → ⊥
-    no_FitsBelow-no_Fits none None h = tokens_not_empty h.says
-    no_FitsBelow-no_Fits none (Some s) h = none s (h.says, h.room)
+    no_FitsBelow-if_no_Fits none None h = not-empty-tokens h.says
+    no_FitsBelow-if_no_Fits none (Some s) h = none s (h.says, h.room)
 
     -- The first token begins a statement beyond the limit, or is wrong.
     abbrev pub IsSurplusFault : CellFault → Type 0
@@ -103,7 +103,7 @@ module _ {Syntax Stmt D : Type 0} (grammar : Grammar Syntax Stmt) (draft_of : �
         → StatementRefused grammar names phrase f
         → MaybeRefused grammar above names phrase f
     MaybeRefused-StatementRefused free r = record {
-      none = λ known. no_FitsBelow-no_Fits (r.none known);
+      none = λ known. no_FitsBelow-if_no_Fits (r.none known);
       cause = FaultClaim-weakened WrongIn-cases (λ none. none) (λ over. inr (free, over)) r.cause;
       place = r.place;
     }
@@ -118,7 +118,7 @@ module _ {Syntax Stmt D : Type 0} (grammar : Grammar Syntax Stmt) (draft_of : �
             × (token_texts tokens ≡ [] → ⊥)
             × EndsEarlyIn grammar tokens phrase.end names f.at)
         WrongIn-cases e (inl m) = inl (m, inr free)
-        WrongIn-cases e (inr (is, early)) = inr (is, free, tokens_not_empty, early)
+        WrongIn-cases e (inr (is, early)) = inr (is, free, not-empty-tokens, early)
 
   -- ---- cells
 
@@ -150,7 +150,7 @@ module _ {Syntax Stmt D : Type 0} (grammar : Grammar Syntax Stmt) (draft_of : �
       → ColumnDrafted grammar draft_of [] names column names
   ColumnDrafted-none names column fresh few = record {
     read = record { syntax = []; says = tt; names = refl; made = fresh.cells };
-    few = omega arith;
+    bounded = omega arith;
     without_duplicates = tt;
     leads = fresh.labels;
     counted = fresh.count;
@@ -161,7 +161,7 @@ module _ {Syntax Stmt D : Type 0} (grammar : Grammar Syntax Stmt) (draft_of : �
       (drafted : ColumnDrafted grammar draft_of front before column mid) where
     -- The column has at most as many statements as the language allows.
     pub column_count_at_most : column.count ≤ grammar.language.most
-    column_count_at_most = omega (arith, drafted.counted, drafted.few)
+    column_count_at_most = omega (arith, drafted.counted, drafted.bounded)
 
     -- The column's map has exactly the labels of these cells.
     pub HasExactlyLabels-drafted : HasExactlyLabels column.labels (labels_of drafted.read.syntax)
@@ -197,7 +197,7 @@ module _ {Syntax Stmt D : Type 0} (grammar : Grammar Syntax Stmt) (draft_of : �
             names = more.1;
             made = pushed ∙ more.2;
           };
-          few = omega (
+          bounded = omega (
             arith,
             count,
             held,

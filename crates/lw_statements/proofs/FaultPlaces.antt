@@ -126,7 +126,7 @@ module _ {Syntax Stmt A : Type 0} (grammar : Grammar Syntax Stmt) (front rest : 
       read = record {
         before_says = others_say;
         says = rw (cells_placed front) says;
-        few = few;
+        bounded = few;
         without_duplicates = once;
         room = rw table_after_syntaxes room;
       };
@@ -280,7 +280,7 @@ module _ {Syntax Stmt A : Type 0} (grammar : Grammar Syntax Stmt) (front rest : 
           read = IsReadTo-token m.place m.token m.token_at m.begins;
           no_label = no_label_at_token m.place m.token m.token_at;
           begun = λ some. record {
-            few = count_below_most m.place some at_first;
+            has_room = count_below_most m.place some at_first;
             begins = BeginsFitting-table_after _ (m.begun (front_not_empty-index_nonzero m.place some));
           };
           none = m.none;
@@ -308,7 +308,7 @@ module _ {Syntax Stmt A : Type 0} (grammar : Grammar Syntax Stmt) (front rest : 
                 labels_are_duplicate_free;
             no_label = taken.stops;
             not_empty = some;
-            begun = record { few = room_there; begins = BeginsFitting-table_after _ (early.begun some) };
+            begun = record { has_room = room_there; begins = BeginsFitting-table_after _ (early.begun some) };
             none = early.none;
             ends = early.ends;
           },
@@ -335,9 +335,9 @@ module _ {Syntax Stmt A : Type 0} (grammar : Grammar Syntax Stmt) (front rest : 
             mid = token_texts (take c.place (drop next cell.tokens));
             read = IsReadTo-token c.place c.token c.token_at c.ninth.0;
             no_label = no_label_at_token c.place c.token c.token_at;
-            few = room_there;
+            has_room = room_there;
             begun = λ some. record {
-              few = room_there;
+              has_room = room_there;
               begins = BeginsFitting-table_after _ (c.begun (front_not_empty-index_nonzero c.place some));
             };
             is_location = c.location;

@@ -5,7 +5,7 @@ use Rattle.lw_statements.proofs.Common.{◌≡◌, ℕ, zero, suc, ◌<◌, ◌�
 use Rattle.lw_statements.proofs.Common.{Option, Some, None, List, [], ◌∷◌, ◌++◌, length, take, drop, refl}
 use Rattle.lw_statements.proofs.Common.{sym, ap, ◌∙◌, subst, arith, IsTrue, ◌↔◌, slice_get, Contains}
 use Rattle.lw_statements.proofs.Common.{MatchOption, length-take, length-append, take_drop-at, take-map}
-use Rattle.lw_statements.proofs.Common.{slice_get_within, insert_name, insert_names, insert_name-there}
+use Rattle.lw_statements.proofs.Common.{slice_get_within, insert_name, insert_names, insert_name-if_in_table}
 use Rattle.lw_statements.proofs.Common.{contains_name, contains_name-Contains, cons_option, most_locations}
 use Rattle.lw_statements.proofs.Common.{codes, IsLocationName, IsNameTable, name_by_test, Bytes, NameTable}
 use Rattle.lw_statements.proofs.Common.{TokenList, Token, token_texts, Slot, Keyword, Register, Location}
@@ -161,13 +161,14 @@ module _ {W Form Stmt : Type 0} (spelling : Spelling W Form Stmt) where
       → IsNameTable names
       → (x : Bytes) × IsLocationName x × (length (insert_name names x) ≤ most_locations)
   fitting_name [] table = (codes "x", (name_by_test (codes "x") refl, refl), omega arith)
-  fitting_name (n ∷ names) table = (n, table.all.0, omega (arith, table.few, ap length (insert_name-there (n ∷ names) n 0 refl)))
+  fitting_name (n ∷ names) table =
+      (n, table.are_location_names.0, omega (arith, table.bounded, ap length (insert_name-if_in_table (n ∷ names) n 0 refl)))
 
   module _ (names : NameTable) (table : IsNameTable names) where
     -- Any slots accept some tokens, on a location that fits the table.
     fitting_rest : (slots : List (Slot W))
         → (ts : TokenList) × (f : Filling slots) × Fills spelling ts slots f × IsFitting names (name_in slots f)
-    fitting_rest [] = ([], tt, tt, table.few)
+    fitting_rest [] = ([], tt, tt, table.bounded)
     fitting_rest (Location ∷ slots) =
         let x = fitting_name names table in
         let r = fitting_rest slots in
@@ -271,7 +272,7 @@ module _ {W Form Stmt : Type 0} (spelling : Spelling W Form Stmt) where
     AllFit-no_overflow tokens slots n none k x less at is = go (contains_name names x) refl
       where
         go : (b : Bool) → contains_name names x ≡ b → length (insert_name names x) ≤ most_locations
-        go true e = rw e table.few
+        go true e = rw e table.bounded
         go false e =
             let held : (t : Token) × (slice_get tokens k ≡ Some t) × (x ≡ t.text.now) =
             option_map-Some_inv (λ (t : Token). t.text.now) (slice_get tokens k) x
@@ -285,7 +286,7 @@ module _ {W Form Stmt : Type 0} (spelling : Spelling W Form Stmt) where
               new = λ h.
                   true≢false (sym (contains_name-Contains names x (subst (λ (y : Bytes). Contains names y) (sym held.2) h)) ∙ e);
             }) in
-            rw e (omega (arith, table.few, free, length-append names (x ∷ [])))
+            rw e (omega (arith, table.bounded, free, length-append names (x ∷ [])))
 
   -- ---- the longest front
 
@@ -340,7 +341,7 @@ module _ {W Form Stmt : Type 0} (spelling : Spelling W Form Stmt) where
       → IsFirstRejected spelling tokens end f
       → (m : HasMisfitIn (grammar_of spelling) tokens names f.at f.cause) × (m.place ≡ 0) × (f.at ≡ t.at)
   misfit_first tokens end names t first cannot f r =
-      let is = rw (front_is_zero r.longest.reached, ← first) at r.is in (
+      let is = rw (front_is_zero r.longest.reached, ← first) at r.fault_is in (
         record {
           place = 0;
           token = t;
@@ -373,7 +374,7 @@ module _ {W Form Stmt : Type 0} (spelling : Spelling W Form Stmt) where
       → All (λ t. t.at ≤ len) tokens
       → end ≤ len
       → f.at ≤ len
-  rejected_within tokens end f r len all within = go (slice_get tokens r.front) refl r.is
+  rejected_within tokens end f r len all within = go (slice_get tokens r.front) refl r.fault_is
     where
       go : (o : Option Token)
           → slice_get tokens r.front ≡ o
@@ -411,7 +412,7 @@ module _ {W Form Stmt : Type 0} (spelling : Spelling W Form Stmt) where
         → (f : CellFault)
         → IsFirstRejected spelling tokens end f
         → StatementFaultIsTrue (grammar_of spelling) tokens end names f.at f.cause
-    statement_wrong none f r = go (slice_get tokens r.front) refl r.is
+    statement_wrong none f r = go (slice_get tokens r.front) refl r.fault_is
       where
         go : (o : Option Token)
             → slice_get tokens r.front ≡ o

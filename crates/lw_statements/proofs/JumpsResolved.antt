@@ -111,7 +111,7 @@ module _ {W Form Stmt : Type 0} (spelling : Spelling W Form Stmt) where
         ≡ Some (spelling.statement (location_index names ((grammar_of spelling).name_of s)) at s.form s.filling)
     made-with_target at to is =
         ap (λ (t : Option ℕ). made draft.form (with_target t draft.operands)) is
-        ∙ (lawful.making (location_index names ((grammar_of spelling).name_of s)) at s.form s.filling).is
+        ∙ (lawful.making (location_index names ((grammar_of spelling).name_of s)) at s.form s.filling).statement_is
 
     -- The statement can be made of the draft, whatever its target is.
     pub is_resolvable : IsResolvable made tokens draft

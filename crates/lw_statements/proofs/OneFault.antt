@@ -16,8 +16,8 @@ use Rattle.lw_statements.proofs.Common.{CellPosition, TokenPosition, IsReadTo, I
 use Rattle.lw_statements.proofs.Common.{IsSecondLabel, IsSurplus, IsNinth, IsJumpLabel, CellCauseIsTrue}
 use Rattle.lw_statements.proofs.Common.{BeginsFitting, BeginsWithLabel, table_after, all_syntaxes}
 use Rattle.lw_statements.proofs.Common.{texts_of_cells, texts_of_grid, PlacedToken}
-use Rattle.lw_statements.proofs.CellFaults.{IsFront, IsStuck, split_order, labels_length, not_longer-IsStuck}
-use Rattle.lw_statements.proofs.CellFaults.{IsStuck-unique, not_IsStuck-whole_cell}
+use Rattle.lw_statements.proofs.CellFaults.{IsFront, IsStuck, split_order, labels_length, not-longer-IsStuck}
+use Rattle.lw_statements.proofs.CellFaults.{IsStuck-unique, not-IsStuck-whole_cell}
 use Rattle.lw_statements.proofs.CellsRefused.{IsDuplicateFree-front}
 use Rattle.lw_statements.proofs.Leads.{statements-append, count-append, labels_of-append}
 use Rattle.lw_statements.proofs.OneReading.{cell_unique, column_unique, no_label-MaybeStatement}
@@ -98,7 +98,7 @@ module _ {Syntax Stmt : Type 0} (grammar : Grammar Syntax Stmt) (lawful : IsGram
     syntaxes : List (CellSyntax Syntax)
     before_says : AllZip (Column grammar) (texts_of_grid place.before) threads
     says : AllZip (ParsesCell grammar) (texts_of_cells place.above) syntaxes
-    few : length (statements syntaxes) ≤ grammar.language.most
+    bounded : length (statements syntaxes) ≤ grammar.language.most
     without_duplicates : IsDuplicateFree (labels_of syntaxes)
     room : length (table_after grammar names threads syntaxes) ≤ most_locations
     faulty : Faulty names threads syntaxes place.cell at c
@@ -126,7 +126,7 @@ module _ {Syntax Stmt : Type 0} (grammar : Grammar Syntax Stmt) (lawful : IsGram
       syntaxes = r.syntaxes;
       before_says = r.read.before_says;
       says = r.read.says;
-      few = r.read.few;
+      bounded = r.read.bounded;
       without_duplicates = IsDuplicateFree-front (labels_of r.syntaxes) r.labels r.read.without_duplicates;
       room = r.read.room;
       faulty = record {
@@ -139,7 +139,7 @@ module _ {Syntax Stmt : Type 0} (grammar : Grammar Syntax Stmt) (lawful : IsGram
               (sym (ap texts_of_tokens p.in_cell ∙ map-append (λ (t : PlacedToken). t.text) p.front (p.token ∷ p.back)))
               (labels_before (texts_of_tokens p.front) (p.token.text ∷ texts_of_tokens p.back) r.labels mid r.in_front);
           without_duplicates = r.read.without_duplicates;
-          begun = λ some. ((begun some).few, (begun some).begins);
+          begun = λ some. ((begun some).has_room, (begun some).begins);
           phase = phase;
         };
         stuck = stuck;
@@ -196,7 +196,7 @@ module _ {Syntax Stmt : Type 0} (grammar : Grammar Syntax Stmt) (lawful : IsGram
       syntaxes = n.read.syntaxes;
       before_says = n.read.read.before_says;
       says = n.read.read.says;
-      few = n.read.read.few;
+      bounded = n.read.read.bounded;
       without_duplicates = IsDuplicateFree-front (labels_of n.read.syntaxes) n.read.labels n.read.read.without_duplicates;
       room = n.read.read.room;
       faulty = record {
@@ -208,7 +208,7 @@ module _ {Syntax Stmt : Type 0} (grammar : Grammar Syntax Stmt) (lawful : IsGram
               subst (λ (ts : TokenList). Labels (texts_of_tokens q.cell.tokens) n.read.labels ts) (sym (append-nil n.mid))
               n.read.in_front;
           without_duplicates = n.read.read.without_duplicates;
-          begun = λ some. (n.begun.few, n.begun.begins);
+          begun = λ some. (n.begun.has_room, n.begun.begins);
           phase = inl no_label_follows;
         };
         stuck = inr (no_label_follows, inr (refl, n.not_empty, e, n.none));
@@ -240,11 +240,11 @@ module _ {Syntax Stmt : Type 0} (grammar : Grammar Syntax Stmt) (lawful : IsGram
         → (at ≡ other) × (c ≡ d)
     Faulty-unique at other c d above says f g = elim (cases_Bool (ltb first_index second_index)) [
       | inl e ↦
-          absurd (not_longer-IsStuck grammar _ _ _ _ f.labels f.mid f.rest c f.front f.stuck g.labels g.mid g.rest g.front
+          absurd (not-longer-IsStuck grammar _ _ _ _ f.labels f.mid f.rest c f.front f.stuck g.labels g.mid g.rest g.front
           (ltb-true first_index second_index e))
       | inr e ↦ elim (cases_Bool (ltb second_index first_index)) [
         | inl h ↦
-            absurd (not_longer-IsStuck grammar _ _ _ _ g.labels g.mid g.rest d g.front g.stuck f.labels f.mid f.rest f.front
+            absurd (not-longer-IsStuck grammar _ _ _ _ g.labels g.mid g.rest d g.front g.stuck f.labels f.mid f.rest f.front
             (ltb-true second_index first_index h))
         | inr h ↦
             let low = ltb-false first_index second_index e in
@@ -291,7 +291,7 @@ module _ {Syntax Stmt : Type 0} (grammar : Grammar Syntax Stmt) (lawful : IsGram
         → length (insert_names (table_after grammar names threads syntaxes) (names_in grammar (syntax ∷ []))) ≤ most_locations
         → ⊥
     faulty_whole at c f syntax parse few once room =
-        not_IsStuck-whole_cell grammar _ _ _ _ lawful f.labels f.mid f.rest c f.front f.stuck syntax.labels parse.0 syntax.stmt
+        not-IsStuck-whole_cell grammar _ _ _ _ lawful f.labels f.mid f.rest c f.front f.stuck syntax.labels parse.0 syntax.stmt
         (record {
           says =
               subst (λ (ts : TokenList). Labels (texts_of_tokens cell.tokens) syntax.labels ts) (sym (append-nil parse.0))
@@ -448,7 +448,7 @@ module _ {Syntax Stmt : Type 0} (grammar : Grammar Syntax Stmt) (lawful : IsGram
         → length (table_after grammar names threads t) ≤ most_locations
         → ⊥
     cell_thread at c v threads t before column room =
-        cell_unread names columns at c v v.place.below threads t before column.says column.few column.without_duplicates room
+        cell_unread names columns at c v v.place.below threads t before column.says column.bounded column.without_duplicates room
 
     -- Cells in which a jump is at fault are those of no thread of a test.
     jump_thread : (at : ℕ) (c : CellCause) (j : JumpFaulty names columns at c) (threads : List (List (CellSyntax Syntax)))
@@ -543,11 +543,11 @@ module _ {Syntax Stmt : Type 0} (grammar : Grammar Syntax Stmt) (lawful : IsGram
             (subst (λ (ts : List (List (CellSyntax Syntax))). Faulty names ts w.syntaxes w.place.cell other d) threads w.faulty)))
         go (inr (inl (more, above))) =
             absurd (cell_unread names columns at c v more w.threads w.syntaxes columns_before_second
-            (subst (λ (cs : List PlacedCell). AllZip (ParsesCell grammar) (texts_of_cells cs) w.syntaxes) above w.says) w.few
+            (subst (λ (cs : List PlacedCell). AllZip (ParsesCell grammar) (texts_of_cells cs) w.syntaxes) above w.says) w.bounded
             w.without_duplicates w.room)
         go (inr (inr (more, above))) =
             absurd (cell_unread names columns other d w more v.threads v.syntaxes columns_before_first
-            (subst (λ (cs : List PlacedCell). AllZip (ParsesCell grammar) (texts_of_cells cs) v.syntaxes) above v.says) v.few
+            (subst (λ (cs : List PlacedCell). AllZip (ParsesCell grammar) (texts_of_cells cs) v.syntaxes) above v.says) v.bounded
             v.without_duplicates v.room)
 
     -- A fault in a cell excludes faults in jumps of its thread.
@@ -561,7 +561,7 @@ module _ {Syntax Stmt : Type 0} (grammar : Grammar Syntax Stmt) (lawful : IsGram
         (subst (λ (cs : List (List PlacedCell)). AllZip (Column grammar) (texts_of_grid cs) j.label.threads) (sym before)
         r.before_says)
         (subst (λ (cs : List PlacedCell). AllZip (ParsesCell grammar) (texts_of_cells cs) (all_syntaxes j.above j.syntax j.below))
-        (sym thread) r.says) r.few
+        (sym thread) r.says) r.bounded
         (subst IsDuplicateFree (append-nil (labels_of (all_syntaxes j.above j.syntax j.below))) r.without_duplicates) r.room
 
     -- The jumps above one at fault lead forward.

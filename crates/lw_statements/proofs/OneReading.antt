@@ -17,7 +17,7 @@ module _ {Syntax Stmt : Type 0} (grammar : Grammar Syntax Stmt) (lawful : IsGram
   maybe_unique ts None None h k = refl
   maybe_unique ts None (Some s) h k = absurd (lawful.some ts s k h)
   maybe_unique ts (Some s) None h k = absurd (lawful.some ts s h k)
-  maybe_unique ts (Some s) (Some t) h k = ap Some (lawful.one ts s t h k)
+  maybe_unique ts (Some s) (Some t) h k = ap Some (lawful.deterministic ts s t h k)
 
   -- A cell has at most one parse.
   pub cell_unique : (cell : TokenList) (x y : CellSyntax Syntax) → ParsesCell grammar cell x → ParsesCell grammar cell y → x ≡ y

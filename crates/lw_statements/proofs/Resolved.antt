@@ -45,8 +45,8 @@ module _ {W Form Stmt : Type 0} (spelling : Spelling W Form Stmt) where
   abbrev Says : TokenList → CellSaid → Type 0
   Says = ParsesCell grammar
 
-  -- The statements of the cells in `front` are resolved to this code. `syntaxes` are those of all cells of the thread, in which labels are
-  -- looked up.
+  -- The statements of the cells in `front` are resolved to this code, and their jumps lead forward. `syntaxes` are those of all cells of the
+  -- thread, in which labels are looked up.
   pub record Resolved {A : Type 0} (names : NameTable) (syntaxes : List CellSaid) (front : List (Cell A))
       (code : List Stmt) : Type 0 where
     pub above : List CellSaid
@@ -93,7 +93,7 @@ module _ {W Form Stmt : Type 0} (spelling : Spelling W Form Stmt) where
           syntax = syntaxes;
           says = record {
             says = drafted.read.says;
-            few = drafted.few;
+            bounded = drafted.bounded;
             without_duplicates = drafted.without_duplicates;
             forward =
                 subst (λ (ys : List CellSaid).
@@ -245,8 +245,8 @@ module _ {W Form Stmt : Type 0} (spelling : Spelling W Form Stmt) where
           word = token.text.now
 
           -- If the map does not have the label, no cell has.
-          not_label-no_target : target_by column.labels word ≡ None → Contains (labels_of syntaxes) word → ⊥
-          not_label-no_target none = label_target-no_label syntaxes word (sym (drafted.leads word) ∙ none)
+          not-label-if_no_target : target_by column.labels word ≡ None → Contains (labels_of syntaxes) word → ⊥
+          not-label-if_no_target none = label_target-no_label syntaxes word (sym (drafted.leads word) ∙ none)
 
           -- If it has, its target is that of the rule of cells.
           label-target_by : (to : ℕ)
@@ -255,25 +255,25 @@ module _ {W Form Stmt : Type 0} (spelling : Spelling W Form Stmt) where
           label-target_by to by = label_target-is_label syntaxes word to (sym (drafted.leads word) ∙ by)
 
           -- A jump whose label is missing, or is not after the jump, does not lead forward.
-          not_LabelsLeadForward-JumpCause : (cause : CellCause)
+          not-LabelsLeadForward-JumpCause : (cause : CellCause)
               → JumpCause column.labels (length code) word cause
               → LabelsLeadForward grammar syntaxes (length code) s
               → ⊥
-          not_LabelsLeadForward-JumpCause LabelMissing none ahead = not_label-no_target none (ahead word label).0
-          not_LabelsLeadForward-JumpCause Backward (to, by, less) ahead =
+          not-LabelsLeadForward-JumpCause LabelMissing none ahead = not-label-if_no_target none (ahead word label).0
+          not-LabelsLeadForward-JumpCause Backward (to, by, less) ahead =
               omega (arith, less, (label-target_by to by).1, (ahead word label).1)
-          not_LabelsLeadForward-JumpCause cause none ahead = none
+          not-LabelsLeadForward-JumpCause cause none ahead = none
 
           -- Not all jumps of the thread lead forward, since this one does not.
-          not_AllForward : AllForward grammar syntaxes → ⊥
-          not_AllForward all =
+          not-AllForward : AllForward grammar syntaxes → ⊥
+          not-AllForward all =
               let parts : statements syntaxes ≡ statements r.above ++ s ∷ statements cut_at_cell.below =
               ap statements cut_at_cell.whole
               ∙ statements-append cut_at_cell.above (cut_at_cell.here ∷ cut_at_cell.below)
               ∙ ap (λ (o : Option (ParsesStatement spelling)).
               statements cut_at_cell.above ++ cons_option o (statements cut_at_cell.below)) jump
               ∙ ap (λ (ys : List CellSaid). statements ys ++ s ∷ statements cut_at_cell.below) syntaxes_above_equal in
-              not_LabelsLeadForward-JumpCause f.cause because
+              not-LabelsLeadForward-JumpCause f.cause because
               (all (length code) s
               (ap (λ (ss : List (ParsesStatement spelling)). slice_get ss (length code)) parts
               ∙ get-append_middle (statements r.above) s (statements cut_at_cell.below) (length code) code_length))
@@ -291,7 +291,7 @@ module _ {W Form Stmt : Type 0} (spelling : Spelling W Form Stmt) where
                     cut_at_cell.here,
                     cut_at_cell.below,
                     IsJumpLabel-of_token,
-                    λ there. not_label-no_target (rw e at because) (rw (← cut_at_cell.whole) at there),
+                    λ there. not-label-if_no_target (rw e at because) (rw (← cut_at_cell.whole) at there),
                   ),
                 );
                 twice = λ e. absurd (rw e at because);
@@ -324,7 +324,7 @@ module _ {W Form Stmt : Type 0} (spelling : Spelling W Form Stmt) where
                 says =
                     rw (← map-append placed_cell front (cell ∷ rest), ← ap placed_row cells_split, cells_placed cells)
                     drafted.read.says;
-                few = drafted.few;
+                bounded = drafted.bounded;
                 without_duplicates = rw append-nil drafted.without_duplicates;
                 room = rw table_after_is_after drafted.room;
               }
@@ -381,7 +381,7 @@ module _ {W Form Stmt : Type 0} (spelling : Spelling W Form Stmt) where
           jump_refused : ColumnRefused grammar before cells f
           jump_refused = record {
             none = λ known t (column_says, few).
-                not_AllForward (subst (AllForward grammar)
+                not-AllForward (subst (AllForward grammar)
                 (AllZip-unique Says Says-unique (cells_texts cells) t syntaxes column_says.says drafted.read.says)
                 column_says.forward);
             cause = ColumnFaultIsTrue-jump;

@@ -12,14 +12,14 @@ use Rattle.lw_statements.proofs.Common.{bind_slot, bindings_of, IsReach}
 use Rattle.lw_base.specs.declared.operand.Operand.TheVariants as operand
 
 -- A token that is neither a register nor a number is no operand.
-pub no_operand-no_register_or_number : (arch : Arch) (w : Bytes)
+pub no_operand-if_no_register_or_number : (arch : Arch) (w : Bytes)
     → ((r : ℕ) → IsRegisterName arch w r → ⊥)
     → ((n : ℕ) → IsNumber w n → ⊥)
     → (v : Operand)
     → IsOperand arch w v
     → ⊥
-no_operand-no_register_or_number arch w reg num (operand.Register r) h = reg r h
-no_operand-no_register_or_number arch w reg num (operand.Number n) h = num n h
+no_operand-if_no_register_or_number arch w reg num (operand.Register r) h = reg r h
+no_operand-if_no_register_or_number arch w reg num (operand.Number n) h = num n h
 
 -- The result for a token, whether it is an allowed name or not, is what it gives at the slot of a location or label.
 pub taken_name : (t : Bytes) (made : SlotBindings) (result : Option SlotBindings)
@@ -77,13 +77,13 @@ module _ {W Form Stmt : Type 0} (spelling : Spelling W Form Stmt) where
   AreTaken-after_keyword rest w ts t k true all here (f, fills, is) = ((tt, f), (here, fills), is)
 
   -- No tokens do not fill a list of slots that is not empty.
-  pub not_Fills-no_tokens : (rest : List (Slot W)) (slot : Slot W) (tokens : List Token)
+  pub not-Fills-if_no_tokens : (rest : List (Slot W)) (slot : Slot W) (tokens : List Token)
       → length tokens ≡ 0
       → (f : Filling (slot ∷ rest))
       → Fills spelling (token_texts tokens) (slot ∷ rest) f
       → ⊥
-  not_Fills-no_tokens rest slot [] b = λ f h. h
-  not_Fills-no_tokens rest slot (t ∷ tokens) b = absurd (omega (arith, b))
+  not-Fills-if_no_tokens rest slot [] b = λ f h. h
+  not-Fills-if_no_tokens rest slot (t ∷ tokens) b = absurd (omega (arith, b))
 
   -- If there are no slots, nothing is found, and the result is whether there are no tokens either.
   pub AreTaken-no_slots : (slots : List (Slot W)) (tokens : List Token) (k : ℕ) (b : Bool) (all : SlotBindings)
@@ -98,16 +98,16 @@ module _ {W Form Stmt : Type 0} (spelling : Spelling W Form Stmt) where
   AreTaken-no_slots (slot ∷ slots) tokens k b all a e is = absurd (omega (arith, a))
 
   -- Tokens do not fill a different number of slots.
-  pub not_Fills-other_count : (slots : List (Slot W)) (tokens : List Token)
+  pub not-Fills-other_count : (slots : List (Slot W)) (tokens : List Token)
       → (length slots ≡ length tokens → ⊥)
       → (f : Filling slots)
       → Fills spelling (token_texts tokens) slots f
       → ⊥
-  not_Fills-other_count [] [] differ f h = differ refl
-  not_Fills-other_count [] (t ∷ tokens) differ f h = h
-  not_Fills-other_count (slot ∷ slots) [] differ f h = h
-  not_Fills-other_count (slot ∷ slots) (t ∷ tokens) differ f h =
-      not_Fills-other_count slots tokens (λ e. differ (ap suc e)) f.1 h.1
+  not-Fills-other_count [] [] differ f h = differ refl
+  not-Fills-other_count [] (t ∷ tokens) differ f h = h
+  not-Fills-other_count (slot ∷ slots) [] differ f h = h
+  not-Fills-other_count (slot ∷ slots) (t ∷ tokens) differ f h =
+      not-Fills-other_count slots tokens (λ e. differ (ap suc e)) f.1 h.1
 
   -- A slot accepts a token if and only if something is found of it there.
   pub can_stand_alone : (t : Bytes) (slot : Slot W) (k : ℕ) (found : SlotBindings) (result : Option SlotBindings)

@@ -37,12 +37,12 @@ register_reserved X86 w r h =
     (ap (λ v. list_any (λ k. bytes_eq v k) x86_registers) (sym h.1) ∙ x86_register_listed r h.0)
 
 -- A register's name is no location's name.
-pub not_register_and_location : (arch : Arch) (w : Bytes) (r : ℕ) → IsRegisterName arch w r → IsLocationName w → ⊥
-not_register_and_location arch w r reg loc = true≢false (sym (register_reserved arch w r reg) ∙ loc.1)
+pub not-register_and_location : (arch : Arch) (w : Bytes) (r : ℕ) → IsRegisterName arch w r → IsLocationName w → ⊥
+not-register_and_location arch w r reg loc = true≢false (sym (register_reserved arch w r reg) ∙ loc.1)
 
 -- A number is no location's name.
-not_number_and_location : (w : Bytes) (n : ℕ) → IsNumber w n → IsLocationName w → ⊥
-not_number_and_location w n num loc = true≢false (sym (number_first w n num) ∙ loc.0.0.front)
+not-number_and_location : (w : Bytes) (n : ℕ) → IsNumber w n → IsLocationName w → ⊥
+not-number_and_location w n num loc = true≢false (sym (number_first w n num) ∙ loc.0.0.front)
 
 -- The name of a register does not start with a digit.
 letter_first : (arch : Arch) (r : ℕ) → r < 6 → first_byte_is is_ascii_digit (lowercase_if_x86 arch (register_name arch r)) ≡ false
@@ -77,9 +77,9 @@ operand_unique arch w (operand.Number n) (operand.Register r) h k = absurd (regi
 operand_unique arch w (operand.Number n) (operand.Number m) h k = ap operand.Number (number-unique w n m h k)
 
 -- No token is both an operand and a location's name.
-not_operand_and_location : (arch : Arch) (w : Bytes) (v : Operand) → IsOperand arch w v → IsLocationName w → ⊥
-not_operand_and_location arch w (operand.Register r) h = not_register_and_location arch w r h
-not_operand_and_location arch w (operand.Number n) h = not_number_and_location w n h
+not-operand_and_location : (arch : Arch) (w : Bytes) (v : Operand) → IsOperand arch w v → IsLocationName w → ⊥
+not-operand_and_location arch w (operand.Register r) h = not-register_and_location arch w r h
+not-operand_and_location arch w (operand.Number n) h = not-number_and_location w n h
 
 -- Texts that the comparison finds unequal are unequal.
 bytes_eq-false : (u v : Bytes) → not (bytes_eq u v) ≡ true → u ≡ v → ⊥
@@ -92,7 +92,7 @@ colon_case X86 = refl
 
 -- A `:` is no location's name.
 colon_location : IsLocationName (codes ":") → ⊥
-colon_location loc = true≢false (sym loc.0.0.all.0)
+colon_location loc = true≢false (sym loc.0.0.are_name_bytes.0)
 
 -- A byte is a name's if and only if it is one in lower case.
 is_name_byte-to_ascii_lowercase : (b : ℕ) → is_name_byte (to_ascii_lowercase b) ≡ is_name_byte b
@@ -108,7 +108,7 @@ name_byte_case b c e h = sym (is_name_byte-to_ascii_lowercase b) ∙ ap is_name_
 -- A location's name is not empty, and its first byte is a name's.
 first_byte_of_location : (t : Bytes) → IsLocationName t → first_byte_is is_name_byte t ≡ true
 first_byte_of_location [] loc = absurd (omega (arith, loc.0.0.not_empty))
-first_byte_of_location (b ∷ t) loc = loc.0.0.all.0
+first_byte_of_location (b ∷ t) loc = loc.0.0.are_name_bytes.0
 
 -- What is equal to such a text in lower case begins with a name's byte too.
 first_byte_case : (w t : Bytes)
@@ -171,21 +171,21 @@ module _ {W Form Stmt : Type 0} (spelling : Spelling W Form Stmt) where
       true≢false (sym none ∙ ap not (names_register-same_lowercase (spelling.text_of w) r reg.0 (reg.1 ∙ sym word)))
 
   -- No token is accepted by two slots that differ.
-  pub not_given_to_differing_slots : (t : Bytes) (a b : Slot W) (g : SlotValue a) (h : SlotValue b)
+  pub not-given_to_differing_slots : (t : Bytes) (a b : Slot W) (g : SlotValue a) (h : SlotValue b)
       → tokens_differ spelling a b ≡ true
       → Gives spelling t a g
       → Gives spelling t b h
       → ⊥
-  not_given_to_differing_slots t (Keyword v) (Keyword w) g h d x y = bytes_eq-false _ _ d (x ∙ sym y)
-  not_given_to_differing_slots t (Keyword w) Register g r d x y = no_register-keyword t w r d x y
-  not_given_to_differing_slots t Register (Keyword w) r h d x y = no_register-keyword t w r d y x
-  not_given_to_differing_slots t Register Location r n d x y =
-      not_register_and_location _ t r x (subst IsLocationName (sym y.0) y.1)
-  not_given_to_differing_slots t Location Register n r d x y =
-      not_register_and_location _ t r y (subst IsLocationName (sym x.0) x.1)
-  not_given_to_differing_slots t Location Value n v d x y = not_operand_and_location _ t v y (subst IsLocationName (sym x.0) x.1)
-  not_given_to_differing_slots t Value Location v n d x y = not_operand_and_location _ t v x (subst IsLocationName (sym y.0) y.1)
-  not_given_to_differing_slots t a b g h d x y = absurd cc
+  not-given_to_differing_slots t (Keyword v) (Keyword w) g h d x y = bytes_eq-false _ _ d (x ∙ sym y)
+  not-given_to_differing_slots t (Keyword w) Register g r d x y = no_register-keyword t w r d x y
+  not-given_to_differing_slots t Register (Keyword w) r h d x y = no_register-keyword t w r d y x
+  not-given_to_differing_slots t Register Location r n d x y =
+      not-register_and_location _ t r x (subst IsLocationName (sym y.0) y.1)
+  not-given_to_differing_slots t Location Register n r d x y =
+      not-register_and_location _ t r y (subst IsLocationName (sym x.0) x.1)
+  not-given_to_differing_slots t Location Value n v d x y = not-operand_and_location _ t v y (subst IsLocationName (sym x.0) x.1)
+  not-given_to_differing_slots t Value Location v n d x y = not-operand_and_location _ t v x (subst IsLocationName (sym y.0) y.1)
+  not-given_to_differing_slots t a b g h d x y = absurd cc
 
   -- A slot that accepts the name of a location, and is no word, is a location's.
   pub location_slot : (t : Bytes) (slot : Slot W) (g : SlotValue slot)
@@ -195,10 +195,10 @@ module _ {W Form Stmt : Type 0} (spelling : Spelling W Form Stmt) where
       → slot ≡ Location
   location_slot t (Keyword w) g none h loc =
       absurd (no_keyword-IsLocationName spelling.language.arch (spelling.text_of w) t (not-false _ none) h loc)
-  location_slot t Register r none h loc = absurd (not_register_and_location _ t r h loc)
+  location_slot t Register r none h loc = absurd (not-register_and_location _ t r h loc)
   location_slot t Location x none h loc = refl
-  location_slot t Value v none h loc = absurd (not_operand_and_location _ t v h loc)
-  location_slot t Number n none h loc = absurd (not_number_and_location t n h loc)
+  location_slot t Value v none h loc = absurd (not-operand_and_location _ t v h loc)
+  location_slot t Number n none h loc = absurd (not-number_and_location t n h loc)
   location_slot t Label x none h loc = absurd (true≢false none)
 
   -- A `:` is accepted only by its own slot.
@@ -229,20 +229,20 @@ module _ {W Form Stmt : Type 0} (spelling : Spelling W Form Stmt) where
       ap (λ (z : SlotValue slot). (z, f)) (given_unique t slot x y a.0 b.0) ∙ ap (λ (z : Filling slots). (y, z)) h
 
   -- No tokens fill two disjoint lists of slots.
-  pub not_Fills-disjoint : (ts : TokenList) (first second : List (Slot W)) (f : Filling first) (g : Filling second)
+  pub not-Fills-disjoint : (ts : TokenList) (first second : List (Slot W)) (f : Filling first) (g : Filling second)
       → are_disjoint_forms spelling first second ≡ true
       → Fills spelling ts first f
       → Fills spelling ts second g
       → ⊥
-  not_Fills-disjoint [] [] [] f g d x y = absurd cc
-  not_Fills-disjoint (t ∷ ts) [] second f g d x y = x
-  not_Fills-disjoint [] (a ∷ first) second f g d x y = x
-  not_Fills-disjoint [] [] (b ∷ second) f g d x y = y
-  not_Fills-disjoint (t ∷ ts) (a ∷ first) [] f g d x y = y
-  not_Fills-disjoint (t ∷ ts) (a ∷ first) (b ∷ second) (p, f) (q, g) d x y = elim (cases_Bool (tokens_differ spelling a b)) [
-    | inl e ↦ not_given_to_differing_slots t a b p q e x.0 y.0
+  not-Fills-disjoint [] [] [] f g d x y = absurd cc
+  not-Fills-disjoint (t ∷ ts) [] second f g d x y = x
+  not-Fills-disjoint [] (a ∷ first) second f g d x y = x
+  not-Fills-disjoint [] [] (b ∷ second) f g d x y = y
+  not-Fills-disjoint (t ∷ ts) (a ∷ first) [] f g d x y = y
+  not-Fills-disjoint (t ∷ ts) (a ∷ first) (b ∷ second) (p, f) (q, g) d x y = elim (cases_Bool (tokens_differ spelling a b)) [
+    | inl e ↦ not-given_to_differing_slots t a b p q e x.0 y.0
     | inr e ↦
-        not_Fills-disjoint ts first second f g
+        not-Fills-disjoint ts first second f g
         (let h : (false || are_disjoint_forms spelling first second) ≡ true =
         subst (λ (z : Bool). (z || are_disjoint_forms spelling first second) ≡ true) e d in
         h) x.1 y.1

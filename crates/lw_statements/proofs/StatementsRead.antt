@@ -161,7 +161,7 @@ module _ {W Form Stmt : Type 0} (spelling : Spelling W Form Stmt) where
         let after = after_cut spelling n.2 n.3 (spelling.slots_of form) (token_texts (take h.index tokens)) n.7 front in
         record {
           none = λ known s fits.
-              let same : s ≡ said = (is_grammar _ _ lawful).one (token_texts tokens) s said fits.0 (there, fills) in
+              let same : s ≡ said = (is_grammar _ _ lawful).deterministic (token_texts tokens) s said fits.0 (there, fills) in
               h.refused.none known (is.1, rw (same, is.0) at fits.1);
           cause =
               FaultClaim-weakened (λ c none. absurd none) (λ none. absurd none) (λ ninth. record {
@@ -206,7 +206,7 @@ module _ {W Form Stmt : Type 0} (spelling : Spelling W Form Stmt) where
       })
 
   -- Tokens that fill no form say no statement that fits.
-  pub no_statement-no_form : (ts : TokenList) (before : NameTable)
+  pub no_statement-if_no_form : (ts : TokenList) (before : NameTable)
       → ((form : Form) (f : Filling (spelling.slots_of form))
       → Contains spelling.forms form
       → Fills spelling ts (spelling.slots_of form) f
@@ -214,4 +214,4 @@ module _ {W Form Stmt : Type 0} (spelling : Spelling W Form Stmt) where
       → (s : ParsesStatement spelling)
       → Fits (grammar_of spelling) before ts s
       → ⊥
-  no_statement-no_form ts before none s fits = none s.form s.filling fits.0.0 fits.0.1
+  no_statement-if_no_form ts before none s fits = none s.form s.filling fits.0.0 fits.0.1

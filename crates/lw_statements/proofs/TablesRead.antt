@@ -3,7 +3,7 @@
 use Rattle.lw_statements.proofs.Common.{◌≡◌, ◌≤◌, true, List, [], ◌∷◌, ◌++◌, length, map, refl, sym, ap, ◌∙◌}
 use Rattle.lw_statements.proofs.Common.{subst, arith, AllZip, AllByRecursion, map-append, contains_name}
 use Rattle.lw_statements.proofs.Common.{insert_name, insert_names, Bytes, NameTable, All-append_inv}
-use Rattle.lw_statements.proofs.Common.{contains_name-insert_name, contains_name-insert_names}
+use Rattle.lw_statements.proofs.Common.{contains_name-of_inserted, contains_name-insert_names}
 use Rattle.lw_statements.proofs.Common.{insert_names-append, insert_names-longer, ReadOn}
 use Rattle.lw_statements.proofs.api.Zips.{Cut, AllZip-unique, AllZip-snoc}
 
@@ -15,7 +15,7 @@ AreIn names ns = AllByRecursion (λ n. contains_name names n ≡ true) ns
 pub AreIn-insert_names : (names ns : NameTable) → AreIn (insert_names names ns) ns
 AreIn-insert_names names [] = tt
 AreIn-insert_names names (n ∷ ns) = (
-  contains_name-insert_names (insert_name names n) ns n (contains_name-insert_name names n),
+  contains_name-insert_names (insert_name names n) ns n (contains_name-of_inserted names n),
   AreIn-insert_names (insert_name names n) ns,
 )
 

@@ -111,6 +111,6 @@ module _ {Syntax Stmt : Type 0} (grammar : Grammar Syntax Stmt) where
         arch = arch;
         threads = read.syntax;
         says = read.says;
-        few = rw grown at few;
+        bounded = rw grown at few;
         made = rw (zeros, read.made, same, ← grown) refl;
       }

@@ -227,7 +227,7 @@ module _ {W Form Stmt : Type 0} (spelling : Spelling W Form Stmt) where
   pub record IsFirstRejected (tokens : List Token) (end : ℕ) (fault : CellFault) : Type 0 where
     pub front : ℕ
     pub longest : IsLongestFront (token_texts tokens) front
-    pub is : MatchOption (slice_get tokens front) ((fault.at ≡ end) × (fault.cause ≡ cause.Form))
+    pub fault_is : MatchOption (slice_get tokens front) ((fault.at ≡ end) × (fault.cause ≡ cause.Form))
         (λ t. (fault.at ≡ t.at) × IsMisfitCause (IsMeantAsRegister (grammar_of spelling) (token_texts (take front tokens)) t.text.now) fault.cause)
 
   -- ---- Disjoint forms.
@@ -324,7 +324,7 @@ module _ {W Form Stmt : Type 0} (spelling : Spelling W Form Stmt) where
   -- The statement of a form results from the operands of its tokens; it accesses the location of its name, jumps to where its label does,
   -- and has the registers and numbers of its tokens.
   pub record IsMade (made : Form → Operands → Option Stmt) (x to : ℕ) (form : Form) (f : Filling (spelling.slots_of form)) : Type 0 where
-    pub is : made form (operands_of x (option_map (λ l. to) (label_in (spelling.slots_of form) f)) (bindings_of 0 (spelling.slots_of form) f)) ≡ Some
+    pub statement_is : made form (operands_of x (option_map (λ l. to) (label_in (spelling.slots_of form) f)) (bindings_of 0 (spelling.slots_of form) f)) ≡ Some
         (spelling.statement x to form f)
     pub located : location_of (spelling.language.operation_of (spelling.statement x to form f)) ≡ option_map (λ n. x) (name_in (spelling.slots_of form) f)
     pub target_is : branch_target (spelling.language.operation_of (spelling.statement x to form f)) ≡ option_map (λ l. to) (label_in (spelling.slots_of form) f)

@@ -65,7 +65,7 @@ module _ {Syntax Stmt : Type 0} (grammar : Grammar Syntax Stmt) where
   -- duplicates, and jumps forward.
   pub record Column (cells : Cells) (syntaxes : List (CellSyntax Syntax)) : Type 0 where
     pub says : AllZip ParsesCell cells syntaxes
-    pub few : length (statements syntaxes) ≤ grammar.language.most
+    pub bounded : length (statements syntaxes) ≤ grammar.language.most
     pub without_duplicates : IsDuplicateFree (labels_of syntaxes)
     pub forward :
         (k : ℕ) (s : Syntax) → slice_get (statements syntaxes) k ≡ Some s → LabelsLeadForward syntaxes k s
@@ -97,5 +97,5 @@ module _ {Syntax Stmt : Type 0} (grammar : Grammar Syntax Stmt) where
     pub arch : frame.head.arch ≡ grammar.language.arch
     pub threads : List (List (CellSyntax Syntax))
     pub says : AllZip Column frame.cells threads
-    pub few : length (insert_names frame.head.locs (names_of threads)) ≤ most_locations
+    pub bounded : length (insert_names frame.head.locs (names_of threads)) ≤ most_locations
     pub made : test ≡ resolve_test frame.head (insert_names frame.head.locs (names_of threads)) threads

@@ -74,7 +74,7 @@ module _ {Syntax Stmt : Type 0} (grammar : Grammar Syntax Stmt) where
       (threads : List (List (CellSyntax Syntax))) (syntaxes : List (CellSyntax Syntax)) (labels : List Bytes) : Type 0 where
     pub before_says : AllZip (Column grammar) (texts_of_grid before) threads
     pub says : AllZip (ParsesCell grammar) (texts_of_cells above) syntaxes
-    pub few : length (statements syntaxes) ≤ grammar.language.most
+    pub bounded : length (statements syntaxes) ≤ grammar.language.most
     pub without_duplicates : IsDuplicateFree (labels_of syntaxes ++ labels)
     pub room : length (table_after names threads syntaxes) ≤ most_locations
 
@@ -102,7 +102,7 @@ module _ {Syntax Stmt : Type 0} (grammar : Grammar Syntax Stmt) where
   -- The thread has room for one more statement, and some statement that fits the table begins with the tokens.
   pub record IsBegun {names : NameTable} {columns : List (List PlacedCell)} {c : CellPosition columns} {ts mid : TokenList}
       (r : IsReadTo names c ts mid) : Type 0 where
-    pub few : length (statements r.syntaxes) ≢ grammar.language.most
+    pub has_room : length (statements r.syntaxes) ≢ grammar.language.most
     pub begins : BeginsFitting (table_of r) mid
 
   -- The cell ends too early: the tokens after its labels begin a statement that fits, and are none.
@@ -158,7 +158,7 @@ module _ {Syntax Stmt : Type 0} (grammar : Grammar Syntax Stmt) where
       pub mid : TokenList
       pub read : IsReadTo names p.place (texts_of_tokens p.front) mid
       pub no_label : BeginsWithLabel (mid ++ p.token.text ∷ texts_of_tokens p.back) → ⊥
-      pub few : length (statements read.syntaxes) ≢ grammar.language.most
+      pub has_room : length (statements read.syntaxes) ≢ grammar.language.most
       pub begun : mid ≢ [] → IsBegun read
       pub is_location : IsLocationAfter grammar mid p.token.text
       pub full : length (table_of read) ≡ most_locations

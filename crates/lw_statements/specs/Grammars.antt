@@ -59,7 +59,7 @@ module _ {Syntax Stmt : Type 0} (grammar : Grammar Syntax Stmt) where
     -- The number of statements of a thread is below 2^64.
     pub countable : grammar.language.most < 2 ^ 64
     -- Tokens have at most one syntax.
-    pub one : (ts : TokenList) (s t : Syntax) → grammar.says ts s → grammar.says ts t → s ≡ t
+    pub deterministic : (ts : TokenList) (s t : Syntax) → grammar.says ts s → grammar.says ts t → s ≡ t
     -- A statement has a token, and no `:` after its first.
     pub some : (ts : TokenList) (s : Syntax) → grammar.says ts s → ts ≡ [] → ⊥
     pub no_label : (ts : TokenList) (s : Syntax) → grammar.says ts s → slice_get ts 1 ≡ Some (codes ":") → ⊥

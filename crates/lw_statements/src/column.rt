@@ -86,7 +86,7 @@ fn read_cell<'a, L: StatementReader, A: Allocator + Copy>(
     locs: &mut LocNames<A>,
 ) -> Result<(), CellFault>
     requires lawful { IsSpelling L.spelling L.made }
-    requires few { column.old.count ≤ statement_limit (grammar_of L.spelling) }
+    requires bounded { column.old.count ≤ statement_limit (grammar_of L.spelling) }
     ensures { MatchResult result
         (λ _. CellRead (grammar_of L.spelling) (draft_of L.spelling) cell.now column.old locs.old column.new locs.new)
         (CellRefused (grammar_of L.spelling) (draft_of L.spelling) cell.now column.old locs.old) }
@@ -119,8 +119,8 @@ fn statement_count<F>(stmt: &Option<Draft<F>>) -> usize
     }
 }
 
-/// Returns the draft of the statement after a cell's labels, if there is one. The cells above have `above`
-/// statements.
+/// Reads the draft of the statement after a cell's labels, if there is one, and inserts the names of its locations into
+/// the table. The cells above have `above` statements; one more than the limit is refused.
 fn maybe_statement<L: StatementReader, A: Allocator + Copy>(
     phrase: &Phrase<'_, '_>,
     above: usize,
@@ -134,7 +134,7 @@ fn maybe_statement<L: StatementReader, A: Allocator + Copy>(
     let Some(first) = phrase.tokens.first() else {
         return Ok(None);
     };
-    if above == L::most() {
+    if above == L::max_statements() {
         return Err(too_many_statements::<L>(phrase, first));
     }
     Ok(Some(read_statement::<L, A>(phrase, locs)?))

@@ -56,7 +56,7 @@ pub fn read_test<L: StatementReader, A: Allocator + Copy>(
 /// States that at most one fault of the same cells is true, and none of the cells of a test.
 pub fn cells_have_one_fault<L: StatementReader>()
     requires lawful { IsSpelling L.spelling L.made }
-    ensures one { (names : NameTable) (columns : List (List PlacedCell)) (f g : CellFault) → f.cause ≢ Memory → g.cause ≢ Memory
+    ensures one_fault { (names : NameTable) (columns : List (List PlacedCell)) (f g : CellFault) → f.cause ≢ Memory → g.cause ≢ Memory
         → CellFaultIsTrue (grammar_of L.spelling) names columns f → CellFaultIsTrue (grammar_of L.spelling) names columns g → f ≡ g }
     ensures none { (frame : TestFrame) (columns : List (List PlacedCell)) (f : CellFault) (test : Test L.Stmt)
         → texts_of_grid columns ≡ frame.cells → FrameHasTest (grammar_of L.spelling) frame test → f.cause ≢ Memory

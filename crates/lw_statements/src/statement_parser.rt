@@ -202,7 +202,7 @@ fn read_slots<L: StatementReader>(
     index: usize,
     found: &mut SlotBindings,
 ) -> bool
-    requires few { index + length slots.now < 2 ^ 64 }
+    requires bounded { index + length slots.now < 2 ^ 64 }
     requires nothing { found.old ≡ drafts.no_bindings }
     ensures { MatchBool result
         ((f : Filling slots.now) × Fills L.spelling (token_texts tokens.now) slots.now f × (found.new ≡ bindings_of index slots.now f))

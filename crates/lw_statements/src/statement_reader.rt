@@ -29,7 +29,7 @@ pub trait StatementReader {
         ensures { result ≡ spelling.language.arch };
 
     /// Returns the maximum number of statements of a thread.
-    fn most() -> usize
+    fn max_statements() -> usize
         ensures { result ≡ spelling.language.most };
 
     /// Returns the text of a keyword or a sign.

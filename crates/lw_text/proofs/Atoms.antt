@@ -17,12 +17,12 @@ number_no_name w n p q =
     cc
 
 -- If the token after `=` is no number, there is no value.
-pub no_value-no_number : (ts l m : TokenList) (t : Bytes)
+pub no_value-if_no_number : (ts l m : TokenList) (t : Bytes)
     → ts ≡ codes "=" ∷ l
     → l ≡ t ∷ m
     → HoldsOfNothing (IsNumber t)
     → ParsesNothing (Value ts)
-no_value-no_number ts l m t e f none v rest (w, g, number) =
+no_value-if_no_number ts l m t e f none v rest (w, g, number) =
     let same : w ≡ t = cc in none v (subst (λ w. IsNumber w v) same number)
 
 -- The parse of `= n` is unique.
@@ -38,7 +38,7 @@ Value-shorter ts rest v p = omega (arith, ap length p.1)
 
 -- `[` is no name.
 pub bracket_no_name : IsName (codes "[") → ⊥
-bracket_no_name n = let h = n.0.all.0 in cc
+bracket_no_name n = let h = n.0.are_name_bytes.0 in cc
 
 -- Tokens do not start both with a name and with `[`.
 name_or_bracket : {ts l m : TokenList} {x : Bytes} → IsName x → ts ≡ x ∷ l → ts ≡ codes "[" ∷ m → ⊥
@@ -110,7 +110,7 @@ no_site (b ∷ w) h arch ts rest mid site e p =
     elim (first_token_of_site arch ts mid site p (b ∷ w) rest e) [
       | inl x ↦ elim (or_cases (not (is_name_byte b)) (is_reserved (b ∷ w)) more.1) [
         | inl f ↦
-            let g = x.0.0.all.0 in
+            let g = x.0.0.are_name_bytes.0 in
             let i = not-true (is_name_byte b) f in
             cc
         | inr r ↦ let g = x.1 in cc
@@ -141,11 +141,11 @@ IsInitializer-unique arch ts a b r s p q =
     (ap (λ x. record { site = x; word = a.word }) e.0 ∙ ap (λ w. record { site = b.site; word = w }) f.0, f.1)
 
 -- A site that no value follows is no initializer.
-pub no_initializer-no_value : (arch : Arch) (ts mid : TokenList) (site : SiteSyntax)
+pub no_initializer-if_no_value : (arch : Arch) (ts mid : TokenList) (site : SiteSyntax)
     → IsSite arch ts site mid
     → ParsesNothing (Value mid)
     → ParsesNothing (IsInitializer arch ts)
-no_initializer-no_value arch ts mid site s never e rest p =
+no_initializer-if_no_value arch ts mid site s never e rest p =
     never e.word rest (subst (λ l. Value l e.word rest) (IsSite-unique arch ts e.site site p.0 mid p.1 s).1 p.2)
 
 -- The token that closes the initial block.

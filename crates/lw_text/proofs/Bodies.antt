@@ -28,19 +28,19 @@ ParsedCondition-of_parts {arch = arch} {threads} {before} {behind} {first} {name
     (AllByRecursion-of_All ss _ taken.within) in
     record {
       terminals = prop.terminals;
-      is = record {
+      parsed = record {
         behind_list = remaining_texts behind;
         behind_quant = end;
-        lists = subst (λ l. Listed arch (remaining_texts before) l (remaining_texts behind)) (sym along.0) taken.is;
+        lists = subst (λ l. Listed arch (remaining_texts before) l (remaining_texts behind)) (sym along.0) taken.parsed;
         threads_exist = subst (AllByRecursion (ThreadExists threads)) (sym along.0) taken.threads_exist;
         quantifies = quantifies;
-        says = prop.is;
+        says = prop.parsed;
       };
       names_are =
           prop.names_are
           ∙ ap (λ ns. insert_names ns more) taken.names_are
           ∙ ap (λ l. insert_names (with_sites first l) more) (sym along.0);
-      few = prop.few;
+      few_nodes = prop.few_nodes;
       says = prop.says;
       within = All-from_recursion (IsIn last) ss along.1;
     }
@@ -77,15 +77,15 @@ HasSyntax-of_parts {arch = arch} {before} {behind} {first} {b} block rest end he
         behind_block = remaining_texts behind;
         behind_header = rest;
         behind_rows = end;
-        block = subst (λ l. Block arch (remaining_texts before) l (remaining_texts behind)) (sym along.0) block.is;
+        block = subst (λ l. Block arch (remaining_texts before) l (remaining_texts behind)) (sym along.0) block.parsed;
         header = header;
         threads_exist =
             subst (λ l. AllByRecursion (λ e. ThreadExists n e.site) l) (sym along.0)
             (ThreadExists-all_initializers n first es there);
         rows = rows;
-        condition = condition.is;
+        condition = condition.parsed;
         few_names = omega (arith, few, ap length last_table);
-        few_nodes = condition.few;
+        few_nodes = condition.few_nodes;
       };
       names = last_table;
       proposition = condition.says;

@@ -15,7 +15,7 @@ use Rattle.lw_text.proofs.Common.{after_note, IsNoteCause, FailsInPreamble, in_k
 use Rattle.lw_text.proofs.Common.{other_keyword, in_test_name, in_notes, TextCause}
 use Rattle.lw_text.proofs.api.Numbers.{number_first}
 use Rattle.lw_text.proofs.NameRuns.{run-unique, run_front, symbol_front, token_no_trivia, token_nonempty}
-use Rattle.lw_text.proofs.NoteRows.{Quoted-front, Quoted-open, KeyLine-front, no_key_line-no_equals}
+use Rattle.lw_text.proofs.NoteRows.{Quoted-front, Quoted-open, KeyLine-front, no_key_line-if_no_equals}
 use Rattle.lw_text.proofs.NoteRows.{no_note-neither_kind, no_note-unclosed_quote, Note-unique, note_no_trivia}
 use Rattle.lw_text.proofs.NoteRows.{block_no_trivia, Notes-note_inv, Notes-trivia_first, key_front}
 use Rattle.lw_text.proofs.NoteRows.{Without-of_all}
@@ -58,11 +58,12 @@ FailsInToken-unique bytes c d (no_symbol some other lacks p) (no_name_run w r ru
 FailsInToken-unique bytes c d (no_symbol some other lacks p) (no_symbol also off never q) = p ∙ sym q
 
 -- Where a token is, lacks fails.
-FailsInToken-not : (t rest : Bytes) (cause : TextCause) → FailsInToken (t ++ rest) cause → IsToken t rest → ⊥
-FailsInToken-not t rest cause (no_number_run w r run digit never c) (inl name) =
+not-FailsInToken-if_parsed : (t rest : Bytes) (cause : TextCause) → FailsInToken (t ++ rest) cause → IsToken t rest → ⊥
+not-FailsInToken-if_parsed t rest cause (no_number_run w r run digit never c) (inl name) =
     let same =
-    run-unique is_name_byte t w {text = t ++ rest} (record { parts = refl; all = name.all; longest = name.longest })
-    (record { parts = run.parts; all = run.all; longest = run.longest }) in
+    run-unique is_name_byte t w {text = t ++ rest}
+    (record { parts = refl; bytes_pass = name.are_name_bytes; longest = name.longest })
+    (record { parts = run.parts; bytes_pass = run.bytes_pass; longest = run.longest }) in
     elim name.kind [
       | inl is ↦ false≢true (sym (no_digit_first-append t rest is.0.not_empty is.0.front) ∙ digit)
       | inr number ↦ never number.0 (subst (λ x. IsNumber x number.0) same.0 number.1)
@@ -75,12 +76,13 @@ FailsInToken-not t rest cause (no_number_run w r run digit never c) (inl name) =
         → first_byte_is is_ascii_digit (t ++ rest) ≡ false
     no_digit_first-append [] rest some e = absurd (omega (arith, some))
     no_digit_first-append (b ∷ t) rest some e = e
-FailsInToken-not t rest cause (no_number_run w r run digit never c) (inr symbol) =
+not-FailsInToken-if_parsed t rest cause (no_number_run w r run digit never c) (inr symbol) =
     digit_in_name (t ++ rest) digit (symbol_front t rest symbol)
-FailsInToken-not t rest cause (no_name_run w r run first other never c) (inl name) =
+not-FailsInToken-if_parsed t rest cause (no_name_run w r run first other never c) (inl name) =
     let same =
-    run-unique is_name_byte t w {text = t ++ rest} (record { parts = refl; all = name.all; longest = name.longest })
-    (record { parts = run.parts; all = run.all; longest = run.longest }) in
+    run-unique is_name_byte t w {text = t ++ rest}
+    (record { parts = refl; bytes_pass = name.are_name_bytes; longest = name.longest })
+    (record { parts = run.parts; bytes_pass = run.bytes_pass; longest = run.longest }) in
     elim name.kind [
       | inl is ↦ never (subst IsName same.0 is)
       | inr number ↦ false≢true (sym other ∙ number_start t rest number.0 number.1)
@@ -90,16 +92,16 @@ FailsInToken-not t rest cause (no_name_run w r run first other never c) (inl nam
     number_start : (t rest : Bytes) (n : ℕ) → IsNumber t n → first_byte_is is_ascii_digit (t ++ rest) ≡ true
     number_start [] rest n is = let k = number_first [] n is in cc
     number_start (b ∷ t) rest n is = number_first (b ∷ t) n is
-FailsInToken-not t rest cause (no_name_run w r run first other never c) (inr symbol) =
+not-FailsInToken-if_parsed t rest cause (no_name_run w r run first other never c) (inr symbol) =
     false≢true (sym (symbol_front t rest symbol) ∙ first)
-FailsInToken-not t rest cause (no_symbol some other never c) (inl name) = false≢true (sym other ∙ run_front t rest name)
-FailsInToken-not t rest cause (no_symbol some other never c) (inr symbol) = never t rest refl symbol
+not-FailsInToken-if_parsed t rest cause (no_symbol some other never c) (inl name) = false≢true (sym other ∙ run_front t rest name)
+not-FailsInToken-if_parsed t rest cause (no_symbol some other never c) (inr symbol) = never t rest refl symbol
 
 -- At the end of a text no token fails.
-FailsInToken-not_at_end : (cause : TextCause) → FailsInToken [] cause → ⊥
-FailsInToken-not_at_end cause (no_number_run w r run digit never c) = cc digit
-FailsInToken-not_at_end cause (no_name_run w r run first other never c) = cc first
-FailsInToken-not_at_end cause (no_symbol some other never c) = omega (arith, some)
+not-FailsInToken-at_end : (cause : TextCause) → FailsInToken [] cause → ⊥
+not-FailsInToken-at_end cause (no_number_run w r run digit never c) = cc digit
+not-FailsInToken-at_end cause (no_name_run w r run first other never c) = cc first
+not-FailsInToken-at_end cause (no_symbol some other never c) = omega (arith, some)
 
 -- The first token fails uniquely.
 pub FailsInFirstToken-unique : (text r s : Bytes) (c d : TextCause)
@@ -114,17 +116,21 @@ FailsInFirstToken-unique text r s c d (in_token trivia stop fails) (in_token als
     (same, FailsInToken-unique r c d fails (subst (λ x. FailsInToken x d) (sym same) q))
 
 -- A text with a first token does not fail before it.
-pub FailsInFirstToken-not : (text r t after : Bytes) (c : TextCause) → FailsInFirstToken text r c → IsFirstToken text t after → ⊥
-FailsInFirstToken-not text r t after c (open_comment never end p) is = never (t ++ after) (token_no_trivia t after is.1) is.0
-FailsInFirstToken-not text r t after c (in_token trivia stop fails) is =
-    FailsInToken-not t after c
+pub not-FailsInFirstToken-if_parsed : (text r t after : Bytes) (c : TextCause)
+    → FailsInFirstToken text r c
+    → IsFirstToken text t after
+    → ⊥
+not-FailsInFirstToken-if_parsed text r t after c (open_comment never end p) is =
+    never (t ++ after) (token_no_trivia t after is.1) is.0
+not-FailsInFirstToken-if_parsed text r t after c (in_token trivia stop fails) is =
+    not-FailsInToken-if_parsed t after c
     (subst (λ x. FailsInToken x c) (Trivia-unique trivia is.0 stop (token_no_trivia t after is.1)) fails) is.1
 
 -- A text that is only trivia does not fail in a token.
 pub FailsInFirstToken-end : (text r : Bytes) (c : TextCause) → FailsInFirstToken text r c → Trivia text [] → ⊥
 FailsInFirstToken-end text r c (open_comment never end p) is = never [] refl is
 FailsInFirstToken-end text r c (in_token trivia stop fails) is =
-    FailsInToken-not_at_end c (subst (λ x. FailsInToken x c) (Trivia-unique trivia is stop refl) fails)
+    not-FailsInToken-at_end c (subst (λ x. FailsInToken x c) (Trivia-unique trivia is stop refl) fails)
 
 -- ---- The test's name.
 
@@ -187,22 +193,22 @@ FailsInTestName-unique text r s c d (bad_name blanks name after e f has are plai
     absurd (false≢true (sym other ∙ blank_first text blanks r e has are))
 FailsInTestName-unique text r s c d (bad_name blanks name after e f some are plain has longest not_name p) (bad_name spaces word behind g h many blank also too last off q) = (
   (run-unique is_blank blanks spaces {text = text}
-      (record { parts = e; all = are; longest = ap (first_byte_is is_blank) f ∙ plain_front name after plain has })
-      (record { parts = g; all = blank; longest = ap (first_byte_is is_blank) h ∙ plain_front word behind also too })).1,
+      (record { parts = e; bytes_pass = are; longest = ap (first_byte_is is_blank) f ∙ plain_front name after plain has })
+      (record { parts = g; bytes_pass = blank; longest = ap (first_byte_is is_blank) h ∙ plain_front word behind also too })).1,
   p ∙ sym q,
 )
 
 -- A test's name does not fail.
-pub FailsInTestName-not : (text r name after : Bytes) (c : TextCause)
+pub not-FailsInTestName-if_parsed : (text r name after : Bytes) (c : TextCause)
     → FailsInTestName text r c
     → ParsesTestName text name after
     → ⊥
-FailsInTestName-not text r name after c (no_name all end p) is =
+not-FailsInTestName-if_parsed text r name after c (no_name all end p) is =
     blanks_end is.blanks name after (subst (AllByRecursion (λ b. is_blank b ≡ true)) is.parts all)
-    (All-mono _ _ (λ b e. graphic_no_blank b e) name is.is_name.all) is.is_name.not_empty
-FailsInTestName-not text r name after c (no_blank some other at p) is =
+    (All-mono _ _ (λ b e. graphic_no_blank b e) name is.is_name.are_graphic_bytes) is.is_name.not_empty
+not-FailsInTestName-if_parsed text r name after c (no_blank some other at p) is =
     false≢true (sym other ∙ blank_first text is.blanks (name ++ after) is.parts is.apart is.blank)
-FailsInTestName-not text r name after c (bad_name blanks word behind e f some are plain has longest not_name p) is =
+not-FailsInTestName-if_parsed text r name after c (bad_name blanks word behind e f some are plain has longest not_name p) is =
     not_name (subst IsTestName
     (ParsesTestName-parts text blanks r word behind e are (ap (first_byte_is is_blank) f ∙ plain_front word behind plain has) f
     (All-mono _ _ (λ b e. ap not e) word plain) longest name after is).1 is.is_name)
@@ -210,46 +216,47 @@ FailsInTestName-not text r name after c (bad_name blanks word behind e f some ar
 -- ---- The notes.
 
 -- A text that begins with a byte for which the test holds does not begin with one for which it does not.
-first_byte-not_both : (p : ℕ → Bool) (text : Bytes) → first_byte_is p text ≡ true → first_byte_is p text ≡ false → ⊥
-first_byte-not_both p text holds other = false≢true (sym other ∙ holds)
+not-both-first_byte : (p : ℕ → Bool) (text : Bytes) → first_byte_is p text ≡ true → first_byte_is p text ≡ false → ⊥
+not-both-first_byte p text holds other = false≢true (sym other ∙ holds)
 
 -- A key line fails uniquely.
 FailsInKeyLine-unique : (text r s : Bytes) → FailsInKeyLine text r → FailsInKeyLine text s → r ≡ s
 FailsInKeyLine-unique text r s (no_key_byte other at) (no_key_byte off is) = at ∙ sym is
 FailsInKeyLine-unique text r s (no_key_byte other at) (no_equals_sign key spaces e some all blank after stop sign) =
-    absurd (first_byte-not_both is_key_byte text (ap (first_byte_is is_key_byte) e ∙ key_front key (spaces ++ s) some all) other)
+    absurd (not-both-first_byte is_key_byte text (ap (first_byte_is is_key_byte) e ∙ key_front key (spaces ++ s) some all) other)
 FailsInKeyLine-unique text r s (no_equals_sign key spaces e some all blank after stop sign) (no_key_byte other at) =
-    absurd (first_byte-not_both is_key_byte text (ap (first_byte_is is_key_byte) e ∙ key_front key (spaces ++ r) some all) other)
+    absurd (not-both-first_byte is_key_byte text (ap (first_byte_is is_key_byte) e ∙ key_front key (spaces ++ r) some all) other)
 FailsInKeyLine-unique text r s (no_equals_sign key spaces e some all blank after stop sign) (no_equals_sign word room f many every space behind end mark) =
     let outer =
-    run-unique is_key_byte key word {text = text} (record { parts = e; all = all; longest = after })
-    (record { parts = f; all = every; longest = behind }) in
-    (run-unique is_space spaces room {text = spaces ++ r} (record { parts = refl; all = blank; longest = stop })
-    (record { parts = outer.1; all = space; longest = end })).1
+    run-unique is_key_byte key word {text = text} (record { parts = e; bytes_pass = all; longest = after })
+    (record { parts = f; bytes_pass = every; longest = behind }) in
+    (run-unique is_space spaces room {text = spaces ++ r} (record { parts = refl; bytes_pass = blank; longest = stop })
+    (record { parts = outer.1; bytes_pass = space; longest = end })).1
 
 -- A key line does not fail.
-FailsInKeyLine-not : (text r end : Bytes) → FailsInKeyLine text r → KeyLine text end → ⊥
-FailsInKeyLine-not text r end (no_key_byte other at) is = first_byte-not_both is_key_byte text (KeyLine-front text end is) other
-FailsInKeyLine-not text r end (no_equals_sign key spaces e some all blank after stop sign) is =
-    no_key_line-no_equals text key (spaces ++ r) spaces r e all after refl blank stop sign end is
+not-FailsInKeyLine-if_parsed : (text r end : Bytes) → FailsInKeyLine text r → KeyLine text end → ⊥
+not-FailsInKeyLine-if_parsed text r end (no_key_byte other at) is =
+    not-both-first_byte is_key_byte text (KeyLine-front text end is) other
+not-FailsInKeyLine-if_parsed text r end (no_equals_sign key spaces e some all blank after stop sign) is =
+    no_key_line-if_no_equals text key (spaces ++ r) spaces r e all after refl blank stop sign end is
 
 -- A note fails uniquely.
 FailsInNote-unique : (text r s : Bytes) → FailsInNote text r → FailsInNote text s → r ≡ s
 FailsInNote-unique text r s (open_quote inside e plain end) (open_quote within f also is) = end ∙ sym is
 FailsInNote-unique text r s (open_quote inside e plain end) (in_key_line other q) =
-    absurd (first_byte-not_both (λ b. b == 34) text (ap (first_byte_is (λ b. b == 34)) e) other)
+    absurd (not-both-first_byte (λ b. b == 34) text (ap (first_byte_is (λ b. b == 34)) e) other)
 FailsInNote-unique text r s (in_key_line other q) (open_quote inside e plain end) =
-    absurd (first_byte-not_both (λ b. b == 34) text (ap (first_byte_is (λ b. b == 34)) e) other)
+    absurd (not-both-first_byte (λ b. b == 34) text (ap (first_byte_is (λ b. b == 34)) e) other)
 FailsInNote-unique text r s (in_key_line other p) (in_key_line too q) = FailsInKeyLine-unique text r s p q
 
 -- A note does not fail.
-FailsInNote-not : (text r end : Bytes) → FailsInNote text r → Note text end → ⊥
-FailsInNote-not text r end (open_quote inside e plain ends) is =
+not-FailsInNote-if_parsed : (text r end : Bytes) → FailsInNote text r → Note text end → ⊥
+not-FailsInNote-if_parsed text r end (open_quote inside e plain ends) is =
     no_note-unclosed_quote text (ap (first_byte_is (λ b. b == 34)) e)
     (Quoted-open text inside inside [] e (sym (append-nil inside)) (Without-of_all 34 inside plain) refl refl) end is
-FailsInNote-not text r end (in_key_line other q) (inl is) =
-    first_byte-not_both (λ b. b == 34) text (Quoted-front text end is) other
-FailsInNote-not text r end (in_key_line other q) (inr is) = FailsInKeyLine-not text r end q is
+not-FailsInNote-if_parsed text r end (in_key_line other q) (inl is) =
+    not-both-first_byte (λ b. b == 34) text (Quoted-front text end is) other
+not-FailsInNote-if_parsed text r end (in_key_line other q) (inr is) = not-FailsInKeyLine-if_parsed text r end q is
 
 -- Notes fail uniquely.
 FailsInNotes-unique : (r s : Bytes) (text : Bytes) → FailsInNotes r text → FailsInNotes s text → r ≡ s
@@ -263,12 +270,12 @@ FailsInNotes-unique r s text (in_note {mid = mid} trivia stop other q) (open_com
 FailsInNotes-unique r s text (in_note {mid = mid} trivia stop other p) (in_note {mid = end} also too off q) =
     FailsInNote-unique mid r s p (subst (λ x. FailsInNote x s) (sym (Trivia-unique trivia also stop too)) q)
 FailsInNotes-unique r s text (in_note {mid = mid} trivia stop other p) (after_note {mid = end} {after = after} also is q) =
-    absurd (FailsInNote-not mid r after p
+    absurd (not-FailsInNote-if_parsed mid r after p
     (subst (λ x. Note x after) (sym (Trivia-unique trivia also stop (note_no_trivia end after is))) is))
 FailsInNotes-unique r s text (after_note {mid = mid} {after = after} trivia is q) (open_comment_in_notes never end) =
     absurd (never mid (note_no_trivia mid after is) trivia)
 FailsInNotes-unique r s text (after_note {mid = end} {after = after} also is q) (in_note {mid = mid} trivia stop other p) =
-    absurd (FailsInNote-not mid s after p
+    absurd (not-FailsInNote-if_parsed mid s after p
     (subst (λ x. Note x after) (sym (Trivia-unique trivia also stop (note_no_trivia end after is))) is))
 FailsInNotes-unique r s text (after_note {mid = mid} {after = after} trivia is p) (after_note {mid = end} {after = behind} also too q) =
     let same = Trivia-unique trivia also (note_no_trivia mid after is) (note_no_trivia end behind too) in
@@ -276,17 +283,18 @@ FailsInNotes-unique r s text (after_note {mid = mid} {after = after} trivia is p
     FailsInNotes-unique r s after p (subst (FailsInNotes s) (sym ends) q)
 
 -- Notes do not fail.
-FailsInNotes-not : (r : Bytes) (text end : Bytes) → FailsInNotes r text → Notes text end → ⊥
-FailsInNotes-not r text end (open_comment_in_notes never ends) is =
+not-FailsInNotes-if_parsed : (r : Bytes) (text end : Bytes) → FailsInNotes r text → Notes text end → ⊥
+not-FailsInNotes-if_parsed r text end (open_comment_in_notes never ends) is =
     let start = Notes-trivia_first is in never start.0 start.2 start.1
-FailsInNotes-not r text end (in_note {mid = mid} trivia stop other p) (none {rest = last} also block) =
-    first_byte-not_both (λ b. b == 123) mid
+not-FailsInNotes-if_parsed r text end (in_note {mid = mid} trivia stop other p) (none {rest = last} also block) =
+    not-both-first_byte (λ b. b == 123) mid
     (subst (λ x. first_byte_is (λ b. b == 123) x ≡ true) (Trivia-unique also trivia (block_no_trivia last block) stop) block)
     other
-FailsInNotes-not r text end (in_note {mid = mid} trivia stop other p) (note {mid = start} {after = after} also is more) =
-    FailsInNote-not mid r after p (subst (λ x. Note x after) (Trivia-unique also trivia (note_no_trivia start after is) stop) is)
-FailsInNotes-not r text end (after_note {mid = mid} {after = after} trivia is p) more =
-    FailsInNotes-not r after end p (Notes-note_inv more trivia is)
+not-FailsInNotes-if_parsed r text end (in_note {mid = mid} trivia stop other p) (note {mid = start} {after = after} also is more) =
+    not-FailsInNote-if_parsed mid r after p
+    (subst (λ x. Note x after) (Trivia-unique also trivia (note_no_trivia start after is) stop) is)
+not-FailsInNotes-if_parsed r text end (after_note {mid = mid} {after = after} trivia is p) more =
+    not-FailsInNotes-if_parsed r after end p (Notes-note_inv more trivia is)
 
 -- Notes fail for one cause.
 IsNoteCause-unique : (rest : Bytes) (c d : TextCause) → IsNoteCause rest c → IsNoteCause rest d → c ≡ d
@@ -311,11 +319,11 @@ pub FailsInPreamble-unique : (text r s : Bytes) (c d : TextCause)
 FailsInPreamble-unique text r s c d (in_keyword p) (in_keyword q) = FailsInFirstToken-unique text r s c d p q
 FailsInPreamble-unique text r s c d (in_keyword p) (no_keyword end is q) = absurd (FailsInFirstToken-end text r c p end)
 FailsInPreamble-unique text r s c d (in_keyword p) (other_keyword t after is at other q) =
-    absurd (FailsInFirstToken-not text r t after c p is)
+    absurd (not-FailsInFirstToken-if_parsed text r t after c p is)
 FailsInPreamble-unique text r s c d (in_keyword p) (in_test_name arch after is q) =
-    absurd (FailsInFirstToken-not text r _ after c p is)
+    absurd (not-FailsInFirstToken-if_parsed text r _ after c p is)
 FailsInPreamble-unique text r s c d (in_keyword p) (in_notes arch mid name after is names q cause) =
-    absurd (FailsInFirstToken-not text r _ mid c p is)
+    absurd (not-FailsInFirstToken-if_parsed text r _ mid c p is)
 FailsInPreamble-unique text r s c d (no_keyword end is p) (in_keyword q) = absurd (FailsInFirstToken-end text s d q end)
 FailsInPreamble-unique text r s c d (no_keyword end is p) (no_keyword also at q) = (is ∙ sym at, p ∙ sym q)
 FailsInPreamble-unique text r s c d (no_keyword end is p) (other_keyword t after first at other q) =
@@ -325,7 +333,7 @@ FailsInPreamble-unique text r s c d (no_keyword end is p) (in_test_name arch aft
 FailsInPreamble-unique text r s c d (no_keyword end is p) (in_notes arch mid name after first names q cause) =
     absurd (no_first_token-trivia_only text _ mid end first)
 FailsInPreamble-unique text r s c d (other_keyword t after is at other q) (in_keyword p) =
-    absurd (FailsInFirstToken-not text s t after d p is)
+    absurd (not-FailsInFirstToken-if_parsed text s t after d p is)
 FailsInPreamble-unique text r s c d (other_keyword t after first at other q) (no_keyword end is p) =
     absurd (no_first_token-trivia_only text t after end first)
 FailsInPreamble-unique text r s c d (other_keyword t after is at other p) (other_keyword u behind also place another q) =
@@ -336,7 +344,7 @@ FailsInPreamble-unique text r s c d (other_keyword t after is at other p) (in_te
 FailsInPreamble-unique text r s c d (other_keyword t after is at other p) (in_notes arch mid name behind also names q cause) =
     absurd (other arch (language_of_first_token-unique text t after mid arch is also))
 FailsInPreamble-unique text r s c d (in_test_name arch after is q) (in_keyword p) =
-    absurd (FailsInFirstToken-not text s _ after d p is)
+    absurd (not-FailsInFirstToken-if_parsed text s _ after d p is)
 FailsInPreamble-unique text r s c d (in_test_name arch after first q) (no_keyword end is p) =
     absurd (no_first_token-trivia_only text _ after end first)
 FailsInPreamble-unique text r s c d (in_test_name arch mid also q) (other_keyword t after is at other p) =
@@ -346,17 +354,17 @@ FailsInPreamble-unique text r s c d (in_test_name arch after is p) (in_test_name
     (subst (λ x. FailsInTestName x s d)
     (sym (IsFirstToken-unique text (arch_keyword arch) after (arch_keyword language) mid is also).1) q)
 FailsInPreamble-unique text r s c d (in_test_name arch after is p) (in_notes language mid name behind also names q cause) =
-    absurd (FailsInTestName-not after r name behind c p
+    absurd (not-FailsInTestName-if_parsed after r name behind c p
     (subst (λ x. ParsesTestName x name behind)
     (sym (IsFirstToken-unique text (arch_keyword arch) after (arch_keyword language) mid is also).1) names))
 FailsInPreamble-unique text r s c d (in_notes arch mid name after is names q cause) (in_keyword p) =
-    absurd (FailsInFirstToken-not text s _ mid d p is)
+    absurd (not-FailsInFirstToken-if_parsed text s _ mid d p is)
 FailsInPreamble-unique text r s c d (in_notes arch mid name after first names q cause) (no_keyword end is p) =
     absurd (no_first_token-trivia_only text _ mid end first)
 FailsInPreamble-unique text r s c d (in_notes arch mid name behind also names q cause) (other_keyword t after is at other p) =
     absurd (other arch (language_of_first_token-unique text t after mid arch is also))
 FailsInPreamble-unique text r s c d (in_notes language mid name behind also names q cause) (in_test_name arch after is p) =
-    absurd (FailsInTestName-not after s name behind d p
+    absurd (not-FailsInTestName-if_parsed after s name behind d p
     (subst (λ x. ParsesTestName x name behind)
     (sym (IsFirstToken-unique text (arch_keyword arch) after (arch_keyword language) mid is also).1) names))
 FailsInPreamble-unique text r s c d (in_notes arch mid name after is names p cause) (in_notes language end word behind also called q because) =
@@ -367,19 +375,19 @@ FailsInPreamble-unique text r s c d (in_notes arch mid name after is names p cau
     (same, IsNoteCause-unique r c d cause (subst (λ x. IsNoteCause x d) (sym same) because))
 
 -- A preamble does not fail.
-pub FailsInPreamble-not : (text r rest name : Bytes) (arch : Arch) (c : TextCause)
+pub not-FailsInPreamble-if_parsed : (text r rest name : Bytes) (arch : Arch) (c : TextCause)
     → FailsInPreamble text r c
     → Preamble text arch name rest
     → ⊥
-FailsInPreamble-not text r rest name arch c (in_keyword p) is = FailsInFirstToken-not text r _ is.0 c p is.2
-FailsInPreamble-not text r rest name arch c (no_keyword end at p) is = no_first_token-trivia_only text _ is.0 end is.2
-FailsInPreamble-not text r rest name arch c (other_keyword t after first at other p) is =
+not-FailsInPreamble-if_parsed text r rest name arch c (in_keyword p) is = not-FailsInFirstToken-if_parsed text r _ is.0 c p is.2
+not-FailsInPreamble-if_parsed text r rest name arch c (no_keyword end at p) is = no_first_token-trivia_only text _ is.0 end is.2
+not-FailsInPreamble-if_parsed text r rest name arch c (other_keyword t after first at other p) is =
     other arch (language_of_first_token-unique text t after is.0 arch first is.2)
-FailsInPreamble-not text r rest name arch c (in_test_name language after first p) is =
-    FailsInTestName-not after r name is.1 c p
+not-FailsInPreamble-if_parsed text r rest name arch c (in_test_name language after first p) is =
+    not-FailsInTestName-if_parsed after r name is.1 c p
     (subst (λ x. ParsesTestName x name is.1)
     (sym (IsFirstToken-unique text (arch_keyword language) after (arch_keyword arch) is.0 first is.2).1) is.3)
-FailsInPreamble-not text r rest name arch c (in_notes language mid word after first names p cause) is =
+not-FailsInPreamble-if_parsed text r rest name arch c (in_notes language mid word after first names p cause) is =
     let u = (IsFirstToken-unique text (arch_keyword language) mid (arch_keyword arch) is.0 first is.2).1 in
     let v = (ParsesTestName-unique mid word after name is.1 names (subst (λ x. ParsesTestName x name is.1) (sym u) is.3)).1 in
-    FailsInNotes-not r after rest p (subst (λ x. Notes x rest) (sym v) is.4)
+    not-FailsInNotes-if_parsed r after rest p (subst (λ x. Notes x rest) (sym v) is.4)

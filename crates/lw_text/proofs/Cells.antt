@@ -5,7 +5,7 @@ use Rattle.lw_text.proofs.Common.{ap, ◌∙◌, subst, arith, length-append, co
 use Rattle.lw_text.proofs.Common.{ParsesNothing, Bytes, TokenList, Cells, CellGrid, ParsesSepBy}
 use Rattle.lw_text.proofs.Common.{ParsesManyTill, ends_cell, Row, begins_stop, Rows}
 use Rattle.lw_text.specs.Rows.{Cell}
-use Rattle.lw_text.proofs.Texts.{is_text, bar_is_no_semicolon}
+use Rattle.lw_text.proofs.Texts.{is_text, not-bar_is_semicolon}
 use Rattle.lw_text.proofs.api.CellTokens.{EndsNoCell}
 use Rattle.lw_text.proofs.Lists.{ParsesMany-push, Passed, Passed-stop, Passed-peel, ParsesManyTill-unique}
 use Rattle.lw_text.proofs.Lists.{Before, IsDeterministic, Before-fault, IsMark, IsExact, ParsesSepBy-front}
@@ -55,7 +55,8 @@ Cell-exact ts x y a b r s m n p q =
 
 -- The parse of a row with a cell for each thread is unique.
 pub Row-deterministic : (threads : ℕ) → IsDeterministic (Row threads)
-Row-deterministic threads ts x y r s p q = ParsesSepBy-unique Cell _ (codes ";") Cell-exact bar_is_no_semicolon x y ts r s p.0 q.0
+Row-deterministic threads ts x y r s p q =
+    ParsesSepBy-unique Cell _ (codes ";") Cell-exact not-bar_is_semicolon x y ts r s p.0 q.0
 
 -- A token that ends a cell and is not `;` is `|`.
 pub mark_is_bar : (m : Bytes) → ends_cell m ≡ true → bytes_eq m (codes ";") ≡ false → m ≡ codes "|"
@@ -69,9 +70,9 @@ no_mark_in_cell (t ∷ x) m l p e = no_mark_in_cell x m l p.1 e
 
 module _ (ts here : TokenList) (cells : Cells) (before : Before Cell (codes "|") (codes ";") ts cells here) where
   -- If no token that ends a cell follows the cells read, there is no row.
-  pub no_cells-no_mark : EndsNoCell here → ParsesNothing (ParsesSepBy Cell (codes "|") (codes ";") ts)
-  no_cells-no_mark plain all rest row =
-      Before-fault Cell _ _ Cell-exact bar_is_no_semicolon _ all ts _ rest before (λ zs l s.
+  pub no_cells-if_no_mark : EndsNoCell here → ParsesNothing (ParsesSepBy Cell (codes "|") (codes ";") ts)
+  no_cells-if_no_mark plain all rest row =
+      Before-fault Cell _ _ Cell-exact not-bar_is_semicolon _ all ts _ rest before (λ zs l s.
       let f = ParsesSepBy-front Cell _ _ zs here l s in
       no_mark_in_cell f.0 f.1 f.2 (subst EndsNoCell f.4.0 plain) (mark_ends f.1 f.3)) row
 
@@ -83,7 +84,7 @@ pub no_row-wrong_count : (ts next : TokenList) (cells : Cells)
     → ParsesNothing (Row threads ts)
 no_row-wrong_count ts next cells row threads ne all rest line =
     ne (ap length
-    (ParsesSepBy-unique Cell (codes "|") (codes ";") Cell-exact bar_is_no_semicolon cells all ts next rest row line.0).0
+    (ParsesSepBy-unique Cell (codes "|") (codes ";") Cell-exact not-bar_is_semicolon cells all ts next rest row line.0).0
     ∙ line.1)
 
 -- ---- rows
@@ -135,8 +136,8 @@ module _ (threads : ℕ) (ts here : TokenList) (rows : CellGrid) (passed : Passe
       rows_continue-by_more (row ∷ more) e u = (row, more, u.1.0, e, u.1.1)
 
   -- If the next token does not end the rows, and no row follows, the tokens have no rows.
-  pub no_rows-no_row : begins_stop here ≡ false → ParsesNothing (Row threads here) → ParsesNothing (Rows threads ts)
-  no_rows-no_row go never all rest r = let k = next_row go all rest r in never k.0 k.2 k.4
+  pub no_rows-if_no_row : begins_stop here ≡ false → ParsesNothing (Row threads here) → ParsesNothing (Rows threads ts)
+  no_rows-if_no_row go never all rest r = let k = next_row go all rest r in never k.0 k.2 k.4
 
   -- If the maximal number of rows has been read, and the next token does not end the rows, the tokens have no rows.
   pub no_rows-too_many : begins_stop here ≡ false → length rows ≡ 64 → ParsesNothing (Rows threads ts)

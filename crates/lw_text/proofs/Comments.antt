@@ -54,7 +54,8 @@ Comment-shorter (other m c) = omega (arith, Comment-shorter c)
 begins_no_mark : (text : Bytes) → begins_pair 40 42 text ≡ false → begins_pair 42 41 text ≡ false → begins_mark text ≡ false
 begins_no_mark text p q = rw (p, q)
 
--- The invariant of the loop over a comment's bytes: the comment ends exactly where the rest closes it and `depth` inner ones.
+-- The invariant of the loop over a comment's bytes: the comment ends exactly where the rest closes it and `depth` inner ones, and the rest
+-- is shorter than the bytes by `depth` at least.
 pub record Progress (bytes : Bytes) (depth : ℕ) (rest : Bytes) : Type 0 where
   pub given : (end : Bytes) → Closes (suc depth) rest end → Comment bytes end
   pub only : (end : Bytes) → Comment bytes end → Closes (suc depth) rest end

@@ -50,8 +50,8 @@ pub use Rattle.lw_base.proofs.api.Elements.{All-append_inv, All-map_inv, All-mon
 pub use Rattle.lw_base.proofs.api.Elements.{AllByRecursion-every_image, AllByRecursion-filter}
 pub use Rattle.lw_base.proofs.api.Elements.{AllByRecursion-map, AllByRecursion-map_range}
 pub use Rattle.lw_base.proofs.api.Elements.{AllByRecursion-of_All}
-pub use Rattle.lw_base.proofs.api.GrowingTables.{IsDuplicateFree-insert_names, contains_name-insert_name}
-pub use Rattle.lw_base.proofs.api.GrowingTables.{contains_name-insert_names, insert_name-grows}
+pub use Rattle.lw_base.proofs.api.GrowingTables.{IsDuplicateFree-insert_names, contains_name-insert_names}
+pub use Rattle.lw_base.proofs.api.GrowingTables.{contains_name-of_inserted, insert_name-grows}
 pub use Rattle.lw_base.proofs.api.GrowingTables.{insert_names-append, insert_names-longer}
 pub use Rattle.lw_base.proofs.api.GrowingTables.{position_of_name-insert_names, position_of_name-within}
 pub use Rattle.lw_base.proofs.api.Lists.{cons-head_eq, slice_get-in_range}
@@ -65,7 +65,7 @@ pub use Rattle.lw_base.specs.declared.head.Quant.TheVariants.{Exists, Forall, No
 pub use Rattle.lw_base.specs.declared.head.Seen.{Seen}
 pub use Rattle.lw_base.specs.declared.head.Seen.TheVariants.{Location, Register}
 pub use Rattle.lw_base.specs.declared.proposition.Prop.{Prop}
-pub use Rattle.lw_text.specs.Causes.{IsOfReader}
+pub use Rattle.lw_text.specs.Causes.{IsParserCause}
 pub use Rattle.lw_text.specs.Combinators.{ParsesMany, ParsesManyTill, ParsesSepBy, ParsesSepEndBy}
 pub use Rattle.lw_text.specs.Conditions.{Always, AtomSyntax, Holds, IsAtom, IsTerminal, Listed, Never}
 pub use Rattle.lw_text.specs.Conditions.{Quantified, Terminals, begins_token, resolved, site_of, sites_in}

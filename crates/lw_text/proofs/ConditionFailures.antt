@@ -18,14 +18,14 @@ use Rattle.lw_text.specs.Conditions.{Condition}
 use Rattle.lw_text.proofs.api.PropositionNodes.{node_count, node_count-append}
 use Rattle.lw_text.proofs.Failures.{cons-tail_unique}
 use Rattle.lw_text.proofs.FailureUniqueness.{IsSameFailure, FailsUniquely, IfFirst-of_head}
-use Rattle.lw_text.proofs.FailureUniqueness.{FailsBefore-unique, FailsBefore-not, FailsInAssignment-unique}
-use Rattle.lw_text.proofs.FailureUniqueness.{FailsInAssignment-not}
+use Rattle.lw_text.proofs.FailureUniqueness.{FailsBefore-unique, not-FailsBefore-if_parsed}
+use Rattle.lw_text.proofs.FailureUniqueness.{FailsInAssignment-unique, not-FailsInAssignment-if_parsed}
 use Rattle.lw_text.proofs.PropositionCases.{node_count-of_one, with_sites_in-append}
 use Rattle.lw_text.proofs.PropositionReadings.{state_after_terminals, result_of, result-IsProposition}
 use Rattle.lw_text.proofs.SiteLists.{Listed-unique}
 use Rattle.lw_text.proofs.TerminalLists.{IsTerminal-unique, IsTerminal-shorter}
-use Rattle.lw_text.proofs.TestFailures.{FailsInList-unique, FailsInList-not, FailsInQuantifier-unique}
-use Rattle.lw_text.proofs.TestFailures.{FailsInQuantifier-not}
+use Rattle.lw_text.proofs.TestFailures.{FailsInList-unique, not-FailsInList-if_parsed}
+use Rattle.lw_text.proofs.TestFailures.{FailsInQuantifier-unique, not-FailsInQuantifier-if_parsed}
 use Rattle.lw_text.proofs.Whole.{Quantified-unique}
 use Rattle.lw_text.specs.declared.fault.TextCause.TheVariants as cause
 
@@ -34,19 +34,19 @@ abbrev joint_signs : List Bytes
 joint_signs = codes ")" ∷ codes "/\\" ∷ codes "\\/" ∷ []
 
 -- A parenthesis and another token are not both first.
-not_parenthesis-and_other : (ts : TokenList)
+not-parenthesis-and_other : (ts : TokenList)
     → ts ≢ []
     → IfFirst (λ t. (t ≡ codes "(") ⊎ (t ≡ codes ")")) ts
     → IfFirst (λ t. AllByRecursion (λ w. t ≢ w) (codes "(" ∷ codes ")" ∷ [])) ts
     → ⊥
-not_parenthesis-and_other [] some p q = some refl
-not_parenthesis-and_other (t ∷ ts) some (inl p) q = q.0 p
-not_parenthesis-and_other (t ∷ ts) some (inr p) q = q.1.0 p
+not-parenthesis-and_other [] some p q = some refl
+not-parenthesis-and_other (t ∷ ts) some (inl p) q = q.0 p
+not-parenthesis-and_other (t ∷ ts) some (inr p) q = q.1.0 p
 
 module _ (arch : Arch) (threads : ℕ) where
   -- Where a terminal is read, tokens remain.
-  not_empty-IsTerminal : (ts mid : TokenList) (s : Terminal AtomSyntax) → IsTerminal arch threads ts s mid → ts ≢ []
-  not_empty-IsTerminal ts mid s is e = omega (arith, IsTerminal-shorter arch threads ts mid s is, ap length e)
+  not-empty-IsTerminal : (ts mid : TokenList) (s : Terminal AtomSyntax) → IsTerminal arch threads ts s mid → ts ≢ []
+  not-empty-IsTerminal ts mid s is e = omega (arith, IsTerminal-shorter arch threads ts mid s is, ap length e)
 
   -- A terminal fails uniquely.
   FailsInTerminal-unique : (part : Bool) (names : NameTable) → FailsUniquely (FailsInTerminal arch threads part names)
@@ -55,50 +55,50 @@ module _ (arch : Arch) (threads : ℕ) where
   FailsInTerminal-unique false names ts r s d e p q = FailsBefore-unique joint_signs cause.Condition ts r s d e p q
 
   -- An opening word is not another token.
-  opening_word_is_no_other : (ts mid : TokenList) (w : Bytes)
+  not-other_word-if_opening : (ts mid : TokenList) (w : Bytes)
       → IfFirst (λ t. AllByRecursion (λ v. t ≢ v) opening_words) ts
       → ts ≡ w ∷ mid
       → (AllByRecursion (λ v. w ≢ v) opening_words → ⊥)
       → ⊥
-  opening_word_is_no_other ts mid w first begins one =
+  not-other_word-if_opening ts mid w first begins one =
       one (IfFirst-of_head (λ t. AllByRecursion (λ v. t ≢ v) opening_words) ts mid w begins first)
 
   -- A terminal that is possible at the place, and whose location has room, does not fail.
-  FailsInTerminal-not : (part : Bool) (n : ℕ) (names : NameTable) (ts rest mid : TokenList) (because : TextCause)
+  not-FailsInTerminal-if_parsed : (part : Bool) (n : ℕ) (names : NameTable) (ts rest mid : TokenList) (because : TextCause)
       (s : Terminal AtomSyntax) (next : PropositionPlace)
       → FailsInTerminal arch threads part names ts rest because
       → IsTerminal arch threads ts s mid
       → next_place (part, n) s ≡ Some next
       → HasRoomFor names (sites_in (s ∷ []))
       → ⊥
-  FailsInTerminal-not true n names ts rest mid because Open next fails is step room =
-      opening_word_is_no_other ts mid (codes "(") fails.0 is (λ all. all.0 refl)
-  FailsInTerminal-not true n names ts rest mid because Close next fails is step room = cc step
-  FailsInTerminal-not true n names ts rest mid because Negation next fails (inl is) step room =
-      opening_word_is_no_other ts mid (codes "~") fails.0 is (λ all. all.1.0 refl)
-  FailsInTerminal-not true n names ts rest mid because Negation next fails (inr is) step room =
-      opening_word_is_no_other ts mid (codes "not") fails.0 is (λ all. all.1.1.0 refl)
-  FailsInTerminal-not true n names ts rest mid because Conjunction next fails is step room = cc step
-  FailsInTerminal-not true n names ts rest mid because Disjunction next fails is step room = cc step
-  FailsInTerminal-not true n names ts rest mid because (Atom Always) next fails is step room =
-      opening_word_is_no_other ts mid (codes "true") fails.0 is (λ all. all.1.1.1.0 refl)
-  FailsInTerminal-not true n names ts rest mid because (Atom Never) next fails is step room =
-      opening_word_is_no_other ts mid (codes "false") fails.0 is (λ all. all.1.1.1.1.0 refl)
-  FailsInTerminal-not true n names ts rest mid because (Atom (Holds site word)) next fails is step room =
-      FailsInAssignment-not arch (Some threads) names cause.Condition ts rest is.0 mid because site word fails.1 is.1 is.2 room
-      is.3
-  FailsInTerminal-not false n names ts rest mid because Close next fails is step room =
-      FailsBefore-not joint_signs cause.Condition ts rest mid because (codes ")") fails is (λ all. all.0 refl)
-  FailsInTerminal-not false n names ts rest mid because Conjunction next fails is step room =
-      FailsBefore-not joint_signs cause.Condition ts rest mid because (codes "/\\") fails is (λ all. all.1.0 refl)
-  FailsInTerminal-not false n names ts rest mid because Disjunction next fails is step room =
-      FailsBefore-not joint_signs cause.Condition ts rest mid because (codes "\\/") fails is (λ all. all.1.1.0 refl)
-  FailsInTerminal-not false zero names ts rest mid because Open next fails is step room = cc step
-  FailsInTerminal-not false (suc n) names ts rest mid because Open next fails is step room = cc step
-  FailsInTerminal-not false zero names ts rest mid because Negation next fails is step room = cc step
-  FailsInTerminal-not false (suc n) names ts rest mid because Negation next fails is step room = cc step
-  FailsInTerminal-not false zero names ts rest mid because (Atom a) next fails is step room = cc step
-  FailsInTerminal-not false (suc n) names ts rest mid because (Atom a) next fails is step room = cc step
+  not-FailsInTerminal-if_parsed true n names ts rest mid because Open next fails is step room =
+      not-other_word-if_opening ts mid (codes "(") fails.0 is (λ all. all.0 refl)
+  not-FailsInTerminal-if_parsed true n names ts rest mid because Close next fails is step room = cc step
+  not-FailsInTerminal-if_parsed true n names ts rest mid because Negation next fails (inl is) step room =
+      not-other_word-if_opening ts mid (codes "~") fails.0 is (λ all. all.1.0 refl)
+  not-FailsInTerminal-if_parsed true n names ts rest mid because Negation next fails (inr is) step room =
+      not-other_word-if_opening ts mid (codes "not") fails.0 is (λ all. all.1.1.0 refl)
+  not-FailsInTerminal-if_parsed true n names ts rest mid because Conjunction next fails is step room = cc step
+  not-FailsInTerminal-if_parsed true n names ts rest mid because Disjunction next fails is step room = cc step
+  not-FailsInTerminal-if_parsed true n names ts rest mid because (Atom Always) next fails is step room =
+      not-other_word-if_opening ts mid (codes "true") fails.0 is (λ all. all.1.1.1.0 refl)
+  not-FailsInTerminal-if_parsed true n names ts rest mid because (Atom Never) next fails is step room =
+      not-other_word-if_opening ts mid (codes "false") fails.0 is (λ all. all.1.1.1.1.0 refl)
+  not-FailsInTerminal-if_parsed true n names ts rest mid because (Atom (Holds site word)) next fails is step room =
+      not-FailsInAssignment-if_parsed arch (Some threads) names cause.Condition ts rest is.0 mid because site word fails.1 is.1
+      is.2 room is.3
+  not-FailsInTerminal-if_parsed false n names ts rest mid because Close next fails is step room =
+      not-FailsBefore-if_parsed joint_signs cause.Condition ts rest mid because (codes ")") fails is (λ all. all.0 refl)
+  not-FailsInTerminal-if_parsed false n names ts rest mid because Conjunction next fails is step room =
+      not-FailsBefore-if_parsed joint_signs cause.Condition ts rest mid because (codes "/\\") fails is (λ all. all.1.0 refl)
+  not-FailsInTerminal-if_parsed false n names ts rest mid because Disjunction next fails is step room =
+      not-FailsBefore-if_parsed joint_signs cause.Condition ts rest mid because (codes "\\/") fails is (λ all. all.1.1.0 refl)
+  not-FailsInTerminal-if_parsed false zero names ts rest mid because Open next fails is step room = cc step
+  not-FailsInTerminal-if_parsed false (suc n) names ts rest mid because Open next fails is step room = cc step
+  not-FailsInTerminal-if_parsed false zero names ts rest mid because Negation next fails is step room = cc step
+  not-FailsInTerminal-if_parsed false (suc n) names ts rest mid because Negation next fails is step room = cc step
+  not-FailsInTerminal-if_parsed false zero names ts rest mid because (Atom a) next fails is step room = cc step
+  not-FailsInTerminal-if_parsed false (suc n) names ts rest mid because (Atom a) next fails is step room = cc step
 
   -- After a part outside of all parentheses no `)` is possible.
   no_Close-outside_parentheses : (place next : PropositionPlace)
@@ -128,7 +128,7 @@ module _ (arch : Arch) (threads : ℕ) where
       → FailsInTerminal arch threads place.0 names ts rest because
       → ⊥
   no_terminal-unopened place names ts rest after because is begins fails =
-      FailsBefore-not joint_signs cause.Condition ts rest after because (codes ")")
+      not-FailsBefore-if_parsed joint_signs cause.Condition ts rest after because (codes ")")
       (subst (λ (p : PropositionPlace). FailsInTerminal arch threads p.0 names ts rest because) is fails) begins
       (λ all. all.0 refl)
 
@@ -147,31 +147,31 @@ module _ (arch : Arch) (threads : ℕ) where
   FailsInProposition-unique r s d e place nodes names ts (incomplete part_open end is) (unopened here begins at because) =
       absurd (omega (arith, ap length (sym end ∙ begins)))
   FailsInProposition-unique r s d e place nodes names ts (incomplete part_open end is) (after_terminal t mid next room terminal has step q) =
-      absurd (not_empty-IsTerminal ts mid t terminal end)
+      absurd (not-empty-IsTerminal ts mid t terminal end)
   FailsInProposition-unique r s d e place nodes names ts (too_many_nodes some full at first because) (incomplete part_open end is) =
       absurd (some end)
   FailsInProposition-unique r s d e place nodes names ts (too_many_nodes some full at first because) (too_many_nodes also too is second cause) =
       (sym at ∙ is, λ there. because ∙ sym cause)
   FailsInProposition-unique r s d e place nodes names ts (too_many_nodes some full at first because) (in_terminal also room fails) =
-      absurd (not_parenthesis-and_other ts some (room full)
+      absurd (not-parenthesis-and_other ts some (room full)
       (subst (IfFirst (λ t. AllByRecursion (λ w. t ≢ w) (codes "(" ∷ codes ")" ∷ []))) (sym at) first))
   FailsInProposition-unique r s d e place nodes names ts (too_many_nodes some full at first because) (unopened here begins is cause) =
       absurd ((IfFirst-of_head (λ t. AllByRecursion (λ w. t ≢ w) (codes "(" ∷ codes ")" ∷ [])) r _ (codes ")") (sym at ∙ begins)
       first).1.0 refl)
   FailsInProposition-unique r s d e place nodes names ts (too_many_nodes some full at first because) (after_terminal t mid next room terminal has step q) =
-      absurd (not_parenthesis-and_other ts some (room full)
+      absurd (not-parenthesis-and_other ts some (room full)
       (subst (IfFirst (λ t. AllByRecursion (λ w. t ≢ w) (codes "(" ∷ codes ")" ∷ []))) (sym at) first))
   FailsInProposition-unique r s d e place nodes names ts (in_terminal some room fails) (incomplete part_open end is) =
       absurd (some end)
   FailsInProposition-unique r s d e place nodes names ts (in_terminal also room fails) (too_many_nodes some full at first because) =
-      absurd (not_parenthesis-and_other ts some (room full)
+      absurd (not-parenthesis-and_other ts some (room full)
       (subst (IfFirst (λ t. AllByRecursion (λ w. t ≢ w) (codes "(" ∷ codes ")" ∷ []))) (sym at) first))
   FailsInProposition-unique r s d e place nodes names ts (in_terminal some room fails) (in_terminal also has more) =
       FailsInTerminal-unique place.0 names ts r s d e fails more
   FailsInProposition-unique r s d e place nodes names ts (in_terminal some room fails) (unopened here begins is because) =
       absurd (no_terminal-unopened place names ts r _ d here begins fails)
   FailsInProposition-unique r s d e (part, n) nodes names ts (in_terminal some room fails) (after_terminal t mid next also terminal has step q) =
-      absurd (FailsInTerminal-not part n names ts r mid d t next fails terminal step has)
+      absurd (not-FailsInTerminal-if_parsed part n names ts r mid d t next fails terminal step has)
   FailsInProposition-unique r s d e place nodes names ts (unopened here begins at because) (incomplete part_open end is) =
       absurd (omega (arith, ap length (sym end ∙ begins)))
   FailsInProposition-unique r s d e place nodes names ts (unopened here begins is cause) (too_many_nodes some full at first because) =
@@ -184,12 +184,12 @@ module _ (arch : Arch) (threads : ℕ) where
   FailsInProposition-unique r s d e place nodes names ts (unopened here begins is because) (after_terminal t mid next room terminal has step q) =
       absurd (no_Close-IsTerminal place next ts _ mid t here begins terminal step)
   FailsInProposition-unique r s d e place nodes names ts (after_terminal t mid next room terminal has step q) (incomplete part_open end is) =
-      absurd (not_empty-IsTerminal ts mid t terminal end)
+      absurd (not-empty-IsTerminal ts mid t terminal end)
   FailsInProposition-unique r s d e place nodes names ts (after_terminal t mid next room terminal has step q) (too_many_nodes some full at first because) =
-      absurd (not_parenthesis-and_other ts some (room full)
+      absurd (not-parenthesis-and_other ts some (room full)
       (subst (IfFirst (λ t. AllByRecursion (λ w. t ≢ w) (codes "(" ∷ codes ")" ∷ []))) (sym at) first))
   FailsInProposition-unique r s d e (part, n) nodes names ts (after_terminal t mid next also terminal has step q) (in_terminal some room fails) =
-      absurd (FailsInTerminal-not part n names ts s mid e t next fails terminal step has)
+      absurd (not-FailsInTerminal-if_parsed part n names ts s mid e t next fails terminal step has)
   FailsInProposition-unique r s d e place nodes names ts (after_terminal t mid next room terminal has step q) (unopened here begins is because) =
       absurd (no_Close-IsTerminal place next ts _ mid t here begins terminal step)
   FailsInProposition-unique r s d e place nodes names ts (after_terminal t mid next room terminal has step p) (after_terminal u other then more another too again q) =
@@ -264,11 +264,11 @@ module _ (arch : Arch) (threads : ℕ) where
   is_parenthesis-no_node ts mid (Atom a) is none = absurd (cc none)
 
   -- One more node does not fit after 256.
-  is_no_node-at_limit : (nodes : ℕ) (s : Terminal AtomSyntax) (ss : List (Terminal AtomSyntax))
+  is_node-false_at_limit : (nodes : ℕ) (s : Terminal AtomSyntax) (ss : List (Terminal AtomSyntax))
       → nodes ≡ 256
       → nodes + node_count (s ∷ ss) ≤ 256
       → is_node s ≡ false
-  is_no_node-at_limit nodes s ss full few = next_state-by_cases (is_node s) refl
+  is_node-false_at_limit nodes s ss full few = next_state-by_cases (is_node s) refl
     where
       next_state-by_cases : (b : Bool) → is_node s ≡ b → is_node s ≡ false
       next_state-by_cases true e = absurd (omega (arith, full, few, node_count-append (s ∷ []) ss, node_count-of_one true s e))
@@ -286,8 +286,8 @@ module _ (arch : Arch) (threads : ℕ) where
   )
 
   -- The rest of a proposition does not fail.
-  FailsInProposition-not : (rest : TokenList) (because : TextCause) (place : PropositionPlace) (nodes : ℕ) (names : NameTable)
-      (ts : TokenList) (state : ReaderState) (more : List (Terminal AtomSyntax)) (p : Formula)
+  not-FailsInProposition-if_parsed : (rest : TokenList) (because : TextCause) (place : PropositionPlace) (nodes : ℕ)
+      (names : NameTable) (ts : TokenList) (state : ReaderState) (more : List (Terminal AtomSyntax)) (p : Formula)
       → FailsInProposition arch threads rest because place nodes names ts
       → place ≡ place_of state
       → Terminals arch threads ts more
@@ -295,20 +295,20 @@ module _ (arch : Arch) (threads : ℕ) where
       → nodes + node_count more ≤ 256
       → HasRoomFor names (sites_in more)
       → ⊥
-  FailsInProposition-not rest because place nodes names ts state [] p (incomplete part_open end is) here all said few room =
+  not-FailsInProposition-if_parsed rest because place nodes names ts state [] p (incomplete part_open end is) here all said few room =
       part_open (here ∙ place_at_end-state_result state p said)
-  FailsInProposition-not rest because place nodes names ts state [] p (too_many_nodes some full at first cause) here all said few room =
+  not-FailsInProposition-if_parsed rest because place nodes names ts state [] p (too_many_nodes some full at first cause) here all said few room =
       some all
-  FailsInProposition-not rest because place nodes names ts state [] p (in_terminal some has fails) here all said few room =
+  not-FailsInProposition-if_parsed rest because place nodes names ts state [] p (in_terminal some has fails) here all said few room =
       some all
-  FailsInProposition-not rest because place nodes names ts state [] p (unopened at begins is cause) here all said few room =
+  not-FailsInProposition-if_parsed rest because place nodes names ts state [] p (unopened at begins is cause) here all said few room =
       omega (arith, ap length (sym all ∙ begins))
-  FailsInProposition-not rest because place nodes names ts state [] p (after_terminal t mid next has terminal fits step q) here all said few room =
-      not_empty-IsTerminal ts mid t terminal all
-  FailsInProposition-not rest because place nodes names ts state (s ∷ ss) p (incomplete part_open end is) here all said few room =
-      not_empty-IsTerminal ts all.0 s all.1 end
-  FailsInProposition-not rest because place nodes names ts state (s ∷ ss) p (too_many_nodes some full at first cause) here all said few room =
-      elim (is_parenthesis-no_node ts all.0 s all.1 (is_no_node-at_limit nodes s ss full few)) [
+  not-FailsInProposition-if_parsed rest because place nodes names ts state [] p (after_terminal t mid next has terminal fits step q) here all said few room =
+      not-empty-IsTerminal ts mid t terminal all
+  not-FailsInProposition-if_parsed rest because place nodes names ts state (s ∷ ss) p (incomplete part_open end is) here all said few room =
+      not-empty-IsTerminal ts all.0 s all.1 end
+  not-FailsInProposition-if_parsed rest because place nodes names ts state (s ∷ ss) p (too_many_nodes some full at first cause) here all said few room =
+      elim (is_parenthesis-no_node ts all.0 s all.1 (is_node-false_at_limit nodes s ss full few)) [
         | inl opens ↦
             (IfFirst-of_head (λ t. AllByRecursion (λ w. t ≢ w) (codes "(" ∷ codes ")" ∷ [])) rest all.0 (codes "(")
             (sym at ∙ opens) first).0 refl
@@ -316,21 +316,21 @@ module _ (arch : Arch) (threads : ℕ) where
             (IfFirst-of_head (λ t. AllByRecursion (λ w. t ≢ w) (codes "(" ∷ codes ")" ∷ [])) rest all.0 (codes ")")
             (sym at ∙ closes) first).1.0 refl
       ]
-  FailsInProposition-not rest because place nodes names ts state (s ∷ ss) p (in_terminal some has fails) here all said few room =
+  not-FailsInProposition-if_parsed rest because place nodes names ts state (s ∷ ss) p (in_terminal some has fails) here all said few room =
       let after =
       state_after state (resolved (with_sites names (sites_in (s ∷ ss))) s)
       (map (resolved (with_sites names (sites_in (s ∷ ss)))) ss) p said in
-      FailsInTerminal-not (place_of state).0 (place_of state).1 names ts rest all.0 because s (place_of after.0)
+      not-FailsInTerminal-if_parsed (place_of state).0 (place_of state).1 names ts rest all.0 because s (place_of after.0)
       (subst (λ (pl : PropositionPlace). FailsInTerminal arch threads pl.0 names ts rest because) here fails) all.1
       (next_place-resolved state (with_sites names (sites_in (s ∷ ss))) s ∙ ap (option_map place_of) after.1)
       (HasRoomFor-first_terminal names s ss room)
-  FailsInProposition-not rest because place nodes names ts state (s ∷ ss) p (unopened at begins is cause) here all said few room =
+  not-FailsInProposition-if_parsed rest because place nodes names ts state (s ∷ ss) p (unopened at begins is cause) here all said few room =
       let after =
       state_after state (resolved (with_sites names (sites_in (s ∷ ss))) s)
       (map (resolved (with_sites names (sites_in (s ∷ ss)))) ss) p said in
       no_Close-IsTerminal (place_of state) (place_of after.0) ts _ all.0 s (sym here ∙ at) begins all.1
       (next_place-resolved state (with_sites names (sites_in (s ∷ ss))) s ∙ ap (option_map place_of) after.1)
-  FailsInProposition-not rest because place nodes names ts state (s ∷ ss) p (after_terminal t mid next has terminal fits step q) here all said few room =
+  not-FailsInProposition-if_parsed rest because place nodes names ts state (s ∷ ss) p (after_terminal t mid next has terminal fits step q) here all said few room =
       let table = with_sites names (sites_in (s ∷ ss)) in
       let after = state_after state (resolved table s) (map (resolved table) ss) p said in
       let same = IsTerminal-unique arch threads ts t s mid all.0 terminal all.1 in
@@ -339,8 +339,8 @@ module _ (arch : Arch) (threads : ℕ) where
       (with_sites names (sites_in (x ∷ []))) l in
       let grown : table ≡ with_sites (with_sites names (sites_in (s ∷ []))) (sites_in ss) =
       with_sites_in-append names (s ∷ []) ss in
-      FailsInProposition-not rest because next (nodes + node_count (s ∷ [])) (with_sites names (sites_in (s ∷ []))) all.0 after.0
-      ss p (subst (λ l. F s l) same.1 (subst (λ x. F x mid) same.0 q))
+      not-FailsInProposition-if_parsed rest because next (nodes + node_count (s ∷ [])) (with_sites names (sites_in (s ∷ [])))
+      all.0 after.0 ss p (subst (λ l. F s l) same.1 (subst (λ x. F x mid) same.0 q))
       (Some-injective_place (sym step
       ∙ ap (next_place place) same.0
       ∙ ap (λ (pl : PropositionPlace). next_place pl s) here
@@ -358,21 +358,21 @@ module _ (arch : Arch) (threads : ℕ) where
     pub FailsInCondition-unique : FailsUniquely (FailsInCondition arch threads names)
     FailsInCondition-unique ts r s d e (in_list p) (in_list q) = FailsInList-unique arch threads names ts r s d e p q
     FailsInCondition-unique ts r s d e (in_list p) (in_quantifier listed lists there room q) =
-        absurd (FailsInList-not arch threads names ts r _ d listed p lists there room)
+        absurd (not-FailsInList-if_parsed arch threads names ts r _ d listed p lists there room)
     FailsInCondition-unique ts r s d e (in_list p) (in_proposition listed quant lists there room asks q) =
-        absurd (FailsInList-not arch threads names ts r _ d listed p lists there room)
+        absurd (not-FailsInList-if_parsed arch threads names ts r _ d listed p lists there room)
     FailsInCondition-unique ts r s d e (in_quantifier listed lists there room p) (in_list q) =
-        absurd (FailsInList-not arch threads names ts s _ e listed q lists there room)
+        absurd (not-FailsInList-if_parsed arch threads names ts s _ e listed q lists there room)
     FailsInCondition-unique ts r s d e (in_quantifier listed {mid = mid} lists there room p) (in_quantifier other {mid = end} also too has q) =
         FailsInQuantifier-unique mid r s d e p
         (subst (λ l. FailsInQuantifier l s e) (sym (Listed-unique arch ts listed other mid end lists also).1) q)
     FailsInCondition-unique ts r s d e (in_quantifier listed {mid = mid} lists there room p) (in_proposition other quant {mid = end} {after = after} also too has asks q) =
-        absurd (FailsInQuantifier-not mid r after d quant p
+        absurd (not-FailsInQuantifier-if_parsed mid r after d quant p
         (subst (λ l. Quantified l quant after) (sym (Listed-unique arch ts listed other mid end lists also).1) asks))
     FailsInCondition-unique ts r s d e (in_proposition listed quant lists there room asks p) (in_list q) =
-        absurd (FailsInList-not arch threads names ts s _ e listed q lists there room)
+        absurd (not-FailsInList-if_parsed arch threads names ts s _ e listed q lists there room)
     FailsInCondition-unique ts r s d e (in_proposition other quant {mid = end} {after = after} also too has asks p) (in_quantifier listed {mid = mid} lists there room q) =
-        absurd (FailsInQuantifier-not mid s after e quant q
+        absurd (not-FailsInQuantifier-if_parsed mid s after e quant q
         (subst (λ l. Quantified l quant after) (sym (Listed-unique arch ts listed other mid end lists also).1) asks))
     FailsInCondition-unique ts r s d e (in_proposition listed quant {mid = mid} {after = after} lists there room asks p) (in_proposition other another {mid = end} {after = behind} also too has questions q) =
         let u = Listed-unique arch ts listed other mid end lists also in
@@ -383,22 +383,23 @@ module _ (arch : Arch) (threads : ℕ) where
         (subst (FailsInProposition arch threads s e first_place 0 (with_sites names other)) (sym v.1) q))
 
     -- A condition with room for its locations, whose terminals are a proposition, does not fail.
-    pub FailsInCondition-not : (ts rest : TokenList) (because : TextCause)
+    pub not-FailsInCondition-if_parsed : (ts rest : TokenList) (because : TextCause)
         → FailsInCondition arch threads names ts rest because
         → NoCondition arch threads ts names
-    FailsInCondition-not ts rest because (in_list fails) listed quant ss p is fits =
-        FailsInList-not arch threads names ts rest is.behind_list because listed fails is.lists is.threads_exist
+    not-FailsInCondition-if_parsed ts rest because (in_list fails) listed quant ss p is fits =
+        not-FailsInList-if_parsed arch threads names ts rest is.behind_list because listed fails is.lists is.threads_exist
         (omega (arith, fits.room, insert_names-longer (with_sites names listed) (site_names (sites_in ss))))
-    FailsInCondition-not ts rest because (in_quantifier other {mid = mid} lists there room fails) listed quant ss p is fits =
-        FailsInQuantifier-not mid rest is.behind_quant because quant fails
+    not-FailsInCondition-if_parsed ts rest because (in_quantifier other {mid = mid} lists there room fails) listed quant ss p is fits =
+        not-FailsInQuantifier-if_parsed mid rest is.behind_quant because quant fails
         (subst (λ l. Quantified l quant is.behind_quant)
         (sym (Listed-unique arch ts other listed mid is.behind_list lists is.lists).1) is.quantifies)
-    FailsInCondition-not ts rest because (in_proposition other another {mid = mid} {after = after} lists there room asks fails) listed quant ss p is fits =
+    not-FailsInCondition-if_parsed ts rest because (in_proposition other another {mid = mid} {after = after} lists there room asks fails) listed quant ss p is fits =
         let u = Listed-unique arch ts other listed mid is.behind_list lists is.lists in
         let v =
         Quantified-unique mid another quant after is.behind_quant asks
         (subst (λ l. Quantified l quant is.behind_quant) (sym u.1) is.quantifies) in
-        FailsInProposition-not rest because first_place 0 (with_sites names listed) is.behind_quant initial_reader_state ss p
+        not-FailsInProposition-if_parsed rest because first_place 0 (with_sites names listed) is.behind_quant initial_reader_state
+        ss p
         (subst (λ sites. FailsInProposition arch threads rest because first_place 0 (with_sites names sites) is.behind_quant) u.0
         (subst (FailsInProposition arch threads rest because first_place 0 (with_sites names other)) v.1 fails)) refl is.says
-        (result-IsProposition fits.says) (omega (arith, fits.few)) fits.room
+        (result-IsProposition fits.says) (omega (arith, fits.few_nodes)) fits.room

@@ -53,12 +53,13 @@ FailsBefore-unique words c =
     (λ t cause because p q. p.1 ∙ sym q.1)
 
 -- Tokens that begin with one of the words do not fail before them.
-pub FailsBefore-not : (words : List Bytes) (c : TextCause) (ts rest l : TokenList) (cause : TextCause) (w : Bytes)
+pub not-FailsBefore-if_parsed : (words : List Bytes) (c : TextCause) (ts rest l : TokenList) (cause : TextCause) (w : Bytes)
     → FailsBefore words c ts rest cause
     → ts ≡ w ∷ l
     → (AllByRecursion (λ v. w ≢ v) words → ⊥)
     → ⊥
-FailsBefore-not words c ts rest l cause w fails begins one = one (IfFirst-of_head _ rest l w (sym fails.0 ∙ begins) fails.1).0
+not-FailsBefore-if_parsed words c ts rest l cause w fails begins one =
+    one (IfFirst-of_head _ rest l w (sym fails.0 ∙ begins) fails.1).0
 
 -- A misfit has one cause.
 IsMisfitCause-unique : (c : TextCause) (t : Bytes) (cause because : TextCause)
@@ -85,13 +86,13 @@ FailsInName-unique : (names : NameTable) (c : TextCause) → FailsUniquely (Fail
 FailsInName-unique names c = FailsUniquely-at_first_token (IsNoNewLocation c names) (IsNoNewLocation-unique c names)
 
 -- A location's name for which there is room does not fail.
-FailsInName-not : (names : NameTable) (c : TextCause) (ts rest l : TokenList) (cause : TextCause) (x : Bytes)
+not-FailsInName-if_parsed : (names : NameTable) (c : TextCause) (ts rest l : TokenList) (cause : TextCause) (x : Bytes)
     → FailsInName names c ts rest cause
     → ts ≡ x ∷ l
     → IsLocationName x
     → HasRoomForName names x
     → ⊥
-FailsInName-not names c ts rest l cause x fails begins is room =
+not-FailsInName-if_parsed names c ts rest l cause x fails begins is room =
     by_first_token (IfFirst-of_head (λ t. IsNoNewLocation c names t cause) rest l x (sym fails.0 ∙ begins) fails.1)
   where
     by_first_token : IsNoNewLocation c names x cause → ⊥
@@ -102,46 +103,47 @@ FailsInName-not names c ts rest l cause x fails begins is room =
 FailsInBrackets-unique : (names : NameTable) (c : TextCause) → FailsUniquely (FailsInBrackets names c)
 FailsInBrackets-unique names c ts r s d e (in_bracketed_name p) (in_bracketed_name q) = FailsInName-unique names c ts r s d e p q
 FailsInBrackets-unique names c ts r s d e (in_bracketed_name p) (no_bracket begins is room q) =
-    absurd (FailsInName-not names c ts r _ d _ p begins is room)
+    absurd (not-FailsInName-if_parsed names c ts r _ d _ p begins is room)
 FailsInBrackets-unique names c ts r s d e (no_bracket begins is room p) (in_bracketed_name q) =
-    absurd (FailsInName-not names c ts s _ e _ q begins is room)
+    absurd (not-FailsInName-if_parsed names c ts s _ e _ q begins is room)
 FailsInBrackets-unique names c ts r s d e (no_bracket {mid = mid} begins is room p) (no_bracket {mid = other} again too has q) =
     let same : mid ≡ other = cons-tail_unique (sym begins ∙ again) in
     FailsBefore-unique (codes "]" ∷ []) c mid r s d e p (subst (λ l. FailsBefore (codes "]" ∷ []) c l s e) (sym same) q)
 
 -- A location in brackets for which there is room does not fail.
-FailsInBrackets-not : (names : NameTable) (c : TextCause) (ts rest l : TokenList) (cause : TextCause) (x : Bytes)
+not-FailsInBrackets-if_parsed : (names : NameTable) (c : TextCause) (ts rest l : TokenList) (cause : TextCause) (x : Bytes)
     → FailsInBrackets names c ts rest cause
     → ts ≡ x ∷ codes "]" ∷ l
     → IsLocationName x
     → HasRoomForName names x
     → ⊥
-FailsInBrackets-not names c ts rest l cause x (in_bracketed_name p) begins is room =
-    FailsInName-not names c ts rest _ cause x p begins is room
-FailsInBrackets-not names c ts rest l cause x (no_bracket again too has p) begins is room =
-    FailsBefore-not (codes "]" ∷ []) c _ rest l cause (codes "]") p (cons-tail_unique (sym again ∙ begins)) (λ all. all.0 refl)
+not-FailsInBrackets-if_parsed names c ts rest l cause x (in_bracketed_name p) begins is room =
+    not-FailsInName-if_parsed names c ts rest _ cause x p begins is room
+not-FailsInBrackets-if_parsed names c ts rest l cause x (no_bracket again too has p) begins is room =
+    not-FailsBefore-if_parsed (codes "]" ∷ []) c _ rest l cause (codes "]") p (cons-tail_unique (sym again ∙ begins))
+    (λ all. all.0 refl)
 
 -- A register after a thread's number fails uniquely, and not if there is one.
 FailsInRegister-unique : (arch : Arch) (c : TextCause) → FailsUniquely (FailsInRegister arch c)
 FailsInRegister-unique arch c ts r s d e (no_colon p) (no_colon q) = FailsBefore-unique (codes ":" ∷ []) c ts r s d e p q
 FailsInRegister-unique arch c ts r s d e (no_colon p) (no_register_name begins q) =
-    absurd (FailsBefore-not (codes ":" ∷ []) c ts r _ d (codes ":") p begins (λ all. all.0 refl))
+    absurd (not-FailsBefore-if_parsed (codes ":" ∷ []) c ts r _ d (codes ":") p begins (λ all. all.0 refl))
 FailsInRegister-unique arch c ts r s d e (no_register_name begins p) (no_colon q) =
-    absurd (FailsBefore-not (codes ":" ∷ []) c ts s _ e (codes ":") q begins (λ all. all.0 refl))
+    absurd (not-FailsBefore-if_parsed (codes ":" ∷ []) c ts s _ e (codes ":") q begins (λ all. all.0 refl))
 FailsInRegister-unique arch c ts r s d e (no_register_name begins p) (no_register_name again q) =
     FailsUniquely-at_first_token (λ t cause. ((n : ℕ) → IsRegisterName arch t n → ⊥) × IsMisfitCause c t cause)
     (λ t cause because x y. IsMisfitCause-unique c t cause because x.1 y.1) r r s d e (refl, p)
     (cons-tail_unique (sym begins ∙ again), q)
 
 -- A `:` and a register's name do not fail.
-FailsInRegister-not : (arch : Arch) (c : TextCause) (ts rest l : TokenList) (cause : TextCause) (q : Bytes) (n : ℕ)
+not-FailsInRegister-if_parsed : (arch : Arch) (c : TextCause) (ts rest l : TokenList) (cause : TextCause) (q : Bytes) (n : ℕ)
     → FailsInRegister arch c ts rest cause
     → ts ≡ codes ":" ∷ q ∷ l
     → IsRegisterName arch q n
     → ⊥
-FailsInRegister-not arch c ts rest l cause q n (no_colon p) begins is =
-    FailsBefore-not (codes ":" ∷ []) c ts rest _ cause (codes ":") p begins (λ all. all.0 refl)
-FailsInRegister-not arch c ts rest l cause q n (no_register_name again p) begins is =
+not-FailsInRegister-if_parsed arch c ts rest l cause q n (no_colon p) begins is =
+    not-FailsBefore-if_parsed (codes ":" ∷ []) c ts rest _ cause (codes ":") p begins (λ all. all.0 refl)
+not-FailsInRegister-if_parsed arch c ts rest l cause q n (no_register_name again p) begins is =
     (IfFirst-of_head (λ t. ((n : ℕ) → IsRegisterName arch t n → ⊥) × IsMisfitCause c t cause) rest l q
     (cons-tail_unique (sym again ∙ begins)) p).0 n is
 
@@ -160,8 +162,8 @@ no_number-Plain : (ts l : TokenList) (p : Bytes) (n : ℕ) → Plain ts → ts �
 no_number-Plain ts l p n plain e is = (IfFirst-of_head _ ts l p e plain).1 n is
 
 -- Tokens do not begin both with `[` and with a number.
-not_bracket_and_number : (ts l m : TokenList) (p : Bytes) (n : ℕ) → ts ≡ codes "[" ∷ l → ts ≡ p ∷ m → IsNumber p n → ⊥
-not_bracket_and_number ts l m p n e f is = bracket_no_number n (subst (λ w. IsNumber w n) (cons-head_eq _ _ _ _ (sym f ∙ e)) is)
+not-bracket_and_number : (ts l m : TokenList) (p : Bytes) (n : ℕ) → ts ≡ codes "[" ∷ l → ts ≡ p ∷ m → IsNumber p n → ⊥
+not-bracket_and_number ts l m p n e f is = bracket_no_number n (subst (λ w. IsNumber w n) (cons-head_eq _ _ _ _ (sym f ∙ e)) is)
 
 -- Two numbers at the start of the same tokens are the same.
 IsNumber-unique_first : (ts l m : TokenList) (p q : Bytes) (n k : ℕ)
@@ -187,13 +189,13 @@ module _ (arch : Arch) (threads : Option ℕ) (names : NameTable) (c : TextCause
       let same : inside ≡ other = cons-tail_unique (sym begins ∙ again) in
       FailsInBrackets-unique names c inside r s d e p (subst (λ l. FailsInBrackets names c l s e) (sym same) q)
   FailsInSite-unique ts r s d e (in_brackets begins p) (no_thread q n again at is refused because) =
-      absurd (not_bracket_and_number ts _ _ q n begins again is)
+      absurd (not-bracket_and_number ts _ _ q n begins again is)
   FailsInSite-unique ts r s d e (in_brackets begins p) (in_register q n again is there w) =
-      absurd (not_bracket_and_number ts _ _ q n begins again is)
+      absurd (not-bracket_and_number ts _ _ q n begins again is)
   FailsInSite-unique ts r s d e (no_thread p n begins at is refused because) (in_name plain q) =
       absurd (no_number-Plain ts _ p n plain begins is)
   FailsInSite-unique ts r s d e (no_thread p n begins at is refused because) (in_brackets again q) =
-      absurd (not_bracket_and_number ts _ _ p n again begins is)
+      absurd (not-bracket_and_number ts _ _ p n again begins is)
   FailsInSite-unique ts r s d e (no_thread p n begins at is refused because) (no_thread q k again too also not therefore) =
       (sym at ∙ too, λ some. because ∙ sym therefore)
   FailsInSite-unique ts r s d e (no_thread p n begins at is refused because) (in_register q k again also there w) =
@@ -203,7 +205,7 @@ module _ (arch : Arch) (threads : Option ℕ) (names : NameTable) (c : TextCause
   FailsInSite-unique ts r s d e (in_register p n begins is there v) (in_name plain q) =
       absurd (no_number-Plain ts _ p n plain begins is)
   FailsInSite-unique ts r s d e (in_register p n begins is there v) (in_brackets again q) =
-      absurd (not_bracket_and_number ts _ _ p n again begins is)
+      absurd (not-bracket_and_number ts _ _ p n again begins is)
   FailsInSite-unique ts r s d e (in_register p n begins is there v) (no_thread q k again too also not therefore) =
       absurd (not 0
       (subst (λ (t : ℕ). ThreadAllowed threads (InThread t 0)) (IsNumber-unique_first ts _ _ p q n k begins again is also)
@@ -213,36 +215,38 @@ module _ (arch : Arch) (threads : Option ℕ) (names : NameTable) (c : TextCause
       FailsInRegister-unique arch c after r s d e v (subst (λ l. FailsInRegister arch c l s e) (sym same) w)
 
   -- Tokens that begin with a site, whose thread is allowed and whose location has room, do not fail as one.
-  pub FailsInSite-not : (ts rest mid : TokenList) (cause : TextCause) (site : SiteSyntax)
+  pub not-FailsInSite-if_parsed : (ts rest mid : TokenList) (cause : TextCause) (site : SiteSyntax)
       → FailsInSite arch threads names c ts rest cause
       → IsSite arch ts site mid
       → ThreadAllowed threads site
       → HasRoomFor names (site ∷ [])
       → ⊥
-  FailsInSite-not ts rest mid cause (InMemory x) (in_name plain p) (is, inl e) there room =
-      FailsInName-not names c ts rest mid cause x p e is room
-  FailsInSite-not ts rest mid cause (InMemory x) (in_name plain p) (is, inr e) there room = no_bracket-Plain ts _ plain e
-  FailsInSite-not ts rest mid cause (InMemory x) (in_brackets begins p) (is, inl e) there room =
+  not-FailsInSite-if_parsed ts rest mid cause (InMemory x) (in_name plain p) (is, inl e) there room =
+      not-FailsInName-if_parsed names c ts rest mid cause x p e is room
+  not-FailsInSite-if_parsed ts rest mid cause (InMemory x) (in_name plain p) (is, inr e) there room =
+      no_bracket-Plain ts _ plain e
+  not-FailsInSite-if_parsed ts rest mid cause (InMemory x) (in_brackets begins p) (is, inl e) there room =
       bracket_no_name (subst IsName (cons-head_eq _ _ _ _ (sym e ∙ begins)) is.0)
-  FailsInSite-not ts rest mid cause (InMemory x) (in_brackets begins p) (is, inr e) there room =
-      FailsInBrackets-not names c _ rest mid cause x p (cons-tail_unique (sym begins ∙ e)) is room
-  FailsInSite-not ts rest mid cause (InMemory x) (no_thread q n begins at number refused because) (is, inl e) there room =
+  not-FailsInSite-if_parsed ts rest mid cause (InMemory x) (in_brackets begins p) (is, inr e) there room =
+      not-FailsInBrackets-if_parsed names c _ rest mid cause x p (cons-tail_unique (sym begins ∙ e)) is room
+  not-FailsInSite-if_parsed ts rest mid cause (InMemory x) (no_thread q n begins at number refused because) (is, inl e) there room =
       number_no_name q n number (subst IsName (cons-head_eq _ _ _ _ (sym e ∙ begins)) is.0)
-  FailsInSite-not ts rest mid cause (InMemory x) (no_thread q n begins at number refused because) (is, inr e) there room =
-      not_bracket_and_number ts _ _ q n e begins number
-  FailsInSite-not ts rest mid cause (InMemory x) (in_register q n begins number too w) (is, inl e) there room =
+  not-FailsInSite-if_parsed ts rest mid cause (InMemory x) (no_thread q n begins at number refused because) (is, inr e) there room =
+      not-bracket_and_number ts _ _ q n e begins number
+  not-FailsInSite-if_parsed ts rest mid cause (InMemory x) (in_register q n begins number too w) (is, inl e) there room =
       number_no_name q n number (subst IsName (cons-head_eq _ _ _ _ (sym e ∙ begins)) is.0)
-  FailsInSite-not ts rest mid cause (InMemory x) (in_register q n begins number too w) (is, inr e) there room =
-      not_bracket_and_number ts _ _ q n e begins number
-  FailsInSite-not ts rest mid cause (InThread t r) (in_name plain p) is there room = no_number-Plain ts _ is.0 t plain is.2 is.3
-  FailsInSite-not ts rest mid cause (InThread t r) (in_brackets begins p) is there room =
-      not_bracket_and_number ts _ _ is.0 t begins is.2 is.3
-  FailsInSite-not ts rest mid cause (InThread t r) (no_thread q n begins at number refused because) is there room =
+  not-FailsInSite-if_parsed ts rest mid cause (InMemory x) (in_register q n begins number too w) (is, inr e) there room =
+      not-bracket_and_number ts _ _ q n e begins number
+  not-FailsInSite-if_parsed ts rest mid cause (InThread t r) (in_name plain p) is there room =
+      no_number-Plain ts _ is.0 t plain is.2 is.3
+  not-FailsInSite-if_parsed ts rest mid cause (InThread t r) (in_brackets begins p) is there room =
+      not-bracket_and_number ts _ _ is.0 t begins is.2 is.3
+  not-FailsInSite-if_parsed ts rest mid cause (InThread t r) (no_thread q n begins at number refused because) is there room =
       refused r
       (subst (λ (k : ℕ). ThreadAllowed threads (InThread k r)) (IsNumber-unique_first ts _ _ is.0 q t n is.2 begins is.3 number)
       there)
-  FailsInSite-not ts rest mid cause (InThread t r) (in_register q n begins number too w) is there room =
-      FailsInRegister-not arch c _ rest mid cause is.1 r w (cons-tail_unique (sym begins ∙ is.2)) is.4
+  not-FailsInSite-if_parsed ts rest mid cause (InThread t r) (in_register q n begins number too w) is there room =
+      not-FailsInRegister-if_parsed arch c _ rest mid cause is.1 r w (cons-tail_unique (sym begins ∙ is.2)) is.4
 
 -- ---- Values and assignments.
 
@@ -250,21 +254,21 @@ module _ (arch : Arch) (threads : Option ℕ) (names : NameTable) (c : TextCause
 pub FailsInValue-unique : (c : TextCause) → FailsUniquely (FailsInValue c)
 FailsInValue-unique c ts r s d e (no_equals p) (no_equals q) = FailsBefore-unique (codes "=" ∷ []) c ts r s d e p q
 FailsInValue-unique c ts r s d e (no_equals p) (no_number begins q) =
-    absurd (FailsBefore-not (codes "=" ∷ []) c ts r _ d (codes "=") p begins (λ all. all.0 refl))
+    absurd (not-FailsBefore-if_parsed (codes "=" ∷ []) c ts r _ d (codes "=") p begins (λ all. all.0 refl))
 FailsInValue-unique c ts r s d e (no_number begins p) (no_equals q) =
-    absurd (FailsBefore-not (codes "=" ∷ []) c ts s _ e (codes "=") q begins (λ all. all.0 refl))
+    absurd (not-FailsBefore-if_parsed (codes "=" ∷ []) c ts s _ e (codes "=") q begins (λ all. all.0 refl))
 FailsInValue-unique c ts r s d e (no_number begins p) (no_number again q) =
     FailsUniquely-at_first_token (λ t cause. ((n : ℕ) → IsNumber t n → ⊥) × (cause ≡ c)) (λ t cause because x y. x.1 ∙ sym y.1) r
     r s d e (refl, p) (cons-tail_unique (sym begins ∙ again), q)
 
 -- Tokens that begin with a value do not fail as one.
-pub FailsInValue-not : (c : TextCause) (ts rest mid : TokenList) (cause : TextCause) (n : ℕ)
+pub not-FailsInValue-if_parsed : (c : TextCause) (ts rest mid : TokenList) (cause : TextCause) (n : ℕ)
     → FailsInValue c ts rest cause
     → Value ts n mid
     → ⊥
-FailsInValue-not c ts rest mid cause n (no_equals p) is =
-    FailsBefore-not (codes "=" ∷ []) c ts rest _ cause (codes "=") p is.1 (λ all. all.0 refl)
-FailsInValue-not c ts rest mid cause n (no_number begins p) is =
+not-FailsInValue-if_parsed c ts rest mid cause n (no_equals p) is =
+    not-FailsBefore-if_parsed (codes "=" ∷ []) c ts rest _ cause (codes "=") p is.1 (λ all. all.0 refl)
+not-FailsInValue-if_parsed c ts rest mid cause n (no_number begins p) is =
     (IfFirst-of_head (λ t. ((n : ℕ) → IsNumber t n → ⊥) × (cause ≡ c)) rest mid is.0 (cons-tail_unique (sym begins ∙ is.1)) p).0 n
     is.2
 
@@ -273,23 +277,23 @@ module _ (arch : Arch) (threads : Option ℕ) (names : NameTable) (c : TextCause
   pub FailsInAssignment-unique : FailsUniquely (FailsInAssignment arch threads names c)
   FailsInAssignment-unique ts r s d e (in_site p) (in_site q) = FailsInSite-unique arch threads names c ts r s d e p q
   FailsInAssignment-unique ts r s d e (in_site p) (in_value site is there room q) =
-      absurd (FailsInSite-not arch threads names c ts r _ d site p is there room)
+      absurd (not-FailsInSite-if_parsed arch threads names c ts r _ d site p is there room)
   FailsInAssignment-unique ts r s d e (in_value site is there room p) (in_site q) =
-      absurd (FailsInSite-not arch threads names c ts s _ e site q is there room)
+      absurd (not-FailsInSite-if_parsed arch threads names c ts s _ e site q is there room)
   FailsInAssignment-unique ts r s d e (in_value site {mid = mid} is there room p) (in_value another {mid = other} also too has q) =
       let same = (IsSite-unique arch ts site another mid other is also).1 in
       FailsInValue-unique c mid r s d e p (subst (λ l. FailsInValue c l s e) (sym same) q)
 
   -- Tokens that begin with a site, which is allowed and has room, and with its word do not fail as these.
-  pub FailsInAssignment-not : (ts rest mid after : TokenList) (cause : TextCause) (site : SiteSyntax) (n : ℕ)
+  pub not-FailsInAssignment-if_parsed : (ts rest mid after : TokenList) (cause : TextCause) (site : SiteSyntax) (n : ℕ)
       → FailsInAssignment arch threads names c ts rest cause
       → IsSite arch ts site mid
       → ThreadAllowed threads site
       → HasRoomFor names (site ∷ [])
       → Value mid n after
       → ⊥
-  FailsInAssignment-not ts rest mid after cause site n (in_site p) is there room value =
-      FailsInSite-not arch threads names c ts rest mid cause site p is there room
-  FailsInAssignment-not ts rest mid after cause site n (in_value another {mid = other} also too has p) is there room value =
+  not-FailsInAssignment-if_parsed ts rest mid after cause site n (in_site p) is there room value =
+      not-FailsInSite-if_parsed arch threads names c ts rest mid cause site p is there room
+  not-FailsInAssignment-if_parsed ts rest mid after cause site n (in_value another {mid = other} also too has p) is there room value =
       let same = (IsSite-unique arch ts another site other mid also is).1 in
-      FailsInValue-not c mid rest after cause n (subst (λ l. FailsInValue c l rest cause) same p) value
+      not-FailsInValue-if_parsed c mid rest after cause n (subst (λ l. FailsInValue c l rest cause) same p) value

@@ -7,7 +7,7 @@ use Rattle.lw_text.proofs.Common.{Fails, FailsFrom, IfFirst, FailsBefore, Arch, 
 use Rattle.lw_text.proofs.Common.{append_assoc, slice_get, take, zero, suc, BeginsInitializer}
 use Rattle.lw_text.proofs.Common.{BeginInitializers, TextCause}
 use Rattle.lw_text.proofs.Lists.{IsSuffix-join, Listing}
-use Rattle.lw_text.proofs.Texts.{is_text, is_no_text, token_not_next}
+use Rattle.lw_text.proofs.Texts.{is_text, not-equal-if_bytes_differ, not-token_is_next}
 
 -- Parsing fails at the next token.
 pub Fails-here : {Way : TokenList → TokenList → TextCause → Type 0} (before : Cursor) (f : Refusal)
@@ -60,7 +60,7 @@ IfFirst-begins w (t ∷ ts) e = is_text t w e
 -- Tokens that do not begin with a text have another first.
 pub IfFirst-begins_not : (w : Bytes) (ts : TokenList) → begins_token w ts ≡ false → IfFirst (λ t. t ≢ w) ts
 IfFirst-begins_not w [] e = tt
-IfFirst-begins_not w (t ∷ ts) e = is_no_text t w e
+IfFirst-begins_not w (t ∷ ts) e = not-equal-if_bytes_differ t w e
 
 -- If the tokens do not begin with a text either, it is one more of those that are not next.
 pub FailsBefore-more : (w : Bytes) (words : List Bytes) (c : TextCause) (ts rest : TokenList) (cause : TextCause)
@@ -69,7 +69,7 @@ pub FailsBefore-more : (w : Bytes) (words : List Bytes) (c : TextCause) (ts rest
     → FailsBefore (w ∷ words) c ts rest cause
 FailsBefore-more w words c ts [] cause e f = (f.0, tt)
 FailsBefore-more w words c ts (t ∷ rest) cause e f =
-    (f.0, ((λ same. token_not_next w ts rest e (f.0 ∙ ap (λ x. x ∷ rest) same), f.1.0), f.1.1))
+    (f.0, ((λ same. not-token_is_next w ts rest e (f.0 ∙ ap (λ x. x ∷ rest) same), f.1.0), f.1.1))
 
 -- Parsing a text fails where it fails later in it, in the same text.
 pub FailsFrom-later : {Way Later : Bytes → Bytes → TextCause → Type 0} {len whole : ℕ} {text after : Bytes} {at : ℕ}

@@ -1,6 +1,6 @@
 -- What a reader must prove where it returns early with `?`: the claim of the error that it passes on.
 use Rattle.lw_text.proofs.Common.{◌≡◌, ◌≢◌, None, Result, Ok, Err, IsErrAnd, MatchResult, Memory, Refusal}
-use Rattle.lw_text.proofs.Common.{IsOfReader, Unexpected}
+use Rattle.lw_text.proofs.Common.{IsParserCause, Unexpected}
 -- The callee's error is returned unchanged.
 pub use Rattle.lw_base.proofs.api.Returns.{Err-clause_known}
 
@@ -13,8 +13,8 @@ MatchResult-weakened_error P Q (Ok x) h f = absurd h
 MatchResult-weakened_error P Q (Err y) h f = f y h
 
 -- A reader may report the cause that a token does not fit.
-pub IsOfReader-Unexpected : IsOfReader Unexpected
-IsOfReader-Unexpected = (λ e. cc, λ e. cc)
+pub IsParserCause-Unexpected : IsParserCause Unexpected
+IsParserCause-Unexpected = (λ e. cc, λ e. cc)
 
 -- If a call failed because memory ran out, its result satisfies a clause that requires nothing of such errors.
 pub MatchResult-Memory_error : {T : Type 0} (P : T → Type 0) (Q : Refusal → Type 0) (r : Result T Refusal)

@@ -1,8 +1,8 @@
 -- The parse of the header is unique, name by name. A step of the proof that a text has one frame; the loop of
--- `parse_header` goes by `NamesTo`.
+-- `parse_header` goes by `NamesContinueAt`.
 use Rattle.lw_text.proofs.Common.{◌≡◌, ℕ, zero, suc, ◌+◌, ◌∷◌, refl, ap, ◌∙◌, subst, arith, add-one, codes}
 use Rattle.lw_text.proofs.Common.{TokenList, thread_name, Names}
-use Rattle.lw_text.proofs.Texts.{bar_is_no_semicolon}
+use Rattle.lw_text.proofs.Texts.{not-bar_is_semicolon}
 
 -- The parse of a header's names is unique, and so is the number of threads.
 pub Names-unique : (k m n : ℕ) (ts r s : TokenList) → Names k m ts r → Names k n ts s → (m ≡ n) × (r ≡ s)
@@ -10,22 +10,23 @@ Names-unique k zero n ts r s p q = absurd p
 Names-unique k (suc m) zero ts r s p q = absurd q
 Names-unique k (suc zero) (suc zero) ts r s p q = (refl, cc)
 Names-unique k (suc zero) (suc (suc n)) ts r s p q =
-    absurd (let f = q.1 in bar_is_no_semicolon (let i : codes "|" ≡ codes ";" = cc in i))
+    absurd (let f = q.1 in not-bar_is_semicolon (let i : codes "|" ≡ codes ";" = cc in i))
 Names-unique k (suc (suc m)) (suc zero) ts r s p q =
-    absurd (let f = p.1 in bar_is_no_semicolon (let i : codes "|" ≡ codes ";" = cc in i))
+    absurd (let f = p.1 in not-bar_is_semicolon (let i : codes "|" ≡ codes ";" = cc in i))
 Names-unique k (suc (suc m)) (suc (suc n)) ts r s p q =
     let i : q.0 ≡ p.0 = cc in
     let e = Names-unique (suc k) (suc m) (suc n) p.0 r s p.2 (subst (λ l. Names (suc k) (suc n) l s) i q.2) in
     (ap suc e.0, e.1)
 
--- The names of k threads have been read, each followed by `|`, and `here` remains.
-pub record NamesTo (start : TokenList) (k : ℕ) (here : TokenList) : Type 0 where
+-- The names of threads from `start` are those from `here` after k others: the ones parse exactly if the others do, and then at least one
+-- follows at `here`.
+pub record NamesContinueAt (start : TokenList) (k : ℕ) (here : TokenList) : Type 0 where
   pub given : (m : ℕ) (rest : TokenList) → Names k (suc m) here rest → Names 0 (k + suc m) start rest
   pub only : (n : ℕ) (rest : TokenList) → Names 0 n start rest → (m : ℕ) × (n ≡ k + suc m) × Names k (suc m) here rest
 
 -- At the start no name has been read.
-pub NamesTo-none_yet : (start : TokenList) → NamesTo start 0 start
-NamesTo-none_yet start = record {
+pub NamesContinueAt-none_yet : (start : TokenList) → NamesContinueAt start 0 start
+NamesContinueAt-none_yet start = record {
   given = λ m rest h. subst (λ x. Names 0 x start rest) (let e : suc m ≡ 0 + suc m = omega arith in e) h;
   only = λ n rest h. at n rest h;
 }
@@ -35,10 +36,10 @@ NamesTo-none_yet start = record {
     at zero rest h = absurd h
     at (suc n) rest h = (n, omega arith, h)
 
-module _ (start here : TokenList) (k : ℕ) (p : NamesTo start k here) where
+module _ (start here : TokenList) (k : ℕ) (p : NamesContinueAt start k here) where
   module _ (l : TokenList) (e : here ≡ thread_name k ∷ l) where
     -- If one more name follows, and `|` after it, it is one more name read.
-    pub Names-more : (next : TokenList) → l ≡ codes "|" ∷ next → NamesTo start (k + 1) next
+    pub Names-more : (next : TokenList) → l ≡ codes "|" ∷ next → NamesContinueAt start (k + 1) next
     Names-more next f = rw add-one (record {
       given =
           λ m rest h.
@@ -51,7 +52,7 @@ module _ (start here : TokenList) (k : ℕ) (p : NamesTo start k here) where
             → n ≡ k + suc m
             → Names k (suc m) here rest
             → (j : ℕ) × (n ≡ suc k + suc j) × Names (suc k) (suc j) next rest
-        at n rest zero i q = absurd (bar_is_no_semicolon (let j : codes "|" ≡ codes ";" = cc in j))
+        at n rest zero i q = absurd (not-bar_is_semicolon (let j : codes "|" ≡ codes ";" = cc in j))
         at n rest (suc m) i q =
             let g = q.1 in
             let j : q.0 ≡ next = cc in

@@ -18,7 +18,7 @@ use Rattle.lw_text.proofs.api.Spelling.{list_all-AllByRecursion}
 -- The longest prefix of the text whose bytes pass a test, and the rest of the text.
 pub record IsRun (p : ℕ → Bool) (text w rest : Bytes) : Type 0 where
   pub parts : text ≡ w ++ rest
-  pub all : AllByRecursion (λ b. p b ≡ true) w
+  pub bytes_pass : AllByRecursion (λ b. p b ≡ true) w
   pub longest : first_byte_is p rest ≡ false
 
 -- The longest such prefix is unique.
@@ -27,16 +27,16 @@ run-unique p [] [] a c = (refl, sym a.parts ∙ c.parts)
 run-unique p [] (b ∷ v) a c =
     absurd (let h = ap (first_byte_is p) (sym a.parts ∙ c.parts) in
     let i = a.longest in
-    cc (c.all.0))
+    cc (c.bytes_pass.0))
 run-unique p (b ∷ w) [] a c =
     absurd (let h = ap (first_byte_is p) (sym a.parts ∙ c.parts) in
     let i = c.longest in
-    cc (a.all.0))
+    cc (a.bytes_pass.0))
 run-unique p (b ∷ w) (d ∷ v) {text} {r} {s} a c =
     let same : b ∷ (w ++ r) ≡ d ∷ (v ++ s) = sym a.parts ∙ c.parts in
     let both : (w ≡ v) × (r ≡ s) =
-    run-unique p w v {text = w ++ r} (record { parts = refl; all = a.all.1; longest = a.longest })
-    (record { parts = cc; all = c.all.1; longest = c.longest }) in
+    run-unique p w v {text = w ++ r} (record { parts = refl; bytes_pass = a.bytes_pass.1; longest = a.longest })
+    (record { parts = cc; bytes_pass = c.bytes_pass.1; longest = c.longest }) in
     (cc, both.1)
 
 -- All bytes are letters, digits or `_`.
@@ -65,7 +65,7 @@ name_or_number_nonempty w (inr (n, m)) = elim m.1 [ inl d ↦ d.0 | inr h ↦ om
 -- A run of name bytes starts with one.
 pub run_front : (w rest : Bytes) → IsNameRun w rest → first_byte_is is_name_byte (w ++ rest) ≡ true
 run_front [] rest h = absurd (let n = name_or_number_nonempty [] h.kind in omega arith)
-run_front (b ∷ w) rest h = h.all.0
+run_front (b ∷ w) rest h = h.are_name_bytes.0
 
 -- A symbol does not start with a name byte.
 pub symbol_front : (t rest : Bytes) → IsSymbol t rest → first_byte_is is_name_byte (t ++ rest) ≡ false
@@ -87,7 +87,7 @@ no_trivia-first_byte p b text blanks bracket h =
 -- No trivia starts where a token does.
 pub token_no_trivia : (t rest : Bytes) → IsToken t rest → begins_trivia (t ++ rest) ≡ false
 token_no_trivia [] rest (inl w) = absurd (let n = name_or_number_nonempty [] w.kind in omega arith)
-token_no_trivia (b ∷ t) rest (inl w) = no_trivia-first_byte (is_name_byte) b (t ++ rest) refl refl w.all.0
+token_no_trivia (b ∷ t) rest (inl w) = no_trivia-first_byte (is_name_byte) b (t ++ rest) refl refl w.are_name_bytes.0
 token_no_trivia (b ∷ []) rest (inr s) =
     rw ((not-true (is_blank b) (each_one_byte_symbol (λ x. not (is_blank x)) b refl s.0)), s.2) refl
 token_no_trivia (b ∷ c ∷ []) rest (inr s) =
@@ -103,20 +103,20 @@ token_nonempty (b ∷ t) rest (inr s) = omega arith
 -- ---- the token at a position is unique
 
 -- If what follows b makes no two-byte symbol with it, then b and the next byte d are none.
-not_two_byte_symbol : (b d : ℕ) (r s : Bytes)
+not-two_byte_symbol : (b d : ℕ) (r s : Bytes)
     → r ≡ d ∷ s
     → first_byte_is (is_two_byte_symbol b) r ≡ false
     → is_two_byte_symbol b d ≡ true
     → ⊥
-not_two_byte_symbol b d r s e shut pair = let h = ap (first_byte_is (is_two_byte_symbol b)) e in cc
+not-two_byte_symbol b d r s e shut pair = let h = ap (first_byte_is (is_two_byte_symbol b)) e in cc
 
 -- The symbol at a position is unique.
 symbol-unique : (t r u s : Bytes) → IsSymbol t r → IsSymbol u s → t ++ r ≡ u ++ s → (t ≡ u) × (r ≡ s)
 symbol-unique (b ∷ []) r (c ∷ []) s p q e = (cc, cc)
 symbol-unique (b ∷ []) r (c ∷ d ∷ []) s p q e =
-    absurd (not_two_byte_symbol b d r s (cc) p.1 (let k : c ≡ b = cc in subst (λ x. is_two_byte_symbol x d ≡ true) k q))
+    absurd (not-two_byte_symbol b d r s (cc) p.1 (let k : c ≡ b = cc in subst (λ x. is_two_byte_symbol x d ≡ true) k q))
 symbol-unique (a ∷ b ∷ []) r (c ∷ []) s p q e =
-    absurd (not_two_byte_symbol c b s r (cc) q.1 (let k : a ≡ c = cc in subst (λ x. is_two_byte_symbol x b ≡ true) k p))
+    absurd (not-two_byte_symbol c b s r (cc) q.1 (let k : a ≡ c = cc in subst (λ x. is_two_byte_symbol x b ≡ true) k p))
 symbol-unique (a ∷ b ∷ []) r (c ∷ d ∷ []) s p q e = (cc, cc)
 symbol-unique [] r u s p q e = absurd p
 symbol-unique (a ∷ b ∷ c ∷ t) r u s p q e = absurd p
@@ -125,8 +125,8 @@ symbol-unique _ r _ s p q e = absurd q
 -- The token at a position is unique: a run of name bytes or a symbol, by its first byte.
 pub token-unique : (t r u s : Bytes) → IsToken t r → IsToken u s → t ++ r ≡ u ++ s → (t ≡ u) × (r ≡ s)
 token-unique t r u s (inl p) (inl q) e =
-    run-unique is_name_byte t u {text = t ++ r} (record { parts = refl; all = p.all; longest = p.longest })
-    (record { parts = e; all = q.all; longest = q.longest })
+    run-unique is_name_byte t u {text = t ++ r} (record { parts = refl; bytes_pass = p.are_name_bytes; longest = p.longest })
+    (record { parts = e; bytes_pass = q.are_name_bytes; longest = q.longest })
 token-unique t r u s (inl p) (inr q) e =
     absurd (let h = run_front t r p in
     let k = symbol_front u s q in
@@ -142,7 +142,7 @@ token-unique t r u s (inr p) (inr q) e = symbol-unique t r u s p q e
 -- ---- what the reader of one token must prove
 
 -- If the longest run of name bytes is neither a name nor a number, there is no token.
-pub no_token-no_kind : {bytes w r : Bytes}
+pub no_token-if_no_kind : {bytes w r : Bytes}
     → IsRun is_name_byte bytes w r
     → first_byte_is is_name_byte bytes ≡ true
     → (IsNameOrNumber w → ⊥)
@@ -150,10 +150,10 @@ pub no_token-no_kind : {bytes w r : Bytes}
     → bytes ≡ t ++ rest
     → IsToken t rest
     → ⊥
-no_token-no_kind {w = w} run front never t rest f (inl p) =
-    never (subst IsNameOrNumber (run-unique is_name_byte t w (record { parts = f; all = p.all; longest = p.longest }) run).0
-    p.kind)
-no_token-no_kind run front never t rest f (inr p) =
+no_token-if_no_kind {w = w} run front never t rest f (inl p) =
+    never (subst IsNameOrNumber
+    (run-unique is_name_byte t w (record { parts = f; bytes_pass = p.are_name_bytes; longest = p.longest }) run).0 p.kind)
+no_token-if_no_kind run front never t rest f (inr p) =
     let h = symbol_front t rest p in
     let i = ap (first_byte_is is_name_byte) f in
     cc
@@ -208,8 +208,8 @@ short_symbol {bytes} {more} {t} {rest} {b} e no_pair single f g =
 -- ---- the kind of a run of name bytes, by its first byte
 
 -- The empty text is neither a name nor a number.
-pub empty_is_no_name_or_number : {w : Bytes} → w ≡ [] → IsNameOrNumber w → ⊥
-empty_is_no_name_or_number {w} is kind = let some = name_or_number_nonempty w kind in omega (arith, ap length is)
+pub not-IsNameOrNumber-if_empty : {w : Bytes} → w ≡ [] → IsNameOrNumber w → ⊥
+not-IsNameOrNumber-if_empty {w} is kind = let some = name_or_number_nonempty w kind in omega (arith, ap length is)
 
 -- A run that starts with a digit and is no number is no name either.
 pub digit_starts_no_name : {w r : Bytes} {b : ℕ}
@@ -226,18 +226,20 @@ digit_starts_no_name is digit never (inr (n, number)) = never n number
 
 -- A run that does not start with a digit is a name if it is short enough.
 pub short_run_is_name : {w r : Bytes} {b : ℕ} → w ≡ b ∷ r → NameBytes w → is_ascii_digit b ≡ false → length w ≤ 32 → IsName w
-short_run_is_name is all other short =
-    (record { not_empty = omega (arith, ap length is); all = all; front = ap (first_byte_is is_ascii_digit) is ∙ other }, short)
+short_run_is_name is all other short = (
+  record { not_empty = omega (arith, ap length is); are_name_bytes = all; front = ap (first_byte_is is_ascii_digit) is ∙ other },
+  short,
+)
 
 -- A run that does not start with a digit and is too long is neither a name nor a number.
-pub long_run_is_no_name : {w r : Bytes} {b : ℕ}
+pub not-IsNameOrNumber-if_long : {w r : Bytes} {b : ℕ}
     → w ≡ b ∷ r
     → is_ascii_digit b ≡ false
     → (length w ≤ 32 → ⊥)
     → IsNameOrNumber w
     → ⊥
-long_run_is_no_name is other long (inl name) = long name.1
-long_run_is_no_name {w} is other long (inr (n, number)) =
+not-IsNameOrNumber-if_long is other long (inl name) = long name.1
+not-IsNameOrNumber-if_long {w} is other long (inr (n, number)) =
     let front = number_first w n number in
     let begin = ap (first_byte_is is_ascii_digit) is in
     cc

@@ -6,7 +6,7 @@ use Rattle.lw_text.proofs.Common.{fold, if◌then◌else◌, bytes_eq, AllByRecu
 use Rattle.lw_text.proofs.Common.{cases_Bool, bytes_eq-Decides, slice_get-get_or, get_or_from_slice_get}
 use Rattle.lw_text.proofs.Common.{Bytes, NameTable, TokenList, IsDuplicateFree, contains_name, insert_name}
 use Rattle.lw_text.proofs.Common.{insert_names, position_of_name, Seen, position_of_name-at}
-use Rattle.lw_text.proofs.Common.{insert_name-grows, insert_names-longer, contains_name-insert_name, Site}
+use Rattle.lw_text.proofs.Common.{insert_name-grows, insert_names-longer, contains_name-of_inserted, Site}
 use Rattle.lw_text.proofs.Common.{Initializer, InMemory, seen_in, seen_eq, initial_word_of, site_by_name}
 use Rattle.lw_text.proofs.Common.{named_initializer, seen_of, IsIn, word_at, is_listed}
 use Rattle.lw_base.specs.declared.head.Seen.TheVariants as seen
@@ -33,7 +33,7 @@ pub insert_name-get : (before after : NameTable) (loc : ℕ) (t : Bytes)
     → after ≡ insert_name before t
     → loc ≡ position_of_name after t
     → slice_get after loc ≡ Some t
-insert_name-get before after loc t e f = rw (f, e) (name_at_index _ t (contains_name-insert_name before t))
+insert_name-get before after loc t e f = rw (f, e) (name_at_index _ t (contains_name-of_inserted before t))
 
 -- A location in memory has the name at its index.
 pub site_by_name-at : (names : NameTable) (loc : ℕ) (t : Bytes)

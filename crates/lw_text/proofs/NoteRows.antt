@@ -33,8 +33,8 @@ module _ (text inside quoted rest : Bytes) (e : text ≡ 34 ∷ inside) (f : ins
       let p = q.parts in
       let g : inside ≡ q.inside ++ 34 ∷ end = cc in
       sym (run-unique (λ b. not (b == 34)) q.inside quoted
-      (record { parts = g; all = Without-of_all 34 q.inside q.plain; longest = refl })
-      (record { parts = f; all = all; longest = longest })).1
+      (record { parts = g; bytes_pass = Without-of_all 34 q.inside q.plain; longest = refl })
+      (record { parts = f; bytes_pass = all; longest = longest })).1
 
   -- If no quote follows, there is no quoted text.
   pub Quoted-open : rest ≡ [] → HoldsOfNothing (Quoted text)
@@ -93,17 +93,17 @@ module _ (text key rest spaces left : Bytes) (e : text ≡ key ++ rest) (all : K
       let outer =
       run-unique is_key_byte p.key key (record {
         parts = p.parts ∙ line_parts p.key p.spaces p.value end;
-        all = p.all;
+        bytes_pass = p.are_key_bytes;
         longest = behind_key p.spaces (p.value ++ end) p.spaced;
-      }) (record { parts = e; all = all; longest = longest }) in
+      }) (record { parts = e; bytes_pass = all; longest = longest }) in
       let inner =
-      run-unique is_space p.spaces spaces (record { parts = sym outer.1; all = p.spaced; longest = refl })
-      (record { parts = f; all = spaced; longest = stop }) in
+      run-unique is_space p.spaces spaces (record { parts = sym outer.1; bytes_pass = p.spaced; longest = refl })
+      (record { parts = f; bytes_pass = spaced; longest = stop }) in
       (outer.0, sym inner.1)
 
   -- If no `=` follows the spaces, there is no line `Key=value`.
-  pub no_key_line-no_equals : first_byte_is (λ b. b == 61) left ≡ false → HoldsOfNothing (KeyLine text)
-  no_key_line-no_equals other end p =
+  pub no_key_line-if_no_equals : first_byte_is (λ b. b == 61) left ≡ false → HoldsOfNothing (KeyLine text)
+  no_key_line-if_no_equals other end p =
       let k = KeyLine-parts end p in
       let h = ap (first_byte_is (λ b. b == 61)) k.1 in
       cc
@@ -122,7 +122,7 @@ module _ (text key rest spaces left : Bytes) (e : text ≡ key ++ rest) (all : K
     value = value;
     parts = e ∙ ap (λ x. key ++ x) (f ∙ ap (λ x. spaces ++ x) (g ∙ ap (λ x. 61 ∷ x) h)) ∙ sym (line_parts key spaces value end);
     not_empty = some;
-    all = all;
+    are_key_bytes = all;
     spaced = spaced;
     one_line = Without_inv 10 value one;
     longest = last;
@@ -133,11 +133,11 @@ pub KeyLine-unique : (text a b : Bytes) → KeyLine text a → KeyLine text b �
 KeyLine-unique text a b p q =
     let k =
     KeyLine-parts text q.key (q.spaces ++ 61 ∷ (q.value ++ b)) q.spaces (61 ∷ (q.value ++ b))
-    (q.parts ∙ line_parts q.key _ q.value b) q.all (behind_key q.spaces _ q.spaced) refl q.spaced refl a p in
+    (q.parts ∙ line_parts q.key _ q.value b) q.are_key_bytes (behind_key q.spaces _ q.spaced) refl q.spaced refl a p in
     let ends : p.value ++ a ≡ q.value ++ b = cc in
     (run-unique (λ b. not (b == 10)) p.value q.value {text = p.value ++ a}
-    (record { parts = refl; all = Without-of_all 10 _ p.one_line; longest = p.longest })
-    (record { parts = ends; all = Without-of_all 10 q.value q.one_line; longest = q.longest })).1
+    (record { parts = refl; bytes_pass = Without-of_all 10 _ p.one_line; longest = p.longest })
+    (record { parts = ends; bytes_pass = Without-of_all 10 q.value q.one_line; longest = q.longest })).1
 
 -- A text that starts with a key starts with a byte of a key.
 pub key_front : (key more : Bytes) → 0 < length key → Keys key → first_byte_is is_key_byte (key ++ more) ≡ true
@@ -148,7 +148,7 @@ key_front (b ∷ key) more some all = all.0
 pub KeyLine-front : (text end : Bytes) → KeyLine text end → first_byte_is is_key_byte text ≡ true
 KeyLine-front text end p =
     let e = p.parts ∙ line_parts p.key p.spaces p.value end in
-    ap (first_byte_is is_key_byte) e ∙ key_front p.key (p.spaces ++ 61 ∷ (p.value ++ end)) p.not_empty p.all
+    ap (first_byte_is is_key_byte) e ∙ key_front p.key (p.spaces ++ 61 ∷ (p.value ++ end)) p.not_empty p.are_key_bytes
 
 -- If the text does not start with a byte of a key, there is no line `Key=value`.
 pub no_key_line-empty_key : (text key rest : Bytes)
@@ -165,29 +165,29 @@ no_key_line-empty_key text (b ∷ key) rest e longest gone end p = omega (arith,
 -- ---- one note
 
 -- No text starts with a byte that passes p and one that passes q, if no byte passes both.
-first_byte-not_both_tests : (p q : ℕ → Bool) (text : Bytes)
+not-both_tests-first_byte : (p q : ℕ → Bool) (text : Bytes)
     → first_byte_is p text ≡ true
     → first_byte_is q text ≡ true
     → ((b : ℕ) → p b ≡ true → q b ≡ false)
     → ⊥
-first_byte-not_both_tests p q [] h k never = cc
-first_byte-not_both_tests p q (b ∷ text) h k never = let n = never b h in cc
+not-both_tests-first_byte p q [] h k never = cc
+not-both_tests-first_byte p q (b ∷ text) h k never = let n = never b h in cc
 
 -- If a key may not contain c, no byte equal to c may be in a key.
 byte_no_key : (c b : ℕ) → is_key_byte c ≡ false → (b == c) ≡ true → is_key_byte b ≡ false
 byte_no_key c b other h = ap is_key_byte (eqb-true b c h) ∙ other
 
 -- No text starts both with a quoted text and with a line `Key=value`.
-pub no_quote_is_key : (text a b : Bytes) → Quoted text a → KeyLine text b → ⊥
-no_quote_is_key text a b q p =
-    first_byte-not_both_tests (λ x. x == 34) is_key_byte text (Quoted-front text a q) (KeyLine-front text b p)
+pub not-KeyLine-if_quoted : (text a b : Bytes) → Quoted text a → KeyLine text b → ⊥
+not-KeyLine-if_quoted text a b q p =
+    not-both_tests-first_byte (λ x. x == 34) is_key_byte text (Quoted-front text a q) (KeyLine-front text b p)
     (λ x h. byte_no_key 34 x refl h)
 
 -- The end of a note is unique.
 pub Note-unique : (text a b : Bytes) → Note text a → Note text b → a ≡ b
 Note-unique text a b (inl p) (inl q) = Quoted-unique text a b p q
-Note-unique text a b (inl p) (inr q) = absurd (no_quote_is_key text a b p q)
-Note-unique text a b (inr p) (inl q) = absurd (no_quote_is_key text b a q p)
+Note-unique text a b (inl p) (inr q) = absurd (not-KeyLine-if_quoted text a b p q)
+Note-unique text a b (inr p) (inl q) = absurd (not-KeyLine-if_quoted text b a q p)
 Note-unique text a b (inr p) (inr q) = KeyLine-unique text a b p q
 
 -- No trivia starts at a byte that passes a test which no blank and no `(` passes.
@@ -211,9 +211,9 @@ block_no_trivia text h = trivia_free (λ b. b == 123) text refl refl h
 -- No note starts with `{`.
 pub note_no_block : (text end : Bytes) → first_byte_is (λ b. b == 123) text ≡ true → Note text end → ⊥
 note_no_block text end h (inl q) =
-    first_byte-not_both_tests (λ b. b == 34) (λ b. b == 123) text (Quoted-front text end q) h
+    not-both_tests-first_byte (λ b. b == 34) (λ b. b == 123) text (Quoted-front text end q) h
     (λ b k. ap (λ x. x == 123) (eqb-true b 34 k))
-note_no_block text end h (inr p) = first_byte-not_both_tests _ _ text h (KeyLine-front _ end p) (λ b k. byte_no_key 123 b refl k)
+note_no_block text end h (inr p) = not-both_tests-first_byte _ _ text h (KeyLine-front _ end p) (λ b k. byte_no_key 123 b refl k)
 
 -- A text that starts with no quote and with no line `Key=value` starts with no note.
 pub no_note-neither_kind : (text : Bytes)
@@ -230,7 +230,7 @@ pub no_note-unclosed_quote : (text : Bytes)
     → HoldsOfNothing (Note text)
 no_note-unclosed_quote text here never end (inl q) = never end q
 no_note-unclosed_quote text here never end (inr p) =
-    first_byte-not_both_tests (λ b. b == 34) is_key_byte text here (KeyLine-front text end p) (λ b h. byte_no_key 34 b refl h)
+    not-both_tests-first_byte (λ b. b == 34) is_key_byte text here (KeyLine-front text end p) (λ b h. byte_no_key 34 b refl h)
 
 -- A note takes at least one byte, and what follows it is a suffix of the text.
 pub Note-suffix : (text end : Bytes) → Note text end → (front : Bytes) × (text ≡ front ++ end) × (0 < length front)
@@ -319,14 +319,14 @@ pub Passed_open : {bytes rest : Bytes}
 Passed_open p never end m = let k = Notes-trivia_first (p.only end m) in never k.0 k.2 k.1
 
 -- If neither `{` nor a note follows the trivia, there is no sequence of notes.
-pub no_notes-no_note : {bytes rest start : Bytes}
+pub no_notes-if_no_note : {bytes rest start : Bytes}
     → Passed bytes rest
     → Trivia rest start
     → begins_trivia start ≡ false
     → first_byte_is (λ b. b == 123) start ≡ false
     → HoldsOfNothing (Note start)
     → HoldsOfNothing (Notes bytes)
-no_notes-no_note {bytes} {rest} {start} p g stop other never end m = no_notes-by_first_start (p.only end m)
+no_notes-if_no_note {bytes} {rest} {start} p g stop other never end m = no_notes-by_first_start (p.only end m)
   where
     -- The rest begins no notes.
     no_notes-by_first_start : {text : Bytes} → Notes rest text → ⊥

@@ -14,7 +14,7 @@ pub Digits-unique : (base n : ℕ) (ds : Bytes) (v w : ℕ) → Digits base n ds
 Digits-unique base n [] v w d e = sym d ∙ e
 Digits-unique base n (x ∷ ds) v w d e = Digits-unique base (base * n + digit_value x) ds v w d.1 e.1
 
--- The invariant of the loop over digits: those read represent n, and all represent what the rest represents after n.
+-- The invariant of the loop over digits: all of them represent what the rest represents after the number n.
 pub record Reads (base : ℕ) (digits : Bytes) (n : ℕ) (rest : Bytes) : Type 0 where
   pub given : (v : ℕ) → Digits base n rest v → Digits base 0 digits v
   pub only : (v : ℕ) → Digits base 0 digits v → Digits base n rest v

@@ -6,12 +6,13 @@ use Rattle.lw_text.proofs.Common.{PlacedToken, PlacedTokens, ParsesMany, ParsesN
 use Rattle.lw_text.proofs.Common.{Trivia, Preamble, HasFrame, TestFrame, texts_of_tokens, append_cancel_left}
 use Rattle.lw_text.proofs.Common.{FailsInTest, IsPlacedToken, FailsInFirstToken, HasTokens, FailsInBody}
 use Rattle.lw_text.proofs.Common.{at_token, in_next_token, at_end, FailsAt, in_preamble, in_body, TextCause}
-use Rattle.lw_text.proofs.ByteFailures.{FailsInFirstToken-unique, FailsInFirstToken-not}
-use Rattle.lw_text.proofs.ByteFailures.{FailsInFirstToken-end, FailsInPreamble-unique, FailsInPreamble-not}
+use Rattle.lw_text.proofs.ByteFailures.{FailsInFirstToken-unique, not-FailsInFirstToken-if_parsed}
+use Rattle.lw_text.proofs.ByteFailures.{FailsInFirstToken-end, FailsInPreamble-unique}
+use Rattle.lw_text.proofs.ByteFailures.{not-FailsInPreamble-if_parsed}
 use Rattle.lw_text.proofs.Preambles.{Preamble-unique}
 use Rattle.lw_text.proofs.StreamFailures.{placed_many}
 use Rattle.lw_text.proofs.TokenRows.{IsFirstToken-unique, no_first_token-trivia_only, placed_tokens_equal}
-use Rattle.lw_text.proofs.WholeFailures.{FailsInTest-unique, FailsInTest-not}
+use Rattle.lw_text.proofs.WholeFailures.{FailsInTest-unique, not-FailsInTest-if_parsed}
 
 -- A text's tokens, up to where none follows, and their end are unique.
 HasTokens-unique : (len : ℕ) (text end stop : Bytes) (ts us : List PlacedToken)
@@ -59,7 +60,8 @@ fails_tokens : (len : ℕ) (text end rest : Bytes) (tokens : List PlacedToken) (
     → ParsesMany (IsPlacedToken len) text tokens end
     → FailsInFirstToken end rest c
     → HasTokens len text tokens end
-fails_tokens len text end rest tokens c read fails = (read, λ t after is. FailsInFirstToken-not end rest t after c fails is)
+fails_tokens len text end rest tokens c read fails =
+    (read, λ t after is. not-FailsInFirstToken-if_parsed end rest t after c fails is)
 
 module _ (arch : Arch) (len : ℕ) (text : Bytes) where
   -- A body fails at one byte, for one cause.
@@ -90,7 +92,7 @@ module _ (arch : Arch) (len : ℕ) (text : Bytes) where
       (subst (λ ts. FailsInTest arch (texts_of_tokens ts) [] e) (sym same) way))
   FailsInBody-unique m n c d (at_token tokens behind token before end read parts at fails) (in_next_token others stop rest e many next place (inr (s, p, is, whole))) =
       let same = (HasTokens-unique len text end stop tokens others read (fails_tokens len text stop rest others d many next)).0 in
-      absurd (FailsInTest-not arch (texts_of_tokens others) (texts_of_tokens (token ∷ behind)) c
+      absurd (not-FailsInTest-if_parsed arch (texts_of_tokens others) (texts_of_tokens (token ∷ behind)) c
       (subst (λ ts. FailsInTest arch (texts_of_tokens ts) (texts_of_tokens (token ∷ behind)) c) same fails) s p is whole)
   FailsInBody-unique m n c d (at_token tokens behind token before end read parts at fails) (at_end others e whole way place because) =
       let all = HasTokens-PlacedTokens len text others whole in
@@ -103,7 +105,7 @@ module _ (arch : Arch) (len : ℕ) (text : Bytes) where
       (subst (λ ts. FailsInTest arch (texts_of_tokens ts) [] e) (sym same) way))
   FailsInBody-unique m n c d (in_next_token others stop rest e many next place (inr (s, p, is, whole))) (at_token tokens behind token before end read parts at fails) =
       let same = (HasTokens-unique len text end stop tokens others read (fails_tokens len text stop rest others c many next)).0 in
-      absurd (FailsInTest-not arch (texts_of_tokens others) (texts_of_tokens (token ∷ behind)) d
+      absurd (not-FailsInTest-if_parsed arch (texts_of_tokens others) (texts_of_tokens (token ∷ behind)) d
       (subst (λ ts. FailsInTest arch (texts_of_tokens ts) (texts_of_tokens (token ∷ behind)) d) same fails) s p is whole)
   FailsInBody-unique m n c d (in_next_token tokens end rest e many next place way) (in_next_token others stop left f read also at too) =
       let same =
@@ -134,9 +136,9 @@ pub FailsAt-unique : (text : Bytes) (m n : ℕ) (c d : TextCause) → FailsAt te
 FailsAt-unique text m n c d (in_preamble rest fails place) (in_preamble left way at) =
     let u = FailsInPreamble-unique text rest left c d fails way in (omega (arith, place, at, ap length u.0), u.1)
 FailsAt-unique text m n c d (in_preamble rest fails place) (in_body arch name left is way) =
-    absurd (FailsInPreamble-not text rest left name arch c fails is)
+    absurd (not-FailsInPreamble-if_parsed text rest left name arch c fails is)
 FailsAt-unique text m n c d (in_body arch name left is way) (in_preamble rest fails place) =
-    absurd (FailsInPreamble-not text rest left name arch d fails is)
+    absurd (not-FailsInPreamble-if_parsed text rest left name arch d fails is)
 FailsAt-unique text m n c d (in_body arch name rest is fails) (in_body language word left also way) =
     let u = Preamble-unique text arch name rest language word left is also in
     FailsInBody-unique arch (length text) rest m n c d fails
@@ -157,27 +159,27 @@ HasTokens-Tokens len text end (t ∷ ts) (u ∷ us) p q =
     (ap (λ x. x ∷ texts_of_tokens ts) e.0 ∙ ap (λ xs. u ∷ xs) more.0, more.1)
 
 -- A text with a frame does not fail.
-pub FailsAt-not : (text : Bytes) (m : ℕ) (c : TextCause) (frame : TestFrame) → FailsAt text m c → HasFrame text frame → ⊥
-FailsAt-not text m c frame (in_preamble rest fails place) has =
-    FailsInPreamble-not text rest has.rest has.name has.arch c fails has.preamble
-FailsAt-not text m c frame (in_body arch name rest is fails) has =
+pub not-FailsAt-if_frame : (text : Bytes) (m : ℕ) (c : TextCause) (frame : TestFrame) → FailsAt text m c → HasFrame text frame → ⊥
+not-FailsAt-if_frame text m c frame (in_preamble rest fails place) has =
+    not-FailsInPreamble-if_parsed text rest has.rest has.name has.arch c fails has.preamble
+not-FailsAt-if_frame text m c frame (in_body arch name rest is fails) has =
     let u = Preamble-unique text arch name rest has.arch has.name has.rest is has.preamble in
-    not_FailsInBody-whole (subst (λ a. FailsInBody a (length text) has.rest m c) u.0
+    not-FailsInBody-whole (subst (λ a. FailsInBody a (length text) has.rest m c) u.0
     (subst (λ x. FailsInBody arch (length text) x m c) u.2 fails))
   where
     -- The body of a text with a frame does not fail.
-    not_FailsInBody-whole : FailsInBody has.arch (length text) has.rest m c → ⊥
-    not_FailsInBody-whole (at_token tokens behind token before end read parts place way) =
+    not-FailsInBody-whole : FailsInBody has.arch (length text) has.rest m c → ⊥
+    not-FailsInBody-whole (at_token tokens behind token before end read parts place way) =
         let same = (HasTokens-Tokens (length text) has.rest end tokens has.tokens read has.stream).0 in
-        FailsInTest-not has.arch has.tokens (texts_of_tokens (token ∷ behind)) c
+        not-FailsInTest-if_parsed has.arch has.tokens (texts_of_tokens (token ∷ behind)) c
         (subst (λ ts. FailsInTest has.arch ts (texts_of_tokens (token ∷ behind)) c) same way) has.syntax has.condition has.parts
         has.proposition
-    not_FailsInBody-whole (in_next_token tokens end rest d many next place way) =
+    not-FailsInBody-whole (in_next_token tokens end rest d many next place way) =
         FailsInFirstToken-end end rest c next
         (HasTokens-Tokens (length text) has.rest end tokens has.tokens
         (fails_tokens (length text) has.rest end rest tokens c many next) has.stream).1
-    not_FailsInBody-whole (at_end tokens d whole way place because) =
+    not-FailsInBody-whole (at_end tokens d whole way place because) =
         let all = HasTokens-PlacedTokens (length text) has.rest tokens whole in
         let same = (HasTokens-Tokens (length text) has.rest all.0 tokens has.tokens all.1 has.stream).0 in
-        FailsInTest-not has.arch has.tokens [] d (subst (λ ts. FailsInTest has.arch ts [] d) same way) has.syntax has.condition
-        has.parts has.proposition
+        not-FailsInTest-if_parsed has.arch has.tokens [] d (subst (λ ts. FailsInTest has.arch ts [] d) same way) has.syntax
+        has.condition has.parts has.proposition

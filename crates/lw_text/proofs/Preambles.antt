@@ -6,7 +6,7 @@ use Rattle.lw_text.proofs.Common.{HoldsOfNothing, ParsesNothing, Bytes, Arch, So
 use Rattle.lw_text.proofs.Common.{is_blank, first_byte_is, IsFirstToken, IsTestName, ParsesTestName, Notes}
 use Rattle.lw_text.proofs.Common.{Preamble, is_blank-passes, ◌∙◌, append-nil, false≢true, length}
 use Rattle.lw_text.proofs.Common.{nil_from_length, not-false}
-use Rattle.lw_text.proofs.Texts.{is_no_text}
+use Rattle.lw_text.proofs.Texts.{not-equal-if_bytes_differ}
 use Rattle.lw_text.proofs.NameRuns.{run-unique}
 use Rattle.lw_text.proofs.TokenRows.{IsFirstToken-unique}
 use Rattle.lw_text.proofs.NoteRows.{Notes-unique}
@@ -29,7 +29,7 @@ graphic_plain (b ∷ name) all = (ap not (graphic_no_blank b all.0), graphic_pla
 -- A test's name does not start with a blank.
 name_front : (name rest : Bytes) → IsTestName name → first_byte_is is_blank (name ++ rest) ≡ false
 name_front [] rest h = absurd (let k = h.not_empty in omega arith)
-name_front (b ∷ name) rest h = graphic_no_blank b h.all.0
+name_front (b ∷ name) rest h = graphic_no_blank b h.are_graphic_bytes.0
 
 -- The parts of a text that starts with blanks, followed by a name.
 module _ (text space after name rest : Bytes) (e : text ≡ space ++ after) (blank : AllByRecursion (λ b. is_blank b ≡ true) space)
@@ -39,12 +39,12 @@ module _ (text space after name rest : Bytes) (e : text ≡ space ++ after) (bla
   pub ParsesTestName-parts : (n r : Bytes) → (p : ParsesTestName text n r) → (p.blanks ≡ space) × (n ≡ name) × (r ≡ rest)
   ParsesTestName-parts n r p =
       let outer =
-      run-unique is_blank p.blanks space (record { parts = p.parts; all = p.blank; longest = name_front n r p.is_name })
-      (record { parts = e; all = blank; longest = stop }) in
+      run-unique is_blank p.blanks space (record { parts = p.parts; bytes_pass = p.blank; longest = name_front n r p.is_name })
+      (record { parts = e; bytes_pass = blank; longest = stop }) in
       let inner =
       run-unique (λ b. not (is_blank b)) n name
-      (record { parts = sym outer.1; all = graphic_plain n p.is_name.all; longest = p.longest })
-      (record { parts = f; all = plain; longest = longest }) in
+      (record { parts = sym outer.1; bytes_pass = graphic_plain n p.is_name.are_graphic_bytes; longest = p.longest })
+      (record { parts = f; bytes_pass = plain; longest = longest }) in
       (outer.0, inner.0, inner.1)
 
 -- The name of a text and its end are unique.
@@ -52,33 +52,33 @@ pub ParsesTestName-unique : (text n r m s : Bytes) → ParsesTestName text n r �
 ParsesTestName-unique text n r m s p q =
     let k =
     ParsesTestName-parts text q.blanks (m ++ s) m s q.parts q.blank (name_front m s q.is_name) refl
-    (graphic_plain m q.is_name.all) q.longest n r p in
+    (graphic_plain m q.is_name.are_graphic_bytes) q.longest n r p in
     (k.1, k.2)
 
 -- The keyword of a language is unique.
 pub arch_keyword-unique : (a b : Arch) → arch_keyword a ≡ arch_keyword b → a ≡ b
-arch_keyword-unique Source X86 e = absurd (is_no_text (codes "SRC") (codes "X86") refl e)
-arch_keyword-unique X86 Source e = absurd (is_no_text (codes "X86") (codes "SRC") refl e)
+arch_keyword-unique Source X86 e = absurd (not-equal-if_bytes_differ (codes "SRC") (codes "X86") refl e)
+arch_keyword-unique X86 Source e = absurd (not-equal-if_bytes_differ (codes "X86") (codes "SRC") refl e)
 arch_keyword-unique _ _ e = refl
 
 -- If no name follows a language's keyword, there is no preamble.
-pub no_preamble-no_name : (text mid : Bytes) (arch : Arch)
+pub no_preamble-if_no_name : (text mid : Bytes) (arch : Arch)
     → IsFirstToken text (arch_keyword arch) mid
     → ParsesNothing (ParsesTestName mid)
     → (a : Arch)
     → ParsesNothing (Preamble text a)
-no_preamble-no_name text mid arch word never a n r p =
+no_preamble-if_no_name text mid arch word never a n r p =
     never n p.1
     (subst (λ x. ParsesTestName x n p.1) (IsFirstToken-unique text (arch_keyword a) p.0 (arch_keyword arch) mid p.2 word).1 p.3)
 
 -- If no `{` follows the notes after the name, there is no preamble.
-pub no_preamble-no_notes : (text mid name after : Bytes) (arch : Arch)
+pub no_preamble-if_no_notes : (text mid name after : Bytes) (arch : Arch)
     → IsFirstToken text (arch_keyword arch) mid
     → ParsesTestName mid name after
     → HoldsOfNothing (Notes after)
     → (a : Arch)
     → ParsesNothing (Preamble text a)
-no_preamble-no_notes text mid name after arch word named never a n r p =
+no_preamble-if_no_notes text mid name after arch word named never a n r p =
     let e = (IsFirstToken-unique text (arch_keyword a) p.0 (arch_keyword arch) mid p.2 word).1 in
     let f = (ParsesTestName-unique mid n p.1 name after (subst (λ x. ParsesTestName x n p.1) e p.3) named).1 in
     never r (subst (λ x. Notes x r) f p.4)

@@ -7,7 +7,7 @@ use Rattle.lw_text.proofs.Common.{AllByRecursion, eqb-false, not-true, not-false
 use Rattle.lw_text.proofs.Common.{false_from_ne_true, map-append, filter_map-append, fold_stays, fold-append}
 use Rattle.lw_text.proofs.Common.{slice_get-get_or, Bytes, NameTable, TokenList, Arch, Prop, Formula, Word_is}
 use Rattle.lw_text.proofs.Common.{IsDuplicateFree, formula_of, contains_name, insert_name, insert_names}
-use Rattle.lw_text.proofs.Common.{position_of_name-at, insert_names-longer, contains_name-insert_name}
+use Rattle.lw_text.proofs.Common.{position_of_name-at, insert_names-longer, contains_name-of_inserted}
 use Rattle.lw_text.proofs.Common.{contains_name-insert_names, position_of_name-insert_names}
 use Rattle.lw_text.proofs.Common.{IsDuplicateFree-insert_names, Cursor, PropositionReader, ParsesMany}
 use Rattle.lw_text.proofs.Common.{with_sites, HasRoomFor, SiteSyntax, InMemory, IsSite, site_names, Terminal}
@@ -41,7 +41,7 @@ AllThere names ss = AllByRecursion (λ x. contains_name names x ≡ true) (site_
 pub insert_names-contains_all : (names ns : NameTable) → AllByRecursion (λ x. contains_name (insert_names names ns) x ≡ true) ns
 insert_names-contains_all names [] = tt
 insert_names-contains_all names (n ∷ ns) = (
-  contains_name-insert_names (insert_name names n) ns n (contains_name-insert_name names n),
+  contains_name-insert_names (insert_name names n) ns n (contains_name-of_inserted names n),
   insert_names-contains_all (insert_name names n) ns,
 )
 
@@ -152,9 +152,9 @@ module _ {A : Type 0} {arch : Arch} {threads : ℕ} {first names start here : To
       → ParsedProposition arch threads start first names p
   ParsedProposition-at_end e p is = record {
     terminals = read.terminals;
-    is = subst (ParsesMany (IsTerminal arch threads) start read.terminals) e read.gone;
+    parsed = subst (ParsesMany (IsTerminal arch threads) start read.terminals) e read.gone;
     names_are = read.names_are;
-    few = omega (arith, read.count, read.within_node_limit);
+    few_nodes = omega (arith, read.count, read.within_node_limit);
     says = IsProposition-result (ap result_of read.leads ∙ is);
   }
 
@@ -200,7 +200,13 @@ module _ {A : Type 0} {arch : Arch} {threads : ℕ} {first names start here : To
             insert_names-longer now (site_names (sites_in back)),
           ) in
           let few : nodes + node_count (t ∷ []) ≤ 256 =
-          omega (arith, fits.few, node_count-append read.terminals (t ∷ back), node_count-append (t ∷ []) back, read.count) in
+          omega (
+            arith,
+            fits.few_nodes,
+            node_count-append read.terminals (t ∷ back),
+            node_count-append (t ∷ []) back,
+            read.count,
+          ) in
           let more = map (resolved last) back in
           never t q.0 q.1 (λ none.
           let nowhere =
@@ -249,7 +255,7 @@ module _ {arch : Arch} {threads : ℕ} {before behind : Cursor} {names after : N
       ∙ ap (λ x. map (resolved names) read.terminals ++ x ∷ []) (resolved-named_terminal (IsDuplicateFree-names read once)) in
       record {
         terminals = read.terminals ++ t ∷ [];
-        gone = ParsesMany-push _ read.terminals start (remaining_texts before) (remaining_texts behind) t read.gone taken.is;
+        gone = ParsesMany-push _ read.terminals start (remaining_texts before) (remaining_texts behind) t read.gone taken.parsed;
         names_are = taken.names_are ∙ sym (table_of read (t ∷ []));
         count = omega (
           arith,
@@ -278,7 +284,7 @@ module _ {arch : Arch} {threads : ℕ} {before behind : Cursor} {names after : N
       let t = named_terminal after s in
       let one = node_count-of_one (is_node (terminal_of s)) t (node_named after s) in
       let same : nodes_after ≡ nodes + node_count (t ∷ []) = counts ∙ ap (λ (n : ℕ). nodes + n) (sym one) in
-      after_terminal t (remaining_texts behind) _ room taken.is
+      after_terminal t (remaining_texts behind) _ room taken.parsed
       (subst (λ (table : NameTable). length table ≤ 8) taken.names_are few)
       (next_place-state (state_of reader) after s ∙ ap (option_map place_of) step)
       (subst (λ table.
@@ -298,7 +304,7 @@ module _ {arch : Arch} {threads : ℕ} {before behind : Cursor} {names after : N
   terminal_refused reader once step t rest is =
       let e : t ≡ named_terminal after s =
       (IsTerminal-unique arch threads (remaining_texts before) t (named_terminal after s) rest (remaining_texts behind) is
-      taken.is).0 in
+      taken.parsed).0 in
       let f : resolved (with_sites names (sites_in (t ∷ []))) t ≡ terminal_of s =
       ap (λ (x : Terminal AtomSyntax). resolved (with_sites names (sites_in (x ∷ []))) x) e
       ∙ ap (λ ns. resolved ns (named_terminal after s)) (sym taken.names_are)
@@ -321,12 +327,12 @@ next_begins (Some x) l os _ true e some = absurd cc
 next_begins _ l os _ _ e some = absurd (some refl)
 
 -- A terminal that is allowed next starts a part if and only if the reader in memory is before one.
-pub begins_right : {A : Type 0} (reader : PropositionReader A) (part : Bool)
+pub begins_part-if_allowed : {A : Type 0} (reader : PropositionReader A) (part : Bool)
     → is_some reader.part ≡ not part
     → (names : NameTable) (s : Terminal AtomSyntax)
     → next_state (state_of reader) (resolved names s) ≢ None
     → begins_part s ≡ part
-begins_right reader part next names s some =
+begins_part-if_allowed reader part next names s some =
     sym (begins_resolved names s)
     ∙ next_begins _ (group_of reader.group) _ (resolved names s) part (is_some-option_map formula_of reader.part ∙ next) some
   where
@@ -375,8 +381,8 @@ pub node_count_at_most : {arch : Arch} {threads : ℕ} {before behind : Cursor} 
 node_count_at_most {arch} {threads} {before} {behind} {after = after} {s = s} taken nodes few room =
     rw
     (sym (node_named after s)
-    ∙ is_node-not_parenthesis arch threads (remaining_texts before) (remaining_texts behind) (named_terminal after s) taken.is)
-    (at (begins_parenthesis (remaining_texts before)) room)
+    ∙ is_node-not_parenthesis arch threads (remaining_texts before) (remaining_texts behind) (named_terminal after s)
+    taken.parsed) (at (begins_parenthesis (remaining_texts before)) room)
   where
     at : (b : Bool) → (not (nodes == 256) || b) ≡ true → nodes + (if not b then 1 else 0) ≤ 256
     at true room = omega (arith, few)

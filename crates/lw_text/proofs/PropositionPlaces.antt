@@ -8,7 +8,7 @@ use Rattle.lw_text.proofs.Common.{formula_of, group_of, reader_state_in, state_o
 use Rattle.lw_text.proofs.Common.{PropositionReader, Pending, ReaderState, BeforePart, BehindPart}
 use Rattle.lw_text.proofs.Common.{begins_part, named_terminal, terminal_of, PropositionPlace, IfFirst}
 use Rattle.lw_text.proofs.Common.{HasRoomForNode, next_place, place_of}
-use Rattle.lw_text.proofs.Texts.{is_text, is_no_text}
+use Rattle.lw_text.proofs.Texts.{is_text, not-equal-if_bytes_differ}
 use Rattle.lw_text.specs.declared.terminal.Terminal.{Terminal as Made}
 use Rattle.lw_text.specs.declared.terminal.Terminal.TheVariants as made
 
@@ -75,7 +75,7 @@ node_limit_reached-no_parenthesis nodes ts e =
         → begins_token (codes ")") ts ≡ false
         → IfFirst (λ t. AllByRecursion (λ w. t ≢ w) (codes "(" ∷ codes ")" ∷ [])) ts
     place-by_cases [] a b = tt
-    place-by_cases (t ∷ ts) a b = (is_no_text t (codes "(") a, (is_no_text t (codes ")") b, tt))
+    place-by_cases (t ∷ ts) a b = (not-equal-if_bytes_differ t (codes "(") a, (not-equal-if_bytes_differ t (codes ")") b, tt))
 
 -- There is room for one more node, or a parenthesis is next.
 pub HasRoomForNode-by_test : (nodes : ℕ) (ts : TokenList)

@@ -41,21 +41,21 @@ names_up_to names front s back =
 pub record Kind (X Y : Type 0) : Type 1 where
   pub opening : TokenList
   pub close : Bytes
-  pub stands : TokenList → Y → TokenList → Type 0
+  pub parses : TokenList → Y → TokenList → Type 0
   pub asks : Y → Type 0
   pub site : X → Made
   pub at : NameTable → X → Y
   pub syntax : Y → SiteSyntax
   pub same : (names : NameTable) (x : X) → syntax (at names x) ≡ site_by_name names (site x)
   pub stable : (names ns : NameTable) (x : X) → IsIn names (site x) → at (insert_names names ns) x ≡ at names x
-  pub one : IsDeterministic stands
+  pub deterministic : IsDeterministic parses
   pub apart : semicolon ≡ close → ⊥
-  pub unlike : (ts r l : TokenList) (x : Y) → ts ≡ close ∷ l → stands ts x r → ⊥
+  pub unlike : (ts r l : TokenList) (x : Y) → ts ≡ close ∷ l → parses ts x r → ⊥
 
 module _ {X Y : Type 0} (kind : Kind X Y) where
   -- The tokens are a whole list of these elements, from its opening to its close, and `rest` remains.
   abbrev pub Whole : TokenList → List Y → TokenList → Type 0
-  Whole ts ys rest = (l : TokenList) × (ts ≡ kind.opening ++ l) × ParsesSepEndBy kind.stands semicolon kind.close l ys rest
+  Whole ts ys rest = (l : TokenList) × (ts ≡ kind.opening ++ l) × ParsesSepEndBy kind.parses semicolon kind.close l ys rest
 
   -- The sites of elements in memory, by the names of a table.
   abbrev pub sites_of : NameTable → List X → List SiteSyntax
@@ -65,21 +65,21 @@ module _ {X Y : Type 0} (kind : Kind X Y) where
   pub record Read (first names ts here : TokenList) (xs : List X) : Type 0 where
     pub start : TokenList
     pub begun : ts ≡ kind.opening ++ start
-    pub listing : Listing kind.stands semicolon kind.close start (map (kind.at names) xs) here
+    pub listing : Listing kind.parses semicolon kind.close start (map (kind.at names) xs) here
     pub names_are : names ≡ with_sites first (sites_of names xs)
     pub within : AllByRecursion (λ x. IsIn names (kind.site x)) xs
-    pub there : AllByRecursion kind.asks (map (kind.at names) xs)
+    pub fits : AllByRecursion kind.asks (map (kind.at names) xs)
 
   -- These elements are the whole list, and `rest` remains. The names of their sites were inserted into the table.
   pub record ReadWhole (first names ts rest : TokenList) (xs : List X) : Type 0 where
     pub whole : Whole ts (map (kind.at names) xs) rest
     pub names_are : names ≡ with_sites first (sites_of names xs)
     pub within : All (λ x. IsIn names (kind.site x)) xs
-    pub there : AllByRecursion kind.asks (map (kind.at names) xs)
+    pub fits : AllByRecursion kind.asks (map (kind.at names) xs)
 
   -- After the opening nothing has been read.
   pub Read-none : (names ts start : TokenList) → ts ≡ kind.opening ++ start → Read names names ts start []
-  Read-none names ts start e = record { start = start; begun = e; listing = refl; names_are = refl; within = tt; there = tt }
+  Read-none names ts start e = record { start = start; begun = e; listing = refl; names_are = refl; within = tt; fits = tt }
 
   -- The syntax of elements' sites is that of their sites in memory, by the names of the table.
   syntax_sites : (names : NameTable) (xs : List X) → map kind.syntax (map (kind.at names) xs) ≡ sites_of names xs
@@ -94,13 +94,13 @@ module _ {X Y : Type 0} (kind : Kind X Y) where
       → ts ≡ kind.opening ++ start
       → (ys : List Y) (rest : TokenList)
       → Whole ts ys rest
-      → ParsesSepEndBy kind.stands semicolon kind.close start ys rest
+      → ParsesSepEndBy kind.parses semicolon kind.close start ys rest
   Whole-after_opening ts start e ys rest w = rw (append_cancel_left kind.opening w.0 start (sym w.1 ∙ e)) at w.2
 
   -- The parse of a list is unique.
   pub Whole-unique : IsDeterministic Whole
   Whole-unique ts a b r s p q =
-      ParsesSepEndBy-unique kind.stands semicolon kind.close kind.one kind.apart kind.unlike a b p.0 r s p.2
+      ParsesSepEndBy-unique kind.parses semicolon kind.close kind.deterministic kind.apart kind.unlike a b p.0 r s p.2
       (Whole-after_opening ts p.0 p.1 b s q)
 
 -- One more element x was read, from `here` to `mid`, and its name inserted into the table.
@@ -108,7 +108,7 @@ pub record More {X Y : Type 0} (kind : Kind X Y) (names after : NameTable) (here
   pub grows : after ≡ with_sites names (site_by_name after (kind.site x) ∷ [])
   pub is_in : IsIn after (kind.site x)
   pub fits : kind.asks (kind.at after x)
-  pub stands : kind.stands here (kind.at after x) mid
+  pub parsed : kind.parses here (kind.at after x) mid
 
 module _ {X Y : Type 0} {kind : Kind X Y} {first names ts here : TokenList} {xs : List X}
     (read : Read kind first names ts here xs) where
@@ -118,21 +118,21 @@ module _ {X Y : Type 0} {kind : Kind X Y} {first names ts here : TokenList} {xs 
     whole = (read.start, read.begun, Listing-end _ semicolon _ _ read.start here rest read.listing e);
     names_are = read.names_are;
     within = All-from_recursion (λ x. IsIn names (kind.site x)) xs read.within;
-    there = read.there;
+    fits = read.fits;
   }
 
   -- If neither the closing token nor an element whose name has room follows, there is no list.
-  pub no_list-no_element : ((l : TokenList) → here ≡ kind.close ∷ l → ⊥)
-      → ((y : Y) (rest : TokenList) → kind.stands here y rest → kind.asks y → HasRoomFor names (kind.syntax y ∷ []) → ⊥)
+  pub no_list-if_no_element : ((l : TokenList) → here ≡ kind.close ∷ l → ⊥)
+      → ((y : Y) (rest : TokenList) → kind.parses here y rest → kind.asks y → HasRoomFor names (kind.syntax y ∷ []) → ⊥)
       → (ys : List Y) (rest : TokenList)
       → Whole kind ts ys rest
       → AllByRecursion kind.asks ys
       → HasRoomFor first (map kind.syntax ys)
       → ⊥
-  no_list-no_element no_end never ys rest w all few =
+  no_list-if_no_element no_end never ys rest w all few =
       let before = map (kind.at names) xs in
-      Listing-here kind.stands semicolon kind.close kind.one kind.apart kind.unlike before ys read.start here rest read.listing
-      (no_end rest) (λ y more mid e p.
+      Listing-here kind.parses semicolon kind.close kind.deterministic kind.apart kind.unlike before ys read.start here rest
+      read.listing (no_end rest) (λ y more mid e p.
       let f =
       ap (map kind.syntax) e
       ∙ map-append kind.syntax before (y ∷ more)
@@ -146,14 +146,14 @@ module _ {X Y : Type 0} {kind : Kind X Y} {first names ts here : TokenList} {xs 
       ))) (Whole-after_opening kind ts read.start read.begun ys rest w)
 
   -- If neither a separator nor the closing token follows an element, there is no list.
-  pub no_list-no_separator : (x : Y) (mid : TokenList)
-      → kind.stands here x mid
+  pub no_list-if_no_separator : (x : Y) (mid : TokenList)
+      → kind.parses here x mid
       → ((l : TokenList) → mid ≡ semicolon ∷ l → ⊥)
       → ((l : TokenList) → mid ≡ kind.close ∷ l → ⊥)
       → ParsesNothing (Whole kind ts)
-  no_list-no_separator x mid p no_sep no_close ys rest w =
-      Listing-mark kind.stands semicolon kind.close kind.one kind.apart kind.unlike _ ys read.start here mid rest x read.listing p
-      no_sep no_close (Whole-after_opening kind ts read.start read.begun ys rest w)
+  no_list-if_no_separator x mid p no_sep no_close ys rest w =
+      Listing-mark kind.parses semicolon kind.close kind.deterministic kind.apart kind.unlike _ ys read.start here mid rest x
+      read.listing p no_sep no_close (Whole-after_opening kind ts read.start read.begun ys rest w)
 
   -- One more element.
   module _ {after : NameTable} {x : X} {mid : TokenList} (more : More kind names after here mid x) where
@@ -184,7 +184,7 @@ module _ {X Y : Type 0} {kind : Kind X Y} {first names ts here : TokenList} {xs 
 
     -- All elements satisfy what is asked of them.
     asks-one_more : AllByRecursion kind.asks (map (kind.at after) (xs ++ x ∷ []))
-    asks-one_more = subst (AllByRecursion kind.asks) (sym at-one_more) (AllByRecursion-snoc kind.asks _ _ read.there more.fits)
+    asks-one_more = subst (AllByRecursion kind.asks) (sym at-one_more) (AllByRecursion-snoc kind.asks _ _ read.fits more.fits)
 
     -- If a separator follows one more element, it is one more element read.
     pub Read-separator : (next : TokenList) → mid ≡ semicolon ∷ next → Read kind first after ts next (xs ++ x ∷ [])
@@ -192,11 +192,11 @@ module _ {X Y : Type 0} {kind : Kind X Y} {first names ts here : TokenList} {xs 
       start = read.start;
       begun = read.begun;
       listing =
-          subst (λ l. Listing kind.stands semicolon kind.close read.start l next) (sym at-one_more)
-          (ParsesMany-push _ _ read.start here next (kind.at after x) read.listing (mid, more.stands, e));
+          subst (λ l. Listing kind.parses semicolon kind.close read.start l next) (sym at-one_more)
+          (ParsesMany-push _ _ read.start here next (kind.at after x) read.listing (mid, more.parsed, e));
       names_are = names-one_more;
       within = IsIn-one_more;
-      there = asks-one_more;
+      fits = asks-one_more;
     }
 
     -- If the closing token follows one more element, the whole list has been read.
@@ -205,10 +205,10 @@ module _ {X Y : Type 0} {kind : Kind X Y} {first names ts here : TokenList} {xs 
       whole = (
         read.start,
         read.begun,
-        subst (λ l. ParsesSepEndBy kind.stands semicolon kind.close read.start l rest) (sym at-one_more)
-            (Listing-last kind.stands semicolon kind.close _ read.start here mid rest _ read.listing more.stands e),
+        subst (λ l. ParsesSepEndBy kind.parses semicolon kind.close read.start l rest) (sym at-one_more)
+            (Listing-last kind.parses semicolon kind.close _ read.start here mid rest _ read.listing more.parsed e),
       );
       names_are = names-one_more;
       within = All-from_recursion (λ x. IsIn after (kind.site x)) (xs ++ x ∷ []) IsIn-one_more;
-      there = asks-one_more;
+      fits = asks-one_more;
     }

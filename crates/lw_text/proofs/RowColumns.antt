@@ -18,13 +18,13 @@ All-columns : {X : Type 0} (Q : List X → Type 0) (n : ℕ) (rows : List (List 
 All-columns Q n rows h = All-from_recursion Q _ (AllByRecursion-map_range Q _ 0 n (λ k le lt. h k (omega (arith, lt))))
 
 -- A column has as many items as there are rows.
-column-length : {X : Type 0} (n k : ℕ) (rows : List (List X))
+length-column : {X : Type 0} (n k : ℕ) (rows : List (List X))
     → k < n
     → AllByRecursion (λ row. length row ≡ n) rows
     → length (column rows k) ≡ length rows
-column-length n k [] lt all = refl
-column-length n k (row ∷ rows) lt all =
-    rw ((slice_get-in_range row k (omega (arith, lt, all.0))).1) (ap suc (column-length n k rows lt all.1))
+length-column n k [] lt all = refl
+length-column n k (row ∷ rows) lt all =
+    rw ((slice_get-in_range row k (omega (arith, lt, all.0))).1) (ap suc (length-column n k rows lt all.1))
 
 -- What holds of all elements of a row and of a list holds of the list with the row's element at k, if there is one, prepended.
 cons_each : {X : Type 0} (P : X → Type 0) (row more : List X) (k : ℕ) (o : Option X)
@@ -37,18 +37,18 @@ cons_each P row more k (Some x) e all rest =
     (subst P (get_or_from_slice_get row k x x e) (all k x (slice_get_within row k x e)), rest)
 
 -- What holds of all elements of the rows holds of all elements of the column at k.
-column-each : {X : Type 0} (P : X → Type 0) (k : ℕ) (rows : List (List X))
+All-column : {X : Type 0} (P : X → Type 0) (k : ℕ) (rows : List (List X))
     → AllByRecursion (λ row. All P row) rows
     → AllByRecursion P (column rows k)
-column-each P k [] all = tt
-column-each P k (row ∷ rows) all = cons_each P row (column rows k) k _ refl all.0 (column-each P k rows all.1)
+All-column P k [] all = tt
+All-column P k (row ∷ rows) all = cons_each P row (column rows k) k _ refl all.0 (All-column P k rows all.1)
 
 -- ---- columns of rows with a cell for each thread
 
 module _ {X : Type 0} (n : ℕ) (rows : List (List X)) (even : All (λ row. length row ≡ n) rows) where
   -- `columns n rows` has n columns.
-  pub columns-length : length (columns n rows) ≡ n
-  columns-length = length-map-range_with_len (column rows) 0 n
+  pub length-columns : length (columns n rows) ≡ n
+  length-columns = length-map-range_with_len (column rows) 0 n
 
   -- The height of the columns is the number of rows.
   pub columns-height : 1 ≤ n → height (columns n rows) ≡ length rows
@@ -58,21 +58,21 @@ module _ {X : Type 0} (n : ℕ) (rows : List (List X)) (even : All (λ row. leng
       columns-height_cases : (m : ℕ) → n ≡ m → 1 ≤ n → height (columns n rows) ≡ length rows
       columns-height_cases zero e some = absurd (omega arith)
       columns-height_cases (suc m) e some =
-          rw e (column-length n 0 rows (omega (arith, some)) (AllByRecursion-of_All rows _ even))
+          rw e (length-column n 0 rows (omega (arith, some)) (AllByRecursion-of_All rows _ even))
 
   -- All columns have the same height.
   pub columns-even : 1 ≤ n → All (λ c. length c ≡ height (columns n rows)) (columns n rows)
   columns-even some =
       All-columns (λ c. length c ≡ height (columns n rows)) n rows
-      (λ k lt. column-length n k rows lt (AllByRecursion-of_All rows (λ row. length row ≡ n) even) ∙ sym (columns-height some))
+      (λ k lt. length-column n k rows lt (AllByRecursion-of_All rows (λ row. length row ≡ n) even) ∙ sym (columns-height some))
 
 -- What holds of all elements of the rows holds of all elements of all columns.
-pub columns-each : {X : Type 0} (P : X → Type 0) (n : ℕ) (rows : List (List X))
+pub All-columns_of_rows : {X : Type 0} (P : X → Type 0) (n : ℕ) (rows : List (List X))
     → All (λ row. All P row) rows
     → All (λ c. All P c) (columns n rows)
-columns-each {X} P n rows all =
+All-columns_of_rows {X} P n rows all =
     All-columns (λ c. All P c) n rows
-    (λ k lt. All-from_recursion P (column rows k) (column-each P k rows (AllByRecursion-of_All rows (λ row. All P row) all)))
+    (λ k lt. All-from_recursion P (column rows k) (All-column P k rows (AllByRecursion-of_All rows (λ row. All P row) all)))
 
 -- ---- columns of mapped rows
 
@@ -84,10 +84,10 @@ cons_map f None xs ys e = e
 cons_map f (Some x) xs ys e = ap (λ l. f x ∷ l) e
 
 -- A mapped column is that column of the mapped rows.
-column-map : {X Y : Type 0} (f : X → Y) (rows : List (List X)) (k : ℕ) → map f (column rows k) ≡ column (map (map f) rows) k
-column-map f [] k = refl
-column-map f (row ∷ rows) k =
-    cons_map f (slice_get row k) (column rows k) (column (map (map f) rows) k) (column-map f rows k)
+map-column : {X Y : Type 0} (f : X → Y) (rows : List (List X)) (k : ℕ) → map f (column rows k) ≡ column (map (map f) rows) k
+map-column f [] k = refl
+map-column f (row ∷ rows) k =
+    cons_map f (slice_get row k) (column rows k) (column (map (map f) rows) k) (map-column f rows k)
     ∙ ap (λ o. cons_option o (column (map (map f) rows) k)) (sym (slice_get-map f row k))
 
 -- Mapped columns from an index on are those of the mapped rows.
@@ -95,14 +95,14 @@ range-map : {X Y : Type 0} (f : X → Y) (rows : List (List X)) (a n : ℕ)
     → map (map f) (map (column rows) (range_with_len a n)) ≡ map (column (map (map f) rows)) (range_with_len a n)
 range-map f rows a zero = refl
 range-map f rows a (suc n) =
-    let e = column-map f rows a in
+    let e = map-column f rows a in
     let g = range-map f rows (a + 1) n in
     cc
 
 -- All columns, mapped, are the columns of the mapped rows.
-pub columns-map : {X Y : Type 0} (f : X → Y) (n : ℕ) (rows : List (List X))
+pub map-columns : {X Y : Type 0} (f : X → Y) (n : ℕ) (rows : List (List X))
     → map (map f) (columns n rows) ≡ columns n (map (map f) rows)
-columns-map f n rows = range-map f rows 0 n
+map-columns f n rows = range-map f rows 0 n
 
 -- ---- moving cells to the ends of columns, in sequence
 
@@ -110,7 +110,8 @@ columns-map f n rows = range-map f rows 0 n
 abbrev pub with_last : {X : Type 0} → List X × X → List X
 with_last p = p.0 ++ p.1 ∷ []
 
--- The first `count` columns have got their cell of a row, and the rest of the row remains.
+-- The first `count` of the columns are done: with a cell of the rest of the row added to each of the others, they are the old columns with
+-- the row. As many cells remain as columns.
 pub record Filling {X : Type 0} (old columns : List (List X)) (row rest : List X) (count : ℕ) : Type 0 where
   pub done : List (List X)
   pub todo : List (List X)

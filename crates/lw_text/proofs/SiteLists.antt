@@ -7,8 +7,8 @@ use Rattle.lw_text.proofs.Common.{sites_of, named_initializer, site_by_name}
 use Rattle.lw_text.specs.declared.block.Initializer.{Initializer as MadeInitializer}
 use Rattle.lw_text.proofs.Atoms.{no_site, IsSite-unique, IsInitializer-unique, brace, semicolon, bracket}
 use Rattle.lw_text.proofs.NameTables.{named_initializer-insert_names, site_by_name-insert_names}
-use Rattle.lw_text.proofs.Readings.{Kind, Read, no_list-no_element, Whole-unique, Whole}
-use Rattle.lw_text.proofs.Texts.{is_no_text, token_not_next}
+use Rattle.lw_text.proofs.Readings.{Kind, Read, no_list-if_no_element, Whole-unique, Whole}
+use Rattle.lw_text.proofs.Texts.{not-equal-if_bytes_differ, not-token_is_next}
 use Rattle.lw_text.proofs.Lists.{IsDeterministic}
 use Rattle.lw_text.specs.declared.site.Site.{Site as MadeSite}
 
@@ -19,15 +19,15 @@ abbrev pub initializer_kind : Arch → Kind MadeInitializer InitializerSyntax
 initializer_kind arch = record {
   opening = codes "{" ∷ [];
   close = brace;
-  stands = IsInitializer arch;
+  parses = IsInitializer arch;
   asks = λ e. Unit {0};
   site = λ e. e.site;
   at = named_initializer;
   syntax = λ e. e.site;
   same = λ names e. refl;
   stable = named_initializer-insert_names;
-  one = IsInitializer-unique arch;
-  apart = is_no_text semicolon brace refl;
+  deterministic = IsInitializer-unique arch;
+  apart = not-equal-if_bytes_differ semicolon brace refl;
   unlike = λ ts r l e at p. no_site brace refl arch ts l p.0 e.site at p.1;
 }
 
@@ -46,7 +46,7 @@ pub initializers_fault : (arch : Arch) {first names ts here : TokenList} {es : L
     → HasRoomFor first (sites_of all)
     → ⊥
 initializers_fault arch {here = here} read h never all rest block few =
-    no_list-no_element read (λ l. token_not_next brace here l h) (λ e rest p none few. never e rest p few) all rest block
+    no_list-if_no_element read (λ l. not-token_is_next brace here l h) (λ e rest p none few. never e rest p few) all rest block
     (All-Unit all) few
 
 -- The parse of an initial block is unique.
@@ -60,15 +60,15 @@ abbrev pub site_kind : Arch → ℕ → Kind MadeSite SiteSyntax
 site_kind arch threads = record {
   opening = codes "locations" ∷ codes "[" ∷ [];
   close = bracket;
-  stands = IsSite arch;
+  parses = IsSite arch;
   asks = ThreadExists threads;
   site = λ s. s;
   at = site_by_name;
   syntax = λ s. s;
   same = λ names s. refl;
   stable = site_by_name-insert_names;
-  one = IsSite-unique arch;
-  apart = is_no_text semicolon bracket refl;
+  deterministic = IsSite-unique arch;
+  apart = not-equal-if_bytes_differ semicolon bracket refl;
   unlike = λ ts r l s at p. no_site bracket refl arch ts l r s at p;
 }
 
@@ -79,7 +79,7 @@ pub Whole-Listed : (arch : Arch) (threads : ℕ) (ts behind : TokenList)
     → Listed arch ts all rest
     → Whole (site_kind arch threads) ts all rest
 Whole-Listed arch threads ts behind word all rest (inl p) = p
-Whole-Listed arch threads ts behind word all rest (inr p) = absurd (token_not_next _ ts behind p.0 word)
+Whole-Listed arch threads ts behind word all rest (inr p) = absurd (not-token_is_next _ ts behind p.0 word)
 
 -- A table with room for sites has room for their syntax, which are the sites themselves.
 pub HasRoomFor-map_same : (names : TokenList) (all : List SiteSyntax) → HasRoomFor names all → HasRoomFor names (map (λ s. s) all)
@@ -89,5 +89,5 @@ HasRoomFor-map_same names all few = subst (λ x. HasRoomFor names x) (sym (map-i
 pub Listed-unique : (arch : Arch) → IsDeterministic (Listed arch)
 Listed-unique arch ts a b r s (inl p) q =
     Whole-unique (site_kind arch 0) ts a b r s p (Whole-Listed arch 0 ts (codes "[" ∷ p.0) p.1 b s q)
-Listed-unique arch ts a b r s (inr p) (inl q) = absurd (token_not_next _ ts (codes "[" ∷ q.0) p.0 q.1)
+Listed-unique arch ts a b r s (inr p) (inl q) = absurd (not-token_is_next _ ts (codes "[" ∷ q.0) p.0 q.1)
 Listed-unique arch ts a b r s (inr p) (inr q) = (p.1 ∙ sym q.1, sym p.2 ∙ q.2)

@@ -23,9 +23,12 @@ allowed_thread None t r e = tt
 allowed_thread (Some threads) t r e = ltb-true t threads e
 
 -- A register of a thread that is not allowed is not allowed.
-pub thread_not_allowed : (threads : Option ℕ) (t r : ℕ) → is_allowed threads t ≡ false → ThreadAllowed threads (InThread t r) → ⊥
-thread_not_allowed None t r e there = absurd (true≢false e)
-thread_not_allowed (Some threads) t r e there = omega (arith, there, ltb-false t threads e)
+pub not-ThreadAllowed-above_threads : (threads : Option ℕ) (t r : ℕ)
+    → is_allowed threads t ≡ false
+    → ThreadAllowed threads (InThread t r)
+    → ⊥
+not-ThreadAllowed-above_threads None t r e there = absurd (true≢false e)
+not-ThreadAllowed-above_threads (Some threads) t r e there = omega (arith, there, ltb-false t threads e)
 
 -- If a location's name was inserted, and is next with or without brackets, its site was read.
 pub location_site_parsed : {arch : Arch} {threads : Option ℕ} {before after : Cursor} {names table : NameTable} {loc : ℕ}
@@ -38,27 +41,27 @@ pub location_site_parsed : {arch : Arch} {threads : Option ℕ} {before after : 
 location_site_parsed {arch} {threads} {before} {after} {names} {table} {loc} {t} made leaves e =
     let same = sym (site_by_name-at table loc t made.1) in
     record {
-      is = subst (λ s. IsSite arch (remaining_texts before) s (remaining_texts after)) same (made.0, e);
+      parsed = subst (λ s. IsSite arch (remaining_texts before) s (remaining_texts after)) same (made.0, e);
       threads_exist = allowed_location threads _;
       names_are = made.2 ∙ ap (λ s. with_sites names (s ∷ [])) same;
       within = slice_get_within table loc t made.1;
       leaves = leaves;
-      few = made.3;
+      bounded = made.3;
     }
 
 module _ (arch : Arch) (names : NameTable) {ts l : TokenList} {t : Bytes} (e : ts ≡ t ∷ l) where
   -- If `[` is next, but no location that has room and `]` follow, no site fits.
-  pub no_site-no_location_in_brackets : t ≡ codes "["
+  pub no_site-if_no_location_in_brackets : t ≡ codes "["
       → ((x : Bytes) (rest : TokenList) → l ≡ x ∷ codes "]" ∷ rest → IsLocationName x → HasRoomForName names x → ⊥)
       → (s : SiteSyntax) (rest : TokenList)
       → IsSite arch ts s rest
       → HasRoomFor names (s ∷ [])
       → ⊥
-  no_site-no_location_in_brackets b never (InMemory x) rest (p, inl f) few =
+  no_site-if_no_location_in_brackets b never (InMemory x) rest (p, inl f) few =
       let k : x ≡ codes "[" = cc in bracket_no_name (subst IsName k p.0)
-  no_site-no_location_in_brackets b never (InMemory x) rest (p, inr f) few =
+  no_site-if_no_location_in_brackets b never (InMemory x) rest (p, inr f) few =
       let k : l ≡ x ∷ codes "]" ∷ rest = cc in never x rest k p few
-  no_site-no_location_in_brackets b never (InThread u r) rest p few =
+  no_site-if_no_location_in_brackets b never (InThread u r) rest p few =
       let f = p.2 in
       let k : p.0 ≡ codes "[" = cc in
       bracket_no_number u (subst (λ w. IsNumber w u) k p.3)
@@ -94,24 +97,24 @@ module _ (arch : Arch) (names : NameTable) {ts l : TokenList} {t : Bytes} (e : t
       omega (arith, exists, ltb-false n threads refused)
 
   -- If no `:` and register follow a number, there is no site.
-  pub no_site-no_register : (n : ℕ)
+  pub no_site-if_no_register : (n : ℕ)
       → IsNumber t n
       → ((q : Bytes) (r : ℕ) (rest : TokenList) → l ≡ codes ":" ∷ q ∷ rest → IsRegisterName arch q r → ⊥)
       → ParsesNothing (IsSite arch ts)
-  no_site-no_register n number never s rest p = let k = site_after_number n number s _ p in never k.0 k.1 rest k.3 k.4
+  no_site-if_no_register n number never s rest p = let k = site_after_number n number s _ p in never k.0 k.1 rest k.3 k.4
 
   -- If the token is no `[`, no number and no location that has room, no site fits.
-  pub no_site-no_location : (t ≡ codes "[" → ⊥)
+  pub no_site-if_no_location : (t ≡ codes "[" → ⊥)
       → HoldsOfNothing (IsNumber t)
       → (IsLocationName t → HasRoomForName names t → ⊥)
       → (s : SiteSyntax) (rest : TokenList)
       → IsSite arch ts s rest
       → HasRoomFor names (s ∷ [])
       → ⊥
-  no_site-no_location no_bracket no_number never (InMemory x) rest (p, inl f) few =
+  no_site-if_no_location no_bracket no_number never (InMemory x) rest (p, inl f) few =
       let k : x ≡ t = cc in never (subst IsLocationName k p) (subst (λ y. HasRoomForName names y) k few)
-  no_site-no_location no_bracket no_number never (InMemory x) rest (p, inr f) few = let k : t ≡ codes "[" = cc in no_bracket k
-  no_site-no_location no_bracket no_number never (InThread u r) rest p few =
+  no_site-if_no_location no_bracket no_number never (InMemory x) rest (p, inr f) few = let k : t ≡ codes "[" = cc in no_bracket k
+  no_site-if_no_location no_bracket no_number never (InThread u r) rest p few =
       let f = p.2 in
       let k : p.0 ≡ t = cc in
       no_number u (subst (λ w. IsNumber w u) k p.3)

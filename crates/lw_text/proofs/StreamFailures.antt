@@ -11,7 +11,7 @@ use Rattle.lw_text.proofs.Common.{FailsInFirstToken, HasTokens, at_token, in_nex
 use Rattle.lw_text.proofs.Common.{TextCause, StopsAt, StreamFails, at_stream_token, at_stream_end}
 use Rattle.lw_text.proofs.Common.{at_stream_fault}
 use Rattle.lw_text.proofs.api.Places.{texts_placed}
-use Rattle.lw_text.proofs.ByteFailures.{FailsInFirstToken-not}
+use Rattle.lw_text.proofs.ByteFailures.{not-FailsInFirstToken-if_parsed}
 use Rattle.lw_text.proofs.TokenRows.{no_first_token-trivia_only}
 
 -- What holds of all items holds of one after others.
@@ -87,7 +87,7 @@ body_fails {arch} {len} {text} {tokens} {fault} {at} {cause} stream (at_stream_t
         let read = placed_many len text tokens p in
         (read.0, (read.1, λ t rest is. no_first_token-trivia_only read.0 t rest read.2 is))
     HasTokens-by_fault (Some g) p =
-        (p.2.end, (p.2.read, λ t rest is. FailsInFirstToken-not p.2.end p.2.fails.rest t rest g.cause p.2.fails.way is))
+        (p.2.end, (p.2.read, λ t rest is. not-FailsInFirstToken-if_parsed p.2.end p.2.fails.rest t rest g.cause p.2.fails.way is))
 body_fails stream (at_stream_end c none way place cause) = at_end _ c (rw none at stream) way place cause
 body_fails {arch} {len} {text} {tokens} {fault} {at} {cause} stream (at_stream_fault g c is place because way) =
     let stops = (rw is at stream).2 in

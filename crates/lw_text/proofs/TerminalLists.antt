@@ -8,7 +8,7 @@ use Rattle.lw_text.proofs.Common.{begins_token, begins_part}
 use Rattle.lw_text.proofs.Atoms.{IsSite-unique, IsSite-shorter, Value-unique, Value-shorter, starts_no_site}
 use Rattle.lw_text.proofs.Atoms.{no_site}
 use Rattle.lw_text.proofs.Lists.{ParsesMany-peel, IsDeterministic}
-use Rattle.lw_text.proofs.Texts.{token_not_next}
+use Rattle.lw_text.proofs.Texts.{not-token_is_next}
 
 -- ---- uniqueness
 
@@ -29,10 +29,10 @@ terminal_word w =
     then Some Disjunction
     else if bytes_eq w (codes "true") then Some (Atom Always) else if bytes_eq w (codes "false") then Some (Atom Never) else None
 
--- The tokens start with a terminal that is a single token.
+-- The tokens start with a terminal that is a single token and starts no site.
 record ParsesSingleToken (ts : TokenList) (s : Terminal AtomSyntax) (rest : TokenList) : Type 0 where
   pub word : Bytes
-  pub stands : ts ≡ word ∷ rest
+  pub tokens_are : ts ≡ word ∷ rest
   pub terminal_is : terminal_word word ≡ Some s
   pub apart : starts_no_site word ≡ true
 
@@ -49,20 +49,20 @@ record ParsesAtom (arch : Arch) (threads : ℕ) (ts : TokenList) (s : Terminal A
 terminal_front : (arch : Arch) (threads : ℕ) (ts rest : TokenList) (s : Terminal AtomSyntax)
     → IsTerminal arch threads ts s rest
     → ParsesSingleToken ts s rest ⊎ ParsesAtom arch threads ts s rest
-terminal_front arch threads ts rest Open e = inl (record { word = codes "("; stands = e; terminal_is = refl; apart = refl })
-terminal_front arch threads ts rest Close e = inl (record { word = codes ")"; stands = e; terminal_is = refl; apart = refl })
+terminal_front arch threads ts rest Open e = inl (record { word = codes "("; tokens_are = e; terminal_is = refl; apart = refl })
+terminal_front arch threads ts rest Close e = inl (record { word = codes ")"; tokens_are = e; terminal_is = refl; apart = refl })
 terminal_front arch threads ts rest Negation (inl e) =
-    inl (record { word = codes "~"; stands = e; terminal_is = refl; apart = refl })
+    inl (record { word = codes "~"; tokens_are = e; terminal_is = refl; apart = refl })
 terminal_front arch threads ts rest Negation (inr e) =
-    inl (record { word = codes "not"; stands = e; terminal_is = refl; apart = refl })
+    inl (record { word = codes "not"; tokens_are = e; terminal_is = refl; apart = refl })
 terminal_front arch threads ts rest Conjunction e =
-    inl (record { word = codes "/\\"; stands = e; terminal_is = refl; apart = refl })
+    inl (record { word = codes "/\\"; tokens_are = e; terminal_is = refl; apart = refl })
 terminal_front arch threads ts rest Disjunction e =
-    inl (record { word = codes "\\/"; stands = e; terminal_is = refl; apart = refl })
+    inl (record { word = codes "\\/"; tokens_are = e; terminal_is = refl; apart = refl })
 terminal_front arch threads ts rest (Atom Always) e =
-    inl (record { word = codes "true"; stands = e; terminal_is = refl; apart = refl })
+    inl (record { word = codes "true"; tokens_are = e; terminal_is = refl; apart = refl })
 terminal_front arch threads ts rest (Atom Never) e =
-    inl (record { word = codes "false"; stands = e; terminal_is = refl; apart = refl })
+    inl (record { word = codes "false"; tokens_are = e; terminal_is = refl; apart = refl })
 terminal_front arch threads ts rest (Atom (Holds site n)) p =
     inr (record { site = site; n = n; mid = p.0; terminal_is = refl; site_is = p.1; value = p.3 })
 
@@ -72,7 +72,7 @@ pub no_terminal-site_without_value : (arch : Arch) (threads : ℕ) (ts mid : Tok
     → ParsesNothing (Value mid)
     → ParsesNothing (IsTerminal arch threads ts)
 no_terminal-site_without_value arch threads ts mid site p never s rest is = elim (terminal_front arch threads ts rest s is) [
-  | inl w ↦ no_site w.word w.apart arch ts rest mid site w.stands p
+  | inl w ↦ no_site w.word w.apart arch ts rest mid site w.tokens_are p
   | inr w ↦ never w.n rest (subst (λ l. Value l w.n rest) (IsSite-unique arch ts w.site site w.mid mid w.site_is p).1 w.value)
 ]
 
@@ -81,14 +81,14 @@ pub IsTerminal-unique : (arch : Arch) (threads : ℕ) → IsDeterministic (IsTer
 IsTerminal-unique arch threads ts a b r s p q = elim (terminal_front arch threads ts r a p) [
   | inl v ↦ elim (terminal_front arch threads ts s b q) [
     | inl w ↦
-        let e = v.stands in
-        let f = w.stands in
+        let e = v.tokens_are in
+        let f = w.tokens_are in
         let k : v.word ≡ w.word = cc in
         (cc, cc)
-    | inr w ↦ absurd (no_site v.word v.apart arch ts r w.mid w.site v.stands w.site_is)
+    | inr w ↦ absurd (no_site v.word v.apart arch ts r w.mid w.site v.tokens_are w.site_is)
   ]
   | inr v ↦ elim (terminal_front arch threads ts s b q) [
-    | inl w ↦ absurd (no_site w.word w.apart arch ts s v.mid v.site w.stands v.site_is)
+    | inl w ↦ absurd (no_site w.word w.apart arch ts s v.mid v.site w.tokens_are v.site_is)
     | inr w ↦
         let e = IsSite-unique arch ts v.site w.site v.mid w.mid v.site_is w.site_is in
         let f = Value-unique v.mid r s v.n w.n v.value (subst (λ l. Value l w.n s) (sym e.1) w.value) in
@@ -103,7 +103,7 @@ pub IsTerminal-shorter : (arch : Arch) (threads : ℕ) (ts rest : TokenList) (s 
     → IsTerminal arch threads ts s rest
     → length rest < length ts
 IsTerminal-shorter arch threads ts rest s p = elim (terminal_front arch threads ts rest s p) [
-  | inl w ↦ omega (arith, ap length w.stands)
+  | inl w ↦ omega (arith, ap length w.tokens_are)
   | inr w ↦ omega (arith, IsSite-shorter arch ts w.mid w.site w.site_is, Value-shorter w.mid rest w.n w.value)
 ]
 
@@ -152,10 +152,10 @@ pub terminal_is_claim : (arch : Arch) (threads : ℕ) (ts : TokenList)
     → IsTerminal arch threads ts s rest
     → begins_part s ≡ true
     → (site : SiteSyntax) × (n : ℕ) × (s ≡ Atom (Holds site n))
-terminal_is_claim arch threads ts a b c d e Open rest p begins = absurd (token_not_next (codes "(") ts rest a p)
-terminal_is_claim arch threads ts a b c d e Negation rest (inl p) begins = absurd (token_not_next _ ts rest b p)
-terminal_is_claim arch threads ts a b c d e Negation rest (inr p) begins = absurd (token_not_next _ ts rest c p)
-terminal_is_claim arch threads ts a b c d e (Atom Always) rest p begins = absurd (token_not_next _ ts rest d p)
-terminal_is_claim arch threads ts a b c d e (Atom Never) rest p begins = absurd (token_not_next _ ts rest e p)
+terminal_is_claim arch threads ts a b c d e Open rest p begins = absurd (not-token_is_next (codes "(") ts rest a p)
+terminal_is_claim arch threads ts a b c d e Negation rest (inl p) begins = absurd (not-token_is_next _ ts rest b p)
+terminal_is_claim arch threads ts a b c d e Negation rest (inr p) begins = absurd (not-token_is_next _ ts rest c p)
+terminal_is_claim arch threads ts a b c d e (Atom Always) rest p begins = absurd (not-token_is_next _ ts rest d p)
+terminal_is_claim arch threads ts a b c d e (Atom Never) rest p begins = absurd (not-token_is_next _ ts rest e p)
 terminal_is_claim arch threads ts a b c d e (Atom (Holds site n)) rest p begins = (site, n, refl)
 terminal_is_claim arch threads ts a b c d e _ rest p begins = absurd cc

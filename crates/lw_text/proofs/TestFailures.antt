@@ -24,14 +24,15 @@ use Rattle.lw_text.proofs.Cells.{Cell-exact, Row-deterministic, Rows-unique}
 use Rattle.lw_text.proofs.Failures.{cons-tail_unique}
 use Rattle.lw_text.proofs.FailureUniqueness.{IsSameFailure, FailsUniquely, IfFirst-of_head}
 use Rattle.lw_text.proofs.FailureUniqueness.{FailsUniquely-at_first_token, FailsBefore-unique}
-use Rattle.lw_text.proofs.FailureUniqueness.{FailsBefore-not, FailsInSite-unique, FailsInSite-not}
-use Rattle.lw_text.proofs.FailureUniqueness.{FailsInAssignment-unique, FailsInAssignment-not}
+use Rattle.lw_text.proofs.FailureUniqueness.{not-FailsBefore-if_parsed, FailsInSite-unique}
+use Rattle.lw_text.proofs.FailureUniqueness.{not-FailsInSite-if_parsed, FailsInAssignment-unique}
+use Rattle.lw_text.proofs.FailureUniqueness.{not-FailsInAssignment-if_parsed}
 use Rattle.lw_text.proofs.Headers.{Names-unique}
 use Rattle.lw_text.proofs.Lists.{IsDeterministic, ParsesSepBy-unique}
 use Rattle.lw_text.proofs.Readings.{with_sites-append}
 use Rattle.lw_text.proofs.SiteLists.{Block-unique, Listed-unique, HasRoomFor-map_same}
 use Rattle.lw_text.proofs.TerminalLists.{IsTerminal-unique, IsTerminal-shorter}
-use Rattle.lw_text.proofs.Texts.{is_no_text, bar_is_no_semicolon, token_not_next}
+use Rattle.lw_text.proofs.Texts.{not-equal-if_bytes_differ, not-bar_is_semicolon, not-token_is_next}
 use Rattle.lw_text.proofs.Whole.{Quantified-unique}
 use Rattle.lw_text.specs.Rows.{Cell}
 
@@ -61,13 +62,13 @@ module _ {X : Type 0} (Parses : TokenList → X → TokenList → Type 0) (site_
       FailsBefore-unique (close ∷ codes ";" ∷ []) c mid r s d e p
       (subst (λ l. FailsBefore (close ∷ codes ";" ∷ []) c l s e) (sym (one ts x y mid other is also).1) q)
   FailsInElements-unique r s d e names ts (no_mark {mid = mid} {x = x} go is room p) (in_elements_after {next = next} {x = y} too also has q) =
-      absurd (FailsBefore-not (close ∷ codes ";" ∷ []) c mid r next d (codes ";") p (one ts x y mid (codes ";" ∷ next) is also).1
-      (λ all. all.1.0 refl))
+      absurd (not-FailsBefore-if_parsed (close ∷ codes ";" ∷ []) c mid r next d (codes ";") p
+      (one ts x y mid (codes ";" ∷ next) is also).1 (λ all. all.1.0 refl))
   FailsInElements-unique r s d e names ts (in_elements_after {x = x} go is room p) (in_element too q) =
       absurd (way_not names ts s _ e x q is room)
   FailsInElements-unique r s d e names ts (in_elements_after {next = next} {x = x} go is room p) (no_mark {mid = mid} {x = y} too also has q) =
-      absurd (FailsBefore-not (close ∷ codes ";" ∷ []) c mid s next e (codes ";") q (one ts y x mid (codes ";" ∷ next) also is).1
-      (λ all. all.1.0 refl))
+      absurd (not-FailsBefore-if_parsed (close ∷ codes ";" ∷ []) c mid s next e (codes ";") q
+      (one ts y x mid (codes ";" ∷ next) also is).1 (λ all. all.1.0 refl))
   FailsInElements-unique r s d e names ts (in_elements_after {next = next} {x = x} go is room p) (in_elements_after {next = other} {x = y} too also has q) =
       let same = one ts x y (codes ";" ∷ next) (codes ";" ∷ other) is also in
       FailsInElements-unique r s d e (with_sites names (site_by x ∷ [])) next p
@@ -87,29 +88,33 @@ module _ {X : Type 0} (Parses : TokenList → X → TokenList → Type 0) (site_
   )
 
   -- Elements that are closed, and for whose locations there is room, do not fail.
-  FailsInElements-not : (rest : TokenList) (cause : TextCause) (names : NameTable) (ts after : TokenList) (xs : List X)
+  not-FailsInElements-if_parsed : (rest : TokenList) (cause : TextCause) (names : NameTable) (ts after : TokenList) (xs : List X)
       → FailsInElements Parses site_by Way close c rest cause names ts
       → ParsesSepEndBy Parses (codes ";") close ts xs after
       → HasRoomFor names (map site_by xs)
       → ⊥
-  FailsInElements-not rest cause names ts after [] (in_element go p) is room = token_not_next close ts after go is
-  FailsInElements-not rest cause names ts after [] (no_mark go also has p) is room = token_not_next close ts after go is
-  FailsInElements-not rest cause names ts after [] (in_elements_after go also has p) is room = token_not_next close ts after go is
-  FailsInElements-not rest cause names ts after (x ∷ xs) (in_element go p) is room =
+  not-FailsInElements-if_parsed rest cause names ts after [] (in_element go p) is room = not-token_is_next close ts after go is
+  not-FailsInElements-if_parsed rest cause names ts after [] (no_mark go also has p) is room =
+      not-token_is_next close ts after go is
+  not-FailsInElements-if_parsed rest cause names ts after [] (in_elements_after go also has p) is room =
+      not-token_is_next close ts after go is
+  not-FailsInElements-if_parsed rest cause names ts after (x ∷ xs) (in_element go p) is room =
       way_not names ts rest is.0 cause x p is.1 (HasRoomFor-first names (site_by x) (map site_by xs) room)
-  FailsInElements-not rest cause names ts after (x ∷ xs) (no_mark {mid = mid} {x = y} go also has p) is room =
+  not-FailsInElements-if_parsed rest cause names ts after (x ∷ xs) (no_mark {mid = mid} {x = y} go also has p) is room =
       let same = (one ts y x mid is.0 also is.1).1 in
       elim is.2 [
-        | inl end ↦ FailsBefore-not (close ∷ codes ";" ∷ []) c mid rest after cause close p (same ∙ end.1) (λ all. all.0 refl)
+        | inl end ↦
+            not-FailsBefore-if_parsed (close ∷ codes ";" ∷ []) c mid rest after cause close p (same ∙ end.1) (λ all. all.0 refl)
         | inr more ↦
-            FailsBefore-not (close ∷ codes ";" ∷ []) c mid rest more.0 cause (codes ";") p (same ∙ more.1) (λ all. all.1.0 refl)
+            not-FailsBefore-if_parsed (close ∷ codes ";" ∷ []) c mid rest more.0 cause (codes ";") p (same ∙ more.1)
+            (λ all. all.1.0 refl)
       ]
-  FailsInElements-not rest cause names ts after (x ∷ xs) (in_elements_after {next = next} {x = y} go also has p) is room =
+  not-FailsInElements-if_parsed rest cause names ts after (x ∷ xs) (in_elements_after {next = next} {x = y} go also has p) is room =
       let same = one ts y x (codes ";" ∷ next) is.0 also is.1 in
       elim is.2 [
         | inl end ↦ apart (cons-head_eq _ _ _ _ (same.1 ∙ end.1))
         | inr more ↦
-            FailsInElements-not rest cause (with_sites names (site_by x ∷ [])) next after xs
+            not-FailsInElements-if_parsed rest cause (with_sites names (site_by x ∷ [])) next after xs
             (subst (λ (y : X). FailsInElements Parses site_by Way close c rest cause (with_sites names (site_by y ∷ [])) next)
             same.0 p)
             (subst (λ l. ParsesSepEndBy Parses (codes ";") close l xs after) (sym (cons-tail_unique (same.1 ∙ more.1))) more.2)
@@ -119,54 +124,54 @@ module _ {X : Type 0} (Parses : TokenList → X → TokenList → Type 0) (site_
 -- ---- The initial block.
 
 -- An initializer for which there is room does not fail.
-FailsInAssignment-not_initializer : (arch : Arch) (names : NameTable) (ts rest after : TokenList) (cause : TextCause)
+not-FailsInAssignment-if_initializer : (arch : Arch) (names : NameTable) (ts rest after : TokenList) (cause : TextCause)
     (e : InitializerSyntax)
     → FailsInAssignment arch None names Unexpected ts rest cause
     → IsInitializer arch ts e after
     → HasRoomFor names (e.site ∷ [])
     → ⊥
-FailsInAssignment-not_initializer arch names ts rest after cause e fails is room =
-    FailsInAssignment-not arch None names Unexpected ts rest is.0 after cause e.site e.word fails is.1 (ThreadAllowed-None e.site)
-    room is.2
+not-FailsInAssignment-if_initializer arch names ts rest after cause e fails is room =
+    not-FailsInAssignment-if_parsed arch None names Unexpected ts rest is.0 after cause e.site e.word fails is.1
+    (ThreadAllowed-None e.site) room is.2
   where
     -- While the number of threads is not known, each thread is allowed.
     ThreadAllowed-None : (site : SiteSyntax) → ThreadAllowed None site
     ThreadAllowed-None site = tt
 
 -- A `;` is no brace.
-semicolon_is_no_brace : codes ";" ≡ codes "}" → ⊥
-semicolon_is_no_brace = is_no_text (codes ";") (codes "}") refl
+not-semicolon_is_brace : codes ";" ≡ codes "}" → ⊥
+not-semicolon_is_brace = not-equal-if_bytes_differ (codes ";") (codes "}") refl
 
 -- A `;` is no bracket.
-semicolon_is_no_bracket : codes ";" ≡ codes "]" → ⊥
-semicolon_is_no_bracket = is_no_text (codes ";") (codes "]") refl
+not-semicolon_is_bracket : codes ";" ≡ codes "]" → ⊥
+not-semicolon_is_bracket = not-equal-if_bytes_differ (codes ";") (codes "]") refl
 
 module _ (arch : Arch) (names : NameTable) where
   -- The initial block fails uniquely.
   pub FailsInBlock-unique : FailsUniquely (FailsInBlock arch names)
   FailsInBlock-unique ts r s d e (no_brace p) (no_brace q) = FailsBefore-unique (codes "{" ∷ []) Unexpected ts r s d e p q
   FailsInBlock-unique ts r s d e (no_brace p) (in_initializers begins q) =
-      absurd (FailsBefore-not (codes "{" ∷ []) Unexpected ts r _ d (codes "{") p begins (λ all. all.0 refl))
+      absurd (not-FailsBefore-if_parsed (codes "{" ∷ []) Unexpected ts r _ d (codes "{") p begins (λ all. all.0 refl))
   FailsInBlock-unique ts r s d e (in_initializers begins p) (no_brace q) =
-      absurd (FailsBefore-not (codes "{" ∷ []) Unexpected ts s _ e (codes "{") q begins (λ all. all.0 refl))
+      absurd (not-FailsBefore-if_parsed (codes "{" ∷ []) Unexpected ts s _ e (codes "{") q begins (λ all. all.0 refl))
   FailsInBlock-unique ts r s d e (in_initializers {inside = inside} begins p) (in_initializers again q) =
       FailsInElements-unique (IsInitializer arch) (λ e. e.site) (λ names. FailsInAssignment arch None names Unexpected)
       (codes "}") Unexpected (IsInitializer-unique arch) (λ names. FailsInAssignment-unique arch None names Unexpected)
-      (FailsInAssignment-not_initializer arch) semicolon_is_no_brace r s d e names inside p
+      (not-FailsInAssignment-if_initializer arch) not-semicolon_is_brace r s d e names inside p
       (subst (FailsInInitializers arch s e names) (sym (cons-tail_unique (sym begins ∙ again))) q)
 
   -- A block that has room for its locations does not fail.
-  pub FailsInBlock-not : (ts rest after : TokenList) (cause : TextCause) (es : List InitializerSyntax)
+  pub not-FailsInBlock-if_parsed : (ts rest after : TokenList) (cause : TextCause) (es : List InitializerSyntax)
       → FailsInBlock arch names ts rest cause
       → Block arch ts es after
       → HasRoomFor names (sites_of es)
       → ⊥
-  FailsInBlock-not ts rest after cause es (no_brace p) is room =
-      FailsBefore-not (codes "{" ∷ []) Unexpected ts rest is.0 cause (codes "{") p is.1 (λ all. all.0 refl)
-  FailsInBlock-not ts rest after cause es (in_initializers {inside = inside} begins p) is room =
-      FailsInElements-not (IsInitializer arch) (λ e. e.site) (λ names. FailsInAssignment arch None names Unexpected) (codes "}")
-      Unexpected (IsInitializer-unique arch) (λ names. FailsInAssignment-unique arch None names Unexpected)
-      (FailsInAssignment-not_initializer arch) semicolon_is_no_brace rest cause names inside after es p
+  not-FailsInBlock-if_parsed ts rest after cause es (no_brace p) is room =
+      not-FailsBefore-if_parsed (codes "{" ∷ []) Unexpected ts rest is.0 cause (codes "{") p is.1 (λ all. all.0 refl)
+  not-FailsInBlock-if_parsed ts rest after cause es (in_initializers {inside = inside} begins p) is room =
+      not-FailsInElements-if_parsed (IsInitializer arch) (λ e. e.site) (λ names. FailsInAssignment arch None names Unexpected)
+      (codes "}") Unexpected (IsInitializer-unique arch) (λ names. FailsInAssignment-unique arch None names Unexpected)
+      (not-FailsInAssignment-if_initializer arch) not-semicolon_is_brace rest cause names inside after es p
       (subst (λ l. ParsesSepEndBy (IsInitializer arch) (codes ";") (codes "}") l es after)
       (sym (cons-tail_unique (sym begins ∙ is.1))) is.2) room
 
@@ -182,13 +187,13 @@ module _ (arch : Arch) (threads : ℕ) where
   IsListed-deterministic ts x y r s p q = IsSite-unique arch ts x y r s p.0 q.0
 
   -- A listed site for which there is room does not fail.
-  FailsInSite-not_listed : (names : NameTable) (ts rest mid : TokenList) (cause : TextCause) (site : SiteSyntax)
+  not-FailsInSite-if_listed : (names : NameTable) (ts rest mid : TokenList) (cause : TextCause) (site : SiteSyntax)
       → FailsInSite arch (Some threads) names Condition ts rest cause
       → IsListed ts site mid
       → HasRoomFor names (site ∷ [])
       → ⊥
-  FailsInSite-not_listed names ts rest mid cause site fails is room =
-      FailsInSite-not arch (Some threads) names Condition ts rest mid cause site fails is.0 is.1 room
+  not-FailsInSite-if_listed names ts rest mid cause site fails is room =
+      not-FailsInSite-if_parsed arch (Some threads) names Condition ts rest mid cause site fails is.0 is.1 room
 
   -- Sites whose threads exist are listed.
   IsListed-all : (ts after : TokenList) (sites : List SiteSyntax)
@@ -209,38 +214,38 @@ module _ (arch : Arch) (threads : ℕ) where
         FailsBefore-unique (codes "[" ∷ []) Condition after r s d e p
         (subst (λ l. FailsBefore (codes "[" ∷ []) Condition l s e) (sym (cons-tail_unique (sym begins ∙ again))) q)
     FailsInList-unique ts r s d e (no_list_bracket begins p) (in_sites again q) =
-        absurd (FailsBefore-not (codes "[" ∷ []) Condition _ r _ d (codes "[") p (cons-tail_unique (sym begins ∙ again))
+        absurd (not-FailsBefore-if_parsed (codes "[" ∷ []) Condition _ r _ d (codes "[") p (cons-tail_unique (sym begins ∙ again))
         (λ all. all.0 refl))
     FailsInList-unique ts r s d e (in_sites begins p) (no_list_bracket again q) =
-        absurd (FailsBefore-not (codes "[" ∷ []) Condition _ s _ e (codes "[") q (cons-tail_unique (sym again ∙ begins))
+        absurd (not-FailsBefore-if_parsed (codes "[" ∷ []) Condition _ s _ e (codes "[") q (cons-tail_unique (sym again ∙ begins))
         (λ all. all.0 refl))
     FailsInList-unique ts r s d e (in_sites {inside = inside} begins p) (in_sites again q) =
         FailsInElements-unique IsListed (λ site. site) (λ names. FailsInSite arch (Some threads) names Condition) (codes "]")
-        Condition IsListed-deterministic (λ names. FailsInSite-unique arch (Some threads) names Condition) FailsInSite-not_listed
-        semicolon_is_no_bracket r s d e names inside p
+        Condition IsListed-deterministic (λ names. FailsInSite-unique arch (Some threads) names Condition)
+        not-FailsInSite-if_listed not-semicolon_is_bracket r s d e names inside p
         (subst (FailsInSites arch threads s e names) (sym (cons-tail_unique (cons-tail_unique (sym begins ∙ again)))) q)
 
     -- A list on threads that exist, which has room for its locations, does not fail.
-    pub FailsInList-not : (ts rest after : TokenList) (cause : TextCause) (sites : List SiteSyntax)
+    pub not-FailsInList-if_parsed : (ts rest after : TokenList) (cause : TextCause) (sites : List SiteSyntax)
         → FailsInList arch threads names ts rest cause
         → Listed arch ts sites after
         → AllByRecursion (ThreadExists threads) sites
         → HasRoomFor names sites
         → ⊥
-    FailsInList-not ts rest after cause sites (no_list_bracket begins p) (inl is) all room =
-        FailsBefore-not (codes "[" ∷ []) Condition _ rest is.0 cause (codes "[") p (cons-tail_unique (sym begins ∙ is.1))
-        (λ all. all.0 refl)
-    FailsInList-not ts rest after cause sites (no_list_bracket begins p) (inr is) all room =
-        token_not_next (codes "locations") ts _ is.0 begins
-    FailsInList-not ts rest after cause sites (in_sites {inside = inside} begins p) (inl is) all room =
-        FailsInElements-not IsListed (λ site. site) (λ names. FailsInSite arch (Some threads) names Condition) (codes "]")
-        Condition IsListed-deterministic (λ names. FailsInSite-unique arch (Some threads) names Condition) FailsInSite-not_listed
-        semicolon_is_no_bracket rest cause names inside after sites p
+    not-FailsInList-if_parsed ts rest after cause sites (no_list_bracket begins p) (inl is) all room =
+        not-FailsBefore-if_parsed (codes "[" ∷ []) Condition _ rest is.0 cause (codes "[") p
+        (cons-tail_unique (sym begins ∙ is.1)) (λ all. all.0 refl)
+    not-FailsInList-if_parsed ts rest after cause sites (no_list_bracket begins p) (inr is) all room =
+        not-token_is_next (codes "locations") ts _ is.0 begins
+    not-FailsInList-if_parsed ts rest after cause sites (in_sites {inside = inside} begins p) (inl is) all room =
+        not-FailsInElements-if_parsed IsListed (λ site. site) (λ names. FailsInSite arch (Some threads) names Condition)
+        (codes "]") Condition IsListed-deterministic (λ names. FailsInSite-unique arch (Some threads) names Condition)
+        not-FailsInSite-if_listed not-semicolon_is_bracket rest cause names inside after sites p
         (subst (λ l. ParsesSepEndBy IsListed (codes ";") (codes "]") l sites after)
         (sym (cons-tail_unique (cons-tail_unique (sym begins ∙ is.1)))) (IsListed-all is.0 after sites is.2 all))
         (HasRoomFor-map_same names sites room)
-    FailsInList-not ts rest after cause sites (in_sites begins p) (inr is) all room =
-        token_not_next (codes "locations") ts _ is.0 begins
+    not-FailsInList-if_parsed ts rest after cause sites (in_sites begins p) (inr is) all room =
+        not-token_is_next (codes "locations") ts _ is.0 begins
 
 -- ---- The header.
 
@@ -252,23 +257,23 @@ pub FailsInHeader-unique : (r s : TokenList) (d e : TextCause) (k : ℕ) (ts : T
 FailsInHeader-unique r s d e k ts (no_thread_name few p) (no_thread_name also q) =
     FailsBefore-unique (thread_name k ∷ []) Unexpected ts r s d e p q
 FailsInHeader-unique r s d e k ts (no_thread_name few p) (no_thread_mark also begins q) =
-    absurd (FailsBefore-not (thread_name k ∷ []) Unexpected ts r _ d (thread_name k) p begins (λ all. all.0 refl))
+    absurd (not-FailsBefore-if_parsed (thread_name k ∷ []) Unexpected ts r _ d (thread_name k) p begins (λ all. all.0 refl))
 FailsInHeader-unique r s d e k ts (no_thread_name few p) (in_next_thread also begins q) =
-    absurd (FailsBefore-not (thread_name k ∷ []) Unexpected ts r _ d (thread_name k) p begins (λ all. all.0 refl))
+    absurd (not-FailsBefore-if_parsed (thread_name k ∷ []) Unexpected ts r _ d (thread_name k) p begins (λ all. all.0 refl))
 FailsInHeader-unique r s d e k ts (no_thread_name few p) (too_many_threads full is q) = absurd (omega (arith, few, full))
 FailsInHeader-unique r s d e k ts (no_thread_mark few begins p) (no_thread_name also q) =
-    absurd (FailsBefore-not (thread_name k ∷ []) Unexpected ts s _ e (thread_name k) q begins (λ all. all.0 refl))
+    absurd (not-FailsBefore-if_parsed (thread_name k ∷ []) Unexpected ts s _ e (thread_name k) q begins (λ all. all.0 refl))
 FailsInHeader-unique r s d e k ts (no_thread_mark {mid = mid} few begins p) (no_thread_mark also again q) =
     FailsBefore-unique (codes ";" ∷ codes "|" ∷ []) Unexpected mid r s d e p
     (subst (λ l. FailsBefore (codes ";" ∷ codes "|" ∷ []) Unexpected l s e) (sym (cons-tail_unique (sym begins ∙ again))) q)
 FailsInHeader-unique r s d e k ts (no_thread_mark {mid = mid} few begins p) (in_next_thread also again q) =
-    absurd (FailsBefore-not (codes ";" ∷ codes "|" ∷ []) Unexpected mid r _ d (codes "|") p
+    absurd (not-FailsBefore-if_parsed (codes ";" ∷ codes "|" ∷ []) Unexpected mid r _ d (codes "|") p
     (cons-tail_unique (sym begins ∙ again)) (λ all. all.1.0 refl))
 FailsInHeader-unique r s d e k ts (no_thread_mark few begins p) (too_many_threads full is q) = absurd (omega (arith, few, full))
 FailsInHeader-unique r s d e k ts (in_next_thread few begins p) (no_thread_name also q) =
-    absurd (FailsBefore-not (thread_name k ∷ []) Unexpected ts s _ e (thread_name k) q begins (λ all. all.0 refl))
+    absurd (not-FailsBefore-if_parsed (thread_name k ∷ []) Unexpected ts s _ e (thread_name k) q begins (λ all. all.0 refl))
 FailsInHeader-unique r s d e k ts (in_next_thread few begins p) (no_thread_mark {mid = mid} also again q) =
-    absurd (FailsBefore-not (codes ";" ∷ codes "|" ∷ []) Unexpected mid s _ e (codes "|") q
+    absurd (not-FailsBefore-if_parsed (codes ";" ∷ codes "|" ∷ []) Unexpected mid s _ e (codes "|") q
     (cons-tail_unique (sym again ∙ begins)) (λ all. all.1.0 refl))
 FailsInHeader-unique r s d e k ts (in_next_thread {next = next} few begins p) (in_next_thread also again q) =
     FailsInHeader-unique r s d e (suc k) next p
@@ -293,36 +298,36 @@ FailsInHeader-unique r s d e k ts (too_many_threads full is p) (too_many_threads
     name_cause-unique t cause because (inr x) (inr y) = x.1 ∙ sym y.1
 
 -- The names of at most four threads do not fail to be a header.
-pub FailsInHeader-not : (rest : TokenList) (cause : TextCause) (k n : ℕ) (ts after : TokenList)
+pub not-FailsInHeader-if_parsed : (rest : TokenList) (cause : TextCause) (k n : ℕ) (ts after : TokenList)
     → FailsInHeader rest cause k ts
     → Names k n ts after
     → k + n ≤ 4
     → ⊥
-FailsInHeader-not rest cause k zero ts after fails is few = absurd is
-FailsInHeader-not rest cause k (suc zero) ts after (no_thread_name low p) is few =
-    FailsBefore-not (thread_name k ∷ []) Unexpected ts rest _ cause (thread_name k) p is (λ all. all.0 refl)
-FailsInHeader-not rest cause k (suc zero) ts after (no_thread_mark {mid = mid} low begins p) is few =
-    FailsBefore-not (codes ";" ∷ codes "|" ∷ []) Unexpected mid rest after cause (codes ";") p
+not-FailsInHeader-if_parsed rest cause k zero ts after fails is few = absurd is
+not-FailsInHeader-if_parsed rest cause k (suc zero) ts after (no_thread_name low p) is few =
+    not-FailsBefore-if_parsed (thread_name k ∷ []) Unexpected ts rest _ cause (thread_name k) p is (λ all. all.0 refl)
+not-FailsInHeader-if_parsed rest cause k (suc zero) ts after (no_thread_mark {mid = mid} low begins p) is few =
+    not-FailsBefore-if_parsed (codes ";" ∷ codes "|" ∷ []) Unexpected mid rest after cause (codes ";") p
     (cons-tail_unique (sym begins ∙ is)) (λ all. all.0 refl)
-FailsInHeader-not rest cause k (suc zero) ts after (in_next_thread low begins p) is few =
-    bar_is_no_semicolon (cons-head_eq _ _ _ _ (cons-tail_unique (sym begins ∙ is)))
-FailsInHeader-not rest cause k (suc zero) ts after (too_many_threads full at p) is few = omega (arith, full, few)
-FailsInHeader-not rest cause k (suc (suc n)) ts after (no_thread_name low p) is few =
-    FailsBefore-not (thread_name k ∷ []) Unexpected ts rest _ cause (thread_name k) p is.1 (λ all. all.0 refl)
-FailsInHeader-not rest cause k (suc (suc n)) ts after (no_thread_mark {mid = mid} low begins p) is few =
-    FailsBefore-not (codes ";" ∷ codes "|" ∷ []) Unexpected mid rest is.0 cause (codes "|") p
+not-FailsInHeader-if_parsed rest cause k (suc zero) ts after (in_next_thread low begins p) is few =
+    not-bar_is_semicolon (cons-head_eq _ _ _ _ (cons-tail_unique (sym begins ∙ is)))
+not-FailsInHeader-if_parsed rest cause k (suc zero) ts after (too_many_threads full at p) is few = omega (arith, full, few)
+not-FailsInHeader-if_parsed rest cause k (suc (suc n)) ts after (no_thread_name low p) is few =
+    not-FailsBefore-if_parsed (thread_name k ∷ []) Unexpected ts rest _ cause (thread_name k) p is.1 (λ all. all.0 refl)
+not-FailsInHeader-if_parsed rest cause k (suc (suc n)) ts after (no_thread_mark {mid = mid} low begins p) is few =
+    not-FailsBefore-if_parsed (codes ";" ∷ codes "|" ∷ []) Unexpected mid rest is.0 cause (codes "|") p
     (cons-tail_unique (sym begins ∙ is.1)) (λ all. all.1.0 refl)
-FailsInHeader-not rest cause k (suc (suc n)) ts after (in_next_thread {next = next} low begins p) is few =
-    FailsInHeader-not rest cause (suc k) (suc n) next after p
+not-FailsInHeader-if_parsed rest cause k (suc (suc n)) ts after (in_next_thread {next = next} low begins p) is few =
+    not-FailsInHeader-if_parsed rest cause (suc k) (suc n) next after p
     (subst (λ l. Names (suc k) (suc n) l after) (sym (cons-tail_unique (cons-tail_unique (sym begins ∙ is.1)))) is.2)
     (omega (arith, few))
-FailsInHeader-not rest cause k (suc (suc n)) ts after (too_many_threads full at p) is few = omega (arith, full, few)
+not-FailsInHeader-if_parsed rest cause k (suc (suc n)) ts after (too_many_threads full at p) is few = omega (arith, full, few)
 
 -- ---- The rows.
 
 -- The cells of a row are unique.
 RowCells-unique : (ts r s : TokenList) (a b : Cells) → RowCells ts a r → RowCells ts b s → (a ≡ b) × (r ≡ s)
-RowCells-unique ts r s a b p q = ParsesSepBy-unique Cell (codes "|") (codes ";") Cell-exact bar_is_no_semicolon a b ts r s p q
+RowCells-unique ts r s a b p q = ParsesSepBy-unique Cell (codes "|") (codes ";") Cell-exact not-bar_is_semicolon a b ts r s p q
 
 module _ (threads : ℕ) where
   -- A row fails uniquely.
@@ -336,12 +341,12 @@ module _ (threads : ℕ) where
   )
 
   -- A row does not fail.
-  FailsInRow-not : (ts rest after : TokenList) (cause : TextCause) (cells : Cells)
+  not-FailsInRow-if_parsed : (ts rest after : TokenList) (cause : TextCause) (cells : Cells)
       → FailsInRow threads ts rest cause
       → Row threads ts cells after
       → ⊥
-  FailsInRow-not ts rest after cause cells (no_end is never) row = never cells after row.0
-  FailsInRow-not ts rest after cause cells (ragged more {after = behind} line ThreadAllowed-None other because) row =
+  not-FailsInRow-if_parsed ts rest after cause cells (no_end is never) row = never cells after row.0
+  not-FailsInRow-if_parsed ts rest after cause cells (ragged more {after = behind} line ends other because) row =
       other (ap length (RowCells-unique ts behind after more cells line row.0).0 ∙ row.1)
 
   -- The rows fail uniquely, after each number of them.
@@ -357,41 +362,43 @@ module _ (threads : ℕ) where
   FailsInRows-unique r s d e k ts (in_row few go p) (too_many_rows full on at cause) = absurd (omega (arith, full, few))
   FailsInRows-unique r s d e k ts (in_row few go p) (in_row also on q) = FailsInRow-unique ts r s d e p q
   FailsInRows-unique r s d e k ts (in_row few go p) (in_rows_after cells also on row q) =
-      absurd (FailsInRow-not ts r _ d cells p row)
+      absurd (not-FailsInRow-if_parsed ts r _ d cells p row)
   FailsInRows-unique r s d e k ts (in_rows_after cells few go row p) (too_many_rows full on at cause) =
       absurd (omega (arith, full, few))
   FailsInRows-unique r s d e k ts (in_rows_after cells few go row p) (in_row also on q) =
-      absurd (FailsInRow-not ts s _ e cells q row)
+      absurd (not-FailsInRow-if_parsed ts s _ e cells q row)
   FailsInRows-unique r s d e k ts (in_rows_after {next = next} cells few go row p) (in_rows_after {next = other} more also on line q) =
       FailsInRows-unique r s d e (suc k) next p
       (subst (FailsInRows threads s e (suc k)) (sym (Row-deterministic threads ts cells more next other row line).1) q)
 
   -- Rows of which there are not too many do not fail.
-  pub FailsInRows-not : (rest : TokenList) (cause : TextCause) (k : ℕ) (ts after : TokenList) (rows : CellGrid)
+  pub not-FailsInRows-if_parsed : (rest : TokenList) (cause : TextCause) (k : ℕ) (ts after : TokenList) (rows : CellGrid)
       → FailsInRows threads rest cause k ts
       → ParsesManyTill begins_stop (Row threads) ts rows after
       → k + length rows ≤ 64
       → ⊥
-  FailsInRows-not rest cause k ts after [] (too_many_rows full go is because) read few =
+  not-FailsInRows-if_parsed rest cause k ts after [] (too_many_rows full go is because) read few =
       let h = read.1 in cc (sym (ap begins_stop read.0) ∙ go)
-  FailsInRows-not rest cause k ts after [] (in_row low go p) read few = let h = read.1 in cc
-  FailsInRows-not rest cause k ts after [] (in_rows_after cells low go row p) read few = let h = read.1 in cc
-  FailsInRows-not rest cause k ts after (x ∷ rows) (too_many_rows full go is because) read few = omega (arith, full, few)
-  FailsInRows-not rest cause k ts after (x ∷ rows) (in_row low go p) read few = FailsInRow-not ts rest read.1.0 cause x p read.1.1
-  FailsInRows-not rest cause k ts after (x ∷ rows) (in_rows_after {next = next} cells low go row p) read few =
-      FailsInRows-not rest cause (suc k) next after rows p
+  not-FailsInRows-if_parsed rest cause k ts after [] (in_row low go p) read few = let h = read.1 in cc
+  not-FailsInRows-if_parsed rest cause k ts after [] (in_rows_after cells low go row p) read few = let h = read.1 in cc
+  not-FailsInRows-if_parsed rest cause k ts after (x ∷ rows) (too_many_rows full go is because) read few =
+      omega (arith, full, few)
+  not-FailsInRows-if_parsed rest cause k ts after (x ∷ rows) (in_row low go p) read few =
+      not-FailsInRow-if_parsed ts rest read.1.0 cause x p read.1.1
+  not-FailsInRows-if_parsed rest cause k ts after (x ∷ rows) (in_rows_after {next = next} cells low go row p) read few =
+      not-FailsInRows-if_parsed rest cause (suc k) next after rows p
       (subst (λ l. ParsesManyTill begins_stop (Row threads) l rows after)
       (sym (Row-deterministic threads ts cells x next read.1.0 row read.1.1).1) read.1.2) (omega (arith, few))
 
 -- ---- The quantifier.
 
 -- `exists` is not `~`.
-not_exists_and_tilde : codes "exists" ≡ codes "~" → ⊥
-not_exists_and_tilde = is_no_text (codes "exists") (codes "~") refl
+not-exists_and_tilde : codes "exists" ≡ codes "~" → ⊥
+not-exists_and_tilde = not-equal-if_bytes_differ (codes "exists") (codes "~") refl
 
 -- `forall` is not `~`.
-not_forall_and_tilde : codes "forall" ≡ codes "~" → ⊥
-not_forall_and_tilde = is_no_text (codes "forall") (codes "~") refl
+not-forall_and_tilde : codes "forall" ≡ codes "~" → ⊥
+not-forall_and_tilde = not-equal-if_bytes_differ (codes "forall") (codes "~") refl
 
 -- The words of quantifiers.
 abbrev quantifier_words : List Bytes
@@ -402,28 +409,28 @@ pub FailsInQuantifier-unique : FailsUniquely FailsInQuantifier
 FailsInQuantifier-unique ts r s d e (no_quantifier p) (no_quantifier q) =
     FailsBefore-unique quantifier_words Condition ts r s d e p q
 FailsInQuantifier-unique ts r s d e (no_quantifier p) (no_exists begins q) =
-    absurd (FailsBefore-not quantifier_words Condition ts r _ d (codes "~") p begins (λ all. all.0 refl))
+    absurd (not-FailsBefore-if_parsed quantifier_words Condition ts r _ d (codes "~") p begins (λ all. all.0 refl))
 FailsInQuantifier-unique ts r s d e (no_exists begins p) (no_quantifier q) =
-    absurd (FailsBefore-not quantifier_words Condition ts s _ e (codes "~") q begins (λ all. all.0 refl))
+    absurd (not-FailsBefore-if_parsed quantifier_words Condition ts s _ e (codes "~") q begins (λ all. all.0 refl))
 FailsInQuantifier-unique ts r s d e (no_exists {mid = mid} begins p) (no_exists again q) =
     FailsBefore-unique (codes "exists" ∷ []) Condition mid r s d e p
     (subst (λ l. FailsBefore (codes "exists" ∷ []) Condition l s e) (sym (cons-tail_unique (sym begins ∙ again))) q)
 
 -- A quantifier does not fail.
-pub FailsInQuantifier-not : (ts rest after : TokenList) (cause : TextCause) (quant : Quant)
+pub not-FailsInQuantifier-if_parsed : (ts rest after : TokenList) (cause : TextCause) (quant : Quant)
     → FailsInQuantifier ts rest cause
     → Quantified ts quant after
     → ⊥
-FailsInQuantifier-not ts rest after cause Exists (no_quantifier p) is =
-    FailsBefore-not quantifier_words Condition ts rest after cause (codes "exists") p is (λ all. all.1.0 refl)
-FailsInQuantifier-not ts rest after cause NotExists (no_quantifier p) is =
-    FailsBefore-not quantifier_words Condition ts rest _ cause (codes "~") p is (λ all. all.0 refl)
-FailsInQuantifier-not ts rest after cause Forall (no_quantifier p) is =
-    FailsBefore-not quantifier_words Condition ts rest after cause (codes "forall") p is (λ all. all.1.1.0 refl)
-FailsInQuantifier-not ts rest after cause Exists (no_exists begins p) is =
-    not_exists_and_tilde (cons-head_eq _ _ _ _ (sym is ∙ begins))
-FailsInQuantifier-not ts rest after cause NotExists (no_exists {mid = mid} begins p) is =
-    FailsBefore-not (codes "exists" ∷ []) Condition mid rest after cause (codes "exists") p (cons-tail_unique (sym begins ∙ is))
-    (λ all. all.0 refl)
-FailsInQuantifier-not ts rest after cause Forall (no_exists begins p) is =
-    not_forall_and_tilde (cons-head_eq _ _ _ _ (sym is ∙ begins))
+not-FailsInQuantifier-if_parsed ts rest after cause Exists (no_quantifier p) is =
+    not-FailsBefore-if_parsed quantifier_words Condition ts rest after cause (codes "exists") p is (λ all. all.1.0 refl)
+not-FailsInQuantifier-if_parsed ts rest after cause NotExists (no_quantifier p) is =
+    not-FailsBefore-if_parsed quantifier_words Condition ts rest _ cause (codes "~") p is (λ all. all.0 refl)
+not-FailsInQuantifier-if_parsed ts rest after cause Forall (no_quantifier p) is =
+    not-FailsBefore-if_parsed quantifier_words Condition ts rest after cause (codes "forall") p is (λ all. all.1.1.0 refl)
+not-FailsInQuantifier-if_parsed ts rest after cause Exists (no_exists begins p) is =
+    not-exists_and_tilde (cons-head_eq _ _ _ _ (sym is ∙ begins))
+not-FailsInQuantifier-if_parsed ts rest after cause NotExists (no_exists {mid = mid} begins p) is =
+    not-FailsBefore-if_parsed (codes "exists" ∷ []) Condition mid rest after cause (codes "exists") p
+    (cons-tail_unique (sym begins ∙ is)) (λ all. all.0 refl)
+not-FailsInQuantifier-if_parsed ts rest after cause Forall (no_exists begins p) is =
+    not-forall_and_tilde (cons-head_eq _ _ _ _ (sym is ∙ begins))

@@ -10,16 +10,16 @@ pub is_text : (t u : Bytes) → bytes_eq t u ≡ true → t ≡ u
 is_text t u h = (bytes_eq-Decides t u).0 h
 
 -- Texts that `bytes_eq` finds unequal are unequal.
-pub is_no_text : (t u : Bytes) → bytes_eq t u ≡ false → t ≡ u → ⊥
-is_no_text t u h e = let k = (bytes_eq-Decides t u).1 e in cc
+pub not-equal-if_bytes_differ : (t u : Bytes) → bytes_eq t u ≡ false → t ≡ u → ⊥
+not-equal-if_bytes_differ t u h e = let k = (bytes_eq-Decides t u).1 e in cc
 
 -- The two marks after cells differ.
-pub bar_is_no_semicolon : codes "|" ≡ codes ";" → ⊥
-bar_is_no_semicolon e = is_no_text (codes "|") (codes ";") refl e
+pub not-bar_is_semicolon : codes "|" ≡ codes ";" → ⊥
+not-bar_is_semicolon e = not-equal-if_bytes_differ (codes "|") (codes ";") refl e
 
 -- A token that is not found to be next is not at the start.
-pub token_not_next : (w : Bytes) (ts l : TokenList) → begins_token w ts ≡ false → ts ≡ w ∷ l → ⊥
-token_not_next w ts l h e = is_no_text w w (ap (begins_token w) (sym e) ∙ h) refl
+pub not-token_is_next : (w : Bytes) (ts l : TokenList) → begins_token w ts ≡ false → ts ≡ w ∷ l → ⊥
+not-token_is_next w ts l h e = not-equal-if_bytes_differ w w (ap (begins_token w) (sym e) ∙ h) refl
 
 -- The tokens from an index on are the token at the index, followed by those from the next index on.
 pub token_next : (tokens : List Token) (next : ℕ) (t : Token)

@@ -60,8 +60,8 @@ Read-fault len (t ∷ ts) text rest p never (u ∷ us) q =
 
 module _ (text start : Bytes) (g : Trivia text start) (stop : begins_trivia start ≡ false) where
   -- If something remains after the trivia, the text has not ended.
-  pub not_ended-nonempty : 0 < length start → Trivia text [] → ⊥
-  not_ended-nonempty pos q = omega (arith, ap length (Trivia-unique g q stop refl))
+  pub not-ended-if_nonempty : 0 < length start → Trivia text [] → ⊥
+  not-ended-if_nonempty pos q = omega (arith, ap length (Trivia-unique g q stop refl))
 
   -- If no token follows the trivia, the text has no first token.
   pub no_first_token-after_trivia : ((t rest : Bytes) → start ≡ t ++ rest → IsToken t rest → ⊥)

@@ -60,7 +60,8 @@ Trivia-shorter {rest = rest} g = let s = Trivia-suffix g in omega (arith, ap len
 
 -- ---- what the reader of trivia must prove
 
--- The invariant of the loop over trivia: the trivia at the start of the bytes ends where that at the start of the rest does.
+-- The invariant of the loop over trivia: the trivia at the start of the bytes ends where that at the start of the rest does, if no trivia
+-- begins there.
 pub record Skipped (bytes rest : Bytes) : Type 0 where
   pub given : (end : Bytes) → Trivia rest end → Trivia bytes end
   pub only : (end : Bytes) → begins_trivia end ≡ false → Trivia bytes end → Trivia rest end

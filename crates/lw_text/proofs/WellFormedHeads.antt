@@ -32,37 +32,40 @@ IsValidSite (InMemory x) = IsLocationName x
 IsValidSite (InThread t r) = r < 6
 
 -- A site that was read satisfies `IsValidSite`.
-site_right : (arch : Arch) (ts rest : List (List ℕ)) (s : SiteSyntax) → IsSite arch ts s rest → IsValidSite s
-site_right arch ts rest (InMemory x) p = p.0
-site_right arch ts rest (InThread t r) p = p.4.0
+IsValidSite-of_read : (arch : Arch) (ts rest : List (List ℕ)) (s : SiteSyntax) → IsSite arch ts s rest → IsValidSite s
+IsValidSite-of_read arch ts rest (InMemory x) p = p.0
+IsValidSite-of_read arch ts rest (InThread t r) p = p.4.0
 
 -- What holds of each element that can be read holds of all elements of a list that was read.
-ended_right : {X : Type 0} {P : List (List ℕ) → X → List (List ℕ) → Type 0} {Q : X → Type 0}
+AllByRecursion-of_each_read : {X : Type 0} {P : List (List ℕ) → X → List (List ℕ) → Type 0} {Q : X → Type 0}
     → ((ts rest : List (List ℕ)) (x : X) → P ts x rest → Q x)
     → (sep close : List ℕ) (xs : List X) (ts rest : List (List ℕ))
     → ParsesSepEndBy P sep close ts xs rest
     → AllByRecursion Q xs
-ended_right f sep close [] ts rest e = tt
-ended_right {P = P} {Q = Q} f sep close (x ∷ xs) ts rest e = (
+AllByRecursion-of_each_read f sep close [] ts rest e = tt
+AllByRecursion-of_each_read {P = P} {Q = Q} f sep close (x ∷ xs) ts rest e = (
   f ts e.0 x e.1,
-  elim e.2 [ inl g ↦ subst (AllByRecursion Q) (sym g.0) tt | inr g ↦ ended_right {P = P} {Q = Q} f sep _ xs g.0 _ g.2 ],
+  elim e.2 [
+    | inl g ↦ subst (AllByRecursion Q) (sym g.0) tt
+    | inr g ↦ AllByRecursion-of_each_read {P = P} {Q = Q} f sep _ xs g.0 _ g.2
+  ],
 )
 
 -- All sites of a list of names that was read satisfy `IsValidSite`.
-listed_right : (arch : Arch) (ts rest : List (List ℕ)) (ss : List SiteSyntax)
+IsValidSite-listed : (arch : Arch) (ts rest : List (List ℕ)) (ss : List SiteSyntax)
     → Listed arch ts ss rest
     → AllByRecursion IsValidSite ss
-listed_right arch ts rest ss (inl p) = ended_right (site_right arch) _ (codes "]") ss p.0 rest p.2
-listed_right arch ts rest ss (inr p) = subst (AllByRecursion IsValidSite) (sym p.1) tt
+IsValidSite-listed arch ts rest ss (inl p) = AllByRecursion-of_each_read (IsValidSite-of_read arch) _ (codes "]") ss p.0 rest p.2
+IsValidSite-listed arch ts rest ss (inr p) = subst (AllByRecursion IsValidSite) (sym p.1) tt
 
 -- All sites of an initial block that was read satisfy `IsValidSite`.
-block_right : (arch : Arch) (ts rest : List (List ℕ)) (es : List InitializerSyntax)
+IsValidSite-block : (arch : Arch) (ts rest : List (List ℕ)) (es : List InitializerSyntax)
     → Block arch ts es rest
     → AllByRecursion IsValidSite (sites_of es)
-block_right arch ts rest es b =
+IsValidSite-block arch ts rest es b =
     AllByRecursion-map IsValidSite (λ e. e.site) es
-    (ended_right {P = IsInitializer arch} {Q = λ e. IsValidSite e.site} (λ ts rest e p. site_right arch ts p.0 e.site p.1)
-    (codes ";") (codes "}") es b.0 rest b.2)
+    (AllByRecursion-of_each_read {P = IsInitializer arch} {Q = λ e. IsValidSite e.site}
+    (λ ts rest e p. IsValidSite-of_read arch ts p.0 e.site p.1) (codes ";") (codes "}") es b.0 rest b.2)
 
 -- ---- words
 
@@ -71,7 +74,8 @@ block_words : (arch : Arch) (ts rest : List (List ℕ)) (es : List InitializerSy
     → Block arch ts es rest
     → AllByRecursion (λ e. IsWordNumber e.word) es
 block_words arch ts rest es b =
-    ended_right {P = IsInitializer arch} {Q = λ e. IsWordNumber e.word} (λ ts rest e p. p.2.2.0) _ (codes "}") es b.0 rest b.2
+    AllByRecursion-of_each_read {P = IsInitializer arch} {Q = λ e. IsWordNumber e.word} (λ ts rest e p. p.2.2.0) _ (codes "}") es
+    b.0 rest b.2
 
 -- If two numbers are words, so is the one that a test selects.
 IsWordNumber-if : (b : Bool) (v w : ℕ) → IsWordNumber v → IsWordNumber w → IsWordNumber (if b then v else w)
@@ -98,32 +102,32 @@ initial_word-IsWordNumber names es h s = word_of_last-IsWordNumber names s es 0 
 -- ---- terminals
 
 -- The terminal's site satisfies `IsValidSite`, its thread exists, and its number is a word.
-abbrev IsFit : ℕ → Terminal AtomSyntax → Type 0
-IsFit threads (Atom (Holds s n)) = IsValidSite s × ThreadExists threads s × IsWordNumber n
-IsFit threads _ = Unit {0}
+abbrev IsValidTerminal : ℕ → Terminal AtomSyntax → Type 0
+IsValidTerminal threads (Atom (Holds s n)) = IsValidSite s × ThreadExists threads s × IsWordNumber n
+IsValidTerminal threads _ = Unit {0}
 
--- A terminal that was read satisfies `IsFit`.
+-- A terminal that was read satisfies `IsValidTerminal`.
 terminal_fit : (arch : Arch) (threads : ℕ) (ts rest : List (List ℕ)) (s : Terminal AtomSyntax)
     → IsTerminal arch threads ts s rest
-    → IsFit threads s
-terminal_fit arch threads ts rest (Atom (Holds s n)) p = (site_right arch ts p.0 s p.1, p.2, p.3.2.0)
+    → IsValidTerminal threads s
+terminal_fit arch threads ts rest (Atom (Holds s n)) p = (IsValidSite-of_read arch ts p.0 s p.1, p.2, p.3.2.0)
 terminal_fit arch threads ts rest _ p = tt
 
--- All terminals of a proposition that was read satisfy `IsFit`.
+-- All terminals of a proposition that was read satisfy `IsValidTerminal`.
 terminals_fit : (arch : Arch) (threads : ℕ) (ts : List (List ℕ)) (ss : List (Terminal AtomSyntax))
     → Terminals arch threads ts ss
-    → AllByRecursion (IsFit threads) ss
+    → AllByRecursion (IsValidTerminal threads) ss
 terminals_fit arch threads ts [] p = tt
 terminals_fit arch threads ts (s ∷ ss) p = (terminal_fit arch _ ts p.0 s p.1, terminals_fit arch _ p.0 ss p.2)
 
 -- Inserting allowed names preserves that all names of a table are allowed.
-table_right : (names ns : List (List ℕ))
+IsLocationName-insert_names : (names ns : List (List ℕ))
     → AllByRecursion IsLocationName names
     → AllByRecursion IsLocationName ns
     → AllByRecursion IsLocationName (insert_names names ns)
-table_right names [] h k = h
-table_right names (n ∷ ns) h k =
-    table_right (insert_name names n) ns (insert_name-IsLocationName (contains_name names n) refl) k.1
+IsLocationName-insert_names names [] h k = h
+IsLocationName-insert_names names (n ∷ ns) h k =
+    IsLocationName-insert_names (insert_name names n) ns (insert_name-IsLocationName (contains_name names n) refl) k.1
   where
     -- Inserting a location's name preserves that all names are locations' names.
     insert_name-IsLocationName : (b : Bool) → contains_name names n ≡ b → AllByRecursion IsLocationName (insert_name names n)
@@ -133,19 +137,20 @@ table_right names (n ∷ ns) h k =
 -- ---- the proposition
 
 -- The terminal's atom, if it is one, mentions only registers of these threads and these locations, and its numbers are words.
-abbrev IsSpoken : ℕ → ℕ → Terminal Formula → Type 0
-IsSpoken threads locs (Atom p) = MentionsOnly threads locs p
-IsSpoken threads locs _ = Unit {0}
+abbrev MentionsOnlyIfAtom : ℕ → ℕ → Terminal Formula → Type 0
+MentionsOnlyIfAtom threads locs (Atom p) = MentionsOnly threads locs p
+MentionsOnlyIfAtom threads locs _ = Unit {0}
 
 module _ (threads locs : ℕ) where
   -- A formula mentions only what its atoms mention.
   MentionsOnly-Derives : {k : Level} {ss : List (Terminal Formula)} {p : Formula}
       → Derives k ss p
-      → AllByRecursion (IsSpoken threads locs) ss
+      → AllByRecursion (MentionsOnlyIfAtom threads locs) ss
       → MentionsOnly threads locs p
   MentionsOnly-Derives atom h = h.0
   MentionsOnly-Derives (negated d) h = MentionsOnly-Derives d h.1
-  MentionsOnly-Derives (parens {ss} d) h = MentionsOnly-Derives d (All-append_inv (IsSpoken threads locs) ss (Close ∷ []) h.1).0
+  MentionsOnly-Derives (parens {ss} d) h =
+      MentionsOnly-Derives d (All-append_inv (MentionsOnlyIfAtom threads locs) ss (Close ∷ []) h.1).0
   MentionsOnly-Derives (part d) h = MentionsOnly-Derives d h
   MentionsOnly-Derives (and {ss} {ts} d e) h =
       let k = All-append_inv _ ss _ h in (MentionsOnly-Derives d k.0, MentionsOnly-Derives e k.1.1)
@@ -153,11 +158,11 @@ module _ (threads locs : ℕ) where
   MentionsOnly-Derives (or {ss} {ts} d e) h =
       let k = All-append_inv _ ss _ h in (MentionsOnly-Derives d k.0, MentionsOnly-Derives e k.1.1)
 
--- If terminals satisfy `IsFit` and their names are in the table, their resolved forms mention only threads and locations in range.
+-- If terminals satisfy `IsValidTerminal` and their names are in the table, their resolved forms mention only threads and locations in range.
 terminals_spoken : (threads : ℕ) (names : List (List ℕ)) (ss : List (Terminal AtomSyntax))
-    → AllByRecursion (IsFit threads) ss
+    → AllByRecursion (IsValidTerminal threads) ss
     → AllThere names ss
-    → AllByRecursion (IsSpoken threads (length names)) (map (resolved names) ss)
+    → AllByRecursion (MentionsOnlyIfAtom threads (length names)) (map (resolved names) ss)
 terminals_spoken threads names [] f n = tt
 terminals_spoken threads names (Atom (Holds (InMemory x) w) ∷ ss) f n =
     ((position_of_name-within names x n.0, f.0.2), terminals_spoken threads names ss f.1 n.1)
@@ -179,9 +184,9 @@ head_well_formed arch ts name s p allowed parts whole =
     let right =
     AllByRecursion-append IsValidSite (sites_of s.initializers ++ s.listed) (sites_in s.terminals)
     (AllByRecursion-append IsValidSite (sites_of s.initializers) s.listed
-    (block_right arch ts parts.behind_block s.initializers parts.block)
-    (listed_right arch parts.behind_rows c.behind_list s.listed c.lists))
-    (sites_in-all (IsFit s.threads) IsValidSite (λ s n h. h.0) s.terminals fit) in
+    (IsValidSite-block arch ts parts.behind_block s.initializers parts.block)
+    (IsValidSite-listed arch parts.behind_rows c.behind_list s.listed c.lists))
+    (sites_in-all (IsValidTerminal s.threads) IsValidSite (λ s n h. h.0) s.terminals fit) in
     let named =
     rw (← table_parts s) at
     (insert_names-contains_all (with_sites (with_sites [] (sites_of s.initializers)) s.listed)
@@ -190,11 +195,11 @@ head_well_formed arch ts name s p allowed parts whole =
     record {
       name = allowed;
       has_thread = header_some parts.behind_block parts.behind_header s.threads parts.header;
-      few = parts.header.1;
+      bounded = parts.header.1;
       table = record {
-        few = parts.few_names;
-        all =
-            table_right [] (site_names (sites_of s.initializers ++ s.listed ++ sites_in s.terminals)) tt
+        bounded = parts.few_names;
+        are_location_names =
+            IsLocationName-insert_names [] (site_names (sites_of s.initializers ++ s.listed ++ sites_in s.terminals)) tt
             (site_names-all IsValidSite _ (λ x h. h) (sites_of s.initializers ++ s.listed ++ sites_in s.terminals) right);
         without_duplicates =
             IsDuplicateFree-insert_names [] (site_names (sites_of s.initializers ++ s.listed ++ sites_in s.terminals)) tt;
@@ -218,7 +223,7 @@ head_well_formed arch ts name s p allowed parts whole =
       ascending =
           IsAscending-filter _ (all_registers s.threads ++ locations (length (location_table s)))
           (IsAscending-all_seen s.threads (length (location_table s)));
-      nodes_few = omega (
+      nodes_bounded = omega (
         arith,
         proposition_nodes whole (resolved_single (location_table s) s.terminals),
         node_count-resolved (location_table s) s.terminals,

@@ -23,7 +23,7 @@ use Rattle.lw_text.proofs.Headers.{Names-unique}
 use Rattle.lw_text.proofs.Preambles.{Preamble-unique}
 use Rattle.lw_text.proofs.Readings.{with_sites-append}
 use Rattle.lw_text.proofs.TerminalLists.{Terminals-unique}
-use Rattle.lw_text.proofs.Texts.{is_no_text, token_not_next}
+use Rattle.lw_text.proofs.Texts.{not-equal-if_bytes_differ, not-token_is_next}
 use Rattle.lw_text.proofs.TokenRows.{Tokens-unique, read_whole}
 use Rattle.lw_text.proofs.Lists.{IsDeterministic}
 use Rattle.lw_text.specs.declared.site.Site.TheVariants as made
@@ -78,12 +78,12 @@ thread_exists-all_initializers threads names (e ∷ es) h =
 
 -- The parse of a quantifier is unique.
 pub Quantified-unique : IsDeterministic Quantified
-Quantified-unique ts Exists NotExists r s e f = absurd (is_no_text (codes "exists") (codes "~") refl (cc))
-Quantified-unique ts Exists Forall r s e f = absurd (is_no_text (codes "exists") (codes "forall") refl (cc))
-Quantified-unique ts NotExists Exists r s e f = absurd (is_no_text (codes "exists") (codes "~") refl (cc))
-Quantified-unique ts NotExists Forall r s e f = absurd (is_no_text (codes "forall") (codes "~") refl (cc))
-Quantified-unique ts Forall Exists r s e f = absurd (is_no_text (codes "exists") (codes "forall") refl (cc))
-Quantified-unique ts Forall NotExists r s e f = absurd (is_no_text (codes "forall") (codes "~") refl (cc))
+Quantified-unique ts Exists NotExists r s e f = absurd (not-equal-if_bytes_differ (codes "exists") (codes "~") refl (cc))
+Quantified-unique ts Exists Forall r s e f = absurd (not-equal-if_bytes_differ (codes "exists") (codes "forall") refl (cc))
+Quantified-unique ts NotExists Exists r s e f = absurd (not-equal-if_bytes_differ (codes "exists") (codes "~") refl (cc))
+Quantified-unique ts NotExists Forall r s e f = absurd (not-equal-if_bytes_differ (codes "forall") (codes "~") refl (cc))
+Quantified-unique ts Forall Exists r s e f = absurd (not-equal-if_bytes_differ (codes "exists") (codes "forall") refl (cc))
+Quantified-unique ts Forall NotExists r s e f = absurd (not-equal-if_bytes_differ (codes "forall") (codes "~") refl (cc))
 Quantified-unique ts _ _ r s e f = (refl, cc)
 
 -- ---- if the block ends early
@@ -103,17 +103,17 @@ HasRoomFor-initial_block arch ts s p = omega (
 -- ---- if the condition ends early
 
 -- If no proposition follows the list and the quantifier, there is no condition.
-pub no_condition-no_proposition : {arch : Arch} {threads : ℕ} {before behind : Cursor} {first names : NameTable}
+pub no_condition-if_no_proposition : {arch : Arch} {threads : ℕ} {before behind : Cursor} {first names : NameTable}
     {made : List MadeSite}
     → ParsedNameList arch threads before behind first names made
     → (quant : Quant) (end : TokenList)
     → Quantified (remaining_texts behind) quant end
     → NoProposition arch threads end names
     → NoCondition arch threads (remaining_texts before) first
-no_condition-no_proposition {arch} {threads} {before} {behind} {first} {names} {made} taken quant end quantifies never all q ss p c fits =
+no_condition-if_no_proposition {arch} {threads} {before} {behind} {first} {names} {made} taken quant end quantifies never all q ss p c fits =
     let u =
     Listed-unique arch (remaining_texts before) all (map (site_by_name names) made) c.behind_list (remaining_texts behind) c.lists
-    taken.is in
+    taken.parsed in
     let v = Quantified-unique (remaining_texts behind) q quant c.behind_quant end (rw u.1 at c.quantifies) quantifies in
     never ss p (rw v.1 at c.says) (rw (ap (with_sites first) u.0 ∙ sym taken.names_are) at fits)
 
@@ -128,8 +128,8 @@ module _ (arch : Arch) (ts a : TokenList) (initializers : List InitializerSyntax
       (e.0, subst (λ l. Header l s.threads p.behind_header) e.1 p.header)
 
   -- If no header follows the block, the tokens are no test.
-  pub no_test-no_header : ParsesNothing (Header a) → HoldsOfNothing (ParsesTest arch ts)
-  no_test-no_header never s p = never s.threads p.behind_header (ParsesTest-header_inv s p).1
+  pub no_test-if_no_header : ParsesNothing (Header a) → HoldsOfNothing (ParsesTest arch ts)
+  no_test-if_no_header never s p = never s.threads p.behind_header (ParsesTest-header_inv s p).1
 
   module _ (n : ℕ) (b : TokenList) (header : Header a n b) where
     -- If they are a test, its threads are these, and its rows follow.
@@ -157,8 +157,8 @@ module _ (arch : Arch) (ts a : TokenList) (initializers : List InitializerSyntax
         cc
 
     -- If no rows follow the header, the tokens are no test.
-    pub no_test-no_rows : ParsesNothing (Rows n b) → HoldsOfNothing (ParsesTest arch ts)
-    no_test-no_rows never s p = never s.rows p.behind_rows (ParsesTest-rows_inv s p).2
+    pub no_test-if_no_rows : ParsesNothing (Rows n b) → HoldsOfNothing (ParsesTest arch ts)
+    no_test-if_no_rows never s p = never s.rows p.behind_rows (ParsesTest-rows_inv s p).2
 
     module _ (rows : CellGrid) (c : TokenList) (are_rows : Rows n b rows c) (first : TokenList)
         (is_first : first ≡ with_sites [] (sites_of initializers)) where
@@ -172,15 +172,15 @@ module _ (arch : Arch) (ts a : TokenList) (initializers : List InitializerSyntax
           (h.0, h.1, u.0, subst (λ l. Condition arch n l s.listed s.quant s.terminals) u.1 h.3)
 
       -- If no condition follows the rows, the tokens are no test.
-      pub no_test-no_condition : NoCondition arch n c first → ParsesNoTest arch ts
-      no_test-no_condition never s f p whole =
+      pub no_test-if_no_condition : NoCondition arch n c first → ParsesNoTest arch ts
+      no_test-if_no_condition never s f p whole =
           let h = ParsesTest-condition_inv s p in
           let names = ap (λ es. with_sites [] (sites_of es)) h.0 ∙ sym is_first in
           let all : location_table s ≡ with_sites (with_sites first s.listed) (sites_in s.terminals) =
           table_parts s ∙ ap (λ ns. with_sites (with_sites ns s.listed) (sites_in s.terminals)) names in
           never s.listed s.quant s.terminals f h.3 (record {
             room = omega (arith, p.few_names, ap length all);
-            few = p.few_nodes;
+            few_nodes = p.few_nodes;
             says = subst (λ ns. IsProposition (map (resolved ns) s.terminals) f) all whole;
           })
 
@@ -264,7 +264,7 @@ pub no_quantifier-other_word : (ts : TokenList)
     → ((rest : TokenList) → ts ≡ codes "forall" ∷ rest → ⊥)
     → ParsesNothing (Quantified ts)
 no_quantifier-other_word ts no_tilde no_first no_second Exists rest f = no_first rest f
-no_quantifier-other_word ts no_tilde no_first no_second NotExists rest f = token_not_next (codes "~") ts _ no_tilde f
+no_quantifier-other_word ts no_tilde no_first no_second NotExists rest f = not-token_is_next (codes "~") ts _ no_tilde f
 no_quantifier-other_word ts no_tilde no_first no_second Forall rest f = no_second rest f
 
 -- The site of a thread that does not exist is a register.
@@ -281,4 +281,4 @@ pub ReadsBlock-ParsedBlock : {arch : Arch} {before after : Cursor} {first table 
     → ReadsBlock arch (remaining_texts before) (map (named_initializer table) es) (remaining_texts after)
 ReadsBlock-ParsedBlock {table = table} {es} none block =
     let names = names_of_initializers table es (rw none at block.names_are) in
-    (block.is, subst (λ (names : NameTable). length names ≤ 8) names block.few)
+    (block.parsed, subst (λ (names : NameTable). length names ≤ 8) names block.bounded)

@@ -34,6 +34,6 @@ text_cause_name text.TooManyLocations = codes "TooManyLocations"
 text_cause_name text.Condition = codes "Condition"
 text_cause_name text.Memory = codes "Memory"
 
--- The cause is one of the parser's, which does not check the length and the encoding.
-abbrev pub IsOfReader : TextCause → Type 0
-IsOfReader cause = (cause ≢ text.TooLong) × (cause ≢ text.NotUtf8)
+-- The cause is neither `TooLong` nor `NotUtf8`, which are found before the parser begins.
+abbrev pub IsParserCause : TextCause → Type 0
+IsParserCause cause = (cause ≢ text.TooLong) × (cause ≢ text.NotUtf8)

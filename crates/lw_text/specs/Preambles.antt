@@ -30,7 +30,7 @@ pub record KeyLine (text rest : Bytes) : Type 0 where
   pub value : Bytes
   pub parts : text ≡ key ++ spaces ++ byte "=" ∷ value ++ rest
   pub not_empty : 0 < length key
-  pub all : AllByRecursion (λ b. is_key_byte b ≡ true) key
+  pub are_key_bytes : AllByRecursion (λ b. is_key_byte b ≡ true) key
   pub spaced : AllByRecursion (λ b. is_space b ≡ true) spaces
   pub one_line : AllByRecursion (λ b. (b == byte "\n") ≡ false) value
   pub longest : first_byte_is (λ b. not (b == byte "\n")) rest ≡ false

@@ -26,7 +26,7 @@ use Rattle.lw_text.specs.Tokens.{Trivia, IsFirstToken, IsNumber, IsSymbol, begin
 -- The bytes are a longest sequence of letters, digits and `_`, and then rest.
 pub record IsLongestRun (bytes w rest : Bytes) : Type 0 where
   pub parts : bytes ≡ w ++ rest
-  pub all : AllByRecursion (λ b. is_name_byte b ≡ true) w
+  pub bytes_pass : AllByRecursion (λ b. is_name_byte b ≡ true) w
   pub longest : first_byte_is is_name_byte rest ≡ false
 
 -- No token begins at the first of the bytes: a run that begins with a digit and is no number; or another, that is no name; or no symbol.

@@ -59,7 +59,7 @@ IsNameOrNumber w = IsName w ⊎ ((n : ℕ) × IsNumber w n)
 
 -- A run is a longest sequence of letters, digits and `_`, and it is a name or a number.
 pub record IsNameRun (w rest : Bytes) : Type 0 where
-  pub all : AllByRecursion (λ b. is_name_byte b ≡ true) w
+  pub are_name_bytes : AllByRecursion (λ b. is_name_byte b ≡ true) w
   pub longest : first_byte_is is_name_byte rest ≡ false
   pub kind : IsNameOrNumber w
 

@@ -1,7 +1,7 @@
 //! The cursor of the parser.
 ghost use Rattle.std.specs.Prelude.{◌≡◌, ◌≤◌, ◌<◌, ◌+◌, true, false, if◌then◌else◌, [], ◌∷◌, length, drop, None, MatchOption, MatchResult, OnOk, OnErr, IfOk, IfErr};
 ghost use Rattle.lw_base.specs.Types.{TokenList};
-ghost use Rattle.lw_text.specs.Causes.{IsOfReader};
+ghost use Rattle.lw_text.specs.Causes.{IsParserCause};
 ghost use Rattle.lw_text.specs.Conditions.{begins_token};
 ghost use Rattle.lw_text.specs.Failures.{FailsBefore};
 ghost use Rattle.lw_text.specs.Spans.{token_texts};
@@ -29,7 +29,7 @@ impl<'t, 'a> Cursor<'t, 'a> {
 
     /// Returns the refusal of the next token.
     pub(crate) fn refusal(&self, cause: TextCause) -> Refusal
-        requires { IsOfReader cause }
+        requires { IsParserCause cause }
         ensures place { BeginsAt (remaining self.now) result.at }
         ensures cause { result.cause ≡ cause }
     {
@@ -79,7 +79,7 @@ impl<'t, 'a> Cursor<'t, 'a> {
 
     /// Advances past the next token, which must be this text. Otherwise it fails with the cause.
     pub(crate) fn expect(&mut self, text: &str, cause: TextCause) -> Result<(), Refusal>
-        requires { IsOfReader cause }
+        requires { IsParserCause cause }
         ensures ok { OnOk result (remaining_texts self.old ≡ text.now ∷ remaining_texts self.new) }
         ensures err { OnErr result ((rest : TokenList) → remaining_texts self.old ≡ text.now ∷ rest → ⊥) }
         ensures leaves { OnOk result (AdvancesTo self.old self.new) }
@@ -122,7 +122,7 @@ impl<'t, 'a> Cursor<'t, 'a> {
         second: &str,
         cause: TextCause,
     ) -> Result<bool, Refusal>
-        requires { IsOfReader cause }
+        requires { IsParserCause cause }
         ensures { MatchResult result
             (λ b. (remaining_texts self.old ≡ (if b then first.now else second.now) ∷ remaining_texts self.new) × AdvancesTo self.old self.new)
             (λ f. ((rest : TokenList) → remaining_texts self.old ≡ first.now ∷ rest → ⊥)

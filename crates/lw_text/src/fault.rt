@@ -1,6 +1,6 @@
 //! Why a text is rejected, and where.
 ghost use Rattle.std.specs.Prelude.{◌≡◌, None};
-ghost use Rattle.lw_text.specs.Causes.{text_cause_code, text_cause_name, IsOfReader};
+ghost use Rattle.lw_text.specs.Causes.{text_cause_code, text_cause_name, IsParserCause};
 ghost use Rattle.lw_text.specs.declared.fault.TextCause.TheVariants as text;
 
 use std::alloc::{AllocError, AllocFailed};
@@ -91,7 +91,7 @@ pub(crate) struct Fault {
     pub(crate) at: usize,
     pub(crate) cause: TextCause,
     ghost memory: { cause ≡ text.Memory → at ≡ 0 },
-    ghost reader: { IsOfReader cause },
+    ghost reader: { IsParserCause cause },
 }
 
 impl From<AllocError> for Fault {
@@ -112,7 +112,7 @@ impl From<AllocError> for Fault {
 pub(crate) struct Refusal {
     pub(crate) at: Option<usize>,
     pub(crate) cause: TextCause,
-    ghost reader: { IsOfReader cause },
+    ghost reader: { IsParserCause cause },
 }
 
 impl From<AllocError> for Refusal {
@@ -140,7 +140,7 @@ impl<T: Drop> From<AllocFailed<T>> for Refusal {
 }
 
 impl From<Fault> for TextFault {
-    ghost from_gives = { λ f t. (t.at ≡ f.at) × (t.cause ≡ f.cause) × IsOfReader f.cause };
+    ghost from_gives = { λ f t. (t.at ≡ f.at) × (t.cause ≡ f.cause) × IsParserCause f.cause };
 
     /// Converts a fault of the lexer or the parser to one of the text.
     fn from(fault: Fault) -> TextFault {

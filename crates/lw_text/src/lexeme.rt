@@ -7,7 +7,7 @@ ghost use Rattle.lw_base.specs.Types.{Bytes};
 ghost use Rattle.lw_text.specs.declared.fault.TextCause.TheVariants.{Memory, Number, Name};
 ghost use Rattle.std.specs.Char.{is_ascii_digit};
 ghost use Rattle.lw_text.specs.TextFailures.{FailsInToken};
-ghost use Rattle.lw_text.specs.Causes.{IsOfReader};
+ghost use Rattle.lw_text.specs.Causes.{IsParserCause};
 ghost use Rattle.lw_text.specs.Tokens.{opens_comment, Digits, IsNumber, IsNameOrNumber, IsToken};
 ghost use Rattle.lw_text.specs.TokenKinds.{IsOfKind};
 ghost use Rattle.lw_text.specs.Tokens as symbols;
@@ -110,7 +110,7 @@ fn kind_of_run(run: &str) -> Option<TokenKind>
 
 /// Returns the cause of a run that is neither a name nor a number.
 fn fault_of_run(first: u8) -> TextCause
-    ensures reader { (result ≢ Memory) × IsOfReader result }
+    ensures reader { (result ≢ Memory) × IsParserCause result }
     ensures cause { result ≡ (if is_ascii_digit first then Number else Name) }
 {
     if first.is_ascii_digit() {
@@ -132,7 +132,7 @@ pub(crate) fn token(bytes: &[u8]) -> Result<Lexeme<'_>, TextCause>
     ensures found { IfOk result (λ x. (bytes.now ≡ x.text.now ++ x.rest.now) × IsToken x.text.now x.rest.now
         × IsOfKind x.kind x.text.now) }
     ensures none { OnErr result ((t rest : Bytes) → bytes.now ≡ t ++ rest → IsToken t rest → ⊥) }
-    ensures cause { IfErr result (λ cause. (cause ≢ Memory) × IsOfReader cause) }
+    ensures cause { IfErr result (λ cause. (cause ≢ Memory) × IsParserCause cause) }
     ensures fails { IfErr result (λ cause. bytes.now ≢ [] → FailsInToken bytes.now cause) }
 {
     let Some((first, _)) = split(bytes) else {

@@ -5,7 +5,7 @@
 ghost use Rattle.std.specs.Prelude.{◌≡◌, ◌≢◌, ◌≤◌, length, MatchResult};
 ghost use Rattle.lw_base.specs.NoParse.{HoldsOfNothing};
 ghost use Rattle.lw_text.specs.declared.fault.TextCause.TheVariants.{Memory};
-ghost use Rattle.lw_text.specs.Causes.{IsOfReader};
+ghost use Rattle.lw_text.specs.Causes.{IsParserCause};
 ghost use Rattle.lw_text.specs.Preambles.{KeyLine, Note, Notes};
 ghost use Rattle.lw_text.specs.TextFailures.{FailsInKeyLine, FailsInNote, FailsInNotes, IsNoteCause};
 ghost use Rattle.lw_text.specs.Views.{FailsFrom};
@@ -88,7 +88,7 @@ impl<'a> Lexer<'a> {
 
 /// Returns the cause of a fault in the notes, from the rest of the text at the fault.
 fn note_cause(left: &[u8]) -> TextCause
-    ensures reader { (result ≢ Memory) × IsOfReader result }
+    ensures reader { (result ≢ Memory) × IsParserCause result }
     ensures cause { IsNoteCause left.now result }
 {
     if left.is_empty() {

@@ -17,7 +17,7 @@ pub(crate) struct ParsedHead<A: Allocator = Global> {
     pub(crate) listed: Sequence<Site, A>,
     pub(crate) quant: Quant,
     pub(crate) prop: Prop<A>,
-    ghost few: { threads ≤ most_threads },
+    ghost bounded: { threads ≤ most_threads },
 }
 
 /// The head, and the cells of the rows.

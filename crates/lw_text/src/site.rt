@@ -6,7 +6,7 @@ ghost use Rattle.lw_base.specs.Types.{Bytes, TokenList};
 ghost use Rattle.lw_base.specs.Names.{IsLocationName};
 ghost use Rattle.lw_base.specs.Registers.{IsRegisterName};
 ghost use Rattle.lw_base.specs.Tables.{insert_name};
-ghost use Rattle.lw_text.specs.Causes.{IsOfReader};
+ghost use Rattle.lw_text.specs.Causes.{IsParserCause};
 ghost use Rattle.lw_text.specs.Failures.{IsMisfitCause, IsNoNewLocation};
 ghost use Rattle.lw_text.specs.Sites.{HasRoomFor, HasRoomForName, SiteSyntax, IsSite, ThreadAllowed, Value};
 ghost use Rattle.lw_text.specs.declared.fault.TextCause.TheVariants.{Memory};
@@ -71,7 +71,7 @@ impl<'t, 'a> Cursor<'t, 'a> {
         threads: Option<usize>,
         cause: TextCause,
     ) -> Result<Site, Refusal>
-        requires { IsOfReader cause }
+        requires { IsParserCause cause }
         ensures { MatchResult result (λ s. ParsedSite arch threads self.old self.new locs.old locs.new s)
             (λ f. f.cause ≢ Memory → ((s : SiteSyntax) (rest : TokenList) → IsSite arch (remaining_texts self.old) s rest
             → ThreadAllowed threads s → HasRoomFor locs.old (s ∷ []) → ⊥)
@@ -105,7 +105,7 @@ impl<'t, 'a> Cursor<'t, 'a> {
         locs: &mut LocNames<A>,
         cause: TextCause,
     ) -> Result<Loc, Refusal>
-        requires { IsOfReader cause }
+        requires { IsParserCause cause }
         ensures { MatchResult result
             (λ loc. (x : Bytes) × (remaining_texts self.old ≡ x ∷ codes "]" ∷ remaining_texts self.new)
             × (IsLocationName x × (slice_get locs.new loc ≡ Some x) × (locs.new ≡ insert_name locs.old x)
@@ -129,7 +129,7 @@ impl<'t, 'a> Cursor<'t, 'a> {
         thread: Word,
         cause: TextCause,
     ) -> Result<Site, Refusal>
-        requires { IsOfReader cause }
+        requires { IsParserCause cause }
         ensures { MatchResult result
             (λ s. (q : Bytes) × (r : ℕ) × (remaining_texts self.old ≡ codes ":" ∷ q ∷ remaining_texts self.new) × IsRegisterName arch q r
             × (s ≡ Register thread r) × AdvancesTo self.old self.new)
@@ -148,7 +148,7 @@ impl<'t, 'a> Cursor<'t, 'a> {
 
     /// Parses a `=` and a number.
     pub(crate) fn parse_value(&mut self, cause: TextCause) -> Result<Word, Refusal>
-        requires { IsOfReader cause }
+        requires { IsParserCause cause }
         ensures { MatchResult result (λ v. Value (remaining_texts self.old) v (remaining_texts self.new) × AdvancesTo self.old self.new)
             (λ f. ParsesNothing (Value (remaining_texts self.old)) × Fails self.old (FailsInValue cause) f) }
     {

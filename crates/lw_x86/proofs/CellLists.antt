@@ -15,12 +15,12 @@ text_at_row names code k None = slice_index_or (end_cells code k) 0 []
 text_at_row names code k (Some i) = cell_text names code k i
 
 -- From position k on a thread has as many cells as instructions, plus one if its end has a label.
-pub cells-length : (names : NameTable) (code : List Instr) (k : ℕ) (rest : List Instr)
+pub length-cells : (names : NameTable) (code : List Instr) (k : ℕ) (rest : List Instr)
     → length (cells_from names code k rest) ≡ length rest + length (end_cells code (k + length rest))
-cells-length names code k [] = let here : k ≡ k + 0 = omega arith in ap (λ (n : ℕ). length (end_cells code n)) here ∙ omega arith
-cells-length names code k (r ∷ rest) =
+length-cells names code k [] = let here : k ≡ k + 0 = omega arith in ap (λ (n : ℕ). length (end_cells code n)) here ∙ omega arith
+length-cells names code k (r ∷ rest) =
     let here : suc k + length rest ≡ k + suc (length rest) = omega arith in
-    omega (arith, cells-length names code (suc k) rest, ap (λ (n : ℕ). length (end_cells code n)) here)
+    omega (arith, length-cells names code (suc k) rest, ap (λ (n : ℕ). length (end_cells code n)) here)
 
 module _ (names : NameTable) (locs : ℕ) (code : List Instr) (thread : IsWellFormedThread x86_language locs code) where
   -- No instruction jumps past the end.
@@ -28,14 +28,14 @@ module _ (names : NameTable) (locs : ℕ) (code : List Instr) (thread : IsWellFo
   no_target n past = list_any_none (jumps_to n) code (λ k i lt. go k _ (slice_get-get_or code k i lt))
     where
       go : (k : ℕ) (i : Instr) → slice_get code k ≡ Some i → jumps_to n i ≡ false
-      go k i at = not_target-other (branch_target (x86_operation i)) (λ to e. (thread.forward k i at to e).1)
+      go k i at = is_target-false_of_other (branch_target (x86_operation i)) (λ to e. (thread.forward k i at to e).1)
         where
           -- A jump that leads at most to the end does not lead past it.
-          not_target-other : (target : Option ℕ)
+          is_target-false_of_other : (target : Option ℕ)
               → ForSome target (λ to. to ≤ length code)
               → option_map_or (λ to. to == n) target false ≡ false
-          not_target-other None within = refl
-          not_target-other (Some to) within = let le : to ≤ length code = within to refl in grind (arith, nat_tests)
+          is_target-false_of_other None within = refl
+          is_target-false_of_other (Some to) within = let le : to ≤ length code = within to refl in grind (arith, nat_tests)
 
   -- The cells from position k on are, in each row, those of the instructions from there on.
   cell_from : (k : ℕ) (rest : List Instr) (j : ℕ)
@@ -60,11 +60,11 @@ module _ (names : NameTable) (locs : ℕ) (code : List Instr) (thread : IsWellFo
       cell_from 0 code row (omega arith) ∙ ap (λ (n : ℕ). text_at_row names code n (slice_get code row)) here
 
 -- A thread has as many cells as instructions, plus one if a jump targets its end.
-pub cells_of-length : (names : NameTable) (code : List Instr) (n : ℕ)
+pub length-cells_of : (names : NameTable) (code : List Instr) (n : ℕ)
     → n ≡ length code + length (end_cells code (length code))
     → n ≡ length (cells_of names code)
-cells_of-length names code n is =
-    let here : 0 + length code ≡ length code = omega arith in rw (cells-length names code 0 code, here) is
+length-cells_of names code n is =
+    let here : 0 + length code ≡ length code = omega arith in rw (length-cells names code 0 code, here) is
 
 -- The maximum over the first `k + 1` threads is that over the first k and the next thread's number of cells.
 pub max_cell_count-one_more : {X : Type 0} (f : X → List Bytes) (threads : List X) (k : ℕ) {code : X} {height count new : ℕ}

@@ -46,7 +46,7 @@ pub use Rattle.lw_base.proofs.api.SeenMembership.{filter_has_seen-all_seen, has_
 pub use Rattle.lw_base.proofs.api.SeenMembership.{has_seen-append_right, has_seen-location, has_seen-register}
 pub use Rattle.lw_base.proofs.api.SeenMembership.{length-all_seen, length_le-ascending_seen, length_le-filter}
 pub use Rattle.lw_base.proofs.api.SeenMembership.{max_seen_count, seen_eq-sound}
-pub use Rattle.lw_base.proofs.api.Tables.{IsInTable, insert_names-again, insert_names-there}
+pub use Rattle.lw_base.proofs.api.Tables.{IsInTable, insert_names-again, insert_names-if_in_table}
 pub use Rattle.lw_base.proofs.api.Tables.{position_of_name-again}
 pub use Rattle.lw_base.proofs.api.Writing.{OnOk-push_str, numbers_written-all, numbers_written-push}
 pub use Rattle.lw_base.proofs.api.Writing.{written-append, written-equal_text, written-two_parts}

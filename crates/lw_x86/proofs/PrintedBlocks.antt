@@ -91,8 +91,8 @@ module _ (head : TestHead) (well : IsWellFormedHead head) where
   initializer_spelled s h =
       Spells-append_anything Spells-space
       (Spells-append (λ rest g. refl)
-      (assignment_spelled X86 head.threads well.few head.locs well.table.all s (initial_word head s) h (initial_is_word s))
-      (Spells-append_anything (Spells-mark 59 refl (λ c. refl) refl (omega arith)) Spells-newline))
+      (assignment_spelled X86 head.threads well.bounded head.locs well.table.are_location_names s (initial_word head s) h
+      (initial_is_word s)) (Spells-append_anything (Spells-mark 59 refl (λ c. refl) refl (omega arith)) Spells-newline))
 
   -- The texts of initializers spell their tokens, each with its `;`.
   initializers_spelled : (ss : List Seen)
@@ -115,8 +115,8 @@ module _ (head : TestHead) (well : IsWellFormedHead head) where
         length_le-filter (needs_initializer head) registers,
         length-append registers names,
         length-all_seen head.threads (length head.locs),
-        well.few,
-        well.table.few,
+        well.bounded,
+        well.table.bounded,
       )
 
   -- The text of the registers' initializers is that of those that have one.
@@ -156,7 +156,7 @@ module _ (head : TestHead) (well : IsWellFormedHead head) where
 
   -- A register or location of the test can be printed.
   IsPrintable-IsOfTest : (s : Seen) → IsOfTest s → IsPrintable head.threads head.locs (named_site head.locs s)
-  IsPrintable-IsOfTest s h = named_printable head.threads head.locs well.table.all s h
+  IsPrintable-IsOfTest s h = named_printable head.threads head.locs well.table.are_location_names s h
 
   -- The tokens of an initializer say it.
   IsInitializer-initializer_tokens : (s : Seen)
@@ -167,8 +167,9 @@ module _ (head : TestHead) (well : IsWellFormedHead head) where
       let site = named_site head.locs s in
       let n = initial_word head s in (
         value_tokens n ++ l,
-        rw (append_assoc (site_tokens X86 site)) (IsSite-site_tokens X86 _ well.few head.locs site _ (IsPrintable-IsOfTest s h)),
-        Value-value_tokens X86 head.threads well.few head.locs n l (initial_is_word s),
+        rw (append_assoc (site_tokens X86 site))
+            (IsSite-site_tokens X86 _ well.bounded head.locs site _ (IsPrintable-IsOfTest s h)),
+        Value-value_tokens X86 head.threads well.bounded head.locs n l (initial_is_word s),
       )
 
   -- The tokens of the initial block say its initializers.
@@ -185,5 +186,6 @@ module _ (head : TestHead) (well : IsWellFormedHead head) where
   pub initializers_exist : AllByRecursion (λ e. ThreadExists head.threads e.site) (initializers_of head)
   initializers_exist =
       AllByRecursion-map _ (initializer_of head) (initialized_sites head)
-      (All-mono _ _ (λ s h. site_exists X86 head.threads well.few head.locs (named_site head.locs s) (IsPrintable-IsOfTest s h))
+      (All-mono _ _
+      (λ s h. site_exists X86 head.threads well.bounded head.locs (named_site head.locs s) (IsPrintable-IsOfTest s h))
       (initialized_sites head) initialized_sites-IsOfTest)

@@ -11,7 +11,7 @@ use Rattle.lw_x86.proofs.Common.{names_in, LabelsLeadForward, Column, IsWellForm
 use Rattle.lw_x86.proofs.Common.{ParsesStatement, x86_spelling, branch_target, location_of, x86_language}
 use Rattle.lw_x86.proofs.Common.{x86_operation, label, printed_form, is_target, end_cells, cells_of}
 use Rattle.lw_x86.proofs.Common.{x86_grammar}
-use Rattle.lw_x86.proofs.CellLists.{cells-length}
+use Rattle.lw_x86.proofs.CellLists.{length-cells}
 use Rattle.lw_x86.proofs.PrintedInstructions.{IsPrintedAs-each}
 use Rattle.lw_x86.proofs.PrintedCells.{cell_tokens, ParsesCell-cell_tokens, IsWellFormedStatement-get}
 use Rattle.lw_x86.proofs.PrintedCells.{target_small}
@@ -100,11 +100,11 @@ module _ (names : NameTable) (table : IsNameTable names) (n : ℕ) (few : n ≤ 
   -- Each target in the thread is the index of one of its rows.
   target_row : (to : ℕ) → is_target code to ≡ true → to ≤ length code → to < n
   target_row to is within = elim (cases_lt to (length code)) [
-    | inl above ↦ omega (arith, above, long, cells-length names code 0 code)
+    | inl above ↦ omega (arith, above, long, length-cells names code 0 code)
     | inr last ↦
         (let same : 0 + length code ≡ to = omega (arith, last, within) in
         let one : length (end_cells code (0 + length code)) ≡ 1 = rw (same, is) refl in
-        omega (arith, same, one, long, cells-length names code 0 code))
+        omega (arith, same, one, long, length-cells names code 0 code))
   ]
 
   -- Each jump of the code targets a label of the thread, whose position is the jump's target, and later than
@@ -115,7 +115,7 @@ module _ (names : NameTable) (table : IsNameTable names) (n : ℕ) (few : n ≤ 
       → Contains (labels_of syntaxes) (label to) × (target_in syntaxes (label to) ≡ to) × (k < to)
   target_in-of_branch k to i e f =
       let goes = thread.forward k i e to f in
-      let small = target_small names table.all code thread k i e to f in
+      let small = target_small names table.are_location_names code thread k i e to f in
       let is = is_target-of_branch code k to i e f in
       let first : 0 ≤ to = omega arith in
       let last : to < 0 + n = omega (arith, target_row to is goes.1) in
@@ -124,13 +124,13 @@ module _ (names : NameTable) (table : IsNameTable names) (n : ℕ) (few : n ≤ 
 
   -- The statements of the cells are the printed forms of the code.
   statements_all : statements syntaxes ≡ map (printed_form names) code
-  statements_all = statements-syntaxes_from names code 0 n (omega (arith, long, cells-length names code 0 code))
+  statements_all = statements-syntaxes_from names code 0 n (omega (arith, long, length-cells names code 0 code))
 
   -- The printed cells of a thread say their syntax, row by row.
   thread_column : Column x86_grammar (map (cell_tokens names code) (range_with_len 0 n)) syntaxes
   thread_column = record {
     says = Column_cells-from_k 0 n (omega (arith, few));
-    few = omega (arith, ap length statements_all, length-map code (printed_form names), thread.short);
+    bounded = omega (arith, ap length statements_all, length-map code (printed_form names), thread.short);
     without_duplicates = (labels_of_cells-duplicate_free names code 0 n (omega (arith, few))).1;
     forward = λ k s e.
         let found = get-map_inv (printed_form names) code k s (ap (λ l. slice_get l k) (sym statements_all) ∙ e) in
@@ -145,7 +145,7 @@ module _ (names : NameTable) (table : IsNameTable names) (n : ℕ) (few : n ≤ 
           → AllZip (ParsesCell x86_grammar) (map (cell_tokens names code) (range_with_len k m)) (syntaxes_from names code k m)
       Column_cells-from_k k zero h = tt
       Column_cells-from_k k (suc m) h = (
-        ParsesCell-cell_tokens names table.all code thread k (omega (arith, h)),
+        ParsesCell-cell_tokens names table.are_location_names code thread k (omega (arith, h)),
         Column_cells-from_k (k + 1) m (omega (arith, h)),
       )
 
@@ -154,8 +154,10 @@ module _ (names : NameTable) (table : IsNameTable names) (n : ℕ) (few : n ≤ 
   code_in-printed_thread =
       rw statements_all
       (resolved_statement-printed_forms names table.without_duplicates syntaxes code
-      (AllByRecursion-get (IsResolved names table.without_duplicates syntaxes) code
-      (λ k i e. ((IsWellFormedStatement-get names table.all code thread k i e).0, λ to f. (target_in-of_branch k to i e f).1))))
+      (AllByRecursion-get (IsResolved names table.without_duplicates syntaxes) code (λ k i e. (
+        (IsWellFormedStatement-get names table.are_location_names code thread k i e).0,
+        λ to f. (target_in-of_branch k to i e f).1,
+      ))))
 
   -- The cells name only locations of the table.
   AreInTable-thread_names : AllByRecursion (IsInTable names) (names_in x86_grammar syntaxes)
@@ -163,7 +165,7 @@ module _ (names : NameTable) (table : IsNameTable names) (n : ℕ) (few : n ≤ 
       rw statements_all
       (IsInTable-names names code
       (AllByRecursion-get (λ i. ForSome (location_of (x86_operation i)) (λ x. x < length names)) code
-      (λ k i e. (IsWellFormedStatement-get names table.all code thread k i e).0)))
+      (λ k i e. (IsWellFormedStatement-get names table.are_location_names code thread k i e).0)))
 
   -- The printed cells of a thread say its code, and name only locations of the table.
   pub Column-of_thread : Column x86_grammar (map (cell_tokens names code) (range_with_len 0 n)) syntaxes

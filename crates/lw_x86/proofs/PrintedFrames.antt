@@ -114,8 +114,10 @@ module _ (p : X86Test) (well : IsWellFormedProgram p) where
       → AllZip IsPrintedCell (row_at (map (cells_of p.head.locs) threads) k)
       (map (λ code. cell_tokens p.head.locs code k) threads)
   row_printed k small [] h = tt
-  row_printed k small (code ∷ threads) h =
-      (cell_printed p.head.locs well.head.table.all code h.0 k (omega (arith, small)), row_printed k small threads h.1)
+  row_printed k small (code ∷ threads) h = (
+    cell_printed p.head.locs well.head.table.are_location_names code h.0 k (omega (arith, small)),
+    row_printed k small threads h.1,
+  )
 
   -- In each row the texts of the cells of all threads spell their tokens.
   IsPrintedCell-rows : (k : ℕ) → k < 33 → AllZip IsPrintedCell (row_at (texts_in p) k) (row_in p k)
@@ -137,9 +139,9 @@ module _ (p : X86Test) (well : IsWellFormedProgram p) where
   body_spelled =
       Spells-mono body_bytes (omega (arith, height_few))
       (Spells-append_anything (block_spelled p.head well.head)
-      (Spells-append_anything (header_spelled p.head.threads well.head.has_thread well.head.few)
+      (Spells-append_anything (header_spelled p.head.threads well.head.has_thread well.head.bounded)
       (Spells-append_anything
-      (rows_spelled (row_at (texts_in p)) (row_in p) p.head.threads 33 well.head.has_thread well.head.few IsPrintedCell-rows
+      (rows_spelled (row_at (texts_in p)) (row_in p) p.head.threads 33 well.head.has_thread well.head.bounded IsPrintedCell-rows
       texts_long row_long 0 (height_of p) (omega (arith, height_few)))
       (Spells-append_anything (listed_spelled p.head well.head) (condition_spelled p.head well.head well.arch)))))
 
@@ -152,7 +154,7 @@ module _ (p : X86Test) (well : IsWellFormedProgram p) where
       AllByRecursion-append (IsPrintable p.head.threads p.head.locs) (named_sites p.head.locs p.head.listed)
       (sites_in (terminals_in p.head)) (listed_printable p.head well.head)
       (sites_printable p.head.threads p.head.locs (terminals_in p.head)
-      (condition_is_printable p.head.threads p.head.locs well.head.table.all p.head.condition well.head.condition))
+      (condition_is_printable p.head.threads p.head.locs well.head.table.are_location_names p.head.condition well.head.condition))
 
   -- The table of locations that the tokens give is the test's.
   location_table-of_syntax : location_table (syntax_in p) ≡ p.head.locs
@@ -171,12 +173,12 @@ module _ (p : X86Test) (well : IsWellFormedProgram p) where
       well.head.condition) (printed_proposition p.head.condition)
 
   -- The condition has at most as many nodes as can be read.
-  nodes_few : HasFewNodes (terminals_in p.head)
-  nodes_few = omega (
+  nodes_bounded : HasFewNodes (terminals_in p.head)
+  nodes_bounded = omega (
     arith,
     proposition_nodes IsProposition-of_condition (resolved_single p.head.locs (terminals_in p.head)),
     node_count-resolved p.head.locs (terminals_in p.head),
-    well.head.nodes_few,
+    well.head.nodes_bounded,
   )
 
   -- The tokens are the parts of a test, and no others.
@@ -186,17 +188,17 @@ module _ (p : X86Test) (well : IsWellFormedProgram p) where
     behind_header = tokens_behind_header p;
     behind_rows = tokens_behind_rows p;
     block = Block-block_tokens p.head well.head (tokens_behind_block p);
-    header = Header-header_tokens p.head.threads (tokens_behind_header p) well.head.has_thread well.head.few;
+    header = Header-header_tokens p.head.threads (tokens_behind_header p) well.head.has_thread well.head.bounded;
     threads_exist = initializers_exist p.head well.head;
     rows = (
       ParsesManyTill-row_tokens p.head.threads (rows_in p) (tokens_behind_rows p) well.head.has_thread
-          (rows_plain (row_at (texts_in p)) (row_in p) p.head.threads 33 well.head.has_thread well.head.few IsPrintedCell-rows
+          (rows_plain (row_at (texts_in p)) (row_in p) p.head.threads 33 well.head.has_thread well.head.bounded IsPrintedCell-rows
           texts_long row_long 0 (height_of p) (omega (arith, height_few))) (rows_stop p.head well.head),
       omega (arith, length-map-range_with_len (row_in p) 0 (height_of p), height_few),
     );
     condition = Condition-condition_tokens p.head well.head;
-    few_names = omega (arith, ap length location_table-of_syntax, well.head.table.few);
-    few_nodes = nodes_few;
+    few_names = omega (arith, ap length location_table-of_syntax, well.head.table.bounded);
+    few_nodes = nodes_bounded;
   }
 
   -- ---- the head and the cells
@@ -239,7 +241,10 @@ module _ (p : X86Test) (well : IsWellFormedProgram p) where
   preamble = (
     codes " " ++ (p.head.name ++ (codes "\n" ++ body_text p)),
     codes "\n" ++ body_text p,
-    (no_trivia, inl (record { all = x86_keyword_is_name.0.all; longest = refl; kind = inl x86_keyword_is_name })),
+    (
+      no_trivia,
+      inl (record { are_name_bytes = x86_keyword_is_name.0.are_name_bytes; longest = refl; kind = inl x86_keyword_is_name }),
+    ),
     record {
       blanks = codes " ";
       parts = refl;

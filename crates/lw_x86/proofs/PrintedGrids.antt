@@ -6,7 +6,7 @@ use Rattle.lw_x86.proofs.Common.{slice_get, option_map, AllByRecursion, range_wi
 use Rattle.lw_x86.proofs.Common.{fill_by_all, slice_get-map, get_or_from_slice_get, Bytes, NameTable, column}
 use Rattle.lw_x86.proofs.Common.{columns, AllByRecursion-map, All-map_inv, slice_get-in_range, Instr, label}
 use Rattle.lw_x86.proofs.Common.{cells_of, max_cell_count, is_target}
-use Rattle.lw_x86.proofs.CellLists.{cells-length}
+use Rattle.lw_x86.proofs.CellLists.{length-cells}
 
 -- ---- columns
 
@@ -61,7 +61,7 @@ longest_under n threads h = fold_max-at_most 0 n _ (omega arith) (AllByRecursion
 
 -- A thread has at most one cell more than instructions.
 pub cell_count_at_most : (names : NameTable) (code : List Instr) → length (cells_of names code) ≤ length code + 1
-cell_count_at_most names code = omega (arith, cells-length names code 0 code, go (is_target code (0 + length code)))
+cell_count_at_most names code = omega (arith, length-cells names code 0 code, go (is_target code (0 + length code)))
   where
     go : (b : Bool) → length (if b then (label (0 + length code) ++ codes ":") ∷ [] else []) ≤ 1
     go true = omega arith

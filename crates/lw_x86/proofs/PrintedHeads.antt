@@ -5,14 +5,15 @@ use Rattle.lw_x86.proofs.Common.{[], ◌∷◌, ◌++◌, map, length, refl, sym
 use Rattle.lw_x86.proofs.Common.{filter, fold, slice_index_or, eqb-true, AllByRecursion, list_any}
 use Rattle.lw_x86.proofs.Common.{range_with_len, any-filter_same, map-append, fill_by_all, All-from_recursion}
 use Rattle.lw_x86.proofs.Common.{All-get_or, filter_map-append, filter_agree, Seen, Register, Location}
-use Rattle.lw_x86.proofs.Common.{TestHead, insert_names, IsSeenInRange, IsWellFormedHead, insert_names-there}
-use Rattle.lw_x86.proofs.Common.{insert_names-again, insert_names-append, SiteSyntax, site_name, site_names}
-use Rattle.lw_x86.proofs.Common.{seen_in, InitializerSyntax, initial_word_of, listed_in, seen_eq}
-use Rattle.lw_x86.proofs.Common.{thread_registers, all_registers, locations, AllByRecursion-filter}
-use Rattle.lw_x86.proofs.Common.{AllByRecursion-map_range, AllByRecursion-flat_map_range, seen_eq-sound}
-use Rattle.lw_x86.proofs.Common.{has_seen, has_seen-register, has_seen-location, has_seen-append_left}
-use Rattle.lw_x86.proofs.Common.{has_seen-append_right, filter_has_seen-all_seen, named_site, IsPrintable}
-use Rattle.lw_x86.proofs.Common.{sites_in_table, seen_in-named_site, initial_word}
+use Rattle.lw_x86.proofs.Common.{TestHead, insert_names, IsSeenInRange, IsWellFormedHead}
+use Rattle.lw_x86.proofs.Common.{insert_names-if_in_table, insert_names-again, insert_names-append}
+use Rattle.lw_x86.proofs.Common.{SiteSyntax, site_name, site_names, seen_in, InitializerSyntax}
+use Rattle.lw_x86.proofs.Common.{initial_word_of, listed_in, seen_eq, thread_registers, all_registers}
+use Rattle.lw_x86.proofs.Common.{locations, AllByRecursion-filter, AllByRecursion-map_range}
+use Rattle.lw_x86.proofs.Common.{AllByRecursion-flat_map_range, seen_eq-sound, has_seen, has_seen-register}
+use Rattle.lw_x86.proofs.Common.{has_seen-location, has_seen-append_left, has_seen-append_right}
+use Rattle.lw_x86.proofs.Common.{filter_has_seen-all_seen, named_site, IsPrintable, sites_in_table}
+use Rattle.lw_x86.proofs.Common.{seen_in-named_site, initial_word}
 use Rattle.lw_x86.proofs.PrintedBlocks.{needs_initializer, initialized_sites, initializer_of, initializers_of}
 use Rattle.lw_x86.proofs.PrintedBlocks.{initialized_sites-IsOfTest}
 
@@ -78,7 +79,7 @@ module _ (head : TestHead) (well : IsWellFormedHead head) where
         entered_names,
         insert_names-append [] head.locs (site_names more),
         insert_names-again head.locs well.table.without_duplicates,
-      ) (insert_names-there head.locs (site_names more) (sites_in_table head.threads head.locs more h))
+      ) (insert_names-if_in_table head.locs (site_names more) (sites_in_table head.threads head.locs more h))
 
   -- ---- the initial words
 

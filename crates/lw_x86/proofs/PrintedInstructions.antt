@@ -18,7 +18,10 @@ use Rattle.lw_litmus.specs.declared.instr.Instr.TheVariants as instr
 -- A label of an instruction is a name that is not reserved.
 pub label_is_location : (k : ℕ) → k < 2 ^ 32 → IsLocationName (label k)
 label_is_location k h = (
-  (record { not_empty = omega arith; all = (refl, decimal_is_name_run k h); front = refl }, omega (arith, decimal_is_short k h)),
+  (
+    record { not_empty = omega arith; are_name_bytes = (refl, decimal_is_name_run k h); front = refl },
+    omega (arith, decimal_is_short k h),
+  ),
   refl,
 )
 

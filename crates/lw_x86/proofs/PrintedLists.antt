@@ -58,7 +58,7 @@ module _ (head : TestHead) (well : IsWellFormedHead head) where
       → IsOfTest s
       → Spells Anything 44 (element_text head.locs s) (element_tokens (named_site head.locs s))
   element_spelled s h =
-      Spells-append (λ rest g. refl) (site_spelled X86 head.threads well.few head.locs well.table.all s h)
+      Spells-append (λ rest g. refl) (site_spelled X86 head.threads well.bounded head.locs well.table.are_location_names s h)
       (Spells-mark 59 refl (λ c. refl) refl (omega arith))
 
   -- The texts of further elements, each after a space, spell their tokens.
@@ -94,20 +94,21 @@ module _ (head : TestHead) (well : IsWellFormedHead head) where
       Spells-mono listed_bytes (omega (
         arith,
         length_le-ascending_seen head.threads (length head.locs) head.listed well.ascending well.listed_in_range,
-        well.few,
-        well.table.few,
+        well.bounded,
+        well.table.bounded,
       )) (list_spelled head.listed well.listed_in_range)
 
   -- The text of the condition's line spells its tokens.
   pub condition_spelled : head.arch ≡ X86
       → Spells Anything condition_bytes (condition_text head ++ codes "\n") (condition_tokens head)
   condition_spelled arch =
-      let proposition = whole_spelled X86 head.threads well.few head.locs well.table.all head.condition well.condition in
+      let proposition =
+      whole_spelled X86 head.threads well.bounded head.locs well.table.are_location_names head.condition well.condition in
       let line =
       Spells-append_anything
       (Spells-append {G = Anything} (λ rest g. refl) (quantifier_spelled head.quant)
       (Spells-append_anything Spells-space proposition)) Spells-newline in
-      rw (arch, ← append-nil (condition_tokens head)) (Spells-mono condition_bytes (omega (arith, well.nodes_few)) line)
+      rw (arch, ← append-nil (condition_tokens head)) (Spells-mono condition_bytes (omega (arith, well.nodes_bounded)) line)
 
   -- ---- what the tokens say
 
@@ -115,7 +116,7 @@ module _ (head : TestHead) (well : IsWellFormedHead head) where
   pub listed_printable : AllByRecursion (IsPrintable head.threads head.locs) (named_sites head.locs head.listed)
   listed_printable =
       AllByRecursion-map (IsPrintable head.threads head.locs) (named_site head.locs) head.listed
-      (All-mono _ _ (named_printable head.threads head.locs well.table.all) head.listed well.listed_in_range)
+      (All-mono _ _ (named_printable head.threads head.locs well.table.are_location_names) head.listed well.listed_in_range)
 
   -- The tokens of the list of names, or none, say the listed sites.
   Listed-listed_tokens : (ss : List Seen) (rest : TokenList)
@@ -130,7 +131,7 @@ module _ (head : TestHead) (well : IsWellFormedHead head) where
         refl,
         rw (append_assoc (flat_map element_tokens sites))
             (ParsesSepEndBy-tokens (IsSite X86) (site_tokens X86) (codes ";") (codes "]") sites rest
-            (All-mono _ _ (λ site p l. IsSite-site_tokens X86 head.threads well.few head.locs site l p) sites h)),
+            (All-mono _ _ (λ site p l. IsSite-site_tokens X86 head.threads well.bounded head.locs site l p) sites h)),
       )
 
   -- A quantifier starts no list, and ends the rows.
@@ -148,12 +149,12 @@ module _ (head : TestHead) (well : IsWellFormedHead head) where
     behind_quant = flat_map (terminal_tokens X86) (terminals_in head);
     lists = Listed-listed_tokens head.listed (condition_tokens head) listed_printable (quantifier_begins head.quant _).0;
     threads_exist =
-        All-mono _ _ (λ site p. site_exists X86 head.threads well.few head.locs site p) (named_sites head.locs head.listed)
+        All-mono _ _ (λ site p. site_exists X86 head.threads well.bounded head.locs site p) (named_sites head.locs head.listed)
         listed_printable;
     quantifies = Quantified-quantifier_tokens head.quant (flat_map (terminal_tokens X86) (terminals_in head));
     says =
-        Terminals-terminal_tokens X86 head.threads well.few head.locs (terminals_in head)
-        (condition_is_printable head.threads head.locs well.table.all head.condition well.condition);
+        Terminals-terminal_tokens X86 head.threads well.bounded head.locs (terminals_in head)
+        (condition_is_printable head.threads head.locs well.table.are_location_names head.condition well.condition);
   }
 
   -- If tokens start as an end of the rows does, so do they with the list of names before them.

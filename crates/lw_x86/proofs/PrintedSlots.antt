@@ -34,7 +34,7 @@ run_no_end (b ∷ w) some all = name_byte_ends_no_cell b w all.0
 
 -- A name ends no cell.
 pub name_no_end : (w : Bytes) → IsName w → ends_cell w ≡ false
-name_no_end w n = run_no_end w n.0.not_empty n.0.all
+name_no_end w n = run_no_end w n.0.not_empty n.0.are_name_bytes
 
 -- ---- mnemonics and signs
 

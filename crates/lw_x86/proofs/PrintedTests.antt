@@ -2,8 +2,8 @@
 -- `a_canonical_text_reads_back` is its last lemma.
 use Rattle.lw_x86.proofs.Common.{◌≡◌, ◌-◌, ◌≤◌, List, [], ◌∷◌, map, length, refl, sym, ap, arith, append-nil}
 use Rattle.lw_x86.proofs.Common.{AllByRecursion, AllZip, range_with_len, NameTable, insert_names, IsInTable}
-use Rattle.lw_x86.proofs.Common.{insert_names-there, AllByRecursion-append, All-map_inv, CellSyntax, Column}
-use Rattle.lw_x86.proofs.Common.{code_in, names_in, names_of, resolve_test, IsWellFormedThread, Instr}
+use Rattle.lw_x86.proofs.Common.{insert_names-if_in_table, AllByRecursion-append, All-map_inv, CellSyntax}
+use Rattle.lw_x86.proofs.Common.{Column, code_in, names_in, names_of, resolve_test, IsWellFormedThread, Instr}
 use Rattle.lw_x86.proofs.Common.{ParsesStatement, x86_spelling, x86_language, IsWellFormedProgram, X86Test}
 use Rattle.lw_x86.proofs.Common.{HasProgram, x86_grammar, cells_of, canonical_text, IsTextOf}
 use Rattle.lw_x86.proofs.PrintedCells.{cell_tokens}
@@ -64,7 +64,8 @@ module _ (p : X86Test) (well : IsWellFormedProgram p) where
   -- The cells name no new location.
   insert_names-no_new_name : insert_names locs (names_of x86_grammar syntaxes_of_threads) ≡ locs
   insert_names-no_new_name =
-      insert_names-there locs (names_of x86_grammar syntaxes_of_threads) (AllZip-Column_of_threads p.threads HasRoom-of_test).2
+      insert_names-if_in_table locs (names_of x86_grammar syntaxes_of_threads)
+      (AllZip-Column_of_threads p.threads HasRoom-of_test).2
 
   -- No location is new, so no word is.
   resolve_test-printed :
@@ -80,7 +81,7 @@ module _ (p : X86Test) (well : IsWellFormedProgram p) where
     arch = well.arch;
     threads = syntaxes_of_threads;
     says = (AllZip-Column_of_threads p.threads HasRoom-of_test).0;
-    few = omega (arith, ap length insert_names-no_new_name, well.head.table.few);
+    bounded = omega (arith, ap length insert_names-no_new_name, well.head.table.bounded);
     made = sym resolve_test-printed;
   }
 

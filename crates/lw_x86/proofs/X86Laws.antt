@@ -10,22 +10,22 @@ use Rattle.lw_x86.specs.declared.language.X86Form.TheVariants.{Store, Set, Add}
 IsMade-each_form : (x to : ℕ) (form : X86Form) (f : Filling (x86_slots form))
     → IsMade x86_spelling instruction_of_operands x to form f
 IsMade-each_form x to Store (_, (_, (y, (_, (_, (Register r, _)))))) =
-    record { is = refl; located = refl; target_is = refl; given = λ p q. (p, q) }
+    record { statement_is = refl; located = refl; target_is = refl; given = λ p q. (p, q) }
 IsMade-each_form x to Store (_, (_, (y, (_, (_, (Number n, _)))))) =
-    record { is = refl; located = refl; target_is = refl; given = λ p q. (p, q) }
+    record { statement_is = refl; located = refl; target_is = refl; given = λ p q. (p, q) }
 IsMade-each_form x to Set (_, (d, (_, (Register r, _)))) =
-    record { is = refl; located = refl; target_is = refl; given = λ p q. (p, q) }
+    record { statement_is = refl; located = refl; target_is = refl; given = λ p q. (p, q) }
 IsMade-each_form x to Set (_, (d, (_, (Number n, _)))) =
-    record { is = refl; located = refl; target_is = refl; given = λ p q. (p, q) }
+    record { statement_is = refl; located = refl; target_is = refl; given = λ p q. (p, q) }
 IsMade-each_form x to Add (_, (d, (_, (Register r, _)))) =
-    record { is = refl; located = refl; target_is = refl; given = λ p q. ((p.0, p), q) }
+    record { statement_is = refl; located = refl; target_is = refl; given = λ p q. ((p.0, p), q) }
 IsMade-each_form x to Add (_, (d, (_, (Number n, _)))) =
-    record { is = refl; located = refl; target_is = refl; given = λ p q. ((p.0, p), q) }
+    record { statement_is = refl; located = refl; target_is = refl; given = λ p q. ((p.0, p), q) }
 IsMade-each_form x to Compare (_, (d, (_, (Register r, _)))) =
-    record { is = refl; located = refl; target_is = refl; given = λ p q. (p, q) }
+    record { statement_is = refl; located = refl; target_is = refl; given = λ p q. (p, q) }
 IsMade-each_form x to Compare (_, (d, (_, (Number n, _)))) =
-    record { is = refl; located = refl; target_is = refl; given = λ p q. (p, q) }
-IsMade-each_form x to form f = record { is = refl; located = refl; target_is = refl; given = λ p q. search rules }
+    record { statement_is = refl; located = refl; target_is = refl; given = λ p q. (p, q) }
+IsMade-each_form x to form f = record { statement_is = refl; located = refl; target_is = refl; given = λ p q. search rules }
 
 -- The spelling of x86 is lawful: its forms are distinguishable, and its instructions made from their operands.
 pub x86_forms_are_spelled : IsSpelling x86_spelling instruction_of_operands

@@ -87,7 +87,7 @@ impl StatementReader for X86Language {
     }
 
     /// Returns the maximum number of instructions of a thread.
-    fn most() -> usize {
+    fn max_statements() -> usize {
         MAX_INSTRUCTIONS
     }
 

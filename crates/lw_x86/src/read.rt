@@ -56,7 +56,7 @@ pub fn a_text_has_one_program()
 
 /// States that at most one fault of the same cells is true, and none of the cells of an x86 test.
 pub fn x86_cells_have_one_fault()
-    ensures one { (names : NameTable) (columns : List (List PlacedCell)) (f g : CellFault) → f.cause ≢ Memory → g.cause ≢ Memory
+    ensures one_fault { (names : NameTable) (columns : List (List PlacedCell)) (f g : CellFault) → f.cause ≢ Memory → g.cause ≢ Memory
         → CellFaultIsTrue x86_grammar names columns f → CellFaultIsTrue x86_grammar names columns g → f ≡ g }
     ensures none { (frame : TestFrame) (columns : List (List PlacedCell)) (f : CellFault) (p : X86Test)
         → texts_of_grid columns ≡ frame.cells → HasProgram frame p → f.cause ≢ Memory

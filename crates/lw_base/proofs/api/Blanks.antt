@@ -52,4 +52,4 @@ graphic_ascii b is = grind (arith, nat_tests)
 
 -- The name of a test has only bytes below 128.
 pub name_ascii : (name : Bytes) → IsTestName name → (i : ℕ) → slice_index_or name i 0 < 128
-name_ascii name is = slice_index_or-ascii is_ascii_graphic graphic_ascii name is.all
+name_ascii name is = slice_index_or-ascii is_ascii_graphic graphic_ascii name is.are_graphic_bytes

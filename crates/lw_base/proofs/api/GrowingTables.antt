@@ -67,18 +67,19 @@ contains_name-last [] n = or_left (bytes_eq n n) false ((pointwise_decides unsig
 contains_name-last (m ∷ names) n = or_right (bytes_eq m n) _ (contains_name-last names n)
 
 -- A name that is inserted is in the table, whether it is new or not.
-pub contains_name-insert_name : (names : NameTable) (n : Bytes) → contains_name (insert_name names n) n ≡ true
-contains_name-insert_name names n = go (contains_name names n) refl
+pub contains_name-of_inserted : (names : NameTable) (n : Bytes) → contains_name (insert_name names n) n ≡ true
+contains_name-of_inserted names n = go (contains_name names n) refl
   where
     go : (b : Bool) → contains_name names n ≡ b → contains_name (insert_name names n) n ≡ true
     go true e = rw (insert_name-case names n true e) e
     go false e = rw (insert_name-case names n false e) (contains_name-last names n)
 
 -- A name that is in a table is still in it after another is inserted.
-pub contains_name-more : (names : NameTable) (m n : Bytes)
+pub contains_name-insert_name : (names : NameTable) (m n : Bytes)
     → contains_name names n ≡ true
     → contains_name (insert_name names m) n ≡ true
-contains_name-more names m n e = let grows = insert_name-grows names m in rw grows.1 (contains_name-append names grows.0 n e)
+contains_name-insert_name names m n e =
+    let grows = insert_name-grows names m in rw grows.1 (contains_name-append names grows.0 n e)
 
 -- A name that is in a table is still in it after several are inserted.
 pub contains_name-insert_names : (names ns : NameTable) (n : Bytes)
@@ -86,7 +87,7 @@ pub contains_name-insert_names : (names ns : NameTable) (n : Bytes)
     → contains_name (insert_names names ns) n ≡ true
 contains_name-insert_names names [] n e = e
 contains_name-insert_names names (m ∷ ns) n e =
-    contains_name-insert_names (insert_name names m) ns n (contains_name-more names m n e)
+    contains_name-insert_names (insert_name names m) ns n (contains_name-insert_name names m n e)
 
 -- A name that is in a table keeps its index when several are inserted.
 pub position_of_name-insert_names : (names ns : NameTable) (n : Bytes)
@@ -95,7 +96,7 @@ pub position_of_name-insert_names : (names ns : NameTable) (n : Bytes)
 position_of_name-insert_names names [] n e = refl
 position_of_name-insert_names names (m ∷ ns) n e =
     let grows = insert_name-grows names m in
-    position_of_name-insert_names (insert_name names m) ns n (contains_name-more names m n e)
+    position_of_name-insert_names (insert_name names m) ns n (contains_name-insert_name names m n e)
     ∙ ap (λ ms. position_of_name ms n) grows.1
     ∙ position_of_name-append names grows.0 n e
 

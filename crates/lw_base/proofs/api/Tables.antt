@@ -27,8 +27,8 @@ module _ {S : Type 0} (f : S → Bytes) (ss : List S) (p : ℕ) (t : Bytes) (x :
       ∙ ap Some (sym x.named)
 
   -- If the entry at an index has another name, the table does not have this name at that index.
-  pub not_found_at_index : (name : Bytes) → pointwise nat_eq t name ≡ false → get_or (map f ss) p [] ≡ name → ⊥
-  not_found_at_index name other e =
+  pub not-found_at_index : (name : Bytes) → pointwise nat_eq t name ≡ false → get_or (map f ss) p [] ≡ name → ⊥
+  not-found_at_index name other e =
       let same : t ≡ name = sym (get_or_from_slice_get (map f ss) p t [] at_index) ∙ e in
       true≢false (sym ((pointwise_decides unsigned_Decides t name).1 same) ∙ other)
 
@@ -103,8 +103,8 @@ pub IsNameTable-push : (names : NameTable) (name : Bytes)
     → IsNameTable names
     → IsNameTable (names ++ name ∷ [])
 IsNameTable-push names name few is fresh table = record {
-  few = omega (arith, length-append names (name ∷ []));
-  all = IsLocationName-push names name table.all is;
+  bounded = omega (arith, length-append names (name ∷ []));
+  are_location_names = IsLocationName-push names name table.are_location_names is;
   without_duplicates = IsDuplicateFree-push names name table.without_duplicates fresh;
 }
 
@@ -140,22 +140,22 @@ contains_name-Contains (m ∷ names) n h = go h.0 h.1 h.2 (contains_name-Contain
     go (suc k) l e further = rw (further (k, omega arith, e)) (or_right (bytes_eq m n) true refl)
 
 -- A name that is not in the table is not found there.
-contains_name-not : (names : NameTable) (n : Bytes) → (Contains names n → ⊥) → contains_name names n ≡ false
-contains_name-not [] n h = refl
-contains_name-not (m ∷ names) n h =
+contains_name-false_if_not_contained : (names : NameTable) (n : Bytes) → (Contains names n → ⊥) → contains_name names n ≡ false
+contains_name-false_if_not_contained [] n h = refl
+contains_name-false_if_not_contained (m ∷ names) n h =
     rw (
       bytes_eq-false m n (λ e. h (0, omega arith, e)),
-      contains_name-not names n (λ k. h (Contains-append_right (m ∷ []) names n k)),
+      contains_name-false_if_not_contained names n (λ k. h (Contains-append_right (m ∷ []) names n k)),
     ) refl
 
 -- Inserting a name that is in the table leaves it unchanged.
-pub insert_name-there : (names : NameTable) (n : Bytes) (l : ℕ) → slice_get names l ≡ Some n → insert_name names n ≡ names
-insert_name-there names n l at =
+pub insert_name-if_in_table : (names : NameTable) (n : Bytes) (l : ℕ) → slice_get names l ≡ Some n → insert_name names n ≡ names
+insert_name-if_in_table names n l at =
     rw (contains_name-Contains names n (l, slice_get_within names l n at, get_or_from_slice_get names l n n at)) refl
 
 -- Inserting a new name appends it.
-pub insert_name-new : (names : NameTable) (n : Bytes) → (Contains names n → ⊥) → insert_name names n ≡ names ++ n ∷ []
-insert_name-new names n fresh = rw (contains_name-not names n fresh) refl
+pub insert_name-if_new : (names : NameTable) (n : Bytes) → (Contains names n → ⊥) → insert_name names n ≡ names ++ n ∷ []
+insert_name-if_new names n fresh = rw (contains_name-false_if_not_contained names n fresh) refl
 
 -- A name has the index at which it is, in a table without duplicates.
 pub position_of_name-at : (names : NameTable) (n : Bytes) (l : ℕ)
@@ -191,10 +191,11 @@ abbrev pub IsInTable : NameTable → Bytes → Type 0
 IsInTable names n = (l : ℕ) × (slice_get names l ≡ Some n)
 
 -- Inserting names that a table has already leaves it unchanged.
-pub insert_names-there : (names ns : NameTable) → AllByRecursion (IsInTable names) ns → insert_names names ns ≡ names
-insert_names-there names [] h = refl
-insert_names-there names (n ∷ ns) h =
-    ap (λ (t : NameTable). insert_names t ns) (insert_name-there names n h.0.0 h.0.1) ∙ insert_names-there names ns h.1
+pub insert_names-if_in_table : (names ns : NameTable) → AllByRecursion (IsInTable names) ns → insert_names names ns ≡ names
+insert_names-if_in_table names [] h = refl
+insert_names-if_in_table names (n ∷ ns) h =
+    ap (λ (t : NameTable). insert_names t ns) (insert_name-if_in_table names n h.0.0 h.0.1)
+    ∙ insert_names-if_in_table names ns h.1
 
 -- A name of a list without duplicates is none of those before it.
 not-Contains-before : (before ns : NameTable) (n : Bytes) → IsDuplicateFree (before ++ (n ∷ ns)) → Contains before n → ⊥
@@ -208,14 +209,14 @@ not-Contains-before (b ∷ before) ns n once there = at there.0 there.1 there.2 
     at (suc k) lt e further = further (k, omega (arith, lt), e)
 
 -- Inserting new names without duplicates appends them.
-insert_names-new : (before ns : NameTable) → IsDuplicateFree (before ++ ns) → insert_names before ns ≡ before ++ ns
-insert_names-new before [] once = sym (append-nil before)
-insert_names-new before (n ∷ ns) once =
+insert_names-if_new : (before ns : NameTable) → IsDuplicateFree (before ++ ns) → insert_names before ns ≡ before ++ ns
+insert_names-if_new before [] once = sym (append-nil before)
+insert_names-if_new before (n ∷ ns) once =
     let e : before ++ (n ∷ ns) ≡ (before ++ n ∷ []) ++ ns = sym (append_assoc before (n ∷ []) ns) in
-    ap (λ (t : NameTable). insert_names t ns) (insert_name-new before n (not-Contains-before before ns n once))
-    ∙ insert_names-new (before ++ n ∷ []) ns (subst IsDuplicateFree e once)
+    ap (λ (t : NameTable). insert_names t ns) (insert_name-if_new before n (not-Contains-before before ns n once))
+    ∙ insert_names-if_new (before ++ n ∷ []) ns (subst IsDuplicateFree e once)
     ∙ sym e
 
 -- Inserting the names of a table into an empty one gives the table.
 pub insert_names-again : (names : NameTable) → IsDuplicateFree names → insert_names [] names ≡ names
-insert_names-again names once = insert_names-new [] names once
+insert_names-again names once = insert_names-if_new [] names once

@@ -55,7 +55,7 @@ pub set_location_names-well_formed : (head : TestHead) (names : List (List ℕ))
 set_location_names-well_formed head names h table le = record {
   name = h.name;
   has_thread = h.has_thread;
-  few = h.few;
+  bounded = h.bounded;
   table = table;
   regs = h.regs;
   register_counts = h.register_counts;
@@ -70,6 +70,6 @@ set_location_names-well_formed head names h table le = record {
   listed_in_range =
       IsSeenInRange-all_more_locations head.threads (length head.locs) (length names) le head.listed h.listed_in_range;
   ascending = h.ascending;
-  nodes_few = h.nodes_few;
+  nodes_bounded = h.nodes_bounded;
   condition = MentionsOnly-more_locations head.threads (length head.locs) (length names) le head.condition h.condition;
 }

@@ -44,4 +44,4 @@ module _ {Syntax Stmt : Type 0} (grammar : Grammar Syntax Stmt) (lawful : IsGram
       → ⊥
   no_CellFault-of_test frame columns f test same has known h =
       no_true_fault-of_test grammar lawful frame.head.locs columns f.at f.cause has.threads
-      (subst (λ (cells : CellGrid). AllZip (Column grammar) cells has.threads) (sym same) has.says) has.few known h
+      (subst (λ (cells : CellGrid). AllZip (Column grammar) cells has.threads) (sym same) has.says) has.bounded known h

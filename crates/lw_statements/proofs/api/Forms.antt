@@ -9,7 +9,7 @@ use Rattle.lw_statements.proofs.Common.{Operands, Slot, Register, Location, Valu
 use Rattle.lw_statements.proofs.Common.{Spelling, Filling, Gives, Fills, ParsesStatement, grammar_of, name_in}
 use Rattle.lw_statements.proofs.Common.{are_disjoint_forms, all_apart, is_statement, is_label_last}
 use Rattle.lw_statements.proofs.Common.{registers_in, numbers_in, IsSpelling}
-use Rattle.lw_statements.proofs.Slots.{filling_unique, not_Fills-disjoint, colon_gives}
+use Rattle.lw_statements.proofs.Slots.{filling_unique, not-Fills-disjoint, colon_gives}
 use Rattle.lw_base.specs.declared.operand.Operand.TheVariants as operand
 
 -- If all elements of a list pass a test, each does.
@@ -39,12 +39,12 @@ module _ {W Form Stmt : Type 0} (spelling : Spelling W Form Stmt) where
         let others =
         list_all-get (are_others form) forms j b (and_parts (list_all (are_others form) forms) (all_apart spelling forms) all).0
         (omega (arith, more)) h in
-        absurd (not_Fills-disjoint spelling ts (spelling.slots_of a) (spelling.slots_of b) f g (rw e at others) x y)
+        absurd (not-Fills-disjoint spelling ts (spelling.slots_of a) (spelling.slots_of b) f g (rw e at others) x y)
     form_unique (form ∷ forms) all (suc i, less, e) (zero, more, h) =
         let others =
         list_all-get (are_others form) forms i a (and_parts (list_all (are_others form) forms) (all_apart spelling forms) all).0
         (omega (arith, less)) e in
-        absurd (not_Fills-disjoint spelling ts (spelling.slots_of b) (spelling.slots_of a) g f (rw h at others) y x)
+        absurd (not-Fills-disjoint spelling ts (spelling.slots_of b) (spelling.slots_of a) g f (rw h at others) y x)
     form_unique (form ∷ forms) all (suc i, less, e) (suc j, more, h) =
         form_unique forms (and_parts (list_all (are_others form) forms) (all_apart spelling forms) all).1
         (i, omega (arith, less), e) (j, omega (arith, more), h)
@@ -71,12 +71,12 @@ module _ {W Form Stmt : Type 0} (spelling : Spelling W Form Stmt) where
           (filling_unique spelling ts (spelling.slots_of s.form) s.filling g x.1 h))
 
   -- A statement has at least one token.
-  not_empty-is_statement : (slots : List (Slot W)) (f : Filling slots)
+  not-empty-is_statement : (slots : List (Slot W)) (f : Filling slots)
       → is_statement spelling slots ≡ true
       → Fills spelling [] slots f
       → ⊥
-  not_empty-is_statement [] f is h = absurd cc
-  not_empty-is_statement (slot ∷ slots) f is h = h
+  not-empty-is_statement [] f is h = absurd cc
+  not-empty-is_statement (slot ∷ slots) f is h = h
 
   -- The second token of a statement is not `:`.
   no_colon-is_statement : (ts : TokenList) (slots : List (Slot W)) (f : Filling slots)
@@ -149,9 +149,9 @@ module _ {W Form Stmt : Type 0} (spelling : Spelling W Form Stmt) where
     pub is_grammar : IsGrammar (grammar_of spelling)
     is_grammar = record {
       countable = lawful.countable;
-      one = ParsesStatement-unique lawful.apart;
+      deterministic = ParsesStatement-unique lawful.apart;
       some = λ ts s says none.
-          not_empty-is_statement (spelling.slots_of s.form) s.filling (well_spelled s.form says.0).0
+          not-empty-is_statement (spelling.slots_of s.form) s.filling (well_spelled s.form says.0).0
           (subst (λ (us : TokenList). Fills spelling us (spelling.slots_of s.form) s.filling) none says.1);
       no_label = λ ts s says colon. no_colon-is_statement ts _ s.filling (well_spelled s.form says.0).0 says.1 colon;
       located = λ x to s. (lawful.making x to s.form s.filling).located;

@@ -62,7 +62,7 @@ module _ {Syntax Stmt : Type 0} (grammar : Grammar Syntax Stmt) (lawful : IsGram
   IsWellFormedThread-all names [] [] says all = tt
   IsWellFormedThread-all names (c ∷ columns) (t ∷ ts) says all =
       let parts = All-append_inv (λ n. contains_name names n ≡ true) _ (names_of grammar ts) all in (
-        IsWellFormedThread-code_in grammar lawful names t (AllSaid-Column c t says.0.says) parts.0 says.0.few says.0.forward,
+        IsWellFormedThread-code_in grammar lawful names t (AllSaid-Column c t says.0.says) parts.0 says.0.bounded says.0.forward,
         IsWellFormedThread-all names columns ts says.1 parts.1,
       )
   IsWellFormedThread-all names columns ts says all = absurd says
@@ -96,9 +96,9 @@ module _ {Syntax Stmt : Type 0} (grammar : Grammar Syntax Stmt) (lawful : IsGram
         let added = names_of grammar h.threads in
         let names : NameTable = insert_names frame.head.locs added in
         let table : IsNameTable names = record {
-          few = h.few;
-          all =
-              AllLocationNames-insert_names frame.head.locs added formed.table.all
+          bounded = h.bounded;
+          are_location_names =
+              AllLocationNames-insert_names frame.head.locs added formed.table.are_location_names
               (IsLocationName-all_names frame.cells h.threads h.says);
           without_duplicates = IsDuplicateFree-insert_names frame.head.locs added formed.table.without_duplicates;
         } in

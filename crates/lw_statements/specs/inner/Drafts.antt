@@ -67,7 +67,7 @@ module _ {Syntax Stmt : Type 0} (grammar : Grammar Syntax Stmt) where
         {A : Type 0} (cells : List (Cell A)) (before : NameTable) (column : DraftColumn D A) (after : NameTable) : Type 0 where
       pub read : ReadOn (AllZip (ParsesCell grammar) (cells_texts cells)) (names_in grammar) (λ names. map (draft_cell names))
           before column.cells after
-      pub few : length (statements read.syntax) ≤ grammar.language.most
+      pub bounded : length (statements read.syntax) ≤ grammar.language.most
       pub without_duplicates : IsDuplicateFree (labels_of read.syntax)
       pub leads : MapsLabelsAs column.labels read.syntax
       pub counted : column.count ≡ length (statements read.syntax)

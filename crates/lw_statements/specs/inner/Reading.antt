@@ -198,7 +198,7 @@ module _ {Syntax Stmt : Type 0} (grammar : Grammar Syntax Stmt) where
   -- after `above` others.
   pub record FitsBelow (above : ℕ) (names : NameTable) (ts : TokenList) (o : Option Syntax) : Type 0 where
     pub says : MaybeStatement grammar ts o
-    pub few : above + length (statements (bare o ∷ [])) ≤ grammar.language.most
+    pub bounded : above + length (statements (bare o ∷ [])) ≤ grammar.language.most
     pub room : length (insert_names names (names_in grammar (bare o ∷ []))) ≤ most_locations
 
   -- The token at this place is the first, and can begin a statement.

@@ -31,17 +31,17 @@ pub Spells-register : (arch : Arch) (r : ℕ) → r < 6 → Spells EndsName 32 (
 Spells-register arch r h = Spells-name (register_name arch r) (register_is_name arch r h)
 
 -- A name byte makes no symbol with `:` before it.
-no_symbol_with_colon : (b : ℕ) → is_name_byte b ≡ true → is_two_byte_symbol 58 b ≡ false
-no_symbol_with_colon b h = grind (arith, nat_tests)
+is_two_byte_symbol-false_after_colon : (b : ℕ) → is_name_byte b ≡ true → is_two_byte_symbol 58 b ≡ false
+is_two_byte_symbol-false_after_colon b h = grind (arith, nat_tests)
 
 -- A name byte is no `*`.
-is_not_star : (b : ℕ) → is_name_byte b ≡ true → (b == 42) ≡ false
-is_not_star b h = grind (arith, nat_tests)
+is_star-false_if_name_byte : (b : ℕ) → is_name_byte b ≡ true → (b == 42) ≡ false
+is_star-false_if_name_byte b h = grind (arith, nat_tests)
 
 -- A name makes no symbol with `:` before it.
 name_no_equals : (w rest : Bytes) → IsName w → first_byte_is (is_two_byte_symbol 58) (w ++ rest) ≡ false
 name_no_equals [] rest n = absurd (let h = n.0.not_empty in omega arith)
-name_no_equals (b ∷ w) rest n = no_symbol_with_colon b n.0.all.0
+name_no_equals (b ∷ w) rest n = is_two_byte_symbol-false_after_colon b n.0.are_name_bytes.0
 
 -- `:` spells one token, if no `=` follows.
 pub Spells-colon : Spells HasNoEquals 1 (58 ∷ []) ((58 ∷ []) ∷ [])
@@ -69,7 +69,7 @@ starts_no_star text rest s = ap (λ t. first_byte_is (λ b. b == 42) (t ++ rest)
 -- A run of name bytes that is not empty does not start with `*`.
 starts_name_run : (w : Bytes) → 0 < length w → AllByRecursion (λ b. is_name_byte b ≡ true) w → Starts w
 starts_name_run [] some all = absurd (omega arith)
-starts_name_run (b ∷ w) some all = (b, w, refl, is_not_star b all.0)
+starts_name_run (b ∷ w) some all = (b, w, refl, is_star-false_if_name_byte b all.0)
 
 -- Each name of a table of locations is a location's name.
 pub IsLocationName-in_table : (names : NameTable) (x : ℕ)
@@ -99,7 +99,8 @@ module _ (arch : Arch) (threads : ℕ) (few : threads ≤ most_threads) (names :
       Starts-append (decimal t) (codes ":" ++ register_name arch r)
       (starts_name_run (decimal t) (decimal_nonempty t (omega (arith, small))) (decimal_is_name_run t small))
   site_starts (Location x) h =
-      let n = (IsLocationName-in_table names x table h).0 in starts_name_run (slice_index_or names x []) n.0.not_empty n.0.all
+      let n = (IsLocationName-in_table names x table h).0 in
+      starts_name_run (slice_index_or names x []) n.0.not_empty n.0.are_name_bytes
 
   -- The text of a site with its word, such as `x=1`, spells their tokens.
   pub assignment_spelled : (s : Seen) (n : ℕ)
@@ -130,7 +131,9 @@ module _ (arch : Arch) (threads : ℕ) (few : threads ≤ most_threads) (names :
       → IsSpelled text most ss
       → Spells Anything (most + 2) (parenthesized text) (tokens_of (enclosed ss))
   enclosed_spelled text most ss s =
-      let opening = Spells-symbol {F = HasNoStar} 40 refl (λ rest f. no_symbol_with_parenthesis _) (λ rest f. f) (omega arith) in
+      let opening =
+      Spells-symbol {F = HasNoStar} 40 refl (λ rest f. is_two_byte_symbol-false_after_parenthesis _) (λ rest f. f)
+      (omega arith) in
       let closing = Spells-mark 41 refl (λ c. refl) refl (omega arith) in
       let whole : Spells Anything (1 + (most + 1)) (parenthesized text) ((codes "(" ∷ []) ++ (tokens_of ss ++ (codes ")" ∷ []))) =
       Spells-append
@@ -140,9 +143,9 @@ module _ (arch : Arch) (threads : ℕ) (few : threads ≤ most_threads) (names :
       (sym (flat_map-append (terminal_tokens arch) ss _)) (Spells-mono (most + 2) (omega arith) whole)
     where
       -- A `(` makes no symbol with the next byte.
-      no_symbol_with_parenthesis : (rest : Bytes) → first_byte_is (is_two_byte_symbol 40) rest ≡ false
-      no_symbol_with_parenthesis [] = refl
-      no_symbol_with_parenthesis (b ∷ rest) = refl
+      is_two_byte_symbol-false_after_parenthesis : (rest : Bytes) → first_byte_is (is_two_byte_symbol 40) rest ≡ false
+      is_two_byte_symbol-false_after_parenthesis [] = refl
+      is_two_byte_symbol-false_after_parenthesis (b ∷ rest) = refl
 
   -- The text of a part, in parentheses or not, spells its tokens.
   part_spelled : (needed : Bool) (text : Bytes) (most : ℕ) (ss : List (Terminal AtomSyntax))
@@ -190,7 +193,7 @@ module _ (arch : Arch) (threads : ℕ) (few : threads ≤ most_threads) (names :
   word_spelled : (w : Bytes) → IsName w → (ss : List (Terminal AtomSyntax)) → tokens_of ss ≡ w ∷ [] → IsSpelled w 60 ss
   word_spelled w name ss e = record {
     spells = Spells-mono 60 (omega arith) (subst (λ (ts : TokenList). Spells EndsName 32 w ts) (sym e) (Spells-name w name));
-    starts = starts_name_run w name.0.not_empty name.0.all;
+    starts = starts_name_run w name.0.not_empty name.0.are_name_bytes;
   }
 
   -- The text of an atom spells its tokens.

@@ -33,7 +33,7 @@ HasNoStar rest = first_byte_is (λ b. b == 42) rest ≡ false
 abbrev pub HasNoEquals : Bytes → Type 0
 HasNoEquals rest = first_byte_is (is_two_byte_symbol 58) rest ≡ false
 
--- The text spells these tokens, if what follows it is right; it is UTF-8 and has at most `most` bytes.
+-- The text spells these tokens before any text of which `Follows` holds; it is UTF-8 and has at most `most` bytes.
 pub record Spells (Follows : Bytes → Type 0) (most : ℕ) (text : Bytes) (tokens : TokenList) : Type 0 where
   pub before : (rest : Bytes) (more : TokenList) → Follows rest → Tokens rest more → Tokens (text ++ rest) (tokens ++ more)
   pub short : length text ≤ most
@@ -173,7 +173,7 @@ pub Spells-run : (n : ℕ) (w : Bytes)
     → length w ≤ n
     → Spells EndsName n w (w ∷ [])
 Spells-run n w all kind short = record {
-  before = λ rest more f t. (rest, (none, inl (record { all = all; longest = f; kind = kind })), t);
+  before = λ rest more f t. (rest, (none, inl (record { are_name_bytes = all; longest = f; kind = kind })), t);
   short = short;
   utf8 = IsUtf8-from_ascii w (name_bytes_ascii w all);
 }
@@ -198,7 +198,7 @@ name_by_test w h =
     let most : length w < 33 = ltb-true (length w) 33 long.1 in (
       record {
         not_empty = ltb-true 0 (length w) long.0;
-        all = list_all-AllByRecursion is_name_byte w bytes.0;
+        are_name_bytes = list_all-AllByRecursion is_name_byte w bytes.0;
         front = not-true (first_byte_is is_ascii_digit w) bytes.1;
       },
       omega (arith, most),
@@ -206,7 +206,7 @@ name_by_test w h =
 
 -- A name spells one token, of at most 32 bytes.
 pub Spells-name : (w : Bytes) → IsName w → Spells EndsName 32 w (w ∷ [])
-Spells-name w name = Spells-run 32 w name.0.all (inl name) name.1
+Spells-name w name = Spells-run 32 w name.0.are_name_bytes (inl name) name.1
 
 -- ---- numbers
 

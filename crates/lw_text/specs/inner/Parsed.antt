@@ -39,16 +39,16 @@ pub record ParsedCell (before after : Cursor) (cell : List Token) (mark : Token)
 
 -- A site was parsed, whose thread is allowed; a location's name was inserted into the table.
 pub record ParsedSite (arch : Arch) (threads : Option ℕ) (before after : Cursor) (names table : NameTable) (s : Site) : Type 0 where
-  pub is : IsSite arch (remaining_texts before) (site_by_name table s) (remaining_texts after)
+  pub parsed : IsSite arch (remaining_texts before) (site_by_name table s) (remaining_texts after)
   pub threads_exist : ThreadAllowed threads (site_by_name table s)
   pub names_are : table ≡ with_sites names (site_by_name table s ∷ [])
   pub within : IsIn table s
   pub leaves : AdvancesTo before after
-  pub few : length table ≤ most_locations
+  pub bounded : length table ≤ most_locations
 
 -- A terminal of a proposition was parsed; its site's name was inserted into the table.
 pub record ParsedTerminal (arch : Arch) (threads : ℕ) (before after : Cursor) (names table : NameTable) (s : Terminal) : Type 0 where
-  pub is : IsTerminal arch threads (remaining_texts before) (named_terminal table s) (remaining_texts after)
+  pub parsed : IsTerminal arch threads (remaining_texts before) (named_terminal table s) (remaining_texts after)
   pub names_are : table ≡ with_sites names (sites_in (named_terminal table s ∷ []))
   pub within : TerminalIn table s
   pub leaves : AdvancesTo before after
@@ -64,7 +64,7 @@ pub record BeginsInitializer (arch : Arch) (before : Cursor) (front : List Initi
   pub read : ParsesMany (λ ts e next. IsInitializer arch ts e (codes ";" ∷ next)) inside (map (named_initializer names) front) (token_texts rest)
   pub suffix : IsSuffix (remaining before) rest
   pub place : BeginsAt rest e.at
-  pub is : (t r : ℕ) → e.site ≡ Register t r → IsInitializer arch (token_texts rest) (record { site = InThread t r; word = e.word }) behind
+  pub parsed : (t r : ℕ) → e.site ≡ Register t r → IsInitializer arch (token_texts rest) (record { site = InThread t r; word = e.word }) behind
 
 -- After the initializers in front, each initializer begins at its place.
 abbrev pub BeginInitializers : Arch → Cursor → List Initializer → List Initializer → Type 0
@@ -74,26 +74,26 @@ BeginInitializers arch before front (e ∷ es) =
 
 -- The initial block was parsed; its sites' names were inserted into the table.
 pub record ParsedBlock (arch : Arch) (before after : Cursor) (names table : NameTable) (es : List Initializer) : Type 0 where
-  pub is : Block arch (remaining_texts before) (map (named_initializer table) es) (remaining_texts after)
+  pub parsed : Block arch (remaining_texts before) (map (named_initializer table) es) (remaining_texts after)
   pub names_are : table ≡ with_sites names (map (λ e. site_by_name table e.site) es)
   pub within : All (λ e. IsIn table e.site) es
   pub leaves : AdvancesTo before after
   pub places : BeginInitializers arch before [] es
-  pub few : length table ≤ most_locations
+  pub bounded : length table ≤ most_locations
 
 -- The list of names was parsed, or none: the threads of its sites exist, and its locations' names were inserted into the table.
 pub record ParsedNameList (arch : Arch) (threads : ℕ) (before after : Cursor) (names table : NameTable) (ss : List Site) : Type 0 where
-  pub is : Listed arch (remaining_texts before) (map (site_by_name table) ss) (remaining_texts after)
+  pub parsed : Listed arch (remaining_texts before) (map (site_by_name table) ss) (remaining_texts after)
   pub threads_exist : AllByRecursion (ThreadExists threads) (map (site_by_name table) ss)
   pub names_are : table ≡ with_sites names (map (site_by_name table) ss)
   pub within : All (IsIn table) ss
   pub leaves : AdvancesTo before after
-  pub few : length table ≤ most_locations
+  pub bounded : length table ≤ most_locations
 
 -- The terminals are a proposition with the formula p, of not too many nodes, and the table has room for their names.
 pub record Fits (names : NameTable) (ss : List (syntax.Terminal AtomSyntax)) (p : Formula) : Type 0 where
   pub room : HasRoomFor names (sites_in ss)
-  pub few : HasFewNodes ss
+  pub few_nodes : HasFewNodes ss
   pub says : IsProposition (map (resolved (with_sites names (sites_in ss))) ss) p
 
 -- The tokens are no proposition, on threads below `threads`, whose names the table has room for.
@@ -110,18 +110,18 @@ NoCondition arch threads ts names =
 -- A proposition was parsed, which ends the text; its locations' names were inserted into the table.
 pub record ParsedProposition {A : Type 0} (arch : Arch) (threads : ℕ) (before : TokenList) (names table : NameTable) (p : Prop A) : Type 0 where
   pub terminals : List (syntax.Terminal AtomSyntax)
-  pub is : Terminals arch threads before terminals
+  pub parsed : Terminals arch threads before terminals
   pub names_are : table ≡ with_sites names (sites_in terminals)
-  pub few : HasFewNodes terminals
+  pub few_nodes : HasFewNodes terminals
   pub says : IsProposition (map (resolved table) terminals) (formula_of p)
 
 -- The list of names with these sites was parsed, and then a condition, which ends the text; the names of both were inserted into the table.
 pub record ParsedCondition {A : Type 0} (arch : Arch) (threads : ℕ) (before : TokenList) (names table : NameTable) (ss : List Site) (quant : Quant) (p : Prop A)
     : Type 0 where
   pub terminals : List (syntax.Terminal AtomSyntax)
-  pub is : Condition arch threads before (map (site_by_name table) ss) quant terminals
+  pub parsed : Condition arch threads before (map (site_by_name table) ss) quant terminals
   pub names_are : table ≡ with_sites (with_sites names (map (site_by_name table) ss)) (sites_in terminals)
-  pub few : HasFewNodes terminals
+  pub few_nodes : HasFewNodes terminals
   pub says : IsProposition (map (resolved table) terminals) (formula_of p)
   pub within : All (IsIn table) ss
 

@@ -35,4 +35,4 @@ returns-in-Some-find-clause-ok g c =
     c.in_ok-cpu.ensures.ok.0 c.in_ok-cpu.ensures.ok.1 (c.in-Some-find.ensures ∙ ap Some c.ascii_text.ensures)
 
 pub ascii_text-requires : goal.ascii_text-requires
-ascii_text-requires g c = name_bytes_ascii _ (c.is_name_shaped.ensures.0 c.if-not-is_name_shaped.false).all
+ascii_text-requires g c = name_bytes_ascii _ (c.is_name_shaped.ensures.0 c.if-not-is_name_shaped.false).are_name_bytes

@@ -17,7 +17,7 @@ loop-rest-init g c =
     let back = sym c.as_bytes.ensures.value ∙ c.prefix_of_kind.ensures.parts in
     record {
       events = rw c.new-events.ensures tt;
-      event_texts = rw c.new-events.ensures (event_texts-behind _ _ _ back c.prefix_of_kind.ensures.all);
+      event_texts = rw c.new-events.ensures (event_texts-behind _ _ _ back c.prefix_of_kind.ensures.bytes_pass);
       others = c.prefix_of_kind.ensures.longest;
       shorter = length_le-suffix _ _ _ back;
       back = (c.prefix_of_kind.result.0.now, back);
@@ -43,12 +43,12 @@ loop-rest-preserved g c =
               parts = c.prefix_of_kind-in-loop-rest.ensures.parts;
               not_empty = positive-if_not_zero (length c.loop-rest.rest.now) c.loop-rest-test.ensures;
               front = c.loop-rest.invariant.others;
-              others = c.prefix_of_kind-in-loop-rest.ensures.all;
+              others = c.prefix_of_kind-in-loop-rest.ensures.bytes_pass;
               ends = c.prefix_of_kind-in-loop-rest.ensures.longest;
             });
             behind =
                 event_texts-behind _ _ _ c.prefix_of_kind-in-loop-rest-2.ensures.parts
-                c.prefix_of_kind-in-loop-rest-2.ensures.all;
+                c.prefix_of_kind-in-loop-rest-2.ensures.bytes_pass;
             says = c.in-Ok.ensures.ok.1;
           }) c.in_ok-push-in-Ok.ensures.ok;
       others = c.prefix_of_kind-in-loop-rest-2.ensures.longest;
@@ -66,7 +66,7 @@ returns-in-Err-clause-fault g c known =
       parts = c.prefix_of_kind-in-loop-rest.ensures.parts;
       not_empty = positive-if_not_zero (length c.loop-rest.rest.now) c.loop-rest-test.ensures;
       front = c.loop-rest.invariant.others;
-      others = c.prefix_of_kind-in-loop-rest.ensures.all;
+      others = c.prefix_of_kind-in-loop-rest.ensures.bytes_pass;
       ends = c.prefix_of_kind-in-loop-rest.ensures.longest;
     }) in
     let whole = c.loop-rest.invariant.event_texts ∙ ap (λ ws. map (event_text c.args.names.now) c.loop-rest.events ++ ws) first in
@@ -79,7 +79,7 @@ returns-in-Err-clause-first g c known =
       parts = c.prefix_of_kind-in-loop-rest.ensures.parts;
       not_empty = positive-if_not_zero (length c.loop-rest.rest.now) c.loop-rest-test.ensures;
       front = c.loop-rest.invariant.others;
-      others = c.prefix_of_kind-in-loop-rest.ensures.all;
+      others = c.prefix_of_kind-in-loop-rest.ensures.bytes_pass;
       ends = c.prefix_of_kind-in-loop-rest.ensures.longest;
     }) in
     let back = drop-back c.args.text.now _ c.loop-rest.rest.now c.loop-rest.invariant.back.1 in
@@ -113,7 +113,7 @@ loop-rest-smaller g c =
       parts = c.prefix_of_kind-in-loop-rest.ensures.parts;
       not_empty = positive-if_not_zero _ c.loop-rest-test.ensures;
       front = c.loop-rest.invariant.others;
-      others = c.prefix_of_kind-in-loop-rest.ensures.all;
+      others = c.prefix_of_kind-in-loop-rest.ensures.bytes_pass;
       ends = c.prefix_of_kind-in-loop-rest.ensures.longest;
     }) c.prefix_of_kind-in-loop-rest-2.ensures.parts
 

@@ -8,9 +8,9 @@ pub returns-in_err-name : goal.returns-in_err-name
 returns-in_err-name c =
     None-clause_known _ _ c.from_residual.ensures
     (DoesNotContain-if_no_rest 58 c.prefix_of_kind.result.0.now c.prefix_of_kind.result.1.now c.prefix_of_kind.ensures.parts
-    c.prefix_of_kind.ensures.all c.in_err-name.ensures.cases)
+    c.prefix_of_kind.ensures.bytes_pass c.in_err-name.ensures.cases)
 
 pub returns : goal.returns
 returns c =
-    IsSplitAtFirst-longest_prefix 58 c.prefix_of_kind.result.0.now c.prefix_of_kind.ensures.parts c.prefix_of_kind.ensures.all
-    c.prefix_of_kind.ensures.longest c.in_ok-name.ensures.cases.0
+    IsSplitAtFirst-longest_prefix 58 c.prefix_of_kind.result.0.now c.prefix_of_kind.ensures.parts
+    c.prefix_of_kind.ensures.bytes_pass c.prefix_of_kind.ensures.longest c.in_ok-name.ensures.cases.0

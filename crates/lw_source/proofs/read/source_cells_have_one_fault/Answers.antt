@@ -5,8 +5,8 @@ use Rattle.lw_source.specs.Grammar.{source_grammar}
 use Rattle.lw_source.proofs.SourceLaws.{source_grammar_is_lawful}
 use Rattle.lw_source.proofs.read.source_cells_have_one_fault.Goals as goal
 
-pub returns-clause-one : goal.returns-clause-one
-returns-clause-one c = CellFaultIsTrue-unique source_grammar source_grammar_is_lawful
+pub returns-clause-one_fault : goal.returns-clause-one_fault
+returns-clause-one_fault c = CellFaultIsTrue-unique source_grammar source_grammar_is_lawful
 
 pub returns-clause-none : goal.returns-clause-none
 returns-clause-none c = no_CellFault-of_test source_grammar source_grammar_is_lawful

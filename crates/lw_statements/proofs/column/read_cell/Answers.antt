@@ -40,13 +40,13 @@ returns g c =
       labels = c.read_labels.new.labels;
       count = c.args.column.now.count + c.statement_count.result;
     }) c.args.cell.now c.in_ok-start.start c.maybe_statement.new.locs c.in_ok-stmt.stmt taken stmt pushed
-    (ap (λ (n : ℕ). c.args.column.now.count + n) c.statement_count.ensures) c.len-names.ensures.table.few)
+    (ap (λ (n : ℕ). c.args.column.now.count + n) c.statement_count.ensures) c.len-names.ensures.table.bounded)
     (λ f memory front rest before drafted. column_out_of_memory (grammar_of spelling) before _ f memory.0 memory.1)
 
 pub overflow_add-column : goal.overflow_add-column
 overflow_add-column g c = omega (
   arith,
   c.statement_count.ensures,
-  at_most_room _ _ c.in_ok-stmt.stmt c.requires.few c.in_ok-stmt.ensures.room,
+  at_most_room _ _ c.in_ok-stmt.stmt c.requires.bounded c.in_ok-stmt.ensures.room,
   c.requires.lawful.countable,
 )

@@ -9,10 +9,10 @@ use Rattle.lw_statements.proofs.column.read_cells.Goals as goal
 
 pub loop-cell-init : goal.loop-cell-init
 loop-cell-init g c =
-    ColumnDrafted-none _ (draft_of g.L.StatementReader.spelling) _ _ c.requires.fresh c.len-known.ensures.table.few
+    ColumnDrafted-none _ (draft_of g.L.StatementReader.spelling) _ _ c.requires.fresh c.len-known.ensures.table.bounded
 
-pub read_cell-requires-clause-few : goal.read_cell-requires-clause-few
-read_cell-requires-clause-few g c lifetimes lives = column_count_at_most _ _ _ _ _ _ c.loop-cell.invariant
+pub read_cell-requires-clause-bounded : goal.read_cell-requires-clause-bounded
+read_cell-requires-clause-bounded g c lifetimes lives = column_count_at_most _ _ _ _ _ _ c.loop-cell.invariant
 
 pub loop-cell-preserved : goal.loop-cell-preserved
 loop-cell-preserved g c =

@@ -6,8 +6,8 @@ use Rattle.lw_statements.proofs.api.Faults.{CellFaultIsTrue-unique, no_CellFault
 use Rattle.lw_statements.proofs.api.Forms.{is_grammar}
 use Rattle.lw_statements.proofs.read.cells_have_one_fault.Goals as goal
 
-pub returns-clause-one : goal.returns-clause-one
-returns-clause-one g c =
+pub returns-clause-one_fault : goal.returns-clause-one_fault
+returns-clause-one_fault g c =
     let spelling = g.L.StatementReader.spelling in
     CellFaultIsTrue-unique (grammar_of spelling) (is_grammar spelling g.L.StatementReader.made c.requires.lawful)
 

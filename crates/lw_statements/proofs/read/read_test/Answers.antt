@@ -21,7 +21,7 @@ returns g c =
     MatchResult-weaker c.parts_of.result made (λ parts m.
     rw (m.0, m.1.0.0)
     (FrameHasTest-ColumnsRead grammar (head_of frame.head) (head_of frame.head) refl (all_texts frame.cells) parts.threads _ _
-    c.requires.arch frame.well_formed.words m.1.1 m.1.0.1.few refl)) (λ f refused. tt) in
+    c.requires.arch frame.well_formed.words m.1.1 m.1.0.1.bounded refl)) (λ f refused. tt) in
     record {
       found = found;
       well_formed =
@@ -31,7 +31,7 @@ returns g c =
           (length-map frame.cells cells_texts ∙ frame.columns) has) (λ f refused. tt);
       fault =
           MatchResult-weaker c.parts_of.result made (λ parts m. tt)
-          (λ f refused known s has. refused.none known has.threads (has.says, has.few));
+          (λ f refused known s has. refused.none known has.threads (has.says, has.bounded));
       place = MatchResult-weaker c.parts_of.result made (λ parts m. tt) (λ f refused. refused.place frame.len frame.places);
       memory = MatchResult-weaker c.parts_of.result made (λ parts m. tt) (λ f refused. f.memory);
       cause = MatchResult-weaker c.parts_of.result made (λ parts m. tt) (λ f refused. refused.cause);

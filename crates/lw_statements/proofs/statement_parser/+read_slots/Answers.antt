@@ -3,7 +3,7 @@
 -- nothing (`AreTaken-one_more`, `AreTaken-after_keyword`).
 use Rattle.lw_statements.proofs.Common.{length, ap, sym, ◌∙◌, true≢false, arith}
 use Rattle.lw_statements.proofs.SlotTokens.{keyword_equal-iff_Gives, AreTaken-after_keyword}
-use Rattle.lw_statements.proofs.SlotTokens.{AreTaken-one_more, AreTaken-no_slots, not_Fills-no_tokens}
+use Rattle.lw_statements.proofs.SlotTokens.{AreTaken-one_more, AreTaken-no_slots, not-Fills-if_no_tokens}
 use Rattle.lw_statements.proofs.statement_parser.+read_slots.Goals as goal
 
 pub returns : goal.returns
@@ -35,7 +35,7 @@ returns-in_default g t c =
 pub returns-in_default-split_first : goal.returns-in_default-split_first
 returns-in_default-split_first g t c =
     rw c.in-Some.ensures.cases.0
-    (not_Fills-no_tokens g.L.StatementReader.spelling _ c.in-Some.slot.now c.args.tokens.now
+    (not-Fills-if_no_tokens g.L.StatementReader.spelling _ c.in-Some.slot.now c.args.tokens.now
     c.in_default-split_first.ensures.cases)
 
 pub returns-then-not-read_slots : goal.returns-then-not-read_slots
@@ -44,4 +44,4 @@ returns-then-not-read_slots g t c =
     rw (c.in-Some.ensures.cases.0, c.in-Some-split_first.ensures.cases.0) (λ f s. none f.1 s.1)
 
 pub overflow_add-index : goal.overflow_add-index
-overflow_add-index g t c = omega (arith, c.requires.few, ap length c.in-Some.ensures.cases.0)
+overflow_add-index g t c = omega (arith, c.requires.bounded, ap length c.in-Some.ensures.cases.0)

@@ -15,7 +15,7 @@ returns-then-wants_register g c =
     record {
       front = c.longest_accepted_prefix-front.result;
       longest = c.longest_accepted_prefix-front.ensures.longest;
-      is = rw token (
+      fault_is = rw token (
         c.no_register.ensures.place,
         IsMisfitCause-iff c.no_register.result.cause (name_iff-fact_known before).0 (name_iff-fact_known before).1
             c.no_register.ensures.cause,
@@ -30,7 +30,7 @@ returns g c =
     record {
       front = c.longest_accepted_prefix-front.result;
       longest = c.longest_accepted_prefix-front.ensures.longest;
-      is = rw token (
+      fault_is = rw token (
         c.misfit.ensures.place,
         IsMisfitCause-iff c.misfit.result.cause inr
             (other-fact_not_known (λ before. true≢false (sym (c.wants_register.ensures.1 before) ∙ c.if-wants_register.false)))

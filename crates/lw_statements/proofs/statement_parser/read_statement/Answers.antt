@@ -1,9 +1,9 @@
 -- `read_statement` promises the draft of the statement that the tokens are, or that they are none with room,
 -- and why. If a form fits, the statement is read (`StatementRead-IsDrafted`) or its location has no room
--- (`StatementRefused-IsNotDrafted`); if none fits, they are no statement (`no_statement-no_form`).
+-- (`StatementRefused-IsNotDrafted`); if none fits, they are no statement (`no_statement-if_no_form`).
 use Rattle.lw_statements.proofs.Common.{MatchResult-weaker}
 use Rattle.lw_statements.proofs.StatementsRead.{name_among, StatementRead-IsDrafted}
-use Rattle.lw_statements.proofs.StatementsRead.{StatementRefused-IsNotDrafted, no_statement-no_form}
+use Rattle.lw_statements.proofs.StatementsRead.{StatementRefused-IsNotDrafted, no_statement-if_no_form}
 use Rattle.lw_statements.proofs.statement_parser.read_statement.Goals as goal
 
 pub draft-requires : goal.draft-requires
@@ -26,7 +26,7 @@ pub returns-in-None : goal.returns-in-None
 returns-in-None g c =
     let none = rw c.in-None.is at c.read_form.ensures in
     record {
-      none = λ known. no_statement-no_form g.L.StatementReader.spelling _ _ none;
+      none = λ known. no_statement-if_no_form g.L.StatementReader.spelling _ _ none;
       cause = c.refusal.ensures.0;
       place = c.refusal.ensures.1;
     }

@@ -1,15 +1,16 @@
 -- `wants_register` promises to be true exactly if a register may follow, and no location may. If a location
--- may follow, the claim is false (`not_before_register`); otherwise the answer is that of `may_be_register`
+-- may follow, the claim is false (`not-IsBeforeRegister-before_location`); otherwise the answer is that of `may_be_register`
 -- (`before_register`, `register_after`).
 use Rattle.lw_statements.proofs.Common.{sym, true≢false, ◌∙◌}
-use Rattle.lw_statements.proofs.Beginnings.{before_register, not_before_register, register_after}
+use Rattle.lw_statements.proofs.Beginnings.{before_register, not-IsBeforeRegister-before_location}
+use Rattle.lw_statements.proofs.Beginnings.{register_after}
 use Rattle.lw_statements.proofs.statement_parser.wants_register.Goals as goal
 
 pub returns-then-may_be_location : goal.returns-then-may_be_location
 returns-then-may_be_location g c = (
   λ e. absurd (true≢false (sym e)),
   λ b.
-      absurd (not_before_register _ g.L.StatementReader.made c.requires.lawful _
+      absurd (not-IsBeforeRegister-before_location _ g.L.StatementReader.made c.requires.lawful _
       (c.may_be_location.ensures.0 c.if-may_be_location.true) b),
 )
 

@@ -1,13 +1,13 @@
 -- `kind_of_run` promises the kind of a run of name bytes, or that it is neither a name nor a number. The
 -- first byte decides: a digit begins numbers only (`digit_starts_no_name`), another byte begins names only, of at
--- most 32 bytes (`long_run_is_no_name`).
+-- most 32 bytes (`not-IsNameOrNumber-if_long`).
 use Rattle.lw_text.proofs.Common.{sym, ◌∙◌, inl, inr, arith}
-use Rattle.lw_text.proofs.NameRuns.{empty_is_no_name_or_number, digit_starts_no_name, short_run_is_name}
-use Rattle.lw_text.proofs.NameRuns.{long_run_is_no_name}
+use Rattle.lw_text.proofs.NameRuns.{not-IsNameOrNumber-if_empty, digit_starts_no_name, short_run_is_name}
+use Rattle.lw_text.proofs.NameRuns.{not-IsNameOrNumber-if_long}
 use Rattle.lw_text.proofs.lexeme.kind_of_run.Goals as goal
 
 pub returns-in_default : goal.returns-in_default
-returns-in_default c = empty_is_no_name_or_number (sym c.as_bytes.ensures.value ∙ c.in_default.ensures)
+returns-in_default c = not-IsNameOrNumber-if_empty (sym c.as_bytes.ensures.value ∙ c.in_default.ensures)
 
 pub returns-in-Some-number : goal.returns-in-Some-number
 returns-in-Some-number c = (inr (c.in-Some-number.number, c.in-Some-number.ensures), c.in-Some-number.ensures)
@@ -26,5 +26,5 @@ returns-then-run-le-MAX_NAME_BYTES c =
 
 pub returns : goal.returns
 returns c =
-    long_run_is_no_name (sym c.as_bytes.ensures.value ∙ c.in-Some.ensures) (sym c.if-is_ascii_digit.ensures.value)
+    not-IsNameOrNumber-if_long (sym c.as_bytes.ensures.value ∙ c.in-Some.ensures) (sym c.if-is_ascii_digit.ensures.value)
     (λ short. omega (arith, short, c.if-run-le-MAX_NAME_BYTES.false))

@@ -1,16 +1,16 @@
 -- `token` promises the first token and its kind, or that there is none, and why. The first byte decides: a
--- name byte begins the longest run (`no_token-no_kind`), otherwise two bytes are a symbol or one is (`long_symbol`,
+-- name byte begins the longest run (`no_token-if_no_kind`), otherwise two bytes are a symbol or one is (`long_symbol`,
 -- `short_symbol`). If neither, no token begins the text (`no_token`).
 use Rattle.lw_text.proofs.Common.{refl, sym, ◌∙◌, ap, subst, length, arith, false≢true, is_name_byte}
 use Rattle.lw_text.proofs.Common.{first_byte_is, IsNameOrNumber, inl, name_bytes_ascii, no_symbol, inr}
-use Rattle.lw_text.proofs.NameRuns.{no_token-no_kind, no_token, long_symbol, short_symbol, long_ascii}
+use Rattle.lw_text.proofs.NameRuns.{no_token-if_no_kind, no_token, long_symbol, short_symbol, long_ascii}
 use Rattle.lw_text.proofs.NameRuns.{short_ascii, run_fails}
 use Rattle.lw_text.proofs.lexeme.token.Goals as goal
 
 pub returns-in_default-kind_of_run-clause-none : goal.returns-in_default-kind_of_run-clause-none
 returns-in_default-kind_of_run-clause-none c =
     let run = c.prefix_of_kind.ensures in
-    no_token-no_kind (record { parts = run.parts; all = run.all; longest = run.longest })
+    no_token-if_no_kind (record { parts = run.parts; bytes_pass = run.bytes_pass; longest = run.longest })
     (ap (first_byte_is is_name_byte) c.in-Some.ensures ∙ sym c.is_name_byte.ensures ∙ c.if-is_name_byte.true)
     (λ k. c.in_default-kind_of_run.ensures (subst IsNameOrNumber (sym c.ascii_text-text.ensures) k))
 
@@ -30,7 +30,11 @@ returns-then-is_name_byte-clause-found c =
     let same = c.ascii_text-text.ensures in
     let kind = c.in-Some-kind_of_run.ensures in (
       rw same c.prefix_of_kind.ensures.parts,
-      inl (record { all = rw same c.prefix_of_kind.ensures.all; longest = c.prefix_of_kind.ensures.longest; kind = kind.0 }),
+      inl (record {
+        are_name_bytes = rw same c.prefix_of_kind.ensures.bytes_pass;
+        longest = c.prefix_of_kind.ensures.longest;
+        kind = kind.0;
+      }),
       kind.1,
     )
 
@@ -54,16 +58,16 @@ ascii_text-requires-then-begins_short c =
     (c.if-begins_short.ensures.0 refl).0 c.split_at-then-begins_short.ensures.front
 
 pub ascii_text-text-requires : goal.ascii_text-text-requires
-ascii_text-text-requires c = name_bytes_ascii _ c.prefix_of_kind.ensures.all
+ascii_text-text-requires c = name_bytes_ascii _ c.prefix_of_kind.ensures.bytes_pass
 
 pub kind_of_run-requires : goal.kind_of_run-requires
-kind_of_run-requires c = rw c.ascii_text-text.ensures c.prefix_of_kind.ensures.all
+kind_of_run-requires c = rw c.ascii_text-text.ensures c.prefix_of_kind.ensures.bytes_pass
 
 pub returns-in_default-kind_of_run-clause-fails : goal.returns-in_default-kind_of_run-clause-fails
 returns-in_default-kind_of_run-clause-fails c = λ some.
     run_fails (record {
       parts = c.prefix_of_kind.ensures.parts;
-      all = c.prefix_of_kind.ensures.all;
+      bytes_pass = c.prefix_of_kind.ensures.bytes_pass;
       longest = c.prefix_of_kind.ensures.longest;
     }) c.in-Some.ensures (sym c.is_name_byte.ensures ∙ c.if-is_name_byte.true)
     (λ k. c.in_default-kind_of_run.ensures (subst IsNameOrNumber (sym c.ascii_text-text.ensures) k)) c.fault_of_run.ensures.cause

@@ -15,17 +15,18 @@ returns-in_default c =
 pub returns-in-Some-split : goal.returns-in-Some-split
 returns-in-Some-split c =
     let u = c.prefix_of_kind.ensures in
-    inl (Quoted-made _ _ _ _ c.in-Some.ensures u.parts u.all u.longest _ _ c.in-Some-split.ensures)
+    inl (Quoted-made _ _ _ _ c.in-Some.ensures u.parts u.bytes_pass u.longest _ _ c.in-Some-split.ensures)
 
 pub returns-in-None : goal.returns-in-None
 returns-in-None c =
     let u = c.prefix_of_kind.ensures in (
       no_note-unclosed_quote c.args.bytes.now (ap (first_byte_is (λ b. b == 34)) c.in-Some.ensures)
-          (Quoted-open c.args.bytes.now c.in-Some.inside.now _ _ c.in-Some.ensures u.parts u.all u.longest c.in-None.ensures),
+          (Quoted-open c.args.bytes.now c.in-Some.inside.now _ _ c.in-Some.ensures u.parts u.bytes_pass u.longest
+          c.in-None.ensures),
       omega (arith, ap length c.in-Some.ensures, ap length u.parts, length-append {A = ℕ}),
       open_quote c.in-Some.inside.now c.in-Some.ensures
           (subst (AllByRecursion (λ b. (b == 34) ≡ false))
           (sym (u.parts
           ∙ ap (λ x. c.prefix_of_kind.result.0.now ++ x) c.in-None.ensures
-          ∙ append-nil c.prefix_of_kind.result.0.now)) (All-mono _ _ (λ b. not-true (b == 34)) _ u.all)) c.in-None.ensures,
+          ∙ append-nil c.prefix_of_kind.result.0.now)) (All-mono _ _ (λ b. not-true (b == 34)) _ u.bytes_pass)) c.in-None.ensures,
     )

@@ -1,11 +1,12 @@
 -- `after_notes` promises the rest from the `{` on, or that there is no such sequence of notes, and where it
 -- fails. Each round passes trivia and a note (`Passed_note`). It ends with `{` (`Passed_done`), with no note
--- (`no_notes-no_note`) or in an open comment (`Passed_open`).
+-- (`no_notes-if_no_note`) or in an open comment (`Passed_open`).
 use Rattle.lw_text.proofs.Common.{[], refl, arith, ap, ◌==◌, first_byte_is, open_comment_in_notes, in_note}
 use Rattle.lw_text.proofs.Common.{after_note}
 use Rattle.lw_text.proofs.Faults.{Err-clause_known}
 use Rattle.lw_text.proofs.TriviaLemmas.{Trivia-shorter}
-use Rattle.lw_text.proofs.NoteRows.{no_notes-no_note, Passed_note, Passed_open, Passed_done, Passed_shorter}
+use Rattle.lw_text.proofs.NoteRows.{no_notes-if_no_note, Passed_note, Passed_open, Passed_done}
+use Rattle.lw_text.proofs.NoteRows.{Passed_shorter}
 use Rattle.lw_text.proofs.notes.after_notes.Goals as goal
 
 pub returns-in_default : goal.returns-in_default
@@ -17,7 +18,7 @@ returns-in_default c = (
 
 pub returns-in_err-rest-in-None : goal.returns-in_err-rest-in-None
 returns-in_err-rest-in-None c = Err-clause_known _ _ _ c.from_residual.ensures.1 (
-  no_notes-no_note c.notes.invariant.passed c.in-Some.ensures.found c.in-Some.ensures.stops c.in-None.ensures
+  no_notes-if_no_note c.notes.invariant.passed c.in-Some.ensures.found c.in-Some.ensures.stops c.in-None.ensures
       c.in_err-rest-in-None.ensures.0,
   omega (arith, c.in_err-rest-in-None.ensures.1, Trivia-shorter c.in-Some.ensures.found, c.notes.invariant.passed.bound),
   c.notes.invariant.fails _

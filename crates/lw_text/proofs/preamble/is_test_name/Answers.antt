@@ -11,7 +11,7 @@ returns c = (
   λ e. record {
     not_empty = omega (arith, eqb-false _ _ (sym c.is_empty.ensures ∙ not-true _ e));
     short = c.if-name-gt-MAX_TEST_NAME_BYTES.false;
-    all =
+    are_graphic_bytes =
         list_all-AllByRecursion is_ascii_graphic c.args.name.now
         (whole_list-at_end (list_all is_ascii_graphic) c.args.name.now c.loop-byte.byte-index true c.loop-byte-test.false
         c.loop-byte.invariant);

@@ -10,7 +10,7 @@ use Rattle.lw_text.proofs.Common.{FailsInPreamble, in_preamble, in_body, FailsFr
 use Rattle.lw_text.proofs.StreamFailures.{body_fails}
 use Rattle.lw_text.proofs.TokenRows.{read_whole}
 use Rattle.lw_text.proofs.CellPlaces.{HasRows-within}
-use Rattle.lw_text.proofs.RowColumns.{columns-map}
+use Rattle.lw_text.proofs.RowColumns.{map-columns}
 use Rattle.lw_text.proofs.WellFormedHeads.{resolved_head-head_of_syntax, body_proposition}
 use Rattle.lw_text.proofs.Whole.{no_frame-HasNoTest, HasNoTest-no_tokens_or_no_parse}
 use Rattle.lw_text.proofs.Faults.{MatchResult-weakened_error, Err-clause_known}
@@ -112,7 +112,7 @@ returns g c =
     let head : head_of frame.head ≡ head_of_syntax arch name (syntax_of body says.terminals) (formula_of body.parts.prop) =
     c.in_ok-finish.ensures.head ∙ resolved_head-head_of_syntax arch name _ body says in
     let cells : all_texts frame.cells ≡ columns body.parts.threads (all_texts body.rows) =
-    ap all_texts c.in_ok-finish.ensures.cells ∙ columns-map cell_texts body.parts.threads body.rows in
+    ap all_texts c.in_ok-finish.ensures.cells ∙ map-columns cell_texts body.parts.threads body.rows in
     let whole = c.in_ok-preamble.ensures.same ∙ c.new-lexer.ensures.text in
     let stream =
     subst (λ t. PlacedTokens (length t) rest (with_spans all.tokens)) whole
@@ -142,7 +142,7 @@ returns g c =
         threads = body.parts.threads;
         rows = placed_cells body.rows;
         has_rows = c.in_ok-body.ensures.2;
-        cells_are = ap placed_cells c.in_ok-finish.ensures.cells ∙ columns-map _ body.parts.threads body.rows;
+        cells_are = ap placed_cells c.in_ok-finish.ensures.cells ∙ map-columns _ body.parts.threads body.rows;
       },
       c.in_ok-finish.ensures.len,
     )

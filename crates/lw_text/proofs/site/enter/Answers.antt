@@ -20,5 +20,5 @@ returns-in-Some g c =
       c.if-not-is_location.ensures.0 refl,
       insert_name-get c.args.locs.now c.find_or_add.new.self c.in-Some.loc c.args.name.now names index,
       names,
-      c.in_ok-loc.ensures.table.few,
+      c.in_ok-loc.ensures.table.bounded,
     )

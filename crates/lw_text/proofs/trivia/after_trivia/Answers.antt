@@ -11,7 +11,10 @@ use Rattle.lw_text.proofs.trivia.after_trivia.Goals as goal
 pub loop-inner-init : goal.loop-inner-init
 loop-inner-init c =
     let b = c.prefix_of_kind.ensures in
-    record { skipped = Skipped-blanks _ _ c.args.bytes.now _ (Skipped-none c.args.bytes.now) b.parts b.all; no_blank = b.longest }
+    record {
+      skipped = Skipped-blanks _ _ c.args.bytes.now _ (Skipped-none c.args.bytes.now) b.parts b.bytes_pass;
+      no_blank = b.longest;
+    }
 
 pub returns-in_err-after_comment-clause-none : goal.returns-in_err-after_comment-clause-none
 returns-in_err-after_comment-clause-none c =
@@ -31,7 +34,7 @@ loop-inner-preserved c =
     let b = c.prefix_of_kind-in-Some.ensures in
     let s = Skipped-comment c.loop-inner.invariant.skipped c.in-Some.ensures c.in_ok-after_comment.ensures.found in
     record {
-      skipped = Skipped-blanks c.prefix_of_kind-in-Some.result.0.now c.args.bytes.now _ _ s b.parts b.all;
+      skipped = Skipped-blanks c.prefix_of_kind-in-Some.result.0.now c.args.bytes.now _ _ s b.parts b.bytes_pass;
       no_blank = b.longest;
     }
 

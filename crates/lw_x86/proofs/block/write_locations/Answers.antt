@@ -35,7 +35,7 @@ returns g c =
       length-take c.len.result c.all.result,
       ap length c.all.ensures,
       c.len.ensures.len,
-      c.requires.table.few,
+      c.requires.table.bounded,
     ) in
     numbers_written-all (location_initializer head) names c.loop-loc.loc-index _ _ c.loop-loc.invariant whole
     ∙ ap (λ t. string_bytes c.args.out.now ++ t) (sym (initializer_texts-locations head names))

@@ -4,8 +4,8 @@ use Rattle.lw_x86.proofs.Common.{CellFaultIsTrue-unique, no_CellFault-of_test, x
 use Rattle.lw_x86.proofs.X86Laws.{x86_grammar_is_lawful}
 use Rattle.lw_x86.proofs.read.x86_cells_have_one_fault.Goals as goal
 
-pub returns-clause-one : goal.returns-clause-one
-returns-clause-one c = CellFaultIsTrue-unique x86_grammar x86_grammar_is_lawful
+pub returns-clause-one_fault : goal.returns-clause-one_fault
+returns-clause-one_fault c = CellFaultIsTrue-unique x86_grammar x86_grammar_is_lawful
 
 pub returns-clause-none : goal.returns-clause-none
 returns-clause-none c = no_CellFault-of_test x86_grammar x86_grammar_is_lawful

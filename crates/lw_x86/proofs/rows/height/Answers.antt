@@ -1,7 +1,7 @@
 -- `height` promises the greatest number of cells of a thread. Each round takes the maximum with one more
--- thread (`max_cell_count-one_more`), whose number of cells is what `count_cells` returns (`cells_of-length`).
+-- thread (`max_cell_count-one_more`), whose number of cells is what `count_cells` returns (`length-cells_of`).
 use Rattle.lw_x86.proofs.Common.{◌<◌, length, arith, ap, cells_of, take_all}
-use Rattle.lw_x86.proofs.CellLists.{cells_of-length, max_cell_count-one_more}
+use Rattle.lw_x86.proofs.CellLists.{length-cells_of, max_cell_count-one_more}
 use Rattle.lw_x86.proofs.rows.height.Goals as goal
 
 pub loop-code-preserved : goal.loop-code-preserved
@@ -9,7 +9,7 @@ loop-code-preserved g c =
     let program = c.args.program.now in
     let counted =
     rw c.as_slice.ensures at
-    (cells_of-length program.head.locs c.as_slice.result.now c.count_cells.result c.count_cells.ensures) in
+    (length-cells_of program.head.locs c.as_slice.result.now c.count_cells.result c.count_cells.ensures) in
     let lt : c.loop-code.code-index < length program.threads =
     omega (arith, c.loop-code-test.true, ap length c.as_slice-code-items.ensures) in
     let is = rw c.as_slice-code-items.ensures at c.code-item.is in

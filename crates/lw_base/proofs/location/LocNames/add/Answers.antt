@@ -13,7 +13,7 @@ pub invariant_of-self-2 : goal.invariant_of-self-2
 invariant_of-self-2 g c =
     let more = map_names-push string_bytes _ _ _ _ c.in_ok-push.ensures.items c.in_ok-text.ensures.ok in
     let fresh = rw (← c.self.view_is) at c.requires.fresh in
-    rw more (IsNameTable-push _ _ (rw (← c.self.view_is) at c.requires.few) c.requires.name fresh c.self.invariant)
+    rw more (IsNameTable-push _ _ (rw (← c.self.view_is) at c.requires.bounded) c.requires.name fresh c.self.invariant)
 
 pub returns-clause-index : goal.returns-clause-index
 returns-clause-index g c =
@@ -22,7 +22,7 @@ returns-clause-index g c =
     ∙ c.self.inside.names.ok.0
     ∙ sym (length-map c.self.inside.names.items string_bytes)
     ∙ ap length c.self.view_is in
-    index-of_pushed_name c.new.result _ c.unwrap.result _ c.new.ensures count c.requires.few c.unwrap.ensures
+    index-of_pushed_name c.new.result _ c.unwrap.result _ c.new.ensures count c.requires.bounded c.unwrap.ensures
 
 pub returns-clause-ok : goal.returns-clause-ok
 returns-clause-ok g c =
@@ -39,7 +39,7 @@ unwrap-requires g c =
     ∙ c.self.inside.names.ok.0
     ∙ sym (length-map c.self.inside.names.items string_bytes)
     ∙ ap length c.self.view_is in
-    IsSome-if_below_eight c.new.result c.len-index.result _ c.new.ensures count c.requires.few
+    IsSome-if_below_eight c.new.result c.len-index.result _ c.new.ensures count c.requires.bounded
 
 pub overflow_cast-index : goal.overflow_cast-index
 overflow_cast-index g c =
@@ -48,4 +48,4 @@ overflow_cast-index g c =
     ∙ c.self.inside.names.ok.0
     ∙ sym (length-map c.self.inside.names.items string_bytes)
     ∙ ap length c.self.view_is in
-    omega (arith, count, c.requires.few)
+    omega (arith, count, c.requires.bounded)

@@ -1,16 +1,16 @@
 -- Of `LocNames::find`, which returns the location with a name, or `None` if the table has no such name. Names
--- that were passed are others (`not_found_at_index`); a name that compares equal is at this index, which fits as a
+-- that were passed are others (`not-found_at_index`); a name that compares equal is at this index, which fits as a
 -- location (`found_at_index`).
 use Rattle.lw_base.proofs.Common.{arith, ap, sym, ◌∙◌, below_more, get_or, length, map, ◌<◌, [], string_bytes}
 use Rattle.lw_base.proofs.Common.{get_or_read, length-map}
-use Rattle.lw_base.proofs.api.Tables.{not_found_at_index, found_at_index}
+use Rattle.lw_base.proofs.api.Tables.{not-found_at_index, found_at_index}
 use Rattle.lw_base.proofs.location.LocNames.find.Goals as goal
 
 pub loop-index-preserved : goal.loop-index-preserved
 loop-index-preserved g c =
     let within : c.loop-index.index < length c.deref-known-items.result.now = omega arith in
     below_more _ _ c.loop-index.invariant
-    (not_found_at_index string_bytes _ _ _
+    (not-found_at_index string_bytes _ _ _
     (record { entry = c.known-item.result; index_in_range = within; entry_is = c.known-item.is; named = c.as_str.ensures.value })
     _ (sym c.eq.ensures ∙ c.if-eq.false))
 
@@ -18,7 +18,7 @@ pub returns-then-eq : goal.returns-then-eq
 returns-then-eq g c =
     let within : c.loop-index.index < length c.deref-known-items.result.now = omega arith in
     let few : length c.deref-known-items.result.now < 9 =
-    omega (arith, length-map c.self.inside.names.items string_bytes, c.self.invariant.few, c.deref-known-items.ensures) in
+    omega (arith, length-map c.self.inside.names.items string_bytes, c.self.invariant.bounded, c.deref-known-items.ensures) in
     let stands =
     found_at_index string_bytes _ _ _
     (record { entry = c.known-item.result; index_in_range = within; entry_is = c.known-item.is; named = c.as_str.ensures.value })
@@ -30,7 +30,7 @@ overflow_cast-index g c = omega (
   arith,
   c.loop-index-test.true,
   length-map c.self.inside.names.items string_bytes,
-  c.self.invariant.few,
+  c.self.invariant.bounded,
   ap length c.deref-known-items.ensures.value,
 )
 

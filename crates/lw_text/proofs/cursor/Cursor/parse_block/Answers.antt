@@ -8,13 +8,13 @@ use Rattle.lw_text.proofs.Common.{TokenList, Unexpected, named_initializer, site
 use Rattle.lw_text.proofs.Common.{FailsInAssignment, FailsInInitializers, FailsInBlock, no_brace}
 use Rattle.lw_text.proofs.Common.{in_initializers, in_element, no_mark, in_elements_after, in_site, in_value}
 use Rattle.lw_text.proofs.Common.{TextCause, BeginsInitializer}
-use Rattle.lw_text.proofs.Faults.{Err-clause_known, MatchResult-Memory_error, IsOfReader-Unexpected}
+use Rattle.lw_text.proofs.Faults.{Err-clause_known, MatchResult-Memory_error, IsParserCause-Unexpected}
 use Rattle.lw_text.proofs.Lists.{IsSuffix-join, tail-shorter}
-use Rattle.lw_text.proofs.Atoms.{brace, semicolon, IsSite-shorter, Value-shorter, no_initializer-no_value}
+use Rattle.lw_text.proofs.Atoms.{brace, semicolon, IsSite-shorter, Value-shorter, no_initializer-if_no_value}
 use Rattle.lw_text.proofs.SiteLists.{initializer_kind, initializers_fault}
 use Rattle.lw_text.proofs.Failures.{Fails-later, BeginInitializers-push, Listing-joined}
 use Rattle.lw_text.proofs.Readings.{Read-none, Read-at_close, Read-separator, Read-closed}
-use Rattle.lw_text.proofs.Readings.{no_list-no_separator, More}
+use Rattle.lw_text.proofs.Readings.{no_list-if_no_separator, More}
 use Rattle.lw_text.proofs.cursor.Cursor.parse_block.Given.{Over}
 use Rattle.lw_text.proofs.cursor.Cursor.parse_block.Goals.{After-parse_site, In_ok-word, In_ok-expect_either}
 use Rattle.lw_text.proofs.cursor.Cursor.parse_block.Goals as goal
@@ -30,7 +30,7 @@ initializers-init g c = rw c.new-initializers.ensures (record {
   read = Read-none (initializer_kind c.args.arch) c.args.locs.now (remaining_texts c.args.self.now) _ c.in_ok-expect.ensures.ok;
   leaves = c.in_ok-expect.ensures.leaves;
   places = tt;
-  few = c.len-known.ensures.table.few;
+  bounded = c.len-known.ensures.table.bounded;
   fails = λ rest cause w. in_initializers c.in_ok-expect.ensures.ok w;
 })
 
@@ -38,12 +38,12 @@ pub returns-then-accept : goal.returns-then-accept
 returns-then-accept g c =
     let whole = Read-at_close c.initializers.invariant.read _ (c.accept.ensures.taken c.if-accept.true) in
     record {
-      is = whole.whole;
+      parsed = whole.whole;
       names_are = whole.names_are;
       within = whole.within;
       leaves = IsSuffix-join c.initializers.invariant.leaves c.accept.ensures.leaves;
       places = c.initializers.invariant.places;
-      few = c.initializers.invariant.few;
+      bounded = c.initializers.invariant.bounded;
     }
 
 -- If no `}` is next, a site is read at the same position.
@@ -59,9 +59,9 @@ entry_read g c = record {
   grows = c.in_ok-site.ensures.names_are;
   is_in = c.in_ok-site.ensures.within;
   fits = tt;
-  stands =
+  parsed =
       (let same = ap remaining_texts (c.accept.ensures.kept c.if-accept.false) in
-      (remaining_texts c.parse_site.new.self, rw same at c.in_ok-site.ensures.is, c.in_ok-word.ensures.0));
+      (remaining_texts c.parse_site.new.self, rw same at c.in_ok-site.ensures.parsed, c.in_ok-word.ensures.0));
 }
 
 -- What remains after the initializer and its mark is a suffix of the text.
@@ -104,11 +104,11 @@ begins g c =
           (Listing-joined (IsInitializer c.args.arch) semicolon brace _ read.start _ read.listing);
       suffix = IsSuffix-join c.initializers.invariant.leaves c.accept.ensures.leaves;
       place = c.place-at.ensures;
-      is = λ t r e. (
+      parsed = λ t r e. (
         remaining_texts c.parse_site.new.self,
         subst (λ s.
             IsSite c.args.arch (remaining_texts c.accept.new.self) (site_by_name c.parse_site.new.locs s)
-            (remaining_texts c.parse_site.new.self)) e c.in_ok-site.ensures.is,
+            (remaining_texts c.parse_site.new.self)) e c.in_ok-site.ensures.parsed,
         c.in_ok-word.ensures.0,
       );
     }
@@ -131,12 +131,12 @@ returns-in_err-word g c =
     Err-clause_known _ _ _ c.from_residual-in_err-word.ensures.1 (λ ne. (
       initializers_fault c.args.arch c.initializers.invariant.read (c.accept.ensures.other c.if-accept.false)
           (λ e back initializer some.
-          no_initializer-no_value c.args.arch _ _ _ (rw same at c.in_ok-site.ensures.is) c.in_err-word.ensures.0 e back
+          no_initializer-if_no_value c.args.arch _ _ _ (rw same at c.in_ok-site.ensures.parsed) c.in_err-word.ensures.0 e back
           initializer),
       Fails-later (IsSuffix-join (leaves_before g d) c.in_ok-site.ensures.leaves) (λ rest cause w.
           element_fails g d rest cause
-          (in_value _ c.in_ok-site.ensures.is c.in_ok-site.ensures.threads_exist
-          (subst (λ (table : NameTable). length table ≤ 8) c.in_ok-site.ensures.names_are c.in_ok-site.ensures.few) w))
+          (in_value _ c.in_ok-site.ensures.parsed c.in_ok-site.ensures.threads_exist
+          (subst (λ (table : NameTable). length table ≤ 8) c.in_ok-site.ensures.names_are c.in_ok-site.ensures.bounded) w))
           c.in_err-word.ensures.1,
     ))
 
@@ -146,14 +146,14 @@ returns-in_err-expect_either g c =
     let initializer = entry_read g d.In_ok-word in
     Err-clause_known _ _ _ c.from_residual-in_err-expect_either.ensures.1 (λ ne. (
       λ es rest block few.
-          no_list-no_separator c.initializers.invariant.read _ _ initializer.stands c.in_err-expect_either.ensures.1
+          no_list-if_no_separator c.initializers.invariant.read _ _ initializer.parsed c.in_err-expect_either.ensures.1
           c.in_err-expect_either.ensures.0 es rest block,
       Fails-later
           (IsSuffix-join (leaves_before g d.After-parse_site) (IsSuffix-join c.in_ok-site.ensures.leaves c.in_ok-word.ensures.1))
           (λ rest cause w.
           c.initializers.invariant.fails rest cause
-          (no_mark (c.accept.ensures.other c.if-accept.false) initializer.stands
-          (subst (λ (table : NameTable). length table ≤ 8) initializer.grows c.in_ok-site.ensures.few) w))
+          (no_mark (c.accept.ensures.other c.if-accept.false) initializer.parsed
+          (subst (λ (table : NameTable). length table ≤ 8) initializer.grows c.in_ok-site.ensures.bounded) w))
           c.in_err-expect_either.ensures.2,
     ))
 
@@ -164,12 +164,12 @@ returns-then-branch g c =
     let whole =
     Read-closed c.initializers.invariant.read (entry_read g d.In_ok-word) (remaining_texts c.expect_either.new.self) mark in
     rw c.in_ok-push.ensures.ok (record {
-      is = whole.whole;
+      parsed = whole.whole;
       names_are = whole.names_are;
       within = whole.within;
       leaves = leaves g d.In_ok-expect_either;
       places = BeginInitializers-push _ _ [] _ _ c.initializers.invariant.places (begins g d.In_ok-word);
-      few = c.in_ok-site.ensures.few;
+      bounded = c.in_ok-site.ensures.bounded;
     })
 
 -- The order of numbers is transitive.
@@ -182,7 +182,7 @@ initializers-smaller g c =
     let same = kept g (goal.at.initializers-smaller g c).After-parse_site in
     tail-shorter _ _ _ _
     (rw same at
-    (less _ _ _ (Value-shorter _ _ _ c.in_ok-word.ensures.0) (IsSite-shorter c.args.arch _ _ _ c.in_ok-site.ensures.is))) mark
+    (less _ _ _ (Value-shorter _ _ _ c.in_ok-word.ensures.0) (IsSite-shorter c.args.arch _ _ _ c.in_ok-site.ensures.parsed))) mark
 
 pub initializers-preserved : goal.initializers-preserved
 initializers-preserved g c =
@@ -194,15 +194,15 @@ initializers-preserved g c =
           mark;
       leaves = leaves g d.In_ok-expect_either;
       places = BeginInitializers-push _ _ [] _ _ c.initializers.invariant.places (begins g d.In_ok-word);
-      few = c.in_ok-site.ensures.few;
+      bounded = c.in_ok-site.ensures.bounded;
       fails = λ rest cause w.
           c.initializers.invariant.fails rest cause
           (in_elements_after (c.accept.ensures.other c.if-accept.false)
           (subst (λ mid.
           IsInitializer c.args.arch (remaining_texts c.initializers.self) (named_initializer c.parse_site.new.locs
           (record { at = c.place-at.result; site = c.in_ok-site.site; word = c.in_ok-word.word })) mid) mark
-          (entry_read g d.In_ok-word).stands)
-          (subst (λ (table : NameTable). length table ≤ 8) (entry_read g d.In_ok-word).grows c.in_ok-site.ensures.few)
+          (entry_read g d.In_ok-word).parsed)
+          (subst (λ (table : NameTable). length table ≤ 8) (entry_read g d.In_ok-word).grows c.in_ok-site.ensures.bounded)
           (subst (λ names. FailsInInitializers c.args.arch rest cause names (remaining_texts c.expect_either.new.self))
           (entry_read g d.In_ok-word).grows w));
     })
@@ -211,13 +211,13 @@ pub returns-in_err-push : goal.returns-in_err-push
 returns-in_err-push g c = MatchResult-Memory_error _ _ _ c.from_residual-in_err-push.ensures.1
 
 pub expect-requires : goal.expect-requires
-expect-requires g c = IsOfReader-Unexpected
+expect-requires g c = IsParserCause-Unexpected
 
 pub parse_site-requires : goal.parse_site-requires
-parse_site-requires g c = IsOfReader-Unexpected
+parse_site-requires g c = IsParserCause-Unexpected
 
 pub parse_value-requires : goal.parse_value-requires
-parse_value-requires g c = IsOfReader-Unexpected
+parse_value-requires g c = IsParserCause-Unexpected
 
 pub expect_either-requires : goal.expect_either-requires
-expect_either-requires g c = IsOfReader-Unexpected
+expect_either-requires g c = IsParserCause-Unexpected

@@ -12,7 +12,7 @@ invariant-initializers g l = record {
   read : Read (initializer_kind l.arch) l.fn.locs l.locs (remaining_texts l.fn.self) (remaining_texts l.self) l.initializers;
   leaves : IsSuffix (remaining l.fn.self) (remaining l.self);
   places : BeginInitializers l.arch l.fn.self [] l.initializers;
-  few : length l.locs ≤ 8;
+  bounded : length l.locs ≤ 8;
   fails :
       (rest : TokenList) (cause : TextCause)
       → FailsInInitializers l.arch rest cause l.locs (remaining_texts l.self)

@@ -1,6 +1,6 @@
 -- `parse_body` promises the parts of a test that the tokens say, or that they say none, and where they fail.
 -- Success puts the parts together (`HasSyntax-of_parts`). For each part that fails, the tokens are no test, since
--- what precedes it is read in one way only (`no_test-no_header`, `no_test-missing_thread`, `no_test-no_rows`, `no_test-no_condition`).
+-- what precedes it is read in one way only (`no_test-if_no_header`, `no_test-missing_thread`, `no_test-if_no_rows`, `no_test-if_no_condition`).
 use Rattle.lw_text.proofs.Common.{[], refl, sym, map, arith, subst, length-map, Header, Block}
 use Rattle.lw_text.proofs.Common.{named_initializer, cells_texts, with_spans, remaining, remaining_texts}
 use Rattle.lw_text.proofs.Common.{FailsInCondition, in_block, in_header, no_such_thread, in_rows}
@@ -9,10 +9,10 @@ use Rattle.lw_text.proofs.CellPlaces.{Rows-with_spans, with_spans-of_suffix}
 use Rattle.lw_text.proofs.Lists.{IsSuffix-join}
 use Rattle.lw_text.proofs.api.Places.{texts_placed}
 use Rattle.lw_text.proofs.Bodies.{HasSyntax-of_parts}
-use Rattle.lw_text.proofs.Whole.{names_of_initializers, HasRoomFor-initial_block, no_test-no_header}
-use Rattle.lw_text.proofs.Whole.{no_test-missing_thread, no_test-no_rows, no_test-no_condition, header_some}
-use Rattle.lw_text.proofs.Whole.{Rows-even, ThreadExists-all_initializers, site_is_register-missing_thread}
-use Rattle.lw_text.proofs.Whole.{ReadsBlock-ParsedBlock}
+use Rattle.lw_text.proofs.Whole.{names_of_initializers, HasRoomFor-initial_block, no_test-if_no_header}
+use Rattle.lw_text.proofs.Whole.{no_test-missing_thread, no_test-if_no_rows, no_test-if_no_condition}
+use Rattle.lw_text.proofs.Whole.{header_some, Rows-even, ThreadExists-all_initializers}
+use Rattle.lw_text.proofs.Whole.{site_is_register-missing_thread, ReadsBlock-ParsedBlock}
 use Rattle.lw_text.proofs.Failures.{Fails-later, BeginInitializers-at}
 use Rattle.lw_text.proofs.Faults.{Err-clause_known}
 use Rattle.lw_text.proofs.cursor.Cursor.parse_body.Goals as goal
@@ -29,7 +29,7 @@ returns-in_err-initializers g c = Err-clause_known _ _ _ c.from_residual.ensures
 pub returns-in_err-threads : goal.returns-in_err-threads
 returns-in_err-threads g c = Err-clause_known _ _ _ c.from_residual-in_err-threads.ensures.1 (λ ne. (
   λ s f p whole.
-      no_test-no_header c.args.arch (remaining_texts c.args.self.now) _ _ c.in_ok-initializers.ensures.is
+      no_test-if_no_header c.args.arch (remaining_texts c.args.self.now) _ _ c.in_ok-initializers.ensures.parsed
       c.in_err-threads.ensures.0 s p,
   Fails-later c.in_ok-initializers.ensures.leaves
       (λ rest cause w. in_header _ _ (ReadsBlock-ParsedBlock c.new-locs.ensures c.in_ok-initializers.ensures) w)
@@ -45,7 +45,7 @@ returns-in_err-check_threads g c =
     let thread = site_is_register-missing_thread lost.1.site c.in_ok-threads.threads lost.4 in
     Err-clause_known _ _ _ c.from_residual-in_err-check_threads.ensures.1 (λ ne. (
       λ s f p whole.
-          no_test-missing_thread c.args.arch _ _ _ c.in_ok-initializers.ensures.is _ _ c.in_ok-threads.ensures.0
+          no_test-missing_thread c.args.arch _ _ _ c.in_ok-initializers.ensures.parsed _ _ c.in_ok-threads.ensures.0
           c.parse_block.new.locs _ refl (rw c.as_slice.ensures at c.in_err-check_threads.ensures.err) s p,
       record {
         rest = begins.rest;
@@ -54,15 +54,16 @@ returns-in_err-check_threads g c =
         way =
             no_such_thread _ _ _ thread.0 thread.1 lost.1.word _ _ _ _
             (ReadsBlock-ParsedBlock c.new-locs.ensures c.in_ok-initializers.ensures) c.in_ok-threads.ensures.0 begins.opens
-            begins.read (ThreadExists-all_initializers _ begins.names _ lost.3) (begins.is thread.0 thread.1 thread.2) thread.3
-            lost.6;
+            begins.read (ThreadExists-all_initializers _ begins.names _ lost.3) (begins.parsed thread.0 thread.1 thread.2)
+            thread.3 lost.6;
       },
     ))
 
 pub returns-in_err-rows : goal.returns-in_err-rows
 returns-in_err-rows g c = Err-clause_known _ _ _ c.from_residual-in_err-rows.ensures.1 (λ ne.
     let lost = c.in_err-rows.ensures ne in (
-      λ s f p whole. no_test-no_rows c.args.arch _ _ _ c.in_ok-initializers.ensures.is _ _ c.in_ok-threads.ensures.0 lost.0 s p,
+      λ s f p whole.
+          no_test-if_no_rows c.args.arch _ _ _ c.in_ok-initializers.ensures.parsed _ _ c.in_ok-threads.ensures.0 lost.0 s p,
       Fails-later (IsSuffix-join c.in_ok-initializers.ensures.leaves c.in_ok-threads.ensures.1) (λ rest cause w.
           in_rows _ _ _ _ (ReadsBlock-ParsedBlock c.new-locs.ensures c.in_ok-initializers.ensures) c.in_ok-threads.ensures.0
           (ThreadExists-all_initializers _ _ _ (rw c.as_slice.ensures at c.in_ok-check_threads.ensures.ok)) w) lost.1,
@@ -74,8 +75,8 @@ returns g c = λ ne.
     let names =
     names_of_initializers c.parse_block.new.locs c.in_ok-initializers.initializers
     (rw c.new-locs.ensures at c.in_ok-initializers.ensures.names_are) in (
-      no_test-no_condition c.args.arch (remaining_texts c.args.self.now) (remaining_texts c.parse_block.new.self) _
-          c.in_ok-initializers.ensures.is c.in_ok-threads.threads (remaining_texts c.parse_header.new.self)
+      no_test-if_no_condition c.args.arch (remaining_texts c.args.self.now) (remaining_texts c.parse_block.new.self) _
+          c.in_ok-initializers.ensures.parsed c.in_ok-threads.threads (remaining_texts c.parse_header.new.self)
           c.in_ok-threads.ensures.0 _ _ c.in_ok-rows.ensures.0 c.parse_block.new.locs names lost.0,
       Fails-later
           (IsSuffix-join c.in_ok-initializers.ensures.leaves (IsSuffix-join c.in_ok-threads.ensures.1 c.in_ok-rows.ensures.2))
@@ -106,7 +107,7 @@ returns-in-Ok g c =
     let behind = remaining c.parse_header.new.self in (
       HasSyntax-of_parts block (remaining_texts c.parse_header.new.self) (remaining_texts c.parse_rows.new.self)
           c.in_ok-threads.ensures.0 (rw c.as_slice.ensures at c.in_ok-check_threads.ensures.ok) c.in_ok-rows.ensures.0
-          c.in-Ok.ensures c.len-len.ensures.table.few,
+          c.in-Ok.ensures c.len-len.ensures.table.bounded,
       record {
         initializers = map (named_initializer c.parse_block.new.locs) c.in_ok-initializers.initializers;
         behind_block = remaining_texts c.parse_block.new.self;
@@ -116,7 +117,7 @@ returns-in-Ok g c =
         block =
             subst (λ ts.
             Block c.args.arch ts (map (named_initializer c.parse_block.new.locs) c.in_ok-initializers.initializers)
-            (remaining_texts c.parse_block.new.self)) (sym (texts_placed whole)) block.is;
+            (remaining_texts c.parse_block.new.self)) (sym (texts_placed whole)) block.parsed;
         header =
             subst (λ ts. Header (remaining_texts c.parse_block.new.self) threads ts) (sym (texts_placed behind))
             c.in_ok-threads.ensures.0;
@@ -130,4 +131,4 @@ pub parse_condition-requires-clause-threads : goal.parse_condition-requires-clau
 parse_condition-requires-clause-threads g c = c.in_ok-threads.ensures.0.1
 
 pub invariant_of-parts : goal.invariant_of-parts
-invariant_of-parts g c = record { few = c.in_ok-threads.ensures.0.1 }
+invariant_of-parts g c = record { bounded = c.in_ok-threads.ensures.0.1 }

@@ -7,7 +7,7 @@ use Rattle.lw_text.proofs.Common.{sites_in, site_by_name, remaining_texts, Fails
 use Rattle.lw_text.proofs.Common.{in_list, in_quantifier, in_proposition}
 use Rattle.lw_text.proofs.Bodies.{ParsedCondition-of_parts}
 use Rattle.lw_text.proofs.SiteLists.{Listed-unique}
-use Rattle.lw_text.proofs.Whole.{no_condition-no_proposition}
+use Rattle.lw_text.proofs.Whole.{no_condition-if_no_proposition}
 use Rattle.lw_text.proofs.Lists.{IsSuffix-join}
 use Rattle.lw_text.proofs.Failures.{Fails-later}
 use Rattle.lw_text.proofs.Faults.{Err-clause_known}
@@ -27,11 +27,11 @@ returns-in_err-quant g c = Err-clause_known _ _ _ c.from_residual-in_err-quant.e
   λ all q ss p condition fits.
       let u =
       Listed-unique c.args.arch (remaining_texts c.args.self.now) all _ condition.behind_list
-      (remaining_texts c.parse_listed.new.self) condition.lists c.in_ok-listed.ensures.is in
+      (remaining_texts c.parse_listed.new.self) condition.lists c.in_ok-listed.ensures.parsed in
       c.in_err-quant.ensures.0 q condition.behind_quant (rw u.1 at condition.quantifies),
   Fails-later c.in_ok-listed.ensures.leaves (λ rest cause w.
-      in_quantifier _ c.in_ok-listed.ensures.is c.in_ok-listed.ensures.threads_exist
-      (subst (λ (table : NameTable). length table ≤ 8) c.in_ok-listed.ensures.names_are c.in_ok-listed.ensures.few) w)
+      in_quantifier _ c.in_ok-listed.ensures.parsed c.in_ok-listed.ensures.threads_exist
+      (subst (λ (table : NameTable). length table ≤ 8) c.in_ok-listed.ensures.names_are c.in_ok-listed.ensures.bounded) w)
       c.in_err-quant.ensures.1,
 ))
 
@@ -44,10 +44,10 @@ parse_proposition-requires-clause-once g c =
 pub returns-in-Err : goal.returns-in-Err
 returns-in-Err g c = λ ne.
     let lost = c.in-Err.ensures ne in (
-      no_condition-no_proposition c.in_ok-listed.ensures _ _ c.in_ok-quant.ensures.0 lost.0,
+      no_condition-if_no_proposition c.in_ok-listed.ensures _ _ c.in_ok-quant.ensures.0 lost.0,
       Fails-later (IsSuffix-join c.in_ok-listed.ensures.leaves c.in_ok-quant.ensures.1) (λ rest cause w.
-          in_proposition _ _ c.in_ok-listed.ensures.is c.in_ok-listed.ensures.threads_exist
-          (subst (λ (table : NameTable). length table ≤ 8) c.in_ok-listed.ensures.names_are c.in_ok-listed.ensures.few)
+          in_proposition _ _ c.in_ok-listed.ensures.parsed c.in_ok-listed.ensures.threads_exist
+          (subst (λ (table : NameTable). length table ≤ 8) c.in_ok-listed.ensures.names_are c.in_ok-listed.ensures.bounded)
           c.in_ok-quant.ensures.0
           (subst (λ names.
           FailsInProposition c.args.arch c.args.threads rest cause first_place 0 names

@@ -7,7 +7,7 @@ use Rattle.lw_text.proofs.Common.{FailsInHeader, in_next_thread, no_thread_name,
 use Rattle.lw_text.proofs.Common.{too_many_threads}
 use Rattle.lw_text.proofs.Faults.{Err-clause_known}
 use Rattle.lw_text.proofs.Failures.{Fails-here, Fails-later, IfFirst-map, IfFirst-begins, IfFirst-begins_not}
-use Rattle.lw_text.proofs.Headers.{Names-more, NamesTo-none_yet}
+use Rattle.lw_text.proofs.Headers.{Names-more, NamesContinueAt-none_yet}
 use Rattle.lw_text.proofs.Lists.{IsSuffix-join}
 use Rattle.lw_text.proofs.cursor.Cursor.parse_header.Goals as goal
 
@@ -43,7 +43,7 @@ returns-then-branch c = (
 
 pub loop-thread-init : goal.loop-thread-init
 loop-thread-init c =
-    record { names = NamesTo-none_yet (remaining_texts c.args.self.now); leaves = ([], refl); fails = λ rest cause w. w }
+    record { names = NamesContinueAt-none_yet (remaining_texts c.args.self.now); leaves = ([], refl); fails = λ rest cause w. w }
 
 pub returns-in_err-expect : goal.returns-in_err-expect
 returns-in_err-expect c = Err-clause_known _ _ _ c.from_residual.ensures.1 (

@@ -10,16 +10,16 @@ use Rattle.lw_text.proofs.Lists.{IsSuffix-join, tail-unique, tail-shorter}
 use Rattle.lw_text.proofs.Atoms.{IsSite-shorter, bracket}
 use Rattle.lw_text.proofs.Faults.{Err-clause_known, MatchResult-Memory_error}
 use Rattle.lw_text.proofs.SiteLists.{site_kind, Whole-Listed, HasRoomFor-map_same}
-use Rattle.lw_text.proofs.Readings.{Read-none, Read-at_close, Read-separator, Read-closed, no_list-no_element}
-use Rattle.lw_text.proofs.Readings.{no_list-no_separator, More}
-use Rattle.lw_text.proofs.Texts.{token_not_next}
+use Rattle.lw_text.proofs.Readings.{Read-none, Read-at_close, Read-separator, Read-closed}
+use Rattle.lw_text.proofs.Readings.{no_list-if_no_element, no_list-if_no_separator, More}
+use Rattle.lw_text.proofs.Texts.{not-token_is_next}
 use Rattle.lw_text.proofs.cursor.Cursor.parse_listed.Given.{Over}
 use Rattle.lw_text.proofs.cursor.Cursor.parse_listed.Goals.{After-parse_site, In_ok-parse_site}
 use Rattle.lw_text.proofs.cursor.Cursor.parse_listed.Goals as goal
 
 pub returns-then-not-accept : goal.returns-then-not-accept
 returns-then-not-accept g c = rw c.new.ensures (record {
-  is =
+  parsed =
       inr (
         c.accept.ensures.other c.if-not-accept.true,
         refl,
@@ -29,7 +29,7 @@ returns-then-not-accept g c = rw c.new.ensures (record {
   names_are = refl;
   within = All-nil (IsIn c.args.locs.now);
   leaves = c.accept.ensures.leaves;
-  few = c.len-known.ensures.table.few;
+  bounded = c.len-known.ensures.table.bounded;
 })
 
 pub returns-in_err-expect : goal.returns-in_err-expect
@@ -47,7 +47,7 @@ sites-init g c =
     let begins = c.accept.ensures.taken c.if-not-accept.false ∙ ap (λ l. codes "locations" ∷ l) c.in_ok-expect.ensures.ok in
     rw c.new-sites.ensures (record {
       read = Read-none _ c.args.locs.now (remaining_texts c.args.self.now) (remaining_texts c.expect.new.self) begins;
-      few = c.len-known.ensures.table.few;
+      bounded = c.len-known.ensures.table.bounded;
       leaves = IsSuffix-join c.accept.ensures.leaves c.in_ok-expect.ensures.leaves;
       fails = λ rest cause w. in_sites begins w;
     })
@@ -56,12 +56,12 @@ pub returns-then-accept : goal.returns-then-accept
 returns-then-accept g c =
     let whole = Read-at_close c.sites.invariant.read _ (c.accept-in-sites.ensures.taken c.if-accept.true) in
     record {
-      is = inl whole.whole;
-      threads_exist = whole.there;
+      parsed = inl whole.whole;
+      threads_exist = whole.fits;
       names_are = whole.names_are;
       within = whole.within;
       leaves = IsSuffix-join c.sites.invariant.leaves c.accept-in-sites.ensures.leaves;
-      few = c.sites.invariant.few;
+      bounded = c.sites.invariant.bounded;
     }
 
 -- If no `]` is next, a site is read at the same position.
@@ -76,9 +76,9 @@ site_read g c = record {
   grows = c.in_ok-parse_site.ensures.names_are;
   is_in = c.in_ok-parse_site.ensures.within;
   fits = c.in_ok-parse_site.ensures.threads_exist;
-  stands =
+  parsed =
       (let same = ap remaining_texts (c.accept-in-sites.ensures.kept c.if-accept.false) in
-      rw same at c.in_ok-parse_site.ensures.is);
+      rw same at c.in_ok-parse_site.ensures.parsed);
 }
 
 -- What remains before a site is a suffix of the text.
@@ -92,8 +92,8 @@ returns-in_err-parse_site g c =
     Err-clause_known _ _ _ c.from_residual-in_err-parse_site.ensures.1 (λ ne.
     let lost = c.in_err-parse_site.ensures ne in (
       λ all rest listed there few.
-          no_list-no_element c.sites.invariant.read
-          (λ l. token_not_next bracket (remaining_texts c.sites.self) l (c.accept-in-sites.ensures.other c.if-accept.false))
+          no_list-if_no_element c.sites.invariant.read
+          (λ l. not-token_is_next bracket (remaining_texts c.sites.self) l (c.accept-in-sites.ensures.other c.if-accept.false))
           (rw same at lost.0) all rest
           (Whole-Listed _ c.args.threads (remaining_texts c.args.self.now) (codes "[" ∷ c.sites.invariant.read.start)
           c.sites.invariant.read.begun all rest listed) there (HasRoomFor-map_same c.args.locs.now all few),
@@ -109,14 +109,14 @@ returns-in_err-expect_either g c =
     let site = site_read g d.In_ok-parse_site in
     Err-clause_known _ _ _ c.from_residual-in_err-expect_either.ensures.1 (λ ne. (
       λ all rest listed there few.
-          no_list-no_separator c.sites.invariant.read _ _ site.stands c.in_err-expect_either.ensures.1
+          no_list-if_no_separator c.sites.invariant.read _ _ site.parsed c.in_err-expect_either.ensures.1
           c.in_err-expect_either.ensures.0 all rest
           (Whole-Listed c.args.arch c.args.threads (remaining_texts c.args.self.now) _ c.sites.invariant.read.begun all rest
           listed),
       Fails-later (IsSuffix-join (leaves_before g d.After-parse_site) c.in_ok-parse_site.ensures.leaves) (λ rest cause w.
           c.sites.invariant.fails rest cause
-          (no_mark (c.accept-in-sites.ensures.other c.if-accept.false) (site.stands, site.fits)
-          (subst (λ (table : NameTable). length table ≤ 8) site.grows c.in_ok-parse_site.ensures.few) w))
+          (no_mark (c.accept-in-sites.ensures.other c.if-accept.false) (site.parsed, site.fits)
+          (subst (λ (table : NameTable). length table ≤ 8) site.grows c.in_ok-parse_site.ensures.bounded) w))
           c.in_err-expect_either.ensures.2,
     ))
 
@@ -127,21 +127,21 @@ returns-then-branch g c =
     let mark = rw c.if-branch.true at c.in_ok-expect_either.ensures.0 in
     let whole = Read-closed c.sites.invariant.read site (remaining_texts c.expect_either.new.self) mark in
     rw c.in_ok-push.ensures.ok (record {
-      is = inl whole.whole;
-      threads_exist = whole.there;
+      parsed = inl whole.whole;
+      threads_exist = whole.fits;
       names_are = whole.names_are;
       within = whole.within;
       leaves =
           IsSuffix-join (leaves_before g d.After-parse_site)
           (IsSuffix-join c.in_ok-parse_site.ensures.leaves c.in_ok-expect_either.ensures.1);
-      few = c.in_ok-parse_site.ensures.few;
+      bounded = c.in_ok-parse_site.ensures.bounded;
     })
 
 pub sites-smaller : goal.sites-smaller
 sites-smaller g c =
     let same = kept g (goal.at.sites-smaller g c).After-parse_site in
     let mark = rw c.if-branch.false at c.in_ok-expect_either.ensures.0 in
-    tail-shorter _ _ _ _ (rw same at (IsSite-shorter c.args.arch _ _ _ c.in_ok-parse_site.ensures.is)) mark
+    tail-shorter _ _ _ _ (rw same at (IsSite-shorter c.args.arch _ _ _ c.in_ok-parse_site.ensures.parsed)) mark
 
 pub sites-preserved : goal.sites-preserved
 sites-preserved g c =
@@ -153,15 +153,15 @@ sites-preserved g c =
       leaves =
           IsSuffix-join (leaves_before g d.After-parse_site)
           (IsSuffix-join c.in_ok-parse_site.ensures.leaves c.in_ok-expect_either.ensures.1);
-      few = c.in_ok-parse_site.ensures.few;
+      bounded = c.in_ok-parse_site.ensures.bounded;
       fails = λ rest cause w.
           c.sites.invariant.fails rest cause
           (in_elements_after (c.accept-in-sites.ensures.other c.if-accept.false) (
             subst (λ mid.
                 IsSite c.args.arch (remaining_texts c.sites.self) (site_by_name c.parse_site.new.locs c.in_ok-parse_site.field-0)
-                mid) mark site.stands,
+                mid) mark site.parsed,
             site.fits,
-          ) (subst (λ (table : NameTable). length table ≤ 8) site.grows c.in_ok-parse_site.ensures.few)
+          ) (subst (λ (table : NameTable). length table ≤ 8) site.grows c.in_ok-parse_site.ensures.bounded)
           (subst (λ names. FailsInSites c.args.arch c.args.threads rest cause names (remaining_texts c.expect_either.new.self))
           site.grows w));
     })

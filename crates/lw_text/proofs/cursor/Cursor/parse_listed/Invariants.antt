@@ -9,7 +9,7 @@ use Rattle.lw_text.proofs.cursor.Cursor.parse_listed.Given as goal
 abbrev pub invariant-sites : goal.invariant-sites
 invariant-sites g l = record {
   read : Read (site_kind l.arch l.threads) l.fn.locs l.locs (remaining_texts l.fn.self) (remaining_texts l.self) l.sites;
-  few : length l.locs ≤ 8;
+  bounded : length l.locs ≤ 8;
   leaves : IsSuffix (remaining l.fn.self) (remaining l.self);
   fails :
       (rest : TokenList) (cause : TextCause)

@@ -7,7 +7,7 @@ use Rattle.lw_text.proofs.Common.{unopened, too_many_nodes, in_terminal}
 use Rattle.lw_text.proofs.Failures.{Fails-here, Fails-later}
 use Rattle.lw_text.proofs.PropositionPlaces.{closes_nothing, wants_part-place}
 use Rattle.lw_text.proofs.PropositionPlaces.{node_limit_reached-no_parenthesis, HasRoomForNode-by_test}
-use Rattle.lw_text.proofs.PropositionCases.{terminal_refused, no_room_for_node, begins_right}
+use Rattle.lw_text.proofs.PropositionCases.{terminal_refused, no_room_for_node, begins_part-if_allowed}
 use Rattle.lw_text.proofs.Faults.{MatchResult-Memory_error, Err-clause_known}
 use Rattle.lw_text.proofs.cursor.Cursor.parse_next_terminal.Goals as goal
 
@@ -21,7 +21,7 @@ returns-then-not-branch g c =
           (let closes =
           closes_nothing (state_of c.args.reader.now) c.in_ok-terminal.terminal refused
           (c.in_ok-terminal.ensures.1 ∙ sym (wants_part-place c.args.reader.now _ c.wants_part.ensures)) in
-          unopened closes.0 (rw closes.1 at c.in_ok-terminal.ensures.0.is) refl c.refusal-misfit.ensures.cause),
+          unopened closes.0 (rw closes.1 at c.in_ok-terminal.ensures.0.parsed) refl c.refusal-misfit.ensures.cause),
     )
 
 pub returns-then-not-has_room : goal.returns-then-not-has_room
@@ -37,7 +37,7 @@ returns-then-not-has_room g c =
 pub returns-in_err-terminal : goal.returns-in_err-terminal
 returns-in_err-terminal g c = Err-clause_known _ _ _ c.from_residual.ensures.1 (λ ne.
     let lost = c.in_err-terminal.ensures ne in (
-      λ s rest is left few fits. lost.0 s rest is (begins_right c.args.reader.now _ c.wants_part.ensures _ s left) few,
+      λ s rest is left few fits. lost.0 s rest is (begins_part-if_allowed c.args.reader.now _ c.wants_part.ensures _ s left) few,
       Fails-later ([], refl) (λ rest cause w.
           in_terminal c.requires.some (HasRoomForNode-by_test _ _ (sym c.has_room.ensures ∙ c.if-not-has_room.false))
           (subst
@@ -52,6 +52,6 @@ pub returns : goal.returns
 returns g c = (
   c.in_ok-terminal.ensures.0,
   rw c.if-not-branch.false at c.in_ok-take.ensures,
-  c.len-known.ensures.table.few,
+  c.len-known.ensures.table.bounded,
   sym c.has_room.ensures ∙ c.if-not-has_room.false,
 )

@@ -31,7 +31,7 @@ pub returns-in_err-word : goal.returns-in_err-word
 returns-in_err-word g c =
     let same = c.parse_opening_keyword.ensures.kept c.in_default.is in
     let kept = ap remaining_texts same in
-    let stands = rw kept at c.in_ok-site.ensures.is in
+    let stands = rw kept at c.in_ok-site.ensures.parsed in
     let leaves = subst (λ x. IsSuffix (remaining x) (remaining c.parse_site.new.self)) same c.in_ok-site.ensures.leaves in
     Err-clause_known _ _ _ c.from_residual-in_err-word.ensures.1 (λ ne. (
       λ s rest terminal begins few.
@@ -40,7 +40,7 @@ returns-in_err-word g c =
       Fails-later leaves (λ rest cause w. (
         c.in_default.ensures.words,
         in_value _ stands c.in_ok-site.ensures.threads_exist
-            (subst (λ (table : NameTable). length table ≤ 8) c.in_ok-site.ensures.names_are c.in_ok-site.ensures.few) w,
+            (subst (λ (table : NameTable). length table ≤ 8) c.in_ok-site.ensures.names_are c.in_ok-site.ensures.bounded) w,
       )) c.in_err-word.ensures.1,
     ))
 
@@ -52,10 +52,10 @@ returns g c =
     let taken = c.in_ok-site.ensures in
     let syntax = sym (c.atom_at.ensures.syntax table) in (
       record {
-        is =
+        parsed =
             subst (λ claim.
             IsAtom c.args.arch c.args.threads (remaining_texts c.args.self.now) claim (remaining_texts c.parse_value.new.self))
-            syntax (remaining_texts c.parse_site.new.self, rw kept at taken.is, taken.threads_exist, c.in_ok-word.ensures.0);
+            syntax (remaining_texts c.parse_site.new.self, rw kept at taken.parsed, taken.threads_exist, c.in_ok-word.ensures.0);
         names_are = subst (λ claim. table ≡ with_sites c.args.locs.now (sites_in (Atom claim ∷ []))) syntax taken.names_are;
         within = c.atom_at.ensures.within table taken.within;
         leaves =

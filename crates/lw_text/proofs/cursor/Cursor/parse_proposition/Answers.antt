@@ -3,7 +3,7 @@
 -- incomplete (`ParsedProposition-at_end`, `NoProposition-open`). If no terminal fits, the tokens are no proposition,
 -- whatever follows (`NoProposition-no_terminal`).
 use Rattle.lw_text.proofs.Common.{ℕ, ◌+◌, ◌≤◌, ◌∙◌, [], append-nil, drop_all, refl, sym, ap, subst, arith}
-use Rattle.lw_text.proofs.Common.{MatchResult-weaker, IsOfReader, remaining, remaining_texts, state_of}
+use Rattle.lw_text.proofs.Common.{MatchResult-weaker, IsParserCause, remaining, remaining_texts, state_of}
 use Rattle.lw_text.proofs.Common.{FailsInProposition, incomplete, BeginsAt, place_of, Unterminated}
 use Rattle.lw_text.proofs.Lists.{IsSuffix-join}
 use Rattle.lw_text.proofs.Failures.{Fails-later}
@@ -16,7 +16,7 @@ use Rattle.lw_text.proofs.PropositionCases.{IsDuplicateFree-names, node_count_at
 use Rattle.lw_text.proofs.cursor.Cursor.parse_proposition.Goals as goal
 
 -- A reader of tokens may report that they end too early.
-of_reader : IsOfReader Unterminated
+of_reader : IsParserCause Unterminated
 of_reader = (λ e. cc, λ e. cc)
 
 pub refusal-requires : goal.refusal-requires
@@ -85,7 +85,7 @@ overflow_add-nodes g c =
     omega (arith, (ap (λ (n : ℕ). c.terminals.nodes + n) c.nodes-nodes.ensures), room)
 
 pub terminals-smaller : goal.terminals-smaller
-terminals-smaller g c = IsTerminal-shorter c.args.arch c.args.threads _ _ _ c.in-Ok.ensures.0.is
+terminals-smaller g c = IsTerminal-shorter c.args.arch c.args.threads _ _ _ c.in-Ok.ensures.0.parsed
 
 pub parse_next_terminal-requires-clause-some : goal.parse_next_terminal-requires-clause-some
 parse_next_terminal-requires-clause-some g c =

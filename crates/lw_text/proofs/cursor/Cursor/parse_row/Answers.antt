@@ -7,7 +7,7 @@ use Rattle.lw_text.proofs.Common.{no_end, ragged}
 use Rattle.lw_text.proofs.Lists.{IsSuffix-join}
 use Rattle.lw_text.proofs.Texts.{is_text}
 use Rattle.lw_text.proofs.Faults.{Err-clause_known, MatchResult-Memory_error}
-use Rattle.lw_text.proofs.Cells.{no_cells-no_mark, no_row-wrong_count}
+use Rattle.lw_text.proofs.Cells.{no_cells-if_no_mark, no_row-wrong_count}
 use Rattle.lw_text.proofs.CellPlaces.{CellsRead-one_more, row_complete-CellsRead}
 use Rattle.lw_text.proofs.cursor.Cursor.parse_row.Goals as goal
 
@@ -15,7 +15,7 @@ pub returns-in_err-mark : goal.returns-in_err-mark
 returns-in_err-mark g c = Err-clause_known _ _ _ c.from_residual.ensures.1 (λ ne.
     let lost = c.in_err-mark.ensures ne in
     let none =
-    no_cells-no_mark (remaining_texts c.args.self.now) (remaining_texts c.cells.self) (cells_texts c.cells.cells)
+    no_cells-if_no_mark (remaining_texts c.args.self.now) (remaining_texts c.cells.self) (cells_texts c.cells.cells)
     c.cells.invariant.read.before lost.0 in (
       λ all rest line. none all rest line.0,
       record {

@@ -1,20 +1,21 @@
 -- `parse_rows` promises all rows up to a token that ends them, or that there are none, and where they fail.
 -- Each round reads a row (`Rows-one_more`), unless the next token ends the rows (`Rows-at_stop`), 64 have been read
--- (`no_rows-too_many`) or no row follows (`no_rows-no_row`).
+-- (`no_rows-too_many`) or no row follows (`no_rows-if_no_row`).
 use Rattle.lw_text.proofs.Common.{◌≡◌, ◌<◌, ◌∷◌, [], ◌∙◌, refl, subst, ap, sym, length, arith, length-append}
 use Rattle.lw_text.proofs.Common.{map_push, length-map, cells_texts, remaining_texts, FailsInRows}
 use Rattle.lw_text.proofs.Common.{too_many_rows, in_row, in_rows_after}
 use Rattle.lw_text.proofs.Lists.{IsSuffix-join}
 use Rattle.lw_text.proofs.Failures.{Fails-here, Fails-later}
 use Rattle.lw_text.proofs.Faults.{Err-clause_known, MatchResult-Memory_error}
-use Rattle.lw_text.proofs.Cells.{Row-shorter, Rows-at_stop, Rows-one_more, no_rows-no_row, no_rows-too_many}
+use Rattle.lw_text.proofs.Cells.{Row-shorter, Rows-at_stop, Rows-one_more, no_rows-if_no_row}
+use Rattle.lw_text.proofs.Cells.{no_rows-too_many}
 use Rattle.lw_text.proofs.CellPlaces.{RowsFrom-one_more}
 use Rattle.lw_text.proofs.cursor.Cursor.parse_rows.Goals as goal
 
 pub returns-then-at_stop : goal.returns-then-at_stop
 returns-then-at_stop g c = (
   Rows-at_stop c.args.threads _ (remaining_texts c.rows.self) _ c.rows.invariant.passed
-      (sym c.at_stop.ensures ∙ c.if-at_stop.true) (omega (arith, c.rows.invariant.few, length-map c.rows.rows cells_texts)),
+      (sym c.at_stop.ensures ∙ c.if-at_stop.true) (omega (arith, c.rows.invariant.bounded, length-map c.rows.rows cells_texts)),
   c.rows.invariant.cut,
   c.rows.invariant.leaves,
 )
@@ -35,8 +36,8 @@ pub returns-in_err-parse_row : goal.returns-in_err-parse_row
 returns-in_err-parse_row g c = Err-clause_known _ _ _ c.from_residual.ensures.1 (λ ne.
     let lost = c.in_err-parse_row.ensures ne in
     let more = sym c.at_stop.ensures ∙ c.if-at_stop.false in
-    let few : length c.rows.rows < 64 = omega (arith, c.if-len-eq-MAX_ROWS.false, c.len.ensures, c.rows.invariant.few) in (
-      no_rows-no_row c.args.threads _ _ _ c.rows.invariant.passed more lost.0,
+    let few : length c.rows.rows < 64 = omega (arith, c.if-len-eq-MAX_ROWS.false, c.len.ensures, c.rows.invariant.bounded) in (
+      no_rows-if_no_row c.args.threads _ _ _ c.rows.invariant.passed more lost.0,
       Fails-later c.rows.invariant.leaves (λ rest cause w. c.rows.invariant.fails rest cause (in_row few more w)) lost.1,
     ))
 
@@ -50,18 +51,18 @@ rows-preserved g c = record {
       (Rows-one_more c.args.threads _ _ _ c.rows.invariant.passed _ _ (sym c.at_stop.ensures ∙ c.if-at_stop.false)
       c.in_ok-parse_row.ensures.0);
   cut = rw c.in_ok-push.ensures.ok (RowsFrom-one_more _ _ _ c.rows.rows _ c.rows.invariant.cut c.in_ok-parse_row.ensures.1);
-  few = omega (
+  bounded = omega (
     arith,
     ap length c.in_ok-push.ensures.ok,
     length-append c.rows.rows (c.in_ok-parse_row.field-0 ∷ []),
     c.if-len-eq-MAX_ROWS.false,
     c.len.ensures,
-    c.rows.invariant.few,
+    c.rows.invariant.bounded,
   );
   leaves = IsSuffix-join c.rows.invariant.leaves c.in_ok-parse_row.ensures.2;
   fails = λ rest cause w.
       c.rows.invariant.fails rest cause
-      (in_rows_after _ (omega (arith, c.if-len-eq-MAX_ROWS.false, c.len.ensures, c.rows.invariant.few))
+      (in_rows_after _ (omega (arith, c.if-len-eq-MAX_ROWS.false, c.len.ensures, c.rows.invariant.bounded))
       (sym c.at_stop.ensures ∙ c.if-at_stop.false) c.in_ok-parse_row.ensures.0
       (subst (λ k. FailsInRows c.args.threads rest cause k (remaining_texts c.parse_row.new.self))
       (omega (arith, ap length c.in_ok-push.ensures.ok, length-append c.rows.rows (c.in_ok-parse_row.field-0 ∷ []))) w));

@@ -1,15 +1,15 @@
 -- `parse_site` promises a site whose thread is allowed and whose location has room, or that none is next, and
--- where it fails. The first token decides: `[`, a number or a name (`no_site-no_location_in_brackets`, `no_site-no_register`,
--- `no_site-no_location` say that the other rules do not apply).
+-- where it fails. The first token decides: `[`, a number or a name (`no_site-if_no_location_in_brackets`, `no_site-if_no_register`,
+-- `no_site-if_no_location` say that the other rules do not apply).
 use Rattle.lw_text.proofs.Common.{◌∷◌, [], ◌∙◌, inl, inr, refl, sym, ap, subst, arith, codes}
 use Rattle.lw_text.proofs.Common.{MatchResult-weaker, remaining, remaining_texts, ParsedSite, in_name}
 use Rattle.lw_text.proofs.Common.{in_brackets, no_thread, in_register, BeginsAt}
 use Rattle.lw_text.proofs.Atoms.{no_site-empty}
 use Rattle.lw_text.proofs.Lists.{IsSuffix-join}
-use Rattle.lw_text.proofs.Texts.{is_text, is_no_text}
-use Rattle.lw_text.proofs.Sites.{location_site_parsed, allowed_thread, thread_not_allowed}
-use Rattle.lw_text.proofs.Sites.{no_site-no_location_in_brackets, thread_refused, no_site-no_register}
-use Rattle.lw_text.proofs.Sites.{no_site-no_location}
+use Rattle.lw_text.proofs.Texts.{is_text, not-equal-if_bytes_differ}
+use Rattle.lw_text.proofs.Sites.{location_site_parsed, allowed_thread, not-ThreadAllowed-above_threads}
+use Rattle.lw_text.proofs.Sites.{no_site-if_no_location_in_brackets, thread_refused, no_site-if_no_register}
+use Rattle.lw_text.proofs.Sites.{no_site-if_no_location}
 use Rattle.lw_text.proofs.Faults.{Err-clause_known}
 use Rattle.lw_text.proofs.Failures.{Fails-here, Fails-later, IfFirst-cons, IfFirst-nil, BeginsAt-cons}
 use Rattle.lw_text.proofs.Failures.{BeginsAt-nil}
@@ -18,9 +18,9 @@ use Rattle.lw_text.proofs.cursor.Cursor.parse_site.Goals as goal
 pub returns-in-Err : goal.returns-in-Err
 returns-in-Err g c = λ ne.
     let lost = c.in-Err.ensures ne in
-    let plain = is_no_text _ _ (sym c.eq.ensures ∙ c.if-eq.false) in (
+    let plain = not-equal-if_bytes_differ _ _ (sym c.eq.ensures ∙ c.if-eq.false) in (
       λ s rest site there few.
-          no_site-no_location c.args.arch _ c.in_ok-first.ensures.ok plain c.in_default.ensures lost.0 s rest site few,
+          no_site-if_no_location c.args.arch _ c.in_ok-first.ensures.ok plain c.in_default.ensures lost.0 s rest site few,
       Fails-here c.args.self.now _
           (subst (BeginsAt (remaining c.args.self.now)) (sym lost.1) (BeginsAt-cons _ _ _ c.in_ok-first.ensures.token))
           (in_name (IfFirst-cons _ _ _ _ c.in_ok-first.ensures.ok (plain, c.in_default.ensures))
@@ -41,7 +41,7 @@ returns-in_err-inside g c = Err-clause_known _ _ _ c.from_residual-in_err-inside
     let lost = c.in_err-inside.ensures ne in
     let bracket = is_text _ _ (sym c.eq.ensures ∙ c.if-eq.true) in (
       λ s rest p there few.
-          no_site-no_location_in_brackets c.args.arch c.args.locs.now c.in_ok-first.ensures.ok bracket lost.0 s rest p few,
+          no_site-if_no_location_in_brackets c.args.arch c.args.locs.now c.in_ok-first.ensures.ok bracket lost.0 s rest p few,
       Fails-later (c.in_ok-first.first ∷ [], c.in_ok-first.ensures.token)
           (λ rest cause w. in_brackets (c.in_ok-first.ensures.ok ∙ ap (λ y. y ∷ remaining_texts c.take.new.self) bracket) w)
           lost.1,
@@ -62,8 +62,8 @@ returns-then-not-is_allowed g c = λ ne.
           thread_refused c.args.arch c.args.locs.now c.in_ok-first.ensures.ok _ c.in-Some.ensures c.args.threads refused s rest p
           there,
       Fails-here c.args.self.now _ (BeginsAt-cons _ _ _ c.in_ok-first.ensures.token)
-          (no_thread _ _ c.in_ok-first.ensures.ok refl c.in-Some.ensures (λ r. thread_not_allowed c.args.threads _ r refused)
-          refl),
+          (no_thread _ _ c.in_ok-first.ensures.ok refl c.in-Some.ensures
+          (λ r. not-ThreadAllowed-above_threads c.args.threads _ r refused) refl),
     )
 
 pub returns-in-Some : goal.returns-in-Some
@@ -71,7 +71,7 @@ returns-in-Some g c =
     let names = c.args.locs.now in
     let taken = ParsedSite c.args.arch c.args.threads c.args.self.now c.parse_register.new.self names names in
     MatchResult-weaker c.parse_register.result c.parse_register.ensures (λ s reg. subst taken (sym reg.4) (record {
-      is = (
+      parsed = (
         c.in_ok-first.first.text.now,
         reg.0,
         c.in_ok-first.ensures.ok ∙ ap (λ l. c.in_ok-first.first.text.now ∷ l) reg.2,
@@ -82,10 +82,10 @@ returns-in-Some g c =
       names_are = refl;
       within = omega arith;
       leaves = IsSuffix-join (c.in_ok-first.first ∷ [], c.in_ok-first.ensures.token) reg.5;
-      few = c.len-known.ensures.table.few;
+      bounded = c.len-known.ensures.table.bounded;
     })) (λ f lost ne. (
       λ s rest p there few.
-          no_site-no_register c.args.arch c.args.locs.now c.in_ok-first.ensures.ok c.in-Some.thread c.in-Some.ensures lost.0 s
+          no_site-if_no_register c.args.arch c.args.locs.now c.in_ok-first.ensures.ok c.in-Some.thread c.in-Some.ensures lost.0 s
           rest p,
       Fails-later (c.in_ok-first.first ∷ [], c.in_ok-first.ensures.token) (λ rest cause w.
           in_register _ _ c.in_ok-first.ensures.ok c.in-Some.ensures

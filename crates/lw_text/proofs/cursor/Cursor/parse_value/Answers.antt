@@ -1,8 +1,8 @@
 -- `parse_value` promises a `=` and a number, or that they are not next, and where it fails. Without a number
--- there is no value (`no_value-no_number`).
+-- there is no value (`no_value-if_no_number`).
 use Rattle.lw_text.proofs.Common.{codes, ◌∷◌, [], ◌∙◌, ap, remaining, no_number}
 use Rattle.lw_text.proofs.Lists.{IsSuffix-join}
-use Rattle.lw_text.proofs.Atoms.{no_value-no_number}
+use Rattle.lw_text.proofs.Atoms.{no_value-if_no_number}
 use Rattle.lw_text.proofs.Failures.{IfFirst-cons}
 use Rattle.lw_text.proofs.cursor.Cursor.parse_value.Goals as goal
 
@@ -14,7 +14,7 @@ returns-in-Some c = (
 
 pub returns-in-None : goal.returns-in-None
 returns-in-None c = (
-  no_value-no_number _ _ _ _ c.in_ok-expect.ensures.ok c.in_ok-token.ensures.ok c.in-None.ensures,
+  no_value-if_no_number _ _ _ _ c.in_ok-expect.ensures.ok c.in_ok-token.ensures.ok c.in-None.ensures,
   record {
     rest = remaining c.expect.new.self;
     suffix = c.in_ok-expect.ensures.leaves;

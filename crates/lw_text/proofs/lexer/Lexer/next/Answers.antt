@@ -4,7 +4,7 @@
 use Rattle.lw_text.proofs.Common.{◌<◌, arith, ap, subst, length, length-append, Trivia, [], refl, nat_tests}
 use Rattle.lw_text.proofs.Common.{open_comment, in_token}
 use Rattle.lw_text.proofs.TriviaLemmas.{Trivia-shorter}
-use Rattle.lw_text.proofs.TokenRows.{not_ended-nonempty, no_first_token-after_trivia}
+use Rattle.lw_text.proofs.TokenRows.{not-ended-if_nonempty, no_first_token-after_trivia}
 use Rattle.lw_text.proofs.TokenRows.{no_first_token-open_comment}
 use Rattle.lw_text.proofs.lexer.Lexer.next.Goals as goal
 
@@ -45,7 +45,7 @@ returns-in_default-clause-reads c = (
 
 pub returns-in-Err-clause-reads : goal.returns-in-Err-clause-reads
 returns-in-Err-clause-reads c = (
-  not_ended-nonempty c.args.self.now.rest.now c.in-Some.start.now c.in-Some.ensures.found c.in-Some.ensures.stops
+  not-ended-if_nonempty c.args.self.now.rest.now c.in-Some.start.now c.in-Some.ensures.found c.in-Some.ensures.stops
       (grind (arith, nat_tests)),
   no_first_token-after_trivia c.args.self.now.rest.now c.in-Some.start.now c.in-Some.ensures.found c.in-Some.ensures.stops
       c.in-Err.ensures.none,

@@ -1,12 +1,12 @@
 -- `parse_preamble` promises language, name and the rest from the `{` on, or that the text has no preamble,
 -- and where it fails. The keyword is the text's only first token, so a name or notes that fail leave no other
--- preamble (`no_preamble-no_name`, `no_preamble-no_notes`).
+-- preamble (`no_preamble-if_no_name`, `no_preamble-if_no_notes`).
 use Rattle.lw_text.proofs.Common.{[], ◌∙◌, ◌++◌, refl, sym, ap, subst, length, length-append, arith}
 use Rattle.lw_text.proofs.Common.{IsFirstToken, arch_keyword, in_keyword, in_test_name, in_notes, no_keyword}
 use Rattle.lw_text.proofs.Common.{other_keyword}
 use Rattle.lw_text.proofs.Faults.{Err-clause_known}
 use Rattle.lw_text.proofs.Failures.{FailsFrom-later}
-use Rattle.lw_text.proofs.Preambles.{no_preamble-no_name, no_preamble-no_notes}
+use Rattle.lw_text.proofs.Preambles.{no_preamble-if_no_name, no_preamble-if_no_notes}
 use Rattle.lw_text.proofs.TokenRows.{no_first_token-trivia_only, IsFirstToken-unique}
 use Rattle.lw_text.proofs.lexer.Lexer.parse_preamble.Goals as goal
 
@@ -15,7 +15,7 @@ returns-in_err-name c =
     let here = rw c.in-Some.is at c.in_ok-token.ensures.reads in
     record {
       reads = Err-clause_known _ _ _ c.from_residual-in_err-name.ensures.1 (
-        no_preamble-no_name _ _ _
+        no_preamble-if_no_name _ _ _
             (subst (λ w. IsFirstToken c.args.self.now.rest.now w c.next.new.self.rest.now)
             (sym c.in-Some-arch_from_keyword.ensures) here.0) c.in_err-name.ensures.reads.0,
         omega (arith, c.in_err-name.ensures.reads.1, ap length c.in_ok-token.ensures.same),
@@ -32,7 +32,7 @@ returns-in-Err c =
     let here = rw c.in-Some.is at c.in_ok-token.ensures.reads in
     record {
       reads = (
-        no_preamble-no_notes _ _ _ _ _
+        no_preamble-if_no_notes _ _ _ _ _
             (subst (λ w. IsFirstToken c.args.self.now.rest.now w c.next.new.self.rest.now)
             (sym c.in-Some-arch_from_keyword.ensures) here.0) c.in_ok-name.ensures.reads c.in-Err.ensures.reads.0,
         omega (arith, c.in-Err.ensures.reads.1, ap length (c.in_ok-name.ensures.same ∙ c.in_ok-token.ensures.same)),

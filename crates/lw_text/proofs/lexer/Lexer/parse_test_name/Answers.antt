@@ -13,13 +13,15 @@ returns-then-is_empty-clause-reads c =
     let u = c.prefix_of_kind-2.ensures in
     let none : length c.prefix_of_kind-2.result.0.now ≡ 0 = grind (arith, nat_tests) in (
       λ n r p.
-          let k = ParsesTestName-parts c.args.self.now.rest.now _ _ _ _ b.parts b.all b.longest u.parts u.all u.longest n r p in
+          let k =
+          ParsesTestName-parts c.args.self.now.rest.now _ _ _ _ b.parts b.bytes_pass b.longest u.parts u.bytes_pass u.longest n r
+          p in
           omega (arith, none, p.is_name.not_empty, ap length k.1),
       omega arith,
       record {
         rest = [];
         place = omega arith;
-        way = no_name (all_blank-no_name _ _ _ _ _ b.parts b.all b.longest u.parts u.longest none) refl refl;
+        way = no_name (all_blank-no_name _ _ _ _ _ b.parts b.bytes_pass b.longest u.parts u.longest none) refl refl;
       },
     )
 
@@ -29,7 +31,7 @@ returns-then-is_empty-2-clause-reads c =
     let u = c.prefix_of_kind-2.ensures in
     let none : length c.prefix_of_kind.result.0.now ≡ 0 = grind (arith, nat_tests) in (
       λ n r p.
-          let k = ParsesTestName-parts _ _ _ _ _ b.parts b.all b.longest u.parts u.all u.longest n r p in
+          let k = ParsesTestName-parts _ _ _ _ _ b.parts b.bytes_pass b.longest u.parts u.bytes_pass u.longest n r p in
           omega (arith, none, p.apart, ap length k.0),
       omega arith,
       record {
@@ -59,7 +61,7 @@ returns-then-not-is_test_name-clause-reads c =
     let b = c.prefix_of_kind.ensures in
     let u = c.prefix_of_kind-2.ensures in (
       λ n r p.
-          let k = ParsesTestName-parts _ _ _ _ _ b.parts b.all b.longest u.parts u.all u.longest n r p in
+          let k = ParsesTestName-parts _ _ _ _ _ b.parts b.bytes_pass b.longest u.parts u.bytes_pass u.longest n r p in
           false≢true (c.if-not-is_test_name.ensures.1 (subst IsTestName k.1 p.is_name)),
       omega arith,
       record {
@@ -72,8 +74,8 @@ returns-then-not-is_test_name-clause-reads c =
         );
         way =
             bad_name c.prefix_of_kind.result.0.now c.prefix_of_kind-2.result.0.now c.prefix_of_kind-2.result.1.now b.parts u.parts
-            (grind (arith, nat_tests)) b.all (All-mono _ _ (λ x. not-true (is_blank x)) _ u.all) (grind (arith, nat_tests))
-            u.longest (λ name. false≢true (c.if-not-is_test_name.ensures.1 name)) refl;
+            (grind (arith, nat_tests)) b.bytes_pass (All-mono _ _ (λ x. not-true (is_blank x)) _ u.bytes_pass)
+            (grind (arith, nat_tests)) u.longest (λ name. false≢true (c.if-not-is_test_name.ensures.1 name)) refl;
       },
     )
 
@@ -110,7 +112,7 @@ returns-clause-reads c =
           ∙ ap (λ x. space ++ x)
           (c.prefix_of_kind-2.ensures.parts ∙ ap (λ x. x ++ c.prefix_of_kind-2.result.1.now) (sym c.ascii_text.ensures));
       apart = grind (arith, nat_tests);
-      blank = c.prefix_of_kind.ensures.all;
+      blank = c.prefix_of_kind.ensures.bytes_pass;
       is_name = subst IsTestName (sym c.ascii_text.ensures) (c.if-not-is_test_name.ensures.0 refl);
       longest = c.prefix_of_kind-2.ensures.longest;
     }

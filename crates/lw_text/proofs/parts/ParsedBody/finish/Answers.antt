@@ -3,7 +3,7 @@
 -- and within the text.
 use Rattle.lw_text.proofs.Common.{◌≡◌, ◌∙◌, sym, ap, subst, arith, IsWellFormedHead, EndsBefore}
 use Rattle.lw_text.proofs.WellFormedHeads.{resolved_well_formed}
-use Rattle.lw_text.proofs.RowColumns.{columns-length, columns-height, columns-even, columns-each}
+use Rattle.lw_text.proofs.RowColumns.{length-columns, columns-height, columns-even, All-columns_of_rows}
 use Rattle.lw_text.proofs.parts.ParsedBody.finish.Goals as goal
 
 pub invariant_of-result : goal.invariant_of-result
@@ -15,10 +15,10 @@ invariant_of-result g c =
       well_formed =
           subst IsWellFormedHead (sym c.in-Ok-head.ensures)
           (resolved_well_formed c.args.preamble.arch _ c.args.preamble.name.now body c.requires.name c.requires.says.1);
-      columns = columns-length parts.threads body.rows body.even ∙ sym threads;
+      columns = length-columns parts.threads body.rows body.even ∙ sym threads;
       even = columns-even parts.threads body.rows body.even body.some;
       low = (omega (arith, columns-height parts.threads body.rows body.even body.some, body.low));
-      places = columns-each (EndsBefore c.args.len) parts.threads body.rows c.requires.within;
+      places = All-columns_of_rows (EndsBefore c.args.len) parts.threads body.rows c.requires.within;
     })
 
 pub columns-requires : goal.columns-requires

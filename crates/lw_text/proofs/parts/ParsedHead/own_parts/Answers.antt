@@ -4,13 +4,13 @@ use Rattle.lw_text.proofs.Common.{ℕ, ◌≤◌, subst, sym}
 use Rattle.lw_text.proofs.parts.ParsedHead.own_parts.Goals as goal
 
 pub initial_registers-requires : goal.initial_registers-requires
-initial_registers-requires g c = c.args.self.now.few
+initial_registers-requires g c = c.args.self.now.bounded
 
 pub initial_words-requires : goal.initial_words-requires
-initial_words-requires g c = subst (λ (n : ℕ). n ≤ 8) (sym c.len-len.ensures.len) c.len-len.ensures.table.few
+initial_words-requires g c = subst (λ (n : ℕ). n ≤ 8) (sym c.len-len.ensures.len) c.len-len.ensures.table.bounded
 
 pub restrict_seen-requires-clause-threads : goal.restrict_seen-requires-clause-threads
-restrict_seen-requires-clause-threads g c = c.args.self.now.few
+restrict_seen-requires-clause-threads g c = c.args.self.now.bounded
 
 pub restrict_seen-requires-clause-len : goal.restrict_seen-requires-clause-len
-restrict_seen-requires-clause-len g c = subst (λ (n : ℕ). n ≤ 8) (sym c.len-len.ensures.len) c.len-len.ensures.table.few
+restrict_seen-requires-clause-len g c = subst (λ (n : ℕ). n ≤ 8) (sym c.len-len.ensures.len) c.len-len.ensures.table.bounded
