@@ -30,12 +30,12 @@ source_precedes_locked_in_co {test} {x} candidate coherence r u l reading writin
 
 module _ (test : X86Test) (x : Execution) where
   -- No write that comes after an event in from-reads comes before it in coherence order.
-  not_both_Fr_and_Co : GlobalHappensBefore test x
+  not-both_Fr_and_Co : GlobalHappensBefore test x
       → (r v : MemoryEvent)
       → Fr x86_language test x r v
       → Co x86_language test x v r
       → ⊥
-  not_both_Fr_and_Co acyclic r v fr co =
+  not-both_Fr_and_Co acyclic r v fr co =
       omega (arith, acyclic.increases r v (inr (inr (inr fr))), acyclic.increases v r (inr (inr (inl co))))
 
   -- A locked instruction reads what was there before a write, if what it reads from comes before the write, or is the initial word.
@@ -60,11 +60,11 @@ module _ (test : X86Test) (x : Execution) where
   pub IsAtomic-GlobalHappensBefore : GlobalHappensBefore test x → IsAtomic test x
   IsAtomic-GlobalHappensBefore h = record {
     after_write = λ r w v locked rf before co.
-        not_both_Fr_and_Co h r v (Fr-locked_source_before_write r v locked co (λ u is_some.
+        not-both_Fr_and_Co h r v (Fr-locked_source_before_write r v locked co (λ u is_some.
         (let source : w ≡ u = same_Some w u (sym rf.source_is ∙ is_some) in
         subst (λ (z : MemoryEvent). x.co z < x.co v) source before.co_lt))) co;
     after_initial = λ r v locked from co.
-        not_both_Fr_and_Co h r v
+        not-both_Fr_and_Co h r v
         (Fr-locked_source_before_write r v locked co (λ u is_some. absurd (none-some u (sym from ∙ is_some)))) co;
   }
 
@@ -87,7 +87,7 @@ module _ (test : X86Test) (x : Execution) where
   }
 
 -- If a locked instruction reads what another event of its location reads, that event does not come before it in coherence order.
-not_Co-same_source : (test : X86Test) (x : Execution) (o : FinalState)
+not-Co-same_source : (test : X86Test) (x : Execution) (o : FinalState)
     → IsCandidate x86_language test x o
     → SatisfiesAxioms test x
     → (r s : MemoryEvent) (l : ℕ)
@@ -96,10 +96,10 @@ not_Co-same_source : (test : X86Test) (x : Execution) (o : FinalState)
     → x.rf r ≡ x.rf s
     → Co x86_language test x r s
     → ⊥
-not_Co-same_source test x o candidate axioms r s l locked reading same_source co =
+not-Co-same_source test x o candidate axioms r s l locked reading same_source co =
     let m : co.on_location ≡ l = same_Some co.on_location l (sym co.first_write.location_is ∙ reading.location_is) in
     let writing : Writes x86_language test x r l = subst (Writes x86_language test x r) m co.first_write in
-    not_both_Fr_and_Co test x axioms.happens_before s r (Fr-locked_source_before_write test x s r locked co
+    not-both_Fr_and_Co test x axioms.happens_before s r (Fr-locked_source_before_write test x s r locked co
     (λ u is_some. source_precedes_locked_in_co candidate axioms.coherence r u l reading writing (same_source ∙ is_some))) co
 
 -- Two locked instructions that read the same write, or both the initial word of a location, are one.
@@ -124,6 +124,6 @@ locked_events_equal-same_source test x o candidate axioms r s l locked_r locked_
       is_write = locked_event_writes test s locked_s;
     })) [
       | inl one ↦ one
-      | inr (inl co) ↦ absurd (not_Co-same_source test x o candidate axioms r s l locked_s reading_r same_source co)
-      | inr (inr co) ↦ absurd (not_Co-same_source test x o candidate axioms s r l locked_r reading_s (sym same_source) co)
+      | inr (inl co) ↦ absurd (not-Co-same_source test x o candidate axioms r s l locked_s reading_r same_source co)
+      | inr (inr co) ↦ absurd (not-Co-same_source test x o candidate axioms s r l locked_r reading_s (sym same_source) co)
     ]

@@ -95,13 +95,13 @@ module _ {test : X86Test} {x : Execution} {o : FinalState} (candidate : IsCandid
       )
 
   -- No event precedes itself in program order.
-  not_equal-Po : (a b : MemoryEvent) → Po x a b → a ≡ b → ⊥
-  not_equal-Po a b po same = omega (arith, po.position_lt, ap (λ (z : MemoryEvent). z.position) same)
+  not-equal-Po : (a b : MemoryEvent) → Po x a b → a ≡ b → ⊥
+  not-equal-Po a b po same = omega (arith, po.position_lt, ap (λ (z : MemoryEvent). z.position) same)
 
   -- Two writes in program order have the same coherence order.
   pub CoWW-Coherence : CoWW test x
   CoWW-Coherence w v l po ww wv = elim (Co_total-of_writes w v l ww wv) [
-    | inl same ↦ absurd (not_equal-Po w v po same)
+    | inl same ↦ absurd (not-equal-Po w v po same)
     | inr (inl less) ↦ less
     | inr (inr more) ↦
         absurd (omega (
@@ -119,7 +119,7 @@ module _ {test : X86Test} {x : Execution} {o : FinalState} (candidate : IsCandid
         arith,
         coherence_rank_increases-Fr r w fr,
         coherence_rank_increases-Po_on_location w r l po (inr writing) (inl reading),
-      )) (λ same. not_equal-Po w r po (sym same))
+      )) (λ same. not-equal-Po w r po (sym same))
 
   -- A write after a read comes after the write that is read, in coherence order.
   pub CoRW-Coherence : CoRW test x

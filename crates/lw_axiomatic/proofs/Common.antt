@@ -64,7 +64,6 @@ pub use Rattle.lw_orders.proofs.Common.{Before, IsLinearExtension, IsOrder, inde
 pub use Rattle.lw_orders.proofs.api.Indices.{index_in-injective, index_in-order_split}
 pub use Rattle.lw_paths.proofs.Common.{IsPathAssignment, JumpsForward, constraints_of, item_at, items_of}
 pub use Rattle.lw_paths.proofs.Common.{statement_needs_empty_buffer, statement_of}
-pub use Rattle.lw_paths.proofs.api.FixedOrder.{AreOrdered, HasOrdered-if_respected, Respects-if_ordered}
 pub use Rattle.lw_paths.proofs.api.Members.{Contains-cons, Contains-head, Contains-map, Contains-map_inv}
 pub use Rattle.lw_paths.proofs.api.Members.{Contains-tail, not-Contains-nil}
 pub use Rattle.lw_paths.proofs.api.Numbering.{HasItem, HasItem-on_path, IsAscendingFrom}
@@ -73,6 +72,7 @@ pub use Rattle.lw_paths.proofs.api.Numbering.{IsItemOnPath, IsItemOnPath-of_memb
 pub use Rattle.lw_paths.proofs.api.Numbering.{index_lt-if_rank_lt, item, item_index-unique, item_slot}
 pub use Rattle.lw_paths.proofs.api.Numbering.{item_slot-increasing, item_slot-store_before_drain}
 pub use Rattle.lw_paths.proofs.api.Numbering.{length-path_assignment, thread_rank, thread_rank-increasing}
+pub use Rattle.lw_paths.proofs.api.PreservedOrder.{AreOrdered, HasOrdered-if_respected, Respects-if_ordered}
 pub use Rattle.lw_paths.proofs.api.Successors.{IsFlowSuccessor-in_range}
 pub use Rattle.lw_paths.proofs.api.Visitable.{JumpsForward-thread}
 pub use Rattle.lw_paths.specs.declared.item.Item.{Item}
@@ -82,7 +82,7 @@ pub use Rattle.lw_finals.proofs.api.Waiting.{IsAscendingBetween, IsAscendingBetw
 pub use Rattle.lw_finals.proofs.api.Waiting.{own_waits, waits_after, waits_after-other_thread}
 pub use Rattle.lw_finals.proofs.api.Waiting.{waits_after-same_thread}
 pub use Rattle.lw_finals.proofs.api.X86Prefix.{AreWaitingStores, AreWaitingStores-next}
-pub use Rattle.lw_finals.proofs.api.X86Prefix.{AreWaitingStores-start, DrainsOldest-at_turn, IsComing}
+pub use Rattle.lw_finals.proofs.api.X86Prefix.{AreWaitingStores-start, DrainsOldest-at_turn, IsDrainedLater}
 pub use Rattle.lw_finals.proofs.api.X86Waiting.{AllHold, AllHold-after_item, AllHold-start, BufferHolds}
 pub use Rattle.lw_finals.proofs.api.X86Waiting.{HoldsStores, ItemStep, ItemStep-of_transition}
 pub use Rattle.lw_report.proofs.Common.{IsReport, is_true}

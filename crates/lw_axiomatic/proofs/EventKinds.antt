@@ -56,9 +56,9 @@ store_or_waits (Some o) e =
     elim (or_cases (is_store o) _ e) [ inl store ↦ inl store | inr locked ↦ inr (or_right (operations.is_fence o) _ locked) ]
 
 -- A store does not wait for an empty store buffer.
-pub store_op_does_not_wait : (o : Operation) → is_store o ≡ true → needs_empty_buffer o ≡ false
-store_op_does_not_wait (Store x v) e = refl
-store_op_does_not_wait _ e = absurd (true≢false (sym e))
+pub needs_empty_buffer-false_if_store : (o : Operation) → is_store o ≡ true → needs_empty_buffer o ≡ false
+needs_empty_buffer-false_if_store (Store x v) e = refl
+needs_empty_buffer-false_if_store _ e = absurd (true≢false (sym e))
 
 -- A fence waits for an empty store buffer.
 fence_waits : (o : Operation) → operations.is_fence o ≡ true → needs_empty_buffer o ≡ true
@@ -112,20 +112,20 @@ module _ (test : X86Test) where
   has_kind = operation_is x86_language test
 
   -- An event that reads is no store.
-  pub read_is_no_store : (e : MemoryEvent) → has_kind reads e ≡ true → has_kind is_store e ≡ false
-  read_is_no_store e = kind_implied reads is_store false reads_no_store _
+  pub is_store-false_if_reads : (e : MemoryEvent) → has_kind reads e ≡ true → has_kind is_store e ≡ false
+  is_store-false_if_reads e = kind_implied reads is_store false reads_no_store _
 
   -- An event that is a fence is no store.
-  pub fence_is_no_store : (e : MemoryEvent) → has_kind operations.is_fence e ≡ true → has_kind is_store e ≡ false
-  fence_is_no_store e = kind_implied operations.is_fence is_store false fence_no_store _
+  pub is_store-false_if_fence : (e : MemoryEvent) → has_kind operations.is_fence e ≡ true → has_kind is_store e ≡ false
+  is_store-false_if_fence e = kind_implied operations.is_fence is_store false fence_no_store _
 
   -- An event that is a store reads nothing.
   pub store_reads_nothing : (e : MemoryEvent) → has_kind is_store e ≡ true → has_kind reads e ≡ false
   store_reads_nothing e = kind_implied is_store reads false store_no_reads _
 
   -- An event that is a store is no fence.
-  pub store_is_no_fence : (e : MemoryEvent) → has_kind is_store e ≡ true → has_kind operations.is_fence e ≡ false
-  store_is_no_fence e = kind_implied is_store operations.is_fence false store_no_fence _
+  pub is_fence-false_if_store : (e : MemoryEvent) → has_kind is_store e ≡ true → has_kind operations.is_fence e ≡ false
+  is_fence-false_if_store e = kind_implied is_store operations.is_fence false store_no_fence _
 
   -- An event that writes is a store, or also reads.
   pub write_stores_or_reads : (e : MemoryEvent)
@@ -140,8 +140,10 @@ module _ (test : X86Test) where
   write_stores_or_waits e = store_or_waits _
 
   -- An event that is a store does not wait for an empty store buffer.
-  pub store_event_does_not_wait : (e : MemoryEvent) → has_kind is_store e ≡ true → has_kind needs_empty_buffer e ≡ false
-  store_event_does_not_wait e = kind_implied is_store needs_empty_buffer false store_op_does_not_wait _
+  pub needs_empty_buffer-false_if_store_event : (e : MemoryEvent)
+      → has_kind is_store e ≡ true
+      → has_kind needs_empty_buffer e ≡ false
+  needs_empty_buffer-false_if_store_event e = kind_implied is_store needs_empty_buffer false needs_empty_buffer-false_if_store _
 
   -- An event that is a fence waits for an empty store buffer.
   pub fence_event_waits : (e : MemoryEvent) → has_kind operations.is_fence e ≡ true → has_kind needs_empty_buffer e ≡ true

@@ -17,19 +17,19 @@ events_from t [] = []
 events_from t (path ∷ paths) = map (event t) path ++ events_from (suc t) paths
 
 -- If the first path is thread t's, each event of the paths is in their list.
-pub events_from-contains : (t k u : ℕ) (paths : List (List ℕ)) (j : ℕ)
+pub Contains-events_from : (t k u : ℕ) (paths : List (List ℕ)) (j : ℕ)
     → u ≡ t + k
     → Contains (thread_code paths k) j
     → Contains (events_from t paths) (event u j)
-events_from-contains t k u [] j at on_path =
+Contains-events_from t k u [] j at on_path =
     absurd (not-Contains-nil j (subst (λ (path : List ℕ). Contains path j) (get_or_past [] k [] (omega arith)) on_path))
-events_from-contains t zero u (path ∷ paths) j at on_path =
+Contains-events_from t zero u (path ∷ paths) j at on_path =
     let same : t ≡ u = omega (arith, at) in
     Contains-append_left (map (event t) path) (events_from (suc t) paths) (event u j)
     (subst (λ n. Contains (map (event t) path) (event n j)) same (Contains-map (event t) path j on_path))
-events_from-contains t (suc k) u (path ∷ paths) j at on_path =
+Contains-events_from t (suc k) u (path ∷ paths) j at on_path =
     Contains-append_right (map (event t) path) (events_from (suc t) paths) (event u j)
-    (events_from-contains (suc t) k u paths j (omega (arith, at)) on_path)
+    (Contains-events_from (suc t) k u paths j (omega (arith, at)) on_path)
 
 -- Each event in the list is at a position of one of the paths.
 events_from-contains_inv : (t : ℕ) (paths : List (List ℕ)) (e : MemoryEvent)
@@ -102,7 +102,7 @@ module _ (rank : MemoryEvent → ℕ) where
   pub first_of_paths_or_empty : (paths : List (List ℕ))
       → ((f : MemoryEvent) → Contains (thread_code paths f.thread) f.position → ⊥) ⊎ ((e : MemoryEvent) × IsFirst paths e)
   first_of_paths_or_empty paths = elim (first_of_list_or_empty (events_from 0 paths)) [
-    | inl none ↦ inl (λ f c. none f (events_from-contains 0 f.thread f.thread paths f.position (omega arith) c))
+    | inl none ↦ inl (λ f c. none f (Contains-events_from 0 f.thread f.thread paths f.position (omega arith) c))
     | inr (e, first) ↦
         (let found = events_from-contains_inv 0 paths e first.0 in
         let same_thread : found.0 ≡ e.thread = omega (arith, found.1) in
@@ -110,7 +110,7 @@ module _ (rank : MemoryEvent → ℕ) where
           e,
           record {
             on_path = subst (λ k. Contains (thread_code paths k) e.position) same_thread found.2;
-            least = λ f c. first.1 f (events_from-contains 0 f.thread f.thread paths f.position (omega arith) c);
+            least = λ f c. first.1 f (Contains-events_from 0 f.thread f.thread paths f.position (omega arith) c);
           },
         ))
   ]
@@ -182,7 +182,7 @@ module _ (rank : MemoryEvent → ℕ) (P : MemoryEvent → Type 0) (decide : (e 
       → ((f : MemoryEvent) → Contains (thread_code paths f.thread) f.position → P f → ⊥)
       ⊎ ((e : MemoryEvent) × P e × ((f : MemoryEvent) → Contains (thread_code paths f.thread) f.position → P f → rank e ≤ rank f))
   least_of_paths_or_none paths = elim (least_of_list_or_none (events_from 0 paths)) [
-    | inl none ↦ inl (λ f c. none f (events_from-contains 0 f.thread f.thread paths f.position (omega arith) c))
+    | inl none ↦ inl (λ f c. none f (Contains-events_from 0 f.thread f.thread paths f.position (omega arith) c))
     | inr (e, first) ↦
-        inr (e, first.0, λ f c. first.1 f (events_from-contains 0 f.thread f.thread paths f.position (omega arith) c))
+        inr (e, first.0, λ f c. first.1 f (Contains-events_from 0 f.thread f.thread paths f.position (omega arith) c))
   ]

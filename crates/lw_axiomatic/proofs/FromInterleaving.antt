@@ -138,7 +138,7 @@ module _ {S : Type 0} {language : Language S} {test : Test S} (well_scoped : IsW
         → w ≡ v
     words : (l : ℕ) → IsLast language (with_words s.words) execution l (slice_index o.words l)
     rank : MemoryEvent → ℕ
-    up : (a b : MemoryEvent) → ScOrder language test execution a b → rank a < rank b
+    increases : (a b : MemoryEvent) → ScOrder language test execution a b → rank a < rank b
 
   -- ---- at the end there is nothing left
 
@@ -162,7 +162,7 @@ module _ {S : Type 0} {language : Language S} {test : Test S} (well_scoped : IsW
     co = λ w v l ww wv same. absurd (empty_execution-has_no_event w ww.is_event);
     words = λ l. inl ((λ e writing. empty_execution-has_no_event e writing.is_event), refl);
     rank = λ e. 0;
-    up = λ a b. elim [
+    increases = λ a b. elim [
       | inl po ↦ absurd (empty_execution-has_no_event a po.first_event)
       | inr (inl rf) ↦ absurd (empty_execution-has_no_event a rf.write.is_event)
       | inr (inr (inl co)) ↦ absurd (empty_execution-has_no_event a co.first_write.is_event)
@@ -791,13 +791,12 @@ module _ {S : Type 0} {language : Language S} {test : Test S} (well_scoped : IsW
         | inl same_event ↦ absurd (no_ScOrder-to_first a (subst (ScOrder language test whole_execution a) same_event r))
         | inr events_differ ↦ elim (decided_event_equal a step_event) [
           | inl same_event ↦ omega (arith, rank-of_first a same_event, rank-of_other b events_differ)
-          | inr na ↦
-              omega (
-                arith,
-                rank-of_other a na,
-                rank-of_other b events_differ,
-                later.up a b (ScOrder-of_later a b na events_differ r),
-              )
+          | inr na ↦ omega (
+            arith,
+            rank-of_other a na,
+            rank-of_other b events_differ,
+            later.increases a b (ScOrder-of_later a b na events_differ r),
+          )
         ]
       ]
 
@@ -811,7 +810,7 @@ module _ {S : Type 0} {language : Language S} {test : Test S} (well_scoped : IsW
         co = co-injective;
         words = IsLast-with_first;
         rank = rank;
-        up = rank_increases-ScOrder;
+        increases = rank_increases-ScOrder;
       }
 
   -- ---- the whole run
@@ -886,5 +885,5 @@ module _ {S : Type 0} {language : Language S} {test : Test S} (well_scoped : IsW
               subst (HasOutcomeShape (length test.threads) (length test.head.locs)) (sym run.outcome_is)
               (HasOutcomeShape-IsGood run.end both.1);
         };
-        sequential = record { rank = later.rank; increases = later.up };
+        sequential = record { rank = later.rank; increases = later.increases };
       }

@@ -229,8 +229,8 @@ module _ {test : X86Test} {paths : List (List ℕ)} (given : KeptOrder test path
     }
 
     -- The list has each event of the execution.
-    events-contains : (w : MemoryEvent) → IsEvent run_execution w → Contains events w
-    events-contains w is_event =
+    Contains-events : (w : MemoryEvent) → IsEvent run_execution w → Contains events w
+    Contains-events w is_event =
         let p = step_placed given w is_event in
         let is_there : Contains all_items (item w.thread w.position false) = (p.index, p.below, places.get-of_Placed given p) in
         Contains-map (λ (a : Item). event a.thread a.position) all_items (item w.thread w.position false) is_there
@@ -305,13 +305,13 @@ module _ {test : X86Test} {paths : List (List ℕ)} (given : KeptOrder test path
           → IsTopOf reached_index (is_source r) events q
           → IsNewest test run_execution done_index reached_index r l q
       IsNewest-IsTopOf None none =
-          λ w writing before. none w (events-contains w writing.is_event) (is_source-IsBefore w writing before)
+          λ w writing before. none w (Contains-events w writing.is_event) (is_source-IsBefore w writing before)
       IsNewest-IsTopOf (Some v) top =
           let s = IsBefore-is_source v (events-contains_inv v top.among) top.passes in
           record {
             write = s.0;
             is_before = s.1;
-            latest = λ w writing before. top.most w (events-contains w writing.is_event) (is_source-IsBefore w writing before);
+            latest = λ w writing before. top.most w (Contains-events w writing.is_event) (is_source-IsBefore w writing before);
           }
 
       -- The read reads from the newest write before it.
@@ -507,7 +507,7 @@ module _ {test : X86Test} {paths : List (List ℕ)} (given : KeptOrder test path
             position_at_turn : (k : ℕ) (ta : TurnAt k)
                 → (nth_item ta.now_at.index).is_drain ≡ false
                 → (item_step k ta).old.position ≡ (nth_item ta.now_at.index).position
-            position_at_turn k ta f = (item_step k ta).stands f
+            position_at_turn k ta f = (item_step k ta).position_is f
 
             -- If a read has the word of the newest write, it reads from it.
             IsReadFrom-IsNewest : (q : Option MemoryEvent)
@@ -659,7 +659,7 @@ module _ {test : X86Test} {paths : List (List ℕ)} (given : KeptOrder test path
           -- The thread before it is at this position.
           thread_position : (thread_of p).position ≡ j
           thread_position =
-              ap (λ (z : ThreadState). z.position) (sym unmoved) ∙ ((item_step m ta).stands item_is_step ∙ item_position)
+              ap (λ (z : ThreadState). z.position) (sym unmoved) ∙ ((item_step m ta).position_is item_is_step ∙ item_position)
 
           -- The event writes what the thread's registers and its word give.
           written_word : run_execution.written (event t j)

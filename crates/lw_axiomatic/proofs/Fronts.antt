@@ -29,32 +29,32 @@ module _ (passes : ℕ → Bool) where
   ]
 
   -- A position in the front is on the path, and passes.
-  front-contains_inv : (path : List ℕ) (j : ℕ) → Contains (front path) j → Contains path j × (passes j ≡ true)
-  front-contains_inv [] j on_path = absurd (not-Contains-nil j on_path)
-  front-contains_inv (h ∷ path) j on_path = elim (cases_Bool (passes h)) [
+  Contains-of_front : (path : List ℕ) (j : ℕ) → Contains (front path) j → Contains path j × (passes j ≡ true)
+  Contains-of_front [] j on_path = absurd (not-Contains-nil j on_path)
+  Contains-of_front (h ∷ path) j on_path = elim (cases_Bool (passes h)) [
     | inl p ↦ elim (Contains-cons h j (front path) (rw p at on_path)) [
       | inl is_head ↦ (Contains-head h j path is_head, ap passes (sym is_head) ∙ p)
-      | inr in_tail ↦ (let rest = front-contains_inv path j in_tail in (Contains-tail h j path rest.0, rest.1))
+      | inr in_tail ↦ (let rest = Contains-of_front path j in_tail in (Contains-tail h j path rest.0, rest.1))
     ]
     | inr f ↦ absurd (not-Contains-nil j (rw f at on_path))
   ]
 
   -- If every position before one that passes does so too, each position that passes is in the front.
-  front-contains : (low : ℕ) (path : List ℕ) (j : ℕ)
+  Contains-front : (low : ℕ) (path : List ℕ) (j : ℕ)
       → IsAscendingFrom low path
       → ((h k : ℕ) → Contains path h → Contains path k → h < k → passes k ≡ true → passes h ≡ true)
       → Contains path j
       → passes j ≡ true
       → Contains (front path) j
-  front-contains low [] j up down on_path p = absurd (not-Contains-nil j on_path)
-  front-contains low (h ∷ path) j up down on_path p = elim (Contains-cons h j path on_path) [
+  Contains-front low [] j up down on_path p = absurd (not-Contains-nil j on_path)
+  Contains-front low (h ∷ path) j up down on_path p = elim (Contains-cons h j path on_path) [
     | inl is_head ↦ (let here : passes h ≡ true = ap passes is_head ∙ p in rw here (Contains-head h j (front path) is_head))
     | inr in_tail ↦
         (let less : h < j = IsAscendingFrom-lower_bound (suc h) j path up.1 (in_list path j in_tail) in
         let here : passes h ≡ true = down h j (Contains-head h h path refl) on_path less p in
         rw here
         (Contains-tail h j (front path)
-        (front-contains (suc h) path j up.1 (λ i k ci ck. down i k (Contains-tail h i path ci) (Contains-tail h k path ck))
+        (Contains-front (suc h) path j up.1 (λ i k ci ck. down i k (Contains-tail h i path ci) (Contains-tail h k path ck))
         in_tail p)))
   ]
 
@@ -89,9 +89,9 @@ module _ (passes : ℕ → ℕ → Bool) where
   tails t (path ∷ paths) = tail (passes t) path ∷ tails (suc t) paths
 
   -- The number of fronts is that of paths.
-  pub fronts-length : (t : ℕ) (paths : List (List ℕ)) → length (fronts t paths) ≡ length paths
-  fronts-length t [] = refl
-  fronts-length t (path ∷ paths) = ap suc (fronts-length (suc t) paths)
+  pub length-fronts : (t : ℕ) (paths : List (List ℕ)) → length (fronts t paths) ≡ length paths
+  length-fronts t [] = refl
+  length-fronts t (path ∷ paths) = ap suc (length-fronts (suc t) paths)
 
   -- The empty list of paths.
   abbrev no_paths : List (List ℕ)
@@ -125,15 +125,15 @@ module _ (passes : ℕ → ℕ → Bool) where
       ∙ ap₂ (λ (a b : List ℕ). a ++ b) (sym (fronts-get 0 t t paths (omega arith))) (sym (tails-get 0 t t paths (omega arith)))
 
   -- A position in a front is on its path, and passes.
-  pub fronts-contains_inv : (t j : ℕ) (paths : List (List ℕ))
+  pub Contains-of_fronts : (t j : ℕ) (paths : List (List ℕ))
       → Contains (thread_code (fronts 0 paths) t) j
       → Contains (thread_code paths t) j × (passes t j ≡ true)
-  fronts-contains_inv t j paths on_path =
-      front-contains_inv (passes t) (thread_code paths t) j
+  Contains-of_fronts t j paths on_path =
+      Contains-of_front (passes t) (thread_code paths t) j
       (subst (λ (path : List ℕ). Contains path j) (fronts-get 0 t t paths (omega arith)) on_path)
 
   -- If every position before one that passes does so too, each of a thread's positions that pass is in its front.
-  pub fronts-contains : (t j : ℕ) (paths : List (List ℕ))
+  pub Contains-fronts : (t j : ℕ) (paths : List (List ℕ))
       → IsAscendingFrom 0 (thread_code paths t)
       → ((h k : ℕ)
       → Contains (thread_code paths t) h
@@ -144,9 +144,9 @@ module _ (passes : ℕ → ℕ → Bool) where
       → Contains (thread_code paths t) j
       → passes t j ≡ true
       → Contains (thread_code (fronts 0 paths) t) j
-  fronts-contains t j paths up down on_path p =
+  Contains-fronts t j paths up down on_path p =
       subst (λ (path : List ℕ). Contains path j) (sym (fronts-get 0 t t paths (omega arith)))
-      (front-contains (passes t) 0 (thread_code paths t) j up down on_path p)
+      (Contains-front (passes t) 0 (thread_code paths t) j up down on_path p)
 
   -- The first position of a path that fails is the head of its tail.
   pub tails-head : (t j : ℕ) (paths : List (List ℕ))

@@ -467,7 +467,7 @@ module _ (test : X86Test) (x : Execution) where
           | inl w ↦
               or_right (reads_first test x (last_half a)) _
               (or_left (writes_last test x (last_half b)) _
-              (and_from (has_kind writes b) _ w (not_or_self (has_kind is_locked b))))
+              (and_from (has_kind writes b) _ w (or_not-true (has_kind is_locked b))))
           | inr fences ↦
               or_right (reads_first test x (last_half a)) _
               (or_right (writes_last test x (last_half b)) _ (elim (or_cases (has_kind operations.is_fence a) _ fences) [
@@ -479,9 +479,9 @@ module _ (test : X86Test) (x : Execution) where
     }))
       where
         -- A test is false or true.
-        not_or_self : (d : Bool) → (not d || d) ≡ true
-        not_or_self true = refl
-        not_or_self false = refl
+        or_not-true : (d : Bool) → (not d || d) ≡ true
+        or_not-true true = refl
+        or_not-true false = refl
 
         -- A read's half orders what follows it.
         half_reads_first : has_kind reads a ≡ true

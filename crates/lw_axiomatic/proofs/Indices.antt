@@ -19,8 +19,8 @@ use Rattle.lw_axiomatic.proofs.Common.{index_lt-if_rank_lt, item_index-unique, A
 use Rattle.lw_axiomatic.proofs.Common.{HasOrdered-if_respected, not-Contains-nil, Contains-cons}
 use Rattle.lw_axiomatic.proofs.Common.{JumpsForward-thread, MemoryEvent, Execution, reads, operation_is}
 use Rattle.lw_axiomatic.proofs.Common.{IsEvent, Po, Ppo}
-use Rattle.lw_axiomatic.proofs.EventKinds.{store_reads_nothing, store_is_no_fence, write_stores_or_waits}
-use Rattle.lw_axiomatic.proofs.EventKinds.{fence_event_waits}
+use Rattle.lw_axiomatic.proofs.EventKinds.{store_reads_nothing, is_fence-false_if_store}
+use Rattle.lw_axiomatic.proofs.EventKinds.{write_stores_or_waits, fence_event_waits}
 use Rattle.lw_litmus.specs.Operations as operations
 
 -- If the slots of two items of a thread are equal, the items have one position, and both are its drain or neither is.
@@ -97,7 +97,7 @@ Contains-IsMember (k ∷ path) j (inl e) = (0, omega arith, e)
 Contains-IsMember (k ∷ path) j (inr h) =
     let member = Contains-IsMember path j h in (suc member.0, omega (arith, member.1), member.2)
 
--- A well-scoped test, a choice of its paths, and an order of the choice's items that keeps the fixed pairs.
+-- A well-scoped test, a choice of its paths, and an order of the choice's items that keeps the preserved pairs.
 pub record KeptOrder (test : X86Test) (paths : List (List ℕ)) : Type 0 where
   pub well_scoped : IsWellScopedProgram test
   pub choice : IsPathAssignment x86_language test.threads paths
@@ -364,7 +364,7 @@ module _ {test : X86Test} {paths : List (List ℕ)} (given : KeptOrder test path
       | inr rest ↦ elim (or_cases (operation_is x86_language test writes b) _ rest) [
         | inl w ↦ write_stores_or_waits test b w
         | inr fences ↦ elim (or_cases (operation_is x86_language test operations.is_fence a) _ fences) [
-          | inl f ↦ absurd (true≢false (sym f ∙ store_is_no_fence test a s))
+          | inl f ↦ absurd (true≢false (sym f ∙ is_fence-false_if_store test a s))
           | inr f ↦ inr (fence_event_waits test b f)
         ]
       ]

@@ -37,8 +37,8 @@ module _ {code fenced : List Instr} (fencing : IsFencedCode code fenced) where
       inserted_or_kept-of_instruction i found (inr ends) = inr (record { instr = i; found = found; ends = ends })
 
   -- No instruction of the longer code is both kept and inserted.
-  pub kept-not_inserted : (index : ℕ) → IsInsertedAt fencing index → IsKeptAt index → ⊥
-  kept-not_inserted index inserted kept = omega (arith, inserted, kept.ends.1)
+  pub not-IsKeptAt-if_inserted : (index : ℕ) → IsInsertedAt fencing index → IsKeptAt index → ⊥
+  not-IsKeptAt-if_inserted index inserted kept = omega (arith, inserted, kept.ends.1)
 
   -- From an index to the next one, the block does not decrease.
   block-next : (index : ℕ) → index < length fenced → fencing.block index ≤ fencing.block (index + 1)

@@ -21,10 +21,13 @@ store_or_locked None e = absurd (true≢false (sym e))
 store_or_locked (Some o) e = or_cases (is_store o) _ e
 
 -- No operation is both a plain store and locked.
-store-not_locked : (q : Option Operation) → option_map_or is_store q false ≡ true → option_map_or is_locked q false ≡ true → ⊥
-store-not_locked None store locked = true≢false (sym store)
-store-not_locked (Some (Store y v)) store locked = true≢false (sym locked)
-store-not_locked (Some _) store locked = true≢false (sym store)
+not-is_locked-if_store : (q : Option Operation)
+    → option_map_or is_store q false ≡ true
+    → option_map_or is_locked q false ≡ true
+    → ⊥
+not-is_locked-if_store None store locked = true≢false (sym store)
+not-is_locked-if_store (Some (Store y v)) store locked = true≢false (sym locked)
+not-is_locked-if_store (Some _) store locked = true≢false (sym store)
 
 module _ (test : X86Test) (x : Execution) where
   -- What comes before in global happens-before precedes.
@@ -72,8 +75,8 @@ module _ {test : X86Test} {x : Execution} {o : FinalState} (candidate : IsCandid
   }
 
   -- Of two events, the first in global happens-before is not the second in coherence order.
-  not_Co-IsOrderedBefore : (a b : MemoryEvent) → IsOrderedBefore test x a b → Co x86_language test x b a → ⊥
-  not_Co-IsOrderedBefore a b order co =
+  not-Co-IsOrderedBefore : (a b : MemoryEvent) → IsOrderedBefore test x a b → Co x86_language test x b a → ⊥
+  not-Co-IsOrderedBefore a b order co =
       let g = axioms.happens_before in omega (arith, order g.rank g.increases, g.increases b a (inr (inr (inl co))))
 
   -- A write that a locked instruction reads from precedes it.
@@ -154,14 +157,14 @@ module _ {test : X86Test} {x : Execution} {o : FinalState} (candidate : IsCandid
             | inr (inr later) ↦
                 absurd (elim (Co_total-of_writes candidate axioms.coherence r u l (take_writes r take_r) writing) [
                   | inl same ↦
-                      store-not_locked _ store
+                      not-is_locked-if_store _ store
                       (subst (λ (z : MemoryEvent). operation_is x86_language test is_locked z ≡ true) same take_r.locked)
                   | inr (inr between) ↦
                       (IsAtomic-GlobalHappensBefore test x axioms.happens_before).after_write s u r take_s.locked rf between co
                   | inr (inl behind) ↦
                       (let rest = again r m (omega (arith, below, less, behind.co_lt)) take_r held.1 later in
                       let same : rest.0 ≡ u = Releases-unique m rest.0 u rest.1 held.2 in
-                      not_Co-IsOrderedBefore u r (subst (λ (z : MemoryEvent). IsOrderedBefore test x z r) same rest.2) behind)
+                      not-Co-IsOrderedBefore u r (subst (λ (z : MemoryEvent). IsOrderedBefore test x z r) same rest.2) behind)
                 ])
           ]
 

@@ -5,7 +5,7 @@ use Rattle.lw_axiomatic.proofs.Common.{◌≡◌, ℕ, zero, suc, ◌+◌, ◌*�
 use Rattle.lw_axiomatic.proofs.Common.{◌∙◌, subst, arith, List, [], ◌∷◌, Contains, cases_lt, not-Contains-nil}
 use Rattle.lw_axiomatic.proofs.Common.{Contains-head, Contains-tail, Contains-cons, Acyclic, Walk, HasNoCycle}
 use Rattle.lw_axiomatic.proofs.Common.{MemoryEvent, Execution, IsEvent}
-use Rattle.lw_axiomatic.proofs.EventLists.{events_from, events_from-contains}
+use Rattle.lw_axiomatic.proofs.EventLists.{events_from, Contains-events_from}
 use Rattle.lw_axiomatic.proofs.Decisions.{Decidable, decided_or, decided_and, decided_event_equal}
 
 -- ---- increasing relations have no cycle
@@ -189,6 +189,6 @@ Acyclic-HasNoCycle x R decide within none =
       rank = n.0;
       increases = λ a b r.
           (let w = within a b r in
-          n.1 a b (events_from-contains 0 a.thread a.thread x.paths a.position (omega arith) w.0)
-          (events_from-contains 0 b.thread b.thread x.paths b.position (omega arith) w.1) r);
+          n.1 a b (Contains-events_from 0 a.thread a.thread x.paths a.position (omega arith) w.0)
+          (Contains-events_from 0 b.thread b.thread x.paths b.position (omega arith) w.1) r);
     }

@@ -41,7 +41,7 @@ pub step_case : {program : List (List Instr)} {t j : ℕ} {i : Instr} {s mid : M
 step_case true f c found_at = absurd (true≢false f)
 step_case {program} {t} {j} {i} {s} {mid} false f c found_at =
     let here : slice_get (thread_code program t) c.old.position ≡ Some i =
-    ap (λ k. slice_get (thread_code program t) k) (c.stands refl) ∙ found_at in
+    ap (λ k. slice_get (thread_code program t) k) (c.position_is refl) ∙ found_at in
     StepCase-EffectLeadsTo (x86_operation i) c.old c.new s.memory c.words
     (subst (λ o. EffectLeadsTo s.memory (step_effect o c.old) c.new c.words) here c.does)
 

@@ -40,14 +40,14 @@ module _ (one : (text : Bytes) (s t : LitmusTest) → HasTest text s → HasTest
   IsOutputOf-iff_report text made test Other has same = (
     λ m.
         (let is : IsStatesReport test made =
-        subst (λ (t : LitmusTest). IsStatesReport t made) (one text m.test test m.has_test has) m.is in
-        (is.within, IsReport-same_outcomes (head_of_test test) (OutcomeOf test) Other same made is.is)),
+        subst (λ (t : LitmusTest). IsStatesReport t made) (one text m.test test m.has_test has) m.is_made in
+        (is.within, IsReport-same_outcomes (head_of_test test) (OutcomeOf test) Other same made is.is_report)),
     λ h. record {
       test = test;
       has_test = has;
-      is = record {
+      is_made = record {
         within = h.0;
-        is = IsReport-same_outcomes (head_of_test test) Other (OutcomeOf test) (λ o. iff-symmetric (same o)) made h.1;
+        is_report = IsReport-same_outcomes (head_of_test test) Other (OutcomeOf test) (λ o. iff-symmetric (same o)) made h.1;
       };
     },
   )

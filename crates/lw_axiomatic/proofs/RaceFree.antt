@@ -19,11 +19,11 @@ use Rattle.lw_axiomatic.proofs.Common.{HasTriangularRace, IsSequentiallyConsiste
 use Rattle.lw_axiomatic.proofs.EventLists.{event, least_of_paths_or_none}
 use Rattle.lw_axiomatic.proofs.Decisions.{Decidable, decided_and, decided_iff, decided_fr}
 use Rattle.lw_axiomatic.proofs.EventKinds.{write_or_load, position_below_size, write_stores_or_reads}
-use Rattle.lw_axiomatic.proofs.EventKinds.{store_event_does_not_wait}
+use Rattle.lw_axiomatic.proofs.EventKinds.{needs_empty_buffer-false_if_store_event}
 use Rattle.lw_axiomatic.proofs.Levels.{level, level-le, level-lt, level-below}
 use Rattle.lw_axiomatic.proofs.FencedTests.{event_thread_in_range, path_is_flow_path}
-use Rattle.lw_axiomatic.proofs.Fronts.{fronts, tails, fronts-length, fronts_append_tails, fronts-contains_inv}
-use Rattle.lw_axiomatic.proofs.Fronts.{fronts-contains, tails-head}
+use Rattle.lw_axiomatic.proofs.Fronts.{fronts, tails, length-fronts, fronts_append_tails, Contains-of_fronts}
+use Rattle.lw_axiomatic.proofs.Fronts.{Contains-fronts, tails-head}
 use Rattle.lw_axiomatic.proofs.RaceRuns.{Split, Split-of_run, RunsToWithoutBarrier-Runs}
 use Rattle.lw_axiomatic.proofs.Timing.{anchor_reached}
 use Rattle.lw_axiomatic.proofs.Walks.{AreFronts, CompleteWalk, CompleteWalk-from_start}
@@ -339,12 +339,12 @@ module _ {test : X86Test} (well_scoped : IsWellScopedProgram test) {x : Executio
     -- An event that passes is in the front.
     IsIn-passes : (e : MemoryEvent) → IsEvent x e → passes e.thread e.position ≡ true → IsIn e
     IsIn-passes e is_event p =
-        fronts-contains passes e.thread e.position x.paths (path_is_ascending e.thread e.position is_event)
+        Contains-fronts passes e.thread e.position x.paths (path_is_ascending e.thread e.position is_event)
         (passes-downward_closed e.thread) is_event p
 
     -- What is in the front is an event that passes.
     IsIn_inv : (e : MemoryEvent) → IsIn e → IsEvent x e × (passes e.thread e.position ≡ true)
-    IsIn_inv e c = fronts-contains_inv passes e.thread e.position x.paths c
+    IsIn_inv e c = Contains-of_fronts passes e.thread e.position x.paths c
 
     -- The ranks increase along from-reads of what is in front.
     rank_increases-Fr : (r w : MemoryEvent) → IsIn r → Fr x86_language test x r w → rank r < rank w
@@ -399,9 +399,9 @@ module _ {test : X86Test} (well_scoped : IsWellScopedProgram test) {x : Executio
     -- The fronts of the paths can be walked.
     AreFronts-of_passes : AreFronts x86_language test x rank (fronts passes 0 x.paths) (tails passes 0 x.paths)
     AreFronts-of_passes = record {
-      path_count = fronts-length passes 0 x.paths ∙ candidate.as_many;
+      path_count = length-fronts passes 0 x.paths ∙ candidate.as_many;
       parted = λ t. fronts_append_tails passes t x.paths;
-      up = λ r w ir iw. elim [
+      increases = λ r w ir iw. elim [
         | inl po ↦ rank_increases-Po r w po
         | inr (inl rf) ↦ anchored_by.rank_increases-Rf axioms r w rf
         | inr (inr (inl co)) ↦ anchored_by.rank_increases-Co axioms r w co
@@ -428,8 +428,8 @@ module _ {test : X86Test} (well_scoped : IsWellScopedProgram test) {x : Executio
     IsNext-first_not_passing kind e is_event is location_is not before =
         let th =
         slice_get-in_range walk_of_fronts.end.threads e.thread
-        (omega (arith, event_thread_in_range candidate e is_event, walk_of_fronts.at.good.thread_count)) in
-        let now = walk_of_fronts.at.threads e.thread th.0 th.1 in
+        (omega (arith, event_thread_in_range candidate e is_event, walk_of_fronts.end_is_at.good.thread_count)) in
+        let now = walk_of_fronts.end_is_at.threads e.thread th.0 th.1 in
         let tail =
         tails-head passes e.thread e.position x.paths (path_is_ascending e.thread e.position is_event) is_event not before in
         let is_nil : thread_code walk_of_fronts.left e.thread ≡ [] =
@@ -451,7 +451,7 @@ module _ {test : X86Test} (well_scoped : IsWellScopedProgram test) {x : Executio
         no_path_left : (path : List ℕ) → thread_code walk_of_fronts.left e.thread ≡ path → path ≡ []
         no_path_left [] same = refl
         no_path_left (h ∷ more) same =
-            absurd (walk_of_fronts.none (event e.thread h)
+            absurd (walk_of_fronts.none_ahead (event e.thread h)
             (subst (λ (path : List ℕ). Contains path h) (sym same) (Contains-head h h more refl)))
 
     -- An event with neither property does not pass.
@@ -491,7 +491,7 @@ module _ {test : X86Test} (well_scoped : IsWellScopedProgram test) {x : Executio
         earlier_store
     split_run =
         Split-of_run well_scoped candidate AreFronts-of_passes walk_of_fronts.events (start x86_language test) walk_of_fronts.end
-        earlier_store walk_of_fronts.ran (walk_of_fronts.has earlier_store IsIn-earlier_store)
+        earlier_store walk_of_fronts.ran (walk_of_fronts.complete earlier_store IsIn-earlier_store)
 
     -- Since then the read's thread has done nothing that waits for an empty buffer.
     quiet_since : (h : MemoryEvent)
@@ -499,7 +499,7 @@ module _ {test : X86Test} (well_scoped : IsWellScopedProgram test) {x : Executio
         → h.thread ≡ late_read.thread
         → operation_is x86_language test needs_empty_buffer h ≡ false
     quiet_since h c_h same_thread =
-        let is = IsIn_inv h (walk_of_fronts.all h (split_run.among h c_h)) in
+        let is = IsIn_inv h (walk_of_fronts.all_ahead h (split_run.among h c_h)) in
         let later : rank earlier_store ≤ rank h = split_run.later h c_h in
         let before : h.position < late_read.position = elim (passes_inv h.thread h.position is.1) [
           | inr own_h ↦ own_h.1
@@ -525,7 +525,7 @@ module _ {test : X86Test} (well_scoped : IsWellScopedProgram test) {x : Executio
           | inl same_position ↦
               (let same_event : h ≡ earlier_store = ap₂ event same_thread same_position in
               ap (operation_is x86_language test needs_empty_buffer) same_event
-              ∙ store_event_does_not_wait test earlier_store Stored-of_read.store)
+              ∙ needs_empty_buffer-false_if_store_event test earlier_store Stored-of_read.store)
           | inr (inl position_lt) ↦ absurd (omega (
             arith,
             rank_increases-Po h earlier_store (record {
@@ -554,7 +554,8 @@ module _ {test : X86Test} (well_scoped : IsWellScopedProgram test) {x : Executio
     -- The instruction at the store's position is the store.
     statement_at_store : slice_get (thread_code test.threads late_read.thread) Stored-of_read.position
         ≡ Some split_run.step.statement
-    statement_at_store = ap (slice_get (thread_code test.threads late_read.thread)) (sym split_run.stands) ∙ split_run.step.at
+    statement_at_store =
+        ap (slice_get (thread_code test.threads late_read.thread)) (sym split_run.position_is) ∙ split_run.step.at
 
     -- The test has a triangular race.
     HasTriangularRace-of_late_read : HasTriangularRace test

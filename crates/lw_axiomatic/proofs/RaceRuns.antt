@@ -23,7 +23,7 @@ module _ {test : X86Test} (well_scoped : IsWellScopedProgram test) {x : Executio
     pub reached : InterleavedRunsTo x86_language test.threads before s first
     pub mid : Interleaved
     pub step : IsStep x86_language test.threads e.thread first mid
-    pub stands : step.thread.position ≡ e.position
+    pub position_is : step.thread.position ≡ e.position
     pub since : List MemoryEvent
     pub ran : Runs since mid end
     pub later : (f : MemoryEvent) → Contains since f → rank e ≤ rank f
@@ -42,7 +42,7 @@ module _ {test : X86Test} (well_scoped : IsWellScopedProgram test) {x : Executio
       reached = refl;
       mid = next;
       step = step;
-      stands = at;
+      position_is = at;
       since = events;
       ran = ran;
       later = least;
@@ -56,7 +56,7 @@ module _ {test : X86Test} (well_scoped : IsWellScopedProgram test) {x : Executio
           reached = (next, step, more.reached);
           mid = more.mid;
           step = more.step;
-          stands = more.stands;
+          position_is = more.position_is;
           since = more.since;
           ran = more.ran;
           later = more.later;

@@ -8,8 +8,8 @@ use Rattle.lw_axiomatic.proofs.Common.{cases_eq, cond-true, cond-false, same_Som
 use Rattle.lw_axiomatic.proofs.Common.{writes, location_of, x86_language, x86_operation, X86Test, index_in}
 use Rattle.lw_axiomatic.proofs.Common.{Item, IsMember, item, IsItemOnPath-of_member, MachineState, Processor}
 use Rattle.lw_axiomatic.proofs.Common.{newest_buffered, IsAscendingBetween, IsAscendingBetween-member}
-use Rattle.lw_axiomatic.proofs.Common.{entry_location, BufferHolds, IsComing, MemoryEvent, Execution, reads}
-use Rattle.lw_axiomatic.proofs.Common.{operation_is, IsEvent, Writes, Po, IsBefore, IsNewest}
+use Rattle.lw_axiomatic.proofs.Common.{entry_location, BufferHolds, IsDrainedLater, MemoryEvent, Execution}
+use Rattle.lw_axiomatic.proofs.Common.{reads, operation_is, IsEvent, Writes, Po, IsBefore, IsNewest}
 use Rattle.lw_axiomatic.proofs.EventLists.{event}
 use Rattle.lw_axiomatic.proofs.EventKinds.{}
 use Rattle.lw_axiomatic.proofs.StepCases.{word_seen, found_or}
@@ -162,7 +162,7 @@ module _ {test : X86Test} (x : Execution) (given : KeptOrder test x.paths) where
         × Po x (event read_thread w) read_event
         × (k ≤ reach (event read_thread w))
     store_pending-IsMember w l is_member of =
-        let co : IsComing _ _ _ _ _ k read_thread w = inv.waiting.coming read_thread w is_member in
+        let co : IsDrainedLater _ _ _ _ _ k read_thread w = inv.waiting.coming read_thread w is_member in
         let re = IsItemOnPath-of_member x86_language test.threads x.paths co.index co.below in
         let g = store-entry_location (slice_get (thread_code test.threads read_thread) w) l of in
         let on_path : Contains (thread_code x.paths read_thread) w =

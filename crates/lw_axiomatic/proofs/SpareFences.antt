@@ -22,7 +22,7 @@ use Rattle.lw_axiomatic.proofs.Anchored.{ghb_rank_increases-Po_from_waiting}
 use Rattle.lw_axiomatic.proofs.EventKinds.{position_below_size, write_or_load, write_stores_or_reads}
 use Rattle.lw_axiomatic.proofs.EventLists.{event}
 use Rattle.lw_axiomatic.proofs.FencedTests.{AreOnPath-AreStoreAndLoad, IsOfOneThread-IsLocationOnlyWrittenBy}
-use Rattle.lw_axiomatic.proofs.Inserted.{IsKeptAt, inserted_or_kept, block-later, kept-not_inserted}
+use Rattle.lw_axiomatic.proofs.Inserted.{IsKeptAt, inserted_or_kept, block-later, not-IsKeptAt-if_inserted}
 use Rattle.lw_axiomatic.proofs.Timing.{anchor, anchor_above, anchor_least}
 use Rattle.lw_axiomatic.proofs.WithFences.{IsCandidate-with_fences, code_at, code_at-by_range}
 use Rattle.lw_axiomatic.proofs.WithFences.{IsEvent-event_without, is_kept-of_event, kind-event_without}
@@ -219,8 +219,8 @@ module _ {test fenced : X86Test} (fencing : IsFencedTest test fenced) (well_scop
   own-other e h = cond-false (counts e) (suc (number e)) 0 h
 
   -- An event that counts is not at an inserted MFENCE.
-  counts-not_inserted : (e : MemoryEvent) → counts e ≡ true → is_inserted e ≡ false
-  counts-not_inserted e h = elim (cases_Bool (is_inserted e)) [
+  is_inserted-false_if_counts : (e : MemoryEvent) → counts e ≡ true → is_inserted e ≡ false
+  is_inserted-false_if_counts e h = elim (cases_Bool (is_inserted e)) [
     | inr not_at_fence ↦ not_at_fence
     | inl at_fence ↦ absurd (true≢false (sym (and_parts (not (is_inserted e)) _ h).0 ∙ ap not at_fence))
   ]
@@ -262,10 +262,10 @@ module _ {test fenced : X86Test} (fencing : IsFencedTest test fenced) (well_scop
       ]
 
   -- An event at an instruction of both codes is not at an inserted MFENCE.
-  not_inserted-from_kept : (e : MemoryEvent) → IsKeptAt (code_at fencing e.thread) e.position → is_inserted e ≡ false
-  not_inserted-from_kept e kept = elim (cases_Bool (is_inserted e)) [
+  is_inserted-false_if_kept : (e : MemoryEvent) → IsKeptAt (code_at fencing e.thread) e.position → is_inserted e ≡ false
+  is_inserted-false_if_kept e kept = elim (cases_Bool (is_inserted e)) [
     | inr not_at_fence ↦ not_at_fence
-    | inl at_fence ↦ absurd (kept-not_inserted (code_at fencing e.thread) e.position (eqb-true _ _ at_fence) kept)
+    | inl at_fence ↦ absurd (not-IsKeptAt-if_inserted (code_at fencing e.thread) e.position (eqb-true _ _ at_fence) kept)
   ]
 
   -- ---- Numbers increase along preserved program order.
@@ -349,7 +349,7 @@ module _ {test fenced : X86Test} (fencing : IsFencedTest test fenced) (well_scop
                     (let one : m ≡ k = omega (arith, same, up) in
                     absurd (true≢false (sym at_fence
                     ∙ ap (λ j. is_inserted (event e.thread j)) (sym one)
-                    ∙ counts-not_inserted (event e.thread m) counting)))
+                    ∙ is_inserted-false_if_counts (event e.thread m) counting)))
               ]
             ]) in
             omega (arith, each, top-inserted e.thread k at_fence))
@@ -376,7 +376,7 @@ module _ {test fenced : X86Test} (fencing : IsFencedTest test fenced) (well_scop
       → (is_inserted e ≡ false) × (counts e ≡ true)
   counts-from_access e l among located access =
       let not_at_fence : is_inserted e ≡ false =
-      not_inserted-from_kept e (is_kept-of_event fencing well_scoped candidate e l among located) in (
+      is_inserted-false_if_kept e (is_kept-of_event fencing well_scoped candidate e l among located) in (
         not_at_fence,
         counts-from_kind e not_at_fence (elim (or_cases (has_kind reads e) _ access) [
           | inl reading ↦ or_left (has_kind reads e) _ reading
@@ -406,7 +406,7 @@ module _ {test fenced : X86Test} (fencing : IsFencedTest test fenced) (well_scop
       (let order : number (event w.thread m) < number w =
       number-before_write (event w.thread m) w
       (record { first_event = on; second_event = writing.is_event; same_thread = refl; position_lt = omega (arith, before, le) })
-      (counts-not_inserted (event w.thread m) counting_m) facts.0 writing.is_write in
+      (is_inserted-false_if_counts (event w.thread m) counting_m) facts.0 writing.is_write in
       omega (arith, order))) in
       let below : rank w ≤ level width (suc (number w)) + w.position =
       rank-at_most w (suc (number w)) by_base (omega (arith, own-counting w facts.1)) in
@@ -439,12 +439,12 @@ module _ {test fenced : X86Test} (fencing : IsFencedTest test fenced) (well_scop
         | inl leading ↦ omega (
           arith,
           own-counting (event t i) counting,
-          top-leading t i (counts-not_inserted (event t i) counting) leading,
+          top-leading t i (is_inserted-false_if_counts (event t i) counting) leading,
           anchor_above (top t) (thread_code longer_execution.paths t) j i ppo.po.first_event (omega (arith, ppo.po.position_lt)),
         )
         | inr not_leading ↦
             (let less : number (event t i) < number (event t j) =
-            number-increasing (event t i) (event t j) ppo.po (counts-not_inserted (event t i) counting) not_at_fence
+            number-increasing (event t i) (event t j) ppo.po (is_inserted-false_if_counts (event t i) counting) not_at_fence
             ppo.is_preserved in
             omega (
               arith,
@@ -618,7 +618,7 @@ module _ {test fenced : X86Test} (fencing : IsFencedTest test fenced) (well_scop
               (let one : k ≡ r.position = omega (arith, same, le) in omega (arith, less, ap (λ j. number (event r.thread j)) one))
         ]) (λ k m among le at_fence on before counting.
         (let e : MemoryEvent = event r.thread m in
-        let not_at_fence : is_inserted e ≡ false = counts-not_inserted e counting in
+        let not_at_fence : is_inserted e ≡ false = is_inserted-false_if_counts e counting in
         let apart : k < r.position = elim (cases_lt k r.position) [
           | inl before ↦ before
           | inr same ↦

@@ -14,7 +14,7 @@ use Rattle.lw_axiomatic.proofs.Common.{item_slot, thread_rank-increasing, IsItem
 use Rattle.lw_axiomatic.proofs.Common.{Respects-if_ordered, first_state, MemoryEvent, Execution, reads}
 use Rattle.lw_axiomatic.proofs.Common.{operation_is, IsEvent, Reads, Po, Ppo, IsCandidate, IsBefore, IsNewest}
 use Rattle.lw_axiomatic.proofs.Common.{HasConsistentTimes, JumpsForward-thread}
-use Rattle.lw_axiomatic.proofs.EventKinds.{read_is_no_store, store_op_does_not_wait}
+use Rattle.lw_axiomatic.proofs.EventKinds.{is_store-false_if_reads, needs_empty_buffer-false_if_store}
 use Rattle.lw_axiomatic.proofs.Paths.{IsFlowPathFrom-ThreadExecutes}
 use Rattle.lw_axiomatic.proofs.ByTime.{by_time, IsOrder-by_time, Before-by_time}
 use Rattle.lw_axiomatic.proofs.Indices.{KeptOrder, turn, step_of, point_of, done, reached, Placed}
@@ -63,7 +63,7 @@ module _ {test : X86Test} (well_scoped : IsWellScopedProgram test) {x : Executio
     abbrev pub order : List ℕ
     order = by_time (λ i. time (item_at all_items i)) (length all_items)
 
-    -- ---- the fixed pairs
+    -- ---- the preserved pairs
 
     -- Each item is of an event of the execution.
     IsEvent-of_item : (i : ℕ) (l : i < length all_items)
@@ -95,7 +95,7 @@ module _ {test : X86Test} (well_scoped : IsWellScopedProgram test) {x : Executio
         → needs_empty_buffer q ≡ true
         → (is_store q ≡ false) × ((operations.is_fence q ≡ true) ⊎ (writes q ≡ true))
     waits_kind q w = (
-      elim (cases_Bool (is_store q)) [ inl s ↦ absurd (true≢false (sym w ∙ store_op_does_not_wait q s)) | inr n ↦ n ],
+      elim (cases_Bool (is_store q)) [ inl s ↦ absurd (true≢false (sym w ∙ needs_empty_buffer-false_if_store q s)) | inr n ↦ n ],
       elim (or_cases (operations.is_fence q) _ w) [ inl fence ↦ inl fence | inr locked ↦ inr (or_right (is_store q) _ locked) ],
     )
 
@@ -259,11 +259,11 @@ module _ {test : X86Test} (well_scoped : IsWellScopedProgram test) {x : Executio
 
       -- A read reaches memory when it is done, by the times.
       read_reached_is_done : reachedT r ≡ doneT r
-      read_reached_is_done = timed.at_once r (read_is_no_store test r reading.is_read)
+      read_reached_is_done = timed.at_once r (is_store-false_if_reads test r reading.is_read)
 
       -- By the indices too, the read reaches memory when it is done.
       r_turn : reached_index r ≡ done_index r
-      r_turn = ap (λ b. turn kept_order (item r.thread r.position b)) (read_is_no_store test r reading.is_read)
+      r_turn = ap (λ b. turn kept_order (item r.thread r.position b)) (is_store-false_if_reads test r reading.is_read)
 
       -- What is before it by the indices is before it by the times.
       IsBefore-of_indices : (w : MemoryEvent)

@@ -8,7 +8,7 @@ use Rattle.lw_axiomatic.proofs.Common.{is_store, is_load, writes, x86_language, 
 use Rattle.lw_axiomatic.proofs.Common.{Execution, reads, operation_is, IsEvent, Reads, Writes, Po, Rf, Co, Fr}
 use Rattle.lw_axiomatic.proofs.Common.{PoLoc, Rfe, Coherence, GlobalHappensBefore, SatisfiesAxioms, IsBefore}
 use Rattle.lw_axiomatic.proofs.Common.{IsNewest, HasConsistentTimes}
-use Rattle.lw_axiomatic.proofs.EventKinds.{read_is_no_store, load_event_reads, load_writes_nothing}
+use Rattle.lw_axiomatic.proofs.EventKinds.{is_store-false_if_reads, load_event_reads, load_writes_nothing}
 use Rattle.lw_axiomatic.proofs.EventKinds.{write_or_load, position_below_size}
 use Rattle.lw_axiomatic.proofs.Levels.{level, level-suc, level-le, level-lt, size}
 
@@ -19,7 +19,7 @@ module _ {test : X86Test} {x : Execution} {done reached : MemoryEvent → ℕ} (
 
   -- What reads reaches memory when it is done.
   read_reached_is_done : (r : MemoryEvent) → has_kind reads r ≡ true → reached r ≡ done r
-  read_reached_is_done r e = timed.at_once r (read_is_no_store test r e)
+  read_reached_is_done r e = timed.at_once r (is_store-false_if_reads test r e)
 
   -- No event reaches memory before it is done.
   done_at_most_reached : (e : MemoryEvent) → IsEvent x e → done e ≤ reached e
@@ -36,14 +36,14 @@ module _ {test : X86Test} {x : Execution} {done reached : MemoryEvent → ℕ} (
   -- ---- from-reads: what reaches memory before a read is done is no newer than what that reads
 
   -- A write that is later in coherence order than the newest write before a read is not before the read.
-  not_newer_than_source : (r w : MemoryEvent) (l : ℕ) (q : Option MemoryEvent)
+  not-newer_than_source : (r w : MemoryEvent) (l : ℕ) (q : Option MemoryEvent)
       → Writes x86_language test x w l
       → IsNewest test x done reached r l q
       → ForSome q (λ v. x.co v < x.co w)
       → IsBefore x done reached w r
       → ⊥
-  not_newer_than_source r w l None there newest behind before = newest w there before
-  not_newer_than_source r w l (Some v) there newest behind before =
+  not-newer_than_source r w l None there newest behind before = newest w there before
+  not-newer_than_source r w l (Some v) there newest behind before =
       let up : reached v < reached w =
       timed.co v w (record { on_location = l; first_write = newest.write; second_write = there; co_lt = behind v refl }) in
       omega (arith, up, newest.latest w there before)
@@ -54,7 +54,7 @@ module _ {test : X86Test} {x : Execution} {done reached : MemoryEvent → ℕ} (
     | inl same ↦ absurd (fr.events_differ (timed.apart r w fr.read.is_event fr.write.is_event same))
     | inr (inl less) ↦ less
     | inr (inr more) ↦
-        absurd (not_newer_than_source r w fr.on_location (x.rf r) fr.write (timed.newest r fr.on_location fr.read)
+        absurd (not-newer_than_source r w fr.on_location (x.rf r) fr.write (timed.newest r fr.on_location fr.read)
         fr.source_before (inl (omega (arith, more, read_reached_is_done r fr.read.is_read))))
   ]
 

@@ -14,8 +14,9 @@ use Rattle.lw_axiomatic.proofs.Common.{MemoryEvent, Execution, reads, operation_
 use Rattle.lw_axiomatic.proofs.Common.{Po, Rf, Co, Fr, Ppo, ThreadExecutes, IsReadFrom, IsCandidate}
 use Rattle.lw_axiomatic.proofs.Common.{SatisfiesAxioms, IsBefore, IsNewest, HasTimes, leb-true, ◌⊎◌}
 use Rattle.lw_axiomatic.proofs.EventLists.{event}
-use Rattle.lw_axiomatic.proofs.EventKinds.{read_is_no_store, fence_is_no_store, store_reads_nothing}
-use Rattle.lw_axiomatic.proofs.EventKinds.{store_is_no_fence, write_stores_or_reads}
+use Rattle.lw_axiomatic.proofs.EventKinds.{is_store-false_if_reads, is_store-false_if_fence}
+use Rattle.lw_axiomatic.proofs.EventKinds.{store_reads_nothing, is_fence-false_if_store}
+use Rattle.lw_axiomatic.proofs.EventKinds.{write_stores_or_reads}
 use Rattle.lw_axiomatic.proofs.Levels.{level, level-le, level-lt, level-unique, size, length-size}
 use Rattle.lw_litmus.specs.Operations as operations
 
@@ -233,7 +234,7 @@ module _ {test : X86Test} {x : Execution} {o : FinalState} (candidate : IsCandid
       anchored_least e (ghb_rank e) is_event (λ k po h. omega (arith, ghb_rank_increases-Po_from_blocking k e po h))
       (λ h. absurd (elim (or_cases (has_kind reads e) (has_kind operations.is_fence e) h) [
         | inl r ↦ true≢false (sym r ∙ store_reads_nothing test e s)
-        | inr f ↦ true≢false (sym f ∙ store_is_no_fence test e s)
+        | inr f ↦ true≢false (sym f ∙ is_fence-false_if_store test e s)
       ]))
 
   -- The anchored number of an event that blocks is one more than its rank.
@@ -252,10 +253,10 @@ module _ {test : X86Test} {x : Execution} {o : FinalState} (candidate : IsCandid
       )
 
   -- An event that blocks is no store.
-  blocking_is_no_store : (e : MemoryEvent) → blocks e ≡ true → has_kind is_store e ≡ false
-  blocking_is_no_store e h = elim (or_cases (has_kind reads e) (has_kind operations.is_fence e) h) [
-    | inl r ↦ read_is_no_store test e r
-    | inr f ↦ fence_is_no_store test e f
+  is_store-false_if_blocks : (e : MemoryEvent) → blocks e ≡ true → has_kind is_store e ≡ false
+  is_store-false_if_blocks e h = elim (or_cases (has_kind reads e) (has_kind operations.is_fence e) h) [
+    | inl r ↦ is_store-false_if_reads test e r
+    | inr f ↦ is_store-false_if_fence test e f
   ]
 
   -- An event that reads blocks.
@@ -277,7 +278,7 @@ module _ {test : X86Test} {x : Execution} {o : FinalState} (candidate : IsCandid
   IsReachedAtOwnRank-of_blocking : (e : MemoryEvent) → IsEvent x e → blocks e ≡ true → IsReachedAtOwnRank e
   IsReachedAtOwnRank-of_blocking e is_event h =
       let a = ap (level slots) (anchored-of_blocking e is_event h) in
-      let b = reached-of_other e (blocking_is_no_store e h) in
+      let b = reached-of_other e (is_store-false_if_blocks e h) in
       let c = slot_low e is_event in
       record { least = omega (arith, a, b, c); most = omega (arith, a, b, c) }
 
@@ -321,7 +322,7 @@ module _ {test : X86Test} {x : Execution} {o : FinalState} (candidate : IsCandid
     | inr rest ↦ elim (or_cases (has_kind writes b) _ rest) [
       | inl w ↦ elim (write_stores_or_reads test b w) [ inl t ↦ absurd (true≢false (sym t ∙ n)) | inr r ↦ read_blocks b r ]
       | inr fences ↦ elim (or_cases (has_kind operations.is_fence a) _ fences) [
-        | inl f ↦ absurd (true≢false (sym f ∙ store_is_no_fence test a s))
+        | inl f ↦ absurd (true≢false (sym f ∙ is_fence-false_if_store test a s))
         | inr f ↦ or_right (has_kind reads b) _ f
       ]
     ]
@@ -431,32 +432,32 @@ module _ {test : X86Test} {x : Execution} {o : FinalState} (candidate : IsCandid
 
     -- The read reaches memory when it is done.
     read_reached_is_done : reached r ≡ done r
-    read_reached_is_done = reached-of_other r (read_is_no_store test r reading.is_read)
+    read_reached_is_done = reached-of_other r (is_store-false_if_reads test r reading.is_read)
 
     -- Nothing that r would have to see is newer than what it reads.
-    not_newer_than_read : (w : MemoryEvent)
+    not-newer_than_read : (w : MemoryEvent)
         → Writes x86_language test x w l
         → IsBefore x done reached w r
         → ForSome (x.rf r) (λ v. x.co v < x.co w)
         → ⊥
-    not_newer_than_read w writing before behind = elim (cases_eq r.thread w.thread) [
+    not-newer_than_read w writing before behind = elim (cases_eq r.thread w.thread) [
       | inl same_thread ↦ elim (cases_eq r.position w.position) [
-        | inl same_position ↦ not_itself (ap₂ event same_thread same_position)
-        | inr positions_differ ↦ not_another (λ (e : r ≡ w). positions_differ (ap (λ (z : MemoryEvent). z.position) e))
+        | inl same_position ↦ not-itself (ap₂ event same_thread same_position)
+        | inr positions_differ ↦ not-another (λ (e : r ≡ w). positions_differ (ap (λ (z : MemoryEvent). z.position) e))
       ]
-      | inr threads_differ ↦ not_another (λ (e : r ≡ w). threads_differ (ap (λ (z : MemoryEvent). z.thread) e))
+      | inr threads_differ ↦ not-another (λ (e : r ≡ w). threads_differ (ap (λ (z : MemoryEvent). z.thread) e))
     ]
       where
         -- The write is not the read itself: it would be before itself.
-        not_itself : r ≡ w → ⊥
-        not_itself e = elim before [
+        not-itself : r ≡ w → ⊥
+        not-itself e = elim before [
           | inl early ↦ omega (arith, early, ap reached e, read_reached_is_done)
           | inr own ↦ omega (arith, own.position_lt, ap (λ (z : MemoryEvent). z.position) e)
         ]
 
         -- The write is no event other than the read: from-reads would lead from the read to it.
-        not_another : r ≢ w → ⊥
-        not_another ne =
+        not-another : r ≢ w → ⊥
+        not-another ne =
             let fr : Fr x86_language test x r w =
             record { on_location = l; read = reading; write = writing; events_differ = ne; source_before = behind } in
             let own_w : IsReachedAtOwnRank w = IsReachedAtOwnRank-of_write w writing.is_event writing.is_write in
@@ -527,7 +528,7 @@ module _ {test : X86Test} {x : Execution} {o : FinalState} (candidate : IsCandid
         → IsReadFrom x86_language test x r l q
         → IsNewest test x done reached r l q
     IsNewest-of_rf None source_is is_from = λ w writing before.
-        not_newer_than_read w writing before (λ v is_some. absurd (let bad : None ≡ Some v = sym source_is ∙ is_some in cc))
+        not-newer_than_read w writing before (λ v is_some. absurd (let bad : None ≡ Some v = sym source_is ∙ is_some in cc))
     IsNewest-of_rf (Some v) source_is is_from = record {
       write = is_from.write;
       is_before = IsBefore-of_source v is_from.write source_is;
@@ -538,7 +539,7 @@ module _ {test : X86Test} {x : Execution} {o : FinalState} (candidate : IsCandid
             reached_increases-Co w v
             (record { on_location = l; first_write = writing; second_write = is_from.write; co_lt = co_lt }) in
             omega (arith, up))
-        | inr (inr co_gt) ↦ absurd (not_newer_than_read w writing before (λ u is_some.
+        | inr (inr co_gt) ↦ absurd (not-newer_than_read w writing before (λ u is_some.
             (let e : v ≡ u = same_Some v u (sym source_is ∙ is_some) in subst (λ (z : MemoryEvent). x.co z < x.co w) e co_gt)))
       ];
     }

@@ -27,7 +27,7 @@ module _ {S : Type 0} {language : Language S} {test : Test S} (well_scoped : IsW
   AreFronts-whole_paths = record {
     path_count = candidate.as_many;
     parted = λ t. sym (append-nil (thread_code x.paths t)) ∙ ap (λ path. thread_code x.paths t ++ path) (sym (no_tail t));
-    up = λ a b ia ib r. sequential.increases a b r;
+    increases = λ a b ia ib r. sequential.increases a b r;
     closed = λ w r there rf. rf.write.is_event;
   }
 
@@ -107,7 +107,7 @@ module _ {S : Type 0} {language : Language S} {test : Test S} (well_scoped : IsW
         record {
           end = w.end;
           ran = InterleavedRunsTo-RanBy well_scoped candidate AreFronts-whole_paths w.events (start language test) w.end w.ran;
-          final = IsEnd-of_walk w.left w.end w.at w.none;
-          outcome_is = outcome_of_walk w.left w.end w.at w.none;
+          final = IsEnd-of_walk w.left w.end w.end_is_at w.none_ahead;
+          outcome_is = outcome_of_walk w.left w.end w.end_is_at w.none_ahead;
         },
       )

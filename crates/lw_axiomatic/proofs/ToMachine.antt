@@ -19,10 +19,11 @@ use Rattle.lw_axiomatic.proofs.Common.{initial_machine_state, machine_outcome, i
 use Rattle.lw_axiomatic.proofs.Common.{EffectLeadsTo, MachineTransition-of_effect, ItemsRunTo}
 use Rattle.lw_axiomatic.proofs.Common.{X86ItemTransition, event_by, x86_item_system, X86FollowsPathsToEnd}
 use Rattle.lw_axiomatic.proofs.Common.{IsAscendingBetween-member, ItemStep, BufferHolds, HoldsStores}
-use Rattle.lw_axiomatic.proofs.Common.{AllHold-start, IsComing, DrainsOldest-at_turn, AreWaitingStores-start}
-use Rattle.lw_axiomatic.proofs.Common.{ThreadState, first_state, state_after, word_written, MemoryEvent}
-use Rattle.lw_axiomatic.proofs.Common.{Execution, reads, operation_is, IsEvent, Reads, Co, ThreadExecutes}
-use Rattle.lw_axiomatic.proofs.Common.{IsReadFrom, IsLast, IsCandidate, IsNewest, IsEnabledEffect-operation}
+use Rattle.lw_axiomatic.proofs.Common.{AllHold-start, IsDrainedLater, DrainsOldest-at_turn}
+use Rattle.lw_axiomatic.proofs.Common.{AreWaitingStores-start, ThreadState, first_state, state_after}
+use Rattle.lw_axiomatic.proofs.Common.{word_written, MemoryEvent, Execution, reads, operation_is, IsEvent}
+use Rattle.lw_axiomatic.proofs.Common.{Reads, Co, ThreadExecutes, IsReadFrom, IsLast, IsCandidate, IsNewest}
+use Rattle.lw_axiomatic.proofs.Common.{IsEnabledEffect-operation}
 use Rattle.lw_axiomatic.proofs.EventLists.{event}
 use Rattle.lw_axiomatic.proofs.StepCases.{StepCase, thread_of, word_for, word_for-reads}
 use Rattle.lw_axiomatic.proofs.Paths.{IsFlowPathFrom-ThreadExecutes, state_after-unread, writes_unread}
@@ -63,10 +64,10 @@ module _ {test : X86Test} {x : Execution} {o : FinalState} (candidate : IsCandid
     end : ThreadState
     ends : slice_index_or o.regs t [] ≡ end.regs
     rest : List ℕ
-    goes : ThreadExecutes x86_language x t (thread_code test.threads t) rest (thread_of p) end
+    executes : ThreadExecutes x86_language x t (thread_code test.threads t) rest (thread_of p) end
     later : (j : ℕ) → IsMember j rest → k ≤ done_index (event t j)
-    on : (j : ℕ) → IsMember j rest → Contains (thread_code x.paths t) j
-    all : (j : ℕ) → Contains (thread_code x.paths t) j → k ≤ done_index (event t j) → IsMember j rest
+    on_path : (j : ℕ) → IsMember j rest → Contains (thread_code x.paths t) j
+    rest_complete : (j : ℕ) → Contains (thread_code x.paths t) j → k ≤ done_index (event t j) → IsMember j rest
 
   -- A run has executed the first k items and reached the state s: each thread has the rest of its path ahead.
   record IsAt (k : ℕ) (s : MachineState (List ℕ)) : Type 0 where
@@ -158,7 +159,7 @@ module _ {test : X86Test} {x : Execution} {o : FinalState} (candidate : IsCandid
           Holds-of_processor.waits) in (
             _,
             record {
-              stands = tt;
+              is_at_position = tt;
               done = MachineTransition-of_effect test.threads (Drain item_thread) s.processors p d.0 s.memory d.1 was d.2;
             },
           )
@@ -195,8 +196,9 @@ module _ {test : X86Test} {x : Execution} {o : FinalState} (candidate : IsCandid
       -- If the item is a step, its processor is at its position.
       processor_at_item : (nth_item now_at.index).is_drain ≡ false → p.position ≡ item_position
       processor_at_item f =
-          position_of_item AheadOf-of_processor.rest AheadOf-of_processor.later AheadOf-of_processor.on AheadOf-of_processor.end
-          AheadOf-of_processor.goes (AheadOf-of_processor.all item_position on_path (omega (arith, event_done_now f))) f
+          position_of_item AheadOf-of_processor.rest AheadOf-of_processor.later AheadOf-of_processor.on_path
+          AheadOf-of_processor.end AheadOf-of_processor.executes
+          (AheadOf-of_processor.rest_complete item_position on_path (omega (arith, event_done_now f))) f
 
       -- An instruction that waits for an empty buffer finds one.
       no_entry-none_waiting : (ws : List ℕ) (b : List (ℕ × ℕ))
@@ -213,7 +215,7 @@ module _ {test : X86Test} {x : Execution} {o : FinalState} (candidate : IsCandid
           → p.buffer ≡ []
       buffer_empty-if_waiting f w =
           no_entry-none_waiting (at_state.pending item_thread) p.buffer Holds-of_processor.waits (λ v waiting.
-          (let c : IsComing _ _ _ _ _ k item_thread v = at_state.inv.waiting.coming item_thread v waiting in
+          (let c : IsDrainedLater _ _ _ _ _ k item_thread v = at_state.inv.waiting.coming item_thread v waiting in
           let low : v < p.position =
           (IsAscendingBetween-member 0 p.position v (at_state.pending item_thread) Holds-of_processor.climbs waiting).1 in
           let sooner : turn given (nth_item c.index) < turn given (nth_item now_at.index) =
@@ -236,7 +238,7 @@ module _ {test : X86Test} {x : Execution} {o : FinalState} (candidate : IsCandid
           prefixes.position_got s.processors item_thread p was ∙ ap Some (processor_at_item f) in (
             _,
             record {
-              stands = index_in;
+              is_at_position = index_in;
               done =
                   MachineTransition-of_effect test.threads (Step item_thread) s.processors p d.0 s.memory d.1 was
                   (subst (λ q. EffectLeadsTo s.memory (step_effect q p) d.0 d.1) (sym instr) d.2);
@@ -285,13 +287,13 @@ module _ {test : X86Test} {x : Execution} {o : FinalState} (candidate : IsCandid
       end = a.end;
       ends = a.ends;
       rest = a.rest;
-      goes = subst (λ z. ThreadExecutes x86_language x u (thread_code test.threads u) a.rest z a.end) (sym same) a.goes;
+      executes = subst (λ z. ThreadExecutes x86_language x u (thread_code test.threads u) a.rest z a.end) (sym same) a.executes;
       later = λ h there. elim (cases_eq (done_index (event u h)) k) [
-        | inl now ↦ absurd (never h (a.on h there) now)
+        | inl now ↦ absurd (never h (a.on_path h there) now)
         | inr ne ↦ omega (arith, a.later h there, ne)
       ];
-      on = a.on;
-      all = λ h there le. a.all h there (omega (arith, le));
+      on_path = a.on_path;
+      rest_complete = λ h there le. a.rest_complete h there (omega (arith, le));
     }
 
     -- A read's turn finds the word that the execution says.
@@ -362,7 +364,8 @@ module _ {test : X86Test} {x : Execution} {o : FinalState} (candidate : IsCandid
     own_step : (f : (nth_item now_at.index).is_drain ≡ false) → Stepped ahead_c.rest ahead_c.end
     own_step f =
         Stepped-from_rest f ahead_c.rest ahead_c.end
-        (ahead_c.all item_position on_path (omega (arith, event_done_now item_step.old item_step.was f))) ahead_c.goes
+        (ahead_c.rest_complete item_position on_path (omega (arith, event_done_now item_step.old item_step.was f)))
+        ahead_c.executes
 
     -- The words that the step writes are those of the execution.
     Agrees-at_item : Agrees x given now_at.index item_on_path.statement item_step.old s.memory
@@ -404,18 +407,18 @@ module _ {test : X86Test} {x : Execution} {o : FinalState} (candidate : IsCandid
           end = ahead_c.end;
           ends = ahead_c.ends;
           rest = st.more;
-          goes =
+          executes =
               subst (λ z. ThreadExecutes x86_language x item_thread (thread_code test.threads item_thread) st.more z ahead_c.end)
               (same_state f) st.goes_on;
           later = λ h there. elim (cases_eq (done_index (event item_thread h)) k) [
             | inl now ↦
                 absurd (rest_excludes_j st h there
                 (ap (λ (z : MemoryEvent). z.position)
-                (done_now-unique (event item_thread h) (ahead_c.on h (path_there h there)) now).0))
+                (done_now-unique (event item_thread h) (ahead_c.on_path h (path_there h there)) now).0))
             | inr ne ↦ omega (arith, ahead_c.later h (path_there h there), ne)
           ];
-          on = λ h there. ahead_c.on h (path_there h there);
-          all = λ h there le. elim (subst (IsMember h) st.first (ahead_c.all h there (omega (arith, le)))) [
+          on_path = λ h there. ahead_c.on_path h (path_there h there);
+          rest_complete = λ h there le. elim (subst (IsMember h) st.first (ahead_c.rest_complete h there (omega (arith, le)))) [
             | inl first ↦ absurd (omega (
               arith,
               le,
@@ -434,7 +437,7 @@ module _ {test : X86Test} {x : Execution} {o : FinalState} (candidate : IsCandid
             (IsAscendingFrom-flow_path x86_language (thread_code test.threads item_thread) item_step.old.position ahead_c.rest
             (forward given item_thread)
             (IsFlowPathFrom-ThreadExecutes x86_language x item_thread (thread_code test.threads item_thread) ahead_c.rest
-            (thread_of item_step.old) ahead_c.end ahead_c.goes)) in
+            (thread_of item_step.old) ahead_c.end ahead_c.executes)) in
             let more : suc item_position ≤ h = IsAscendingFrom-lower_bound (suc item_position) h st.more up.1 is_member in
             omega (arith, more, same)
 
@@ -506,12 +509,12 @@ module _ {test : X86Test} {x : Execution} {o : FinalState} (candidate : IsCandid
           end = th.end;
           ends = th.regs_are;
           rest = thread_code x.paths t;
-          goes =
+          executes =
               subst (λ z. ThreadExecutes x86_language x t (thread_code test.threads t) (thread_code x.paths t) z th.end)
               (sym initial.1) th.executes;
           later = λ j there. omega arith;
-          on = λ j there. Contains-IsMember (thread_code x.paths t) j there;
-          all = λ j there le. prefixes.in_list (thread_code x.paths t) j there;
+          on_path = λ j there. Contains-IsMember (thread_code x.paths t) j there;
+          rest_complete = λ j there le. prefixes.in_list (thread_code x.paths t) j there;
         });
     processor_count =
         length-map test.head.init_regs initial_processor ∙ (given.well_scoped.head.regs ∙ sym given.well_scoped.as_many);
@@ -549,7 +552,7 @@ module _ {test : X86Test} {x : Execution} {o : FinalState} (candidate : IsCandid
     no_rest_ahead t p a (h ∷ rest) same =
         let is_member : IsMember h a.rest = subst (IsMember h) (sym same) (inl refl) in
         let below : done_index (event t h) < length all_items =
-        turn_in_range given (item t h false) (step_placed given (event t h) (a.on h is_member)) in
+        turn_in_range given (item t h false) (step_placed given (event t h) (a.on_path h is_member)) in
         absurd (omega (arith, below, a.later h is_member, order_length given))
 
     -- At the end of the run each thread is at its end, with the outcome's registers.
@@ -560,7 +563,7 @@ module _ {test : X86Test} {x : Execution} {o : FinalState} (candidate : IsCandid
         let a : AheadOf t (length given.order) p = at_state.ahead t p processor_at in
         let executes : ThreadExecutes x86_language x t (thread_code test.threads t) [] (thread_of p) a.end =
         subst (λ rest. ThreadExecutes x86_language x t (thread_code test.threads t) rest (thread_of p) a.end)
-        (no_rest_ahead t p a a.rest refl) a.goes in
+        (no_rest_ahead t p a a.rest refl) a.executes in
         (executes.0, a.ends ∙ ap (λ (z : ThreadState). z.regs) executes.1)
 
     -- Each buffer is empty.
@@ -574,7 +577,7 @@ module _ {test : X86Test} {x : Execution} {o : FinalState} (candidate : IsCandid
             → BufferHolds (thread_code test.threads t) ws b
             → ((v : ℕ)
             → IsMember v ws
-            → IsComing test.threads (forward given) x.paths given.choice given.order (length given.order) t v)
+            → IsDrainedLater test.threads (forward given) x.paths given.choice given.order (length given.order) t v)
             → b ≡ []
         no_store_left [] [] holds coming = refl
         no_store_left [] (f ∷ b) holds coming = absurd holds

@@ -50,7 +50,7 @@ pub record AreFronts {S : Type 0} (language : Language S) (test : Test S) (x : E
     (fronts tails : List (List ℕ)) : Type 0 where
   pub path_count : length fronts ≡ length test.threads
   pub parted : (t : ℕ) → thread_code x.paths t ≡ thread_code fronts t ++ thread_code tails t
-  pub up : (a b : MemoryEvent)
+  pub increases : (a b : MemoryEvent)
       → Contains (thread_code fronts a.thread) a.position
       → Contains (thread_code fronts b.thread) b.position
       → ScOrder language test x a b
@@ -237,8 +237,8 @@ module _ {S : Type 0} {language : Language S} {test : Test S} (well_scoped : IsW
     ]
 
     -- The event is no longer ahead.
-    next_not_ahead_after : IsAhead rest_after next_event → ⊥
-    next_not_ahead_after a =
+    not-IsAhead-next_after : IsAhead rest_after next_event → ⊥
+    not-IsAhead-next_after a =
         omega (arith, position_increases-rest th.position (subst (λ (path : List ℕ). Contains path th.position) own_path a))
 
     -- What is done after it is this event, or was done before.
@@ -262,7 +262,7 @@ module _ {S : Type 0} {language : Language S} {test : Test S} (well_scoped : IsW
       none_newer : (f : MemoryEvent) → IsDone rest f → Fr language test x next_event f → ⊥
       none_newer f done fr = omega (
         arith,
-        are.up next_event f IsIn-next_event done.0 (inr (inr (inr fr))),
+        are.increases next_event f IsIn-next_event done.0 (inr (inr (inr fr))),
         at_state.behind f next_event done IsAhead-next_event,
       )
 
@@ -273,7 +273,7 @@ module _ {S : Type 0} {language : Language S} {test : Test S} (well_scoped : IsW
           record { on_location = l; write = writing; read = reading; source_is = source_is } in
           let v_in : IsIn v = are.closed v next_event IsIn-next_event rf in
           elim (decided_contains (thread_code rest v.thread) v.position) [
-            | inl a ↦ absurd (omega (arith, are.up v next_event v_in IsIn-next_event (inr (inl rf)), next.least v a))
+            | inl a ↦ absurd (omega (arith, are.increases v next_event v_in IsIn-next_event (inr (inl rf)), next.least v a))
             | inr not ↦ (v_in, not)
           ]
 
@@ -390,13 +390,13 @@ module _ {S : Type 0} {language : Language S} {test : Test S} (well_scoped : IsW
               inr (
                 next_event,
                 writing,
-                (IsIn-next_event, next_not_ahead_after),
+                (IsIn-next_event, not-IsAhead-next_after),
                 (λ f wf df. elim (IsDone-after_step_inv f df) [
                   | inl same ↦ omega (arith, ap x.co same)
                   | inr old ↦ elim (cases_lt (x.co next_event) (x.co f)) [
                     | inl less ↦ absurd (omega (
                       arith,
-                      are.up next_event f IsIn-next_event old.0
+                      are.increases next_event f IsIn-next_event old.0
                           (inr (inr (inl (record { on_location = l; first_write = writing; second_write = wf; co_lt = less })))),
                       at_state.behind f next_event old IsAhead-next_event,
                     ))
@@ -470,7 +470,7 @@ module _ {S : Type 0} {language : Language S} {test : Test S} (well_scoped : IsW
         let is_member : Contains (h ∷ more) h = Contains-head h h more refl in
         omega (
           arith,
-          are.up (event t h) (event t j) (each h is_member) (each j on_path) (inl (record {
+          are.increases (event t h) (event t j) (each h is_member) (each j on_path) (inl (record {
             first_event = is_event (event t h) (each h is_member);
             second_event = is_event (event t j) (each j on_path);
             same_thread = refl;
@@ -505,11 +505,11 @@ module _ {S : Type 0} {language : Language S} {test : Test S} (well_scoped : IsW
     pub events : List MemoryEvent
     pub end : Interleaved
     pub ran : RanBy events s end
-    pub all : (f : MemoryEvent) → Contains events f → IsAhead rest f
-    pub has : (f : MemoryEvent) → IsAhead rest f → Contains events f
+    pub all_ahead : (f : MemoryEvent) → Contains events f → IsAhead rest f
+    pub complete : (f : MemoryEvent) → IsAhead rest f → Contains events f
     pub left : List (List ℕ)
-    pub none : (f : MemoryEvent) → IsAhead left f → ⊥
-    pub at : IsAt left end
+    pub none_ahead : (f : MemoryEvent) → IsAhead left f → ⊥
+    pub end_is_at : IsAt left end
 
   -- The first event by ranks is the next of its thread.
   NextEvent-IsFirst : (rest : List (List ℕ)) (s : Interleaved)
@@ -548,11 +548,11 @@ module _ {S : Type 0} {language : Language S} {test : Test S} (well_scoped : IsW
     events = [];
     end = s;
     ran = refl;
-    all = λ f c. absurd (not-Contains-nil f c);
-    has = λ f a. absurd (none f a);
+    all_ahead = λ f c. absurd (not-Contains-nil f c);
+    complete = λ f a. absurd (none f a);
     left = rest;
-    none = none;
-    at = is;
+    none_ahead = none;
+    end_is_at = is;
   }
 
   -- One event more at the front of a walk.
@@ -564,18 +564,18 @@ module _ {S : Type 0} {language : Language S} {test : Test S} (well_scoped : IsW
       record {
         events = now ∷ later.events;
         end = later.end;
-        ran = (mid is a, next_step is a, refl, (λ f c. a.least f (IsAhead-before_step is a f (later.all f c))), later.ran);
-        all = λ f c. elim (Contains-cons now f later.events c) [
+        ran = (mid is a, next_step is a, refl, (λ f c. a.least f (IsAhead-before_step is a f (later.all_ahead f c))), later.ran);
+        all_ahead = λ f c. elim (Contains-cons now f later.events c) [
           | inl is_head ↦ subst (IsAhead rest) is_head (IsAhead-next_event is a)
-          | inr in_tail ↦ IsAhead-before_step is a f (later.all f in_tail)
+          | inr in_tail ↦ IsAhead-before_step is a f (later.all_ahead f in_tail)
         ];
-        has = λ f c. elim (decided_event_equal f now) [
+        complete = λ f c. elim (decided_event_equal f now) [
           | inl same_event ↦ Contains-head now f later.events (sym same_event)
-          | inr events_differ ↦ Contains-tail now f later.events (later.has f (IsAhead-after_step is a f c events_differ))
+          | inr events_differ ↦ Contains-tail now f later.events (later.complete f (IsAhead-after_step is a f c events_differ))
         ];
         left = later.left;
-        none = later.none;
-        at = later.at;
+        none_ahead = later.none_ahead;
+        end_is_at = later.end_is_at;
       }
 
   -- By induction on the number of events ahead.

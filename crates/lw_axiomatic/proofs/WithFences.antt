@@ -16,9 +16,10 @@ use Rattle.lw_axiomatic.proofs.Common.{retarget_to_blocks, IsSuccessor, ◌∙�
 use Rattle.lw_axiomatic.proofs.Common.{same_Some, slice_get, IsInsertedAt, at_next, Mfence}
 use Rattle.lw_axiomatic.proofs.EventLists.{event}
 use Rattle.lw_axiomatic.proofs.Paths.{IsSuccessor-state_after}
-use Rattle.lw_axiomatic.proofs.Inserted.{IsInsertedFence, IsKeptAt, inserted_or_kept, kept-not_inserted}
-use Rattle.lw_axiomatic.proofs.Inserted.{block-in_range, kept_index, kept_index-kept, kept_index-block}
-use Rattle.lw_axiomatic.proofs.Inserted.{state_at_block, kind-retarget_to_blocks, location-retarget_to_blocks}
+use Rattle.lw_axiomatic.proofs.Inserted.{IsInsertedFence, IsKeptAt, inserted_or_kept}
+use Rattle.lw_axiomatic.proofs.Inserted.{not-IsKeptAt-if_inserted, block-in_range, kept_index}
+use Rattle.lw_axiomatic.proofs.Inserted.{kept_index-kept, kept_index-block, state_at_block}
+use Rattle.lw_axiomatic.proofs.Inserted.{kind-retarget_to_blocks, location-retarget_to_blocks}
 use Rattle.lw_axiomatic.proofs.Inserted.{word_written-retarget_to_blocks, state_after-retarget_to_blocks}
 use Rattle.lw_axiomatic.proofs.FromInterleaving.{ThreadExecutes-same_words}
 use Rattle.lw_axiomatic.proofs.FencedTests.{event_thread_in_range}
@@ -113,12 +114,12 @@ module _ {test fenced : X86Test} (fencing : IsFencedTest test fenced) (x : Execu
   -- A route through the longer code from a state to the end. It passes the instructions of a path of the shorter code, and MFENCEs.
   pub record IsRoute (path : List ℕ) (s end : ThreadState) (route : List ℕ) : Type 0 where
     pub last : ThreadState
-    pub goes : ThreadExecutes x86_language longer_execution t longer route s last
+    pub executes : ThreadExecutes x86_language longer_execution t longer route s last
     pub ends : end ≡ state_in_longer last
-    pub down : (index : ℕ)
+    pub on_path_or_inserted : (index : ℕ)
         → Contains route index
         → (index < length longer) × (IsInsertedAt inserted index ⊎ Contains path (inserted.block index))
-    pub up : (j : ℕ) → Contains path j → Contains route (kept_index inserted j)
+    pub passes_path : (j : ℕ) → Contains path j → Contains route (kept_index inserted j)
 
   -- The path in the longer code is one along which the thread goes from one state to another.
   abbrev Route : List ℕ → ThreadState → ThreadState → Type 0
@@ -133,22 +134,22 @@ module _ {test fenced : X86Test} (fencing : IsFencedTest test fenced) (x : Execu
     s.position ∷ route,
     record {
       last = rest.last;
-      goes = record {
+      executes = record {
         position_is = refl;
         statement = Mfence;
         statement_at = extra.fence;
         written_is = λ writing. absurd (true≢false (sym writing));
-        rest = rest.goes;
+        rest = rest.executes;
       };
       ends = rest.ends;
-      down = λ index among. elim (Contains-cons s.position index route among) [
+      on_path_or_inserted = λ index among. elim (Contains-cons s.position index route among) [
         | inl is_head ↦ (
           subst (λ k. k < length longer) is_head (slice_get_within longer s.position Mfence extra.fence),
           inl (subst (IsInsertedAt inserted) is_head extra.inserted),
         )
-        | inr in_tail ↦ rest.down index in_tail
+        | inr in_tail ↦ rest.on_path_or_inserted index in_tail
       ];
-      up = λ j among. Contains-tail s.position (kept_index inserted j) route (rest.up j among);
+      passes_path = λ j among. Contains-tail s.position (kept_index inserted j) route (rest.passes_path j among);
     },
   )
 
@@ -224,34 +225,34 @@ module _ {test fenced : X86Test} (fencing : IsFencedTest test fenced) (x : Execu
         r.position ∷ route,
         record {
           last = rest.last;
-          goes = record {
+          executes = record {
             position_is = refl;
             statement = kept.instr;
             statement_at = kept.found;
             written_is = λ writing.
                 did.0 (kind-retarget_to_blocks inserted.block writes (λ c to other. refl) kept.instr ∙ writing)
                 ∙ word_written-retarget_to_blocks inserted.block kept.instr r.regs word_read;
-            rest = rest.goes;
+            rest = rest.executes;
           };
           ends = rest.ends;
-          down = λ index among. elim (Contains-cons r.position index route among) [
+          on_path_or_inserted = λ index among. elim (Contains-cons r.position index route among) [
             | inl is_head ↦ (
               subst (λ k. k < length longer) is_head (slice_get_within longer r.position kept.instr kept.found),
               inr (Contains-head j (inserted.block index) path (sym number ∙ ap inserted.block is_head)),
             )
             | inr in_tail ↦ (
-              (rest.down index in_tail).0,
-              elim ((rest.down index in_tail).1) [
+              (rest.on_path_or_inserted index in_tail).0,
+              elim ((rest.on_path_or_inserted index in_tail).1) [
                 | inl inserted ↦ inl inserted
                 | inr on ↦ inr (Contains-tail j (inserted.block index) path on)
               ],
             )
           ];
-          up = λ k among. elim (Contains-cons j k path among) [
+          passes_path = λ k among. elim (Contains-cons j k path among) [
             | inl is_head ↦
                 Contains-head r.position (kept_index inserted k) route
                 (sym (kept_index-block inserted r.position kept) ∙ ap (kept_index inserted) (number ∙ is_head))
-            | inr in_tail ↦ Contains-tail r.position (kept_index inserted k) route (rest.up k in_tail)
+            | inr in_tail ↦ Contains-tail r.position (kept_index inserted k) route (rest.passes_path k in_tail)
           ];
         },
       )
@@ -268,10 +269,10 @@ module _ {test fenced : X86Test} (fencing : IsFencedTest test fenced) (x : Execu
           [],
           record {
             last = r;
-            goes = (last, refl);
+            executes = (last, refl);
             ends = ended.1;
-            down = λ index among. absurd (not-Contains-nil index among);
-            up = λ j among. absurd (not-Contains-nil j among);
+            on_path_or_inserted = λ index among. absurd (not-Contains-nil index among);
+            passes_path = λ j among. absurd (not-Contains-nil j among);
           },
         )
       ])
@@ -399,21 +400,22 @@ module _ {test fenced : X86Test} (fencing : IsFencedTest test fenced) (well_scop
 
   -- An event is at an instruction of its thread's code.
   pub position-in_range : (e : MemoryEvent) → IsEvent with_fences e → e.position < length (thread_code fenced.threads e.thread)
-  position-in_range e among = ((routes.2 e.thread (thread-in_range e among)).is_route.down e.position among).0
+  position-in_range e among = ((routes.2 e.thread (thread-in_range e among)).is_route.on_path_or_inserted e.position among).0
 
   -- An event at an instruction of both codes is one of the shorter test's execution.
   pub IsEvent-event_without : (e : MemoryEvent)
       → IsEvent with_fences e
       → IsKeptAt (code_at fencing e.thread) e.position
       → IsEvent x (event_without fencing e)
-  IsEvent-event_without e among kept = elim ((routes.2 e.thread (thread-in_range e among)).is_route.down e.position among).1 [
-    | inl inserted ↦ absurd (kept-not_inserted (code_at fencing e.thread) e.position inserted kept)
-    | inr on ↦ on
-  ]
+  IsEvent-event_without e among kept =
+      elim ((routes.2 e.thread (thread-in_range e among)).is_route.on_path_or_inserted e.position among).1 [
+        | inl inserted ↦ absurd (not-IsKeptAt-if_inserted (code_at fencing e.thread) e.position inserted kept)
+        | inr on ↦ on
+      ]
 
   -- An event of the shorter test's execution is one of the longer test's.
   pub IsEvent-event_with : (e : MemoryEvent) → IsEvent x e → IsEvent with_fences (event_with fencing e)
-  IsEvent-event_with e among = (routes.2 e.thread (event_thread_in_range candidate e among)).is_route.up e.position among
+  IsEvent-event_with e among = (routes.2 e.thread (event_thread_in_range candidate e among)).is_route.passes_path e.position among
 
   -- An event of the execution that accesses a location is at an instruction of both codes.
   pub is_kept-of_event : (e : MemoryEvent) (l : ℕ)
@@ -537,7 +539,7 @@ module _ {test fenced : X86Test} (fencing : IsFencedTest test fenced) (well_scop
               route.is_route.last) regs
               (ThreadExecutes-same_words x86_language (execution_with fencing x []) with_fences t (thread_code fenced.threads t)
               (thread_code routes.0 t) (first_state (slice_index_or test.head.init_regs t [])) route.is_route.last
-              (λ h c. (refl, refl)) route.is_route.goes);
+              (λ h c. (refl, refl)) route.is_route.executes);
           regs_are = route.regs ∙ ap (λ (s : ThreadState). s.regs) route.is_route.ends;
         });
     rf = IsReadFrom-with_fences;

@@ -26,7 +26,7 @@ record Advances (x : Execution) (t : ℕ) (code : List Instr) (path : List ℕ) 
   path_is : path ≡ s.position ∷ rest
   wrote : writes (x86_operation i) ≡ true
       → x.written (event t s.position) ≡ word_written (x86_operation i) s.regs (x.read (event t s.position))
-  goes : ThreadExecutes x86_language x t code rest (state_after (x86_operation i) s (x.read (event t s.position))) end
+  executes : ThreadExecutes x86_language x t code rest (state_after (x86_operation i) s (x.read (event t s.position))) end
 
 -- A thread that is not at the end of its code advances.
 Advances-in_code : (x : Execution) (t : ℕ) (code : List Instr) (path : List ℕ) (s end : ThreadState) (i : Instr)
@@ -46,7 +46,7 @@ Advances-in_code x t code (j ∷ path) s end i found_at executes =
           subst₂ (λ k (h : Instr).
           writes (x86_operation h) ≡ true → x.written (event t k) ≡ word_written (x86_operation h) s.regs (x.read (event t k)))
           (sym executes.position_is) same executes.written_is;
-      goes =
+      executes =
           subst₂
           (λ k (h : Instr). ThreadExecutes x86_language x t code path (state_after (x86_operation h) s (x.read (event t k))) end)
           (sym executes.position_is) same executes.rest;
@@ -191,17 +191,19 @@ module _ (x : Execution) (t : ℕ) where
       let a7 =
       Advances-spin_lock rest (state_at 7 (word_read_at 4) 0 0 (word_read_at 4 == 0)) end (instr.Set 4 (Number 1)) refl goes in
       let a8 =
-      Advances-spin_lock a7.rest (state_at 8 (word_read_at 4) 0 1 (word_read_at 4 == 0)) end (instr.Load 2 0) refl a7.goes in
+      Advances-spin_lock a7.rest (state_at 8 (word_read_at 4) 0 1 (word_read_at 4 == 0)) end (instr.Load 2 0) refl a7.executes in
       let a9 =
       Advances-spin_lock a8.rest (state_at 9 (word_read_at 4) (word_read_at 8) 1 (word_read_at 4 == 0)) end
-      (instr.Add 2 (Number 1)) refl a8.goes in
+      (instr.Add 2 (Number 1)) refl a8.executes in
       let sum : ℕ = wrapping_sum (word_read_at 8) 1 in
       let a10 =
-      Advances-spin_lock a9.rest (state_at 10 (word_read_at 4) sum 1 (sum == 0)) end (instr.Store 0 (Register 2)) refl a9.goes in
+      Advances-spin_lock a9.rest (state_at 10 (word_read_at 4) sum 1 (sum == 0)) end (instr.Store 0 (Register 2)) refl
+      a9.executes in
       let a11 =
-      Advances-spin_lock a10.rest (state_at 11 (word_read_at 4) sum 1 (sum == 0)) end (instr.Store 1 (Number 0)) refl a10.goes in
+      Advances-spin_lock a10.rest (state_at 11 (word_read_at 4) sum 1 (sum == 0)) end (instr.Store 1 (Number 0)) refl
+      a10.executes in
       let last =
-      ThreadExecutes-at_end x t spin_lock_code a11.rest (state_at 12 (word_read_at 4) sum 1 (sum == 0)) end refl a11.goes in
+      ThreadExecutes-at_end x t spin_lock_code a11.rest (state_at 12 (word_read_at 4) sum 1 (sum == 0)) end refl a11.executes in
       record {
         path_is =
             begun
@@ -223,10 +225,10 @@ module _ (x : Execution) (t : ℕ) where
       → FailsToTakeLock path end ⊎ EntersSection path
   Tried_or_Entered path rest end flag begun goes =
       let a3 = Advances-spin_lock rest (state_at 3 (word_read_at 0) 0 0 flag) end (instr.Set 0 (Register 1)) refl goes in
-      let a4 = Advances-spin_lock a3.rest (state_at 4 1 0 0 flag) end (instr.Xchg 1 0) refl a3.goes in
-      let a5 = Advances-spin_lock a4.rest (state_at 5 (word_read_at 4) 0 0 flag) end (instr.Cmp 0 (Number 0)) refl a4.goes in
+      let a4 = Advances-spin_lock a3.rest (state_at 4 1 0 0 flag) end (instr.Xchg 1 0) refl a3.executes in
+      let a5 = Advances-spin_lock a4.rest (state_at 5 (word_read_at 4) 0 0 flag) end (instr.Cmp 0 (Number 0)) refl a4.executes in
       let a6 =
-      Advances-spin_lock a5.rest (state_at 6 (word_read_at 4) 0 0 (word_read_at 4 == 0)) end (instr.Jne 12) refl a5.goes in
+      Advances-spin_lock a5.rest (state_at 6 (word_read_at 4) 0 0 (word_read_at 4 == 0)) end (instr.Jne 12) refl a5.executes in
       let so_far : path ≡ 0 ∷ 1 ∷ 2 ∷ 3 ∷ 4 ∷ 5 ∷ 6 ∷ a6.rest =
       begun
       ∙ ap (λ p. 0 ∷ 1 ∷ 2 ∷ p)
@@ -236,7 +238,7 @@ module _ (x : Execution) (t : ℕ) where
       → (word_read_at 4 == 0) ≡ b
       → ExecutesPath a6.rest (state_at (if not b then 12 else 7) (word_read_at 4) 0 0 (word_read_at 4 == 0)) end = λ b same.
       subst (λ c. ExecutesPath a6.rest (state_at (if not c then 12 else 7) (word_read_at 4) 0 0 (word_read_at 4 == 0)) end) same
-      a6.goes in
+      a6.executes in
       elim (cases_Bool (word_read_at 4 == 0)) [
         | inl free ↦
             inr (EntersSection-takes_lock path a6.rest end so_far takes (eqb-true (word_read_at 4) 0 free) (onward true free))
@@ -255,15 +257,15 @@ module _ (x : Execution) (t : ℕ) where
   SpinLockRun-of_run : (path : List ℕ) (end : ThreadState) → ExecutesPath path (state_at 0 0 0 0 false) end → SpinLockRun path end
   SpinLockRun-of_run path end goes =
       let a0 = Advances-spin_lock path (state_at 0 0 0 0 false) end (instr.Load 0 1) refl goes in
-      let a1 = Advances-spin_lock a0.rest (state_at 1 (word_read_at 0) 0 0 false) end (instr.Cmp 0 (Number 0)) refl a0.goes in
+      let a1 = Advances-spin_lock a0.rest (state_at 1 (word_read_at 0) 0 0 false) end (instr.Cmp 0 (Number 0)) refl a0.executes in
       let a2 =
-      Advances-spin_lock a1.rest (state_at 2 (word_read_at 0) 0 0 (word_read_at 0 == 0)) end (instr.Jne 12) refl a1.goes in
+      Advances-spin_lock a1.rest (state_at 2 (word_read_at 0) 0 0 (word_read_at 0 == 0)) end (instr.Jne 12) refl a1.executes in
       let begun : path ≡ 0 ∷ 1 ∷ 2 ∷ a2.rest = a0.path_is ∙ ap (λ p. 0 ∷ p) (a1.path_is ∙ ap (λ p. 1 ∷ p) a2.path_is) in
       let onward : (b : Bool)
       → (word_read_at 0 == 0) ≡ b
       → ExecutesPath a2.rest (state_at (if not b then 12 else 3) (word_read_at 0) 0 0 (word_read_at 0 == 0)) end = λ b same.
       subst (λ c. ExecutesPath a2.rest (state_at (if not c then 12 else 3) (word_read_at 0) 0 0 (word_read_at 0 == 0)) end) same
-      a2.goes in
+      a2.executes in
       elim (cases_Bool (word_read_at 0 == 0)) [
         | inl free ↦ inr (Tried_or_Entered path a2.rest end (word_read_at 0 == 0) begun (onward true free))
         | inr taken ↦

@@ -35,8 +35,9 @@ pub use programs::{
     executions_fenced_where_shared_are_sequential, fenced_tests_have_sequential_outcomes,
     locked_instructions_are_atomic, no_word_comes_out_of_thin_air,
     relaxed_outcomes_have_triangular_races, sequential_outcomes_are_allowed,
-    spare_fences_change_no_outcome, tests_fenced_where_others_write_are_interleaving,
-    tests_without_data_races_are_interleaving, tests_without_triangular_races_are_interleaving,
+    spare_fences_change_no_outcome, tests_fenced_where_others_write_have_interleaving_outcomes,
+    tests_without_data_races_have_interleaving_outcomes,
+    tests_without_triangular_races_have_interleaving_outcomes,
     well_fenced_executions_are_sequential,
 };
 pub use times::{executions_have_times, timed_executions_satisfy_the_axioms};

@@ -125,7 +125,7 @@ pub fn fenced_tests_have_sequential_outcomes()
 /// States that a test has on the machine exactly the outcomes of interleaving, if on each path a fence or a locked
 /// instruction is between each store and each later load, except loads of locations that no instruction of another
 /// thread writes. This is a law of all loads at once, as `executions_fenced_where_shared_are_sequential` is.
-pub fn tests_fenced_where_others_write_are_interleaving()
+pub fn tests_fenced_where_others_write_have_interleaving_outcomes()
     ensures axioms { (test : X86Test) (o : FinalState) → IsFencedWhereOthersWrite test
         → IsAllowed test o ↔ IsScOutcome x86_language test o }
     ensures flat_memory { (test : X86Test) (o : FinalState) → IsWellScopedProgram test → IsFencedWhereOthersWrite test
@@ -159,7 +159,7 @@ pub fn spare_fences_change_no_outcome()
 /// States that a test without a triangular race in any of its runs by interleaving has exactly the outcomes of
 /// interleaving: these are the outcomes that the axioms allow, and the machine's, over flat memory and over caches of
 /// each protocol. So without triangular races programmers may think of one memory.
-pub fn tests_without_triangular_races_are_interleaving()
+pub fn tests_without_triangular_races_have_interleaving_outcomes()
     ensures axioms { (test : X86Test) (o : FinalState) → IsWellScopedProgram test → (HasTriangularRace test → ⊥)
         → IsAllowed test o ↔ InterleavingOutcome x86_language test o }
     ensures flat_memory { (test : X86Test) (o : FinalState) → IsWellScopedProgram test → (HasTriangularRace test → ⊥)
@@ -177,7 +177,7 @@ pub fn tests_without_triangular_races_are_interleaving()
 /// each protocol. C++ and Java promise the same of their own notions of a data race (DRF-SC). The law of triangular
 /// races is stronger: of data races it counts only those in which a load follows a store of its thread to another
 /// location, with neither a fence nor a locked instruction between.
-pub fn tests_without_data_races_are_interleaving()
+pub fn tests_without_data_races_have_interleaving_outcomes()
     ensures axioms { (test : X86Test) (o : FinalState) → IsWellScopedProgram test → (HasDataRace test → ⊥)
         → IsAllowed test o ↔ InterleavingOutcome x86_language test o }
     ensures flat_memory { (test : X86Test) (o : FinalState) → IsWellScopedProgram test → (HasDataRace test → ⊥)
@@ -185,7 +185,7 @@ pub fn tests_without_data_races_are_interleaving()
     ensures caches { (protocol : Protocol) (test : X86Test) (o : FinalState) → IsWellScopedProgram test → FitsCaches test
         → (HasDataRace test → ⊥) → OutcomeOverCaches protocol test o ↔ InterleavingOutcome x86_language test o }
 {
-    tests_without_triangular_races_are_interleaving();
+    tests_without_triangular_races_have_interleaving_outcomes();
 }
 
 /// States that a test has a triangular race if some outcome of x86-TSO is not one of interleaving.

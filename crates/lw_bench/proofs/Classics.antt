@@ -69,11 +69,11 @@ pub one_letter : (w : List ℕ) (b : ℕ)
     → is_reserved (b ∷ []) ≡ false
     → IsLocationName w
 one_letter w b is word front free =
-    rw is ((record { not_empty = omega arith; all = (word, tt); front = front }, omega arith), free)
+    rw is ((record { not_empty = omega arith; are_name_bytes = (word, tt); front = front }, omega arith), free)
 
 -- `x` is not in the table of `y`, so the table of both has no duplicates.
-x_not_in_y_table : Contains (codes "y" ∷ []) (codes "x") → ⊥
-x_not_in_y_table c = go c.0 c.1 c.2
+not-Contains-x_in_y_table : Contains (codes "y" ∷ []) (codes "x") → ⊥
+not-Contains-x_in_y_table c = go c.0 c.1 c.2
   where
     go : (k : ℕ) → k < 1 → slice_index_or (codes "y" ∷ []) k (codes "x") ≡ codes "x" → ⊥
     go zero l e = absurd (false≢true (ap (λ (bytes : List ℕ). slice_index bytes 0 == 120) e))
@@ -88,11 +88,11 @@ head_formed : (name : List ℕ) (arch : Arch) (quant : Quant) (condition : Formu
 head_formed name arch quant condition named few speaks = record {
   name = named;
   has_thread = omega arith;
-  few = omega arith;
+  bounded = omega arith;
   table = record {
-    few = omega arith;
-    all = (one_letter _ 120 refl refl refl refl, (one_letter (codes "y") 121 refl refl refl refl, tt));
-    without_duplicates = (x_not_in_y_table, ((λ c. omega (arith, c.1)), tt));
+    bounded = omega arith;
+    are_location_names = (one_letter _ 120 refl refl refl refl, (one_letter (codes "y") 121 refl refl refl refl, tt));
+    without_duplicates = (not-Contains-x_in_y_table, ((λ c. omega (arith, c.1)), tt));
   };
   regs = refl;
   register_counts = (refl, (refl, tt));
@@ -101,7 +101,7 @@ head_formed name arch quant condition named few speaks = record {
   location_words = (omega arith, (omega arith, tt));
   listed_in_range = tt;
   ascending = tt;
-  nodes_few = few;
+  nodes_bounded = few;
   condition = speaks;
 }
   where
@@ -195,9 +195,11 @@ store_buffering_formed = program_formed store_buffering_in_x86 (record {
   locations = refl;
   arch = refl;
   head =
-      head_formed (codes "SB-x86") X86 Exists both_loads_are_early
-      (record { not_empty = omega arith; short = omega arith; all = (refl, (refl, (refl, (refl, (refl, (refl, tt)))))) })
-      (omega arith) ((omega arith, omega arith, omega arith), (omega arith, omega arith, omega arith));
+      head_formed (codes "SB-x86") X86 Exists both_loads_are_early (record {
+        not_empty = omega arith;
+        short = omega arith;
+        are_graphic_bytes = (refl, (refl, (refl, (refl, (refl, (refl, tt))))));
+      }) (omega arith) ((omega arith, omega arith, omega arith), (omega arith, omega arith, omega arith));
   first_formed = two_formed (store_plain 0 1 (omega arith) (omega arith)) (load_plain 0 1 (omega arith) (omega arith));
   second_formed = two_formed (store_plain 1 1 (omega arith) (omega arith)) (load_plain 0 0 (omega arith) (omega arith));
 })
@@ -212,9 +214,11 @@ message_passing_formed = program_formed message_passing_in_x86 (record {
   locations = refl;
   arch = refl;
   head =
-      head_formed (codes "MP-x86") X86 NotExists flag_without_message
-      (record { not_empty = omega arith; short = omega arith; all = (refl, (refl, (refl, (refl, (refl, (refl, tt)))))) })
-      (omega arith) ((omega arith, omega arith, omega arith), (omega arith, omega arith, omega arith));
+      head_formed (codes "MP-x86") X86 NotExists flag_without_message (record {
+        not_empty = omega arith;
+        short = omega arith;
+        are_graphic_bytes = (refl, (refl, (refl, (refl, (refl, (refl, tt))))));
+      }) (omega arith) ((omega arith, omega arith, omega arith), (omega arith, omega arith, omega arith));
   first_formed = two_formed (store_plain 0 1 (omega arith) (omega arith)) (store_plain 1 1 (omega arith) (omega arith));
   second_formed = two_formed (load_plain 0 1 (omega arith) (omega arith)) (load_plain 1 0 (omega arith) (omega arith));
 })

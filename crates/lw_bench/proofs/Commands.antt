@@ -180,12 +180,12 @@ no_IsCommand-bad_option words many none Compile said = omega (arith, cons-head_e
 no_IsCommand-bad_option words many none _ said = omega (arith, cons-head_eq 114 115 _ _ (cons-head_eq _ _ _ _ said))
 
 -- No arguments name no task.
-pub no_IsCommand-no_arguments : (words : Arguments) (t : Task) → length words < 1 → IsCommand (argument_texts words) t → ⊥
-no_IsCommand-no_arguments (x ∷ words) t few said = absurd (omega (arith, few))
-no_IsCommand-no_arguments [] (Replay schedule protocol) few said = nil_ne_cons _ _ said.1
-no_IsCommand-no_arguments [] States few said = nil_ne_cons _ _ said
-no_IsCommand-no_arguments [] Compile few said = nil_ne_cons _ _ said
-no_IsCommand-no_arguments [] Schedules few said = nil_ne_cons _ _ said
+pub no_IsCommand-if_no_arguments : (words : Arguments) (t : Task) → length words < 1 → IsCommand (argument_texts words) t → ⊥
+no_IsCommand-if_no_arguments (x ∷ words) t few said = absurd (omega (arith, few))
+no_IsCommand-if_no_arguments [] (Replay schedule protocol) few said = nil_ne_cons _ _ said.1
+no_IsCommand-if_no_arguments [] States few said = nil_ne_cons _ _ said
+no_IsCommand-if_no_arguments [] Compile few said = nil_ne_cons _ _ said
+no_IsCommand-if_no_arguments [] Schedules few said = nil_ne_cons _ _ said
 
 -- If the first argument is none of the four names, the arguments name no task.
 pub no_IsCommand-other_word : (words : Arguments) (t : Task)

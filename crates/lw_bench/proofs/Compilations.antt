@@ -16,6 +16,6 @@ pub IsCompilation-OutcomeOverCaches : (test : SourceTest) (program : X86Test)
     → (protocol : Protocol) (o : FinalState)
     → OutcomeOverCaches protocol program o ↔ SourceOutcome test o
 IsCompilation-OutcomeOverCaches test program caches ok outcomes protocol o =
-    let over = caches protocol program o (IsWellScoped-well_formed x86_language ok) ok.head.few in
+    let over = caches protocol program o (IsWellScoped-well_formed x86_language ok) ok.head.bounded in
     let same = outcomes o in
     ((λ outcome. same.0 (over.0 outcome)), (λ outcome. over.1 (same.1 outcome)))

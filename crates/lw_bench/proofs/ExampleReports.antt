@@ -244,5 +244,5 @@ pub IsReport-store_buffering : IsStatesReport (Of_x86 store_buffering_in_x86) st
 unfolding digits
 IsReport-store_buffering = record {
   within = (few_items, few_orders);
-  is = record { states = states; states_are = AreStatesOf-store_buffering; text_is = refl };
+  is_report = record { states = states; states_are = AreStatesOf-store_buffering; text_is = refl };
 }

@@ -69,7 +69,11 @@ preamble = (
     parts = refl;
     apart = omega arith;
     blank = (refl, tt);
-    is_name = record { not_empty = omega arith; short = omega arith; all = (refl, (refl, (refl, (refl, (refl, (refl, tt)))))) };
+    is_name = record {
+      not_empty = omega arith;
+      short = omega arith;
+      are_graphic_bytes = (refl, (refl, (refl, (refl, (refl, (refl, tt))))));
+    };
     longest = refl;
   },
   no_notes
@@ -250,7 +254,7 @@ Column-store_and_load : (x y : Bytes)
     → Column x86_grammar (store_tokens x ∷ load_tokens y ∷ []) (says_store x ∷ says_load y ∷ [])
 Column-store_and_load x y x_is y_is = record {
   says = (ParsesCell-store_tokens x x_is, (ParsesCell-load_tokens y y_is, tt));
-  few = omega arith;
+  bounded = omega arith;
   without_duplicates = tt;
   forward = LabelsLeadForward-each;
 }
@@ -278,7 +282,7 @@ HasProgram-store_buffering = record {
     Column-store_and_load (codes "x") (codes "y") x_index y_index,
     (Column-store_and_load (codes "y") (codes "x") y_index x_index, tt),
   );
-  few = omega arith;
+  bounded = omega arith;
   made = refl;
 }
 

@@ -62,8 +62,8 @@ pub schedule_no_device : (f : ScheduleFault) → IsNotDeviceFault (schedule_run_
 schedule_no_device f = holds-schedule_run_fault IsNotDeviceFault memory_no_device f (λ known. (λ same. cc, λ same. cc))
 
 -- A fault that equals `Memory` is no device's.
-pub memory_is_no_device : (f : BenchFault) → f ≡ Memory → IsNotDeviceFault f
-memory_is_no_device f is = rw is memory_no_device
+pub IsNotDeviceFault-of_memory : (f : BenchFault) → f ≡ Memory → IsNotDeviceFault f
+IsNotDeviceFault-of_memory f is = rw is memory_no_device
 
 -- If a test was read, `Memory`, or a fault that is true of the test, is one that a run may report of the bytes.
 pub RunFaultIsTrue-of_test : (Tells : LitmusTest → BenchFault → Type 0) (bytes : List ℕ) (test : LitmusTest) (f : BenchFault)

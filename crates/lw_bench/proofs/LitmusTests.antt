@@ -11,20 +11,20 @@ Source_ne_X86 : (let arch : Arch = Source in arch) ≡ X86 → ⊥
 Source_ne_X86 same = cc
 
 -- A frame of the source language that says no source test says no test.
-pub no_test-no_source : (frame : TestFrame)
+pub no_test-if_no_source : (frame : TestFrame)
     → frame.head.arch ≡ Source
     → HoldsOfNothing (HasSource frame)
     → HoldsOfNothing (FrameHasTest frame)
-no_test-no_source frame is none (Of_source s) says = none s says
-no_test-no_source frame is none (Of_x86 t) says = absurd (Source_ne_X86 (sym is ∙ says.arch))
+no_test-if_no_source frame is none (Of_source s) says = none s says
+no_test-if_no_source frame is none (Of_x86 t) says = absurd (Source_ne_X86 (sym is ∙ says.arch))
 
 -- A frame of x86 that says no x86 test says no test.
-pub no_test-no_program : (frame : TestFrame)
+pub no_test-if_no_program : (frame : TestFrame)
     → frame.head.arch ≡ X86
     → HoldsOfNothing (HasProgram frame)
     → HoldsOfNothing (FrameHasTest frame)
-no_test-no_program frame is none (Of_source s) says = absurd (Source_ne_X86 (sym says.arch ∙ is))
-no_test-no_program frame is none (Of_x86 t) says = none t says
+no_test-if_no_program frame is none (Of_source s) says = absurd (Source_ne_X86 (sym says.arch ∙ is))
+no_test-if_no_program frame is none (Of_x86 t) says = none t says
 
 module _ (one_source : (frame : TestFrame) (s t : SourceTest) → HasSource frame s → HasSource frame t → s ≡ t)
     (one_program : (frame : TestFrame) (p q : X86Test) → HasProgram frame p → HasProgram frame q → p ≡ q)

@@ -25,5 +25,8 @@ pub output_written : (IsMade : LitmusTest → List ℕ → Type 0) (known before
     → Appends before after made
     → Writes IsMade known before after
 output_written IsMade None before after bytes made is makes put = tt
-output_written IsMade (Some input) before after bytes made is makes put =
-    (made, record { test = makes.test; has_test = HasTest-in_whole_input _ bytes is _ makes.has_test; is = makes.is }, put)
+output_written IsMade (Some input) before after bytes made is makes put = (
+  made,
+  record { test = makes.test; has_test = HasTest-in_whole_input _ bytes is _ makes.has_test; is_made = makes.is_made },
+  put,
+)

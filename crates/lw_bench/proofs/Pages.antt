@@ -135,12 +135,13 @@ end_text-Stopped done number name stop end e n m =
 
 -- The text of a source test's page, from `start`: the first lines, the threads, and the words.
 pub record SourceParts (head : TestHead) (r : Replay) (s : State) (start new : List ℕ) : Type 0 where
-  pub one : List ℕ
-  pub two : List ℕ
+  pub after_first_lines : List ℕ
+  pub after_threads : List ℕ
   pub words : List ℕ
-  pub begun : one ≡ start ++ first_lines head r
-  pub threads : two ≡ one ++ numbered (λ t (th : Thread). thread_line head.arch t th.position th.regs) 0 s.threads
-  pub memory : new ≡ two ++ word_line (codes "Memory") head.locs words
+  pub begun : after_first_lines ≡ start ++ first_lines head r
+  pub threads : after_threads
+      ≡ after_first_lines ++ numbered (λ t (th : Thread). thread_line head.arch t th.position th.regs) 0 s.threads
+  pub memory : new ≡ after_threads ++ word_line (codes "Memory") head.locs words
   pub is_memory : words ≡ s.words
 
 -- The parts of a page in sequence are the page of a source test.
@@ -150,20 +151,20 @@ pub source_page-SourceParts : (head : TestHead) (r : Replay) (s : State) (start 
 source_page-SourceParts head r s start new parts =
     let line = word_line (codes "Memory") head.locs in
     AllWritten-three start _ _ (line s.words) parts.begun parts.threads
-    (parts.memory ∙ ap (λ (ws : List ℕ). parts.two ++ line ws) parts.is_memory)
+    (parts.memory ∙ ap (λ (ws : List ℕ). parts.after_threads ++ line ws) parts.is_memory)
 
 -- The text of an x86 test's page, from `start`: the first lines, the processors, memory's words, and the content.
 pub record MachineParts (head : TestHead) (r : Replay) (processors : List Processor) (held : ℕ → ℕ → LineState)
     (memory content start new : List ℕ) : Type 0 where
-  pub one : List ℕ
-  pub two : List ℕ
-  pub three : List ℕ
+  pub after_first_lines : List ℕ
+  pub after_processors : List ℕ
+  pub after_memory : List ℕ
   pub in_memory : List ℕ
   pub in_content : List ℕ
-  pub begun : one ≡ start ++ first_lines head r
-  pub lines : two ≡ one ++ numbered (processor_lines head held) 0 processors
-  pub below : three ≡ two ++ word_line (codes "Memory") head.locs in_memory
-  pub last : new ≡ three ++ word_line (codes "Content") head.locs in_content
+  pub begun : after_first_lines ≡ start ++ first_lines head r
+  pub lines : after_processors ≡ after_first_lines ++ numbered (processor_lines head held) 0 processors
+  pub below : after_memory ≡ after_processors ++ word_line (codes "Memory") head.locs in_memory
+  pub last : new ≡ after_memory ++ word_line (codes "Content") head.locs in_content
   pub is_memory : in_memory ≡ memory
   pub is_content : in_content ≡ content
 
@@ -177,7 +178,8 @@ machine_page-MachineParts head r processors held memory content start new parts 
     let second = word_line (codes "Content") head.locs in
     let all = numbered (processor_lines head held) 0 processors in
     let behind =
-    AllWritten-three parts.one all (first memory) _ parts.lines
-    (parts.below ∙ ap (λ (ws : List ℕ). parts.two ++ first ws) parts.is_memory)
-    (parts.last ∙ ap (λ (ws : List ℕ). parts.three ++ second ws) parts.is_content) in
-    written-append start parts.one new (first_lines head r) (all ++ (first memory ++ second content)) parts.begun behind
+    AllWritten-three parts.after_first_lines all (first memory) _ parts.lines
+    (parts.below ∙ ap (λ (ws : List ℕ). parts.after_processors ++ first ws) parts.is_memory)
+    (parts.last ∙ ap (λ (ws : List ℕ). parts.after_memory ++ second ws) parts.is_content) in
+    written-append start parts.after_first_lines new (first_lines head r) (all ++ (first memory ++ second content)) parts.begun
+    behind

@@ -96,7 +96,7 @@ Writes-weakened : (P Q : LitmusTest → Bytes → Type 0)
     → Writes Q known before after
 Writes-weakened P Q weaker None before after writes = tt
 Writes-weakened P Q weaker (Some text) before after (made, makes, appended) =
-    (made, record { test = makes.test; has_test = makes.has_test; is = weaker makes.test made makes.is }, appended)
+    (made, record { test = makes.test; has_test = makes.has_test; is_made = weaker makes.test made makes.is_made }, appended)
 
 -- A run whose result is computed from that of another.
 module _ {R W T U : Type 0} (readers : Devices R) (writers : Devices W) (P : T → LitmusTest → Bytes → Type 0)

@@ -71,7 +71,7 @@ module _ (test : LitmusTest) (entries : OutcomeEntries) (list : IsListOf test en
   schedules_of_list states text listed is = record {
     program = list.program;
     of_test = list.of_test;
-    is =
+    is_schedule_list =
         IsScheduleList-of_listing _ (OutcomeOf test) entries list.exactly list.sorted (ProgramReplaysTo list.program) list.lead
         states text (subst (λ d. AreListedStates d (outcomes_of entries) states) same listed) (rw same at is);
   }

@@ -38,8 +38,10 @@ pub one_report_of : ((text : Bytes) (s t : LitmusTest) → HasTest text s → Ha
     → IsOutputOf IsStatesReport text b
     → a ≡ b
 one_report_of one text a b m n =
-    let other = subst (λ (test : LitmusTest). IsStatesReport test b) (sym (one text m.test n.test m.has_test n.has_test)) n.is in
-    IsReport-unique _ (OutcomeOf m.test) (OutcomeOf m.test) (λ o. ((λ h. h), (λ h. h))) Exact a b m.is.is other.is
+    let other =
+    subst (λ (test : LitmusTest). IsStatesReport test b) (sym (one text m.test n.test m.has_test n.has_test)) n.is_made in
+    IsReport-unique _ (OutcomeOf m.test) (OutcomeOf m.test) (λ o. ((λ h. h), (λ h. h))) Exact a b m.is_made.is_report
+    other.is_report
 
 -- ---- compiled programs
 
@@ -108,10 +110,10 @@ pub runs_over_caches : CachesAreFlat
     → HasOverCaches test program
 runs_over_caches caches (Of_source test) program ok runs =
     outcomes_over_caches caches test program runs.0 (IsWellScoped-well_formed source_language ok) runs.1
-    (fits_compiled test program runs.0 runs.1 ok.head.few)
+    (fits_compiled test program runs.0 runs.1 ok.head.bounded)
 runs_over_caches caches (Of_x86 test) program ok runs =
     subst (HasOverCaches (Of_x86 test)) (sym runs)
-    (λ protocol o. caches protocol test o (IsWellScoped-well_formed x86_language ok) ok.head.few)
+    (λ protocol o. caches protocol test o (IsWellScoped-well_formed x86_language ok) ok.head.bounded)
 
 -- ---- outcomes
 
@@ -152,11 +154,11 @@ pub HasTest-of_compilation : HasOneTest
     × ((o : FinalState) → OutcomeOf (Of_x86 program) o ↔ OutcomeOf (Of_source source) o)
 HasTest-of_compilation one back text made source has makes =
     let is =
-    subst (λ (t : LitmusTest). IsCompilation t made) (one text makes.test (Of_source source) makes.has_test has) makes.is in
+    subst (λ (t : LitmusTest). IsCompilation t made) (one text makes.test (Of_source source) makes.has_test has) makes.is_made in
     let formed : IsWellFormedSource source = well_formed text (Of_source source) has in
     let read = back is.program (IsWellFormedProgram-compiled source is.program is.starts formed is.compiled) in (
       is.program,
-      subst (λ (t : Bytes). HasTest t (Of_x86 is.program)) (sym is.is)
+      subst (λ (t : Bytes). HasTest t (Of_x86 is.program)) (sym is.text_is)
           (record { frame = read.frame; has_frame = read.framed; says = read.says }),
       is.compiled.head,
       λ o.

@@ -72,7 +72,7 @@ token_of t rest h = go (or_true-cases (is_name_shaped t rest) (is_symbol_text t 
         let parts = and_parts (list_all is_name_byte t) _ word in
         let ends = and_parts (not (first_byte_is is_name_byte rest)) _ parts.1 in
         inl (record {
-          all = list_all-AllByRecursion is_name_byte t parts.0;
+          are_name_bytes = list_all-AllByRecursion is_name_byte t parts.0;
           longest = not-true _ ends.0;
           kind = kind_of t ends.1;
         })

@@ -16,7 +16,7 @@ pub record IsCompiledText (test : SourceTest) (text : Bytes) : Type 0 where
   pub program : X86Test
   pub starts : List (List ℕ)
   pub compiled : IsCompiled test program starts
-  pub is : text ≡ canonical_text program
+  pub text_is : text ≡ canonical_text program
   pub outcomes : (protocol : Protocol) (o : FinalState) → OutcomeOverCaches protocol program o ↔ SourceOutcome test o
 
 -- The text is the compilation of a test: of a source test the text of its compiled program, of an x86 test its own canonical text.

@@ -33,12 +33,12 @@ IsExactMarkedList test = IsMarkedList (head_of_test test) (OutcomeOf test)
 pub record IsExactScheduleList (test : LitmusTest) (text : Bytes) : Type 0 where
   pub program : X86Test
   pub of_test : IsProgramOf test program
-  pub is : IsScheduleList (head_of_test test) (OutcomeOf test) (ProgramReplaysTo program) text
+  pub is_schedule_list : IsScheduleList (head_of_test test) (OutcomeOf test) (ProgramReplaysTo program) text
 
 -- The text is the report of exactly the test's outcomes, and the test is within the limits of lists.
 pub record IsStatesReport (test : LitmusTest) (text : Bytes) : Type 0 where
   pub within : IsWithinListLimits test
-  pub is : IsExactReport test text
+  pub is_report : IsExactReport test text
 
 -- The outcomes are exactly the test's, and have its threads and locations.
 pub record AreOutcomesOf (test : LitmusTest) (outcomes : List FinalState) : Type 0 where
@@ -74,4 +74,4 @@ IsReachedOverCaches text =
 -- test is within the limits of lists.
 pub record IsScheduleReport (test : LitmusTest) (text : Bytes) : Type 0 where
   pub within : IsWithinListLimits test
-  pub is : IsExactScheduleList test text
+  pub is_schedule_list : IsExactScheduleList test text

@@ -10,7 +10,7 @@ use Rattle.lw_bench.specs.TestTexts.{HasTest}
 pub record IsOutputOf (IsMade : LitmusTest → Bytes → Type 0) (text made : Bytes) : Type 0 where
   pub test : LitmusTest
   pub has_test : HasTest text test
-  pub is : IsMade test made
+  pub is_made : IsMade test made
 
 -- If the input and the writer's bytes are known, the test's output was written, and nothing else.
 abbrev pub Writes : (LitmusTest → Bytes → Type 0) → Option Bytes → Option Bytes → Option Bytes → Type 0

@@ -81,16 +81,18 @@ pub fn a_text_has_one_report()
     a_text_has_one_test();
 }
 
-/// States that a source test has exactly one compiled program, with the indices at which its statements start.
+/// States that a source test has exactly one compiled program, with one table of where its statements start: in
+/// `starts` and `begins`, each thread has a list of the indices at which its statements start among its instructions.
 pub fn a_source_has_one_compiled_program()
     ensures some { (source : SourceTest) → IsWellScopedSource source
         → (program : X86Test) × (starts : List (List ℕ)) × IsCompiled source program starts }
-    ensures one { (source : SourceTest) (program other : X86Test) (starts begins : List (List ℕ))
+    ensures unique { (source : SourceTest) (program other : X86Test) (starts begins : List (List ℕ))
         → IsCompiled source program starts → IsCompiled source other begins → (program ≡ other) × (starts ≡ begins) }
 {}
 
 /// States that the compiled program has exactly its source's outcomes, over every lawful memory, from any of its
-/// states with the source's initial words.
+/// states with the source's initial words. In `starts`, each thread has a list of the indices at which its statements
+/// start among its instructions.
 pub fn compiled_programs_have_their_sources_outcomes_over_every_memory<M: MemorySystem>()
     ensures { (source : SourceTest) (program : X86Test) (starts : List (List ℕ)) (m : M) (o : FinalState)
         → IsWellScopedSource source → IsCompiled source program starts
@@ -101,7 +103,8 @@ pub fn compiled_programs_have_their_sources_outcomes_over_every_memory<M: Memory
 }
 
 /// States that the compiled program of a source test has exactly its source's outcomes over flat memory, and over
-/// caches of either protocol, empty at the start, with evictions at any time.
+/// caches of either protocol, empty at the start, with evictions at any time. In `starts`, each thread has a list of
+/// the indices at which its statements start among its instructions.
 pub fn compiled_programs_have_their_sources_outcomes()
     ensures flat_memory { (source : SourceTest) (program : X86Test) (starts : List (List ℕ)) (o : FinalState)
         → IsWellScopedSource source → IsCompiled source program starts
@@ -114,7 +117,9 @@ pub fn compiled_programs_have_their_sources_outcomes()
 }
 
 /// States that every interleaving outcome is an outcome of the compiled program without its fences, and with fences
-/// before any other of its loads: interleaving has none of the outcomes that fences remove.
+/// before any other of its loads: interleaving has none of the outcomes that fences remove. In `starts`, each thread
+/// has a list of the indices at which its statements start among its instructions; in `fences`, flags for its
+/// statements: a load with a flag that is set has a fence before it.
 pub fn interleaving_outcomes_need_no_fences()
     ensures without { (source : SourceTest) (program : X86Test) (starts : List (List ℕ)) (protocol : Protocol) (o : FinalState)
         → IsWellScopedSource source → IsCompiledWithoutFences source program starts → FitsCaches program
@@ -130,7 +135,7 @@ pub fn interleaving_outcomes_need_no_fences()
 /// outcomes, over one memory and over caches of each protocol. The program is the compiled program of a source test,
 /// and an x86 test itself.
 pub fn every_test_has_its_program()
-    ensures there { (text : Bytes) → IsReachedOnMachine text }
+    ensures machine { (text : Bytes) → IsReachedOnMachine text }
     ensures caches { (text : Bytes) → IsReachedOverCaches text }
     ensures each { (text : Bytes) (test : LitmusTest) (program : X86Test) → HasTest text test → IsProgramRunFor test program
         → IsProgramOf test program }

@@ -8,7 +8,7 @@ ghost use Rattle.lw_bench.specs.FaultTruth.{TestLimitFaultIsTrue, ListFaultIsTru
 use crate::fault::BenchFault;
 use crate::litmus_test::LitmusTest;
 use lw_base::Text;
-use lw_finals::{list_raw, list_raw_outcomes, list_source, list_source_outcomes};
+use lw_finals::{list_source, list_source_outcomes, list_x86, list_x86_outcomes};
 use lw_outcome_map::{Listing, OutcomeList};
 use lw_paths::ListFault;
 use lw_report::{
@@ -30,7 +30,7 @@ pub fn list_test<A: Allocator + Copy>(
     outcomes_over_caches_are_flat();
     match test {
         LitmusTest::Source(source) => list_source(alloc, source),
-        LitmusTest::X86(program) => list_raw(alloc, program),
+        LitmusTest::X86(program) => list_x86(alloc, program),
     }
 }
 
@@ -46,7 +46,7 @@ pub fn list_outcomes<A: Allocator + Copy>(
     outcomes_over_caches_are_flat();
     match test {
         LitmusTest::Source(source) => list_source_outcomes(alloc, source),
-        LitmusTest::X86(program) => list_raw_outcomes(alloc, program),
+        LitmusTest::X86(program) => list_x86_outcomes(alloc, program),
     }
 }
 

@@ -30,7 +30,7 @@ pub(crate) fn source_page<A: Allocator + Copy>(
     run: &SourceRun<'_, A, A>,
     replay: Replay,
 ) -> Result<Text<A>, AllocError>
-    requires few { head.now.threads ≤ MAX_THREADS }
+    requires bounded { head.now.threads ≤ MAX_THREADS }
     requires threads { length run.now.state.threads ≡ head.now.threads }
     requires words { length run.now.state.words ≡ length head.now.locs }
     ensures { IfOk result (λ text. text ≡ pages.source_page (head_of head.now) replay run.now.state) }
@@ -52,7 +52,7 @@ fn write_source_page<A: Allocator>(
     state: &Outcome<A>,
     replay: Replay,
 ) -> Result<(), AllocError>
-    requires few { head.now.threads ≤ MAX_THREADS }
+    requires bounded { head.now.threads ≤ MAX_THREADS }
     requires threads { length run.now.state.threads ≡ head.now.threads }
     requires words { length run.now.state.words ≡ length head.now.locs }
     requires outcome { state.now ≡ source_outcome run.now.state }
@@ -71,7 +71,7 @@ pub(crate) fn machine_page<M: MemorySystem, A: Allocator + Copy>(
     machine: &Machine<'_, M, A, A>,
     replay: Replay,
 ) -> Result<Text<A>, AllocError>
-    requires few { head.now.threads ≤ MAX_THREADS }
+    requires bounded { head.now.threads ≤ MAX_THREADS }
     requires threads { length machine.now.state.processors ≡ head.now.threads }
     requires words { length (M.content machine.now.state.memory) ≡ length head.now.locs }
     ensures { IfOk result (λ text. text
@@ -94,7 +94,7 @@ fn write_machine_page<M: MemorySystem, A: Allocator>(
     state: &Outcome<A>,
     replay: Replay,
 ) -> Result<(), AllocError>
-    requires few { head.now.threads ≤ MAX_THREADS }
+    requires bounded { head.now.threads ≤ MAX_THREADS }
     requires threads { length machine.now.state.processors ≡ head.now.threads }
     requires words { length (M.content machine.now.state.memory) ≡ length head.now.locs }
     requires outcome { state.now ≡ machine_outcome (memory_of M.content M.state M.serves) machine.now.state }
@@ -146,7 +146,7 @@ fn write_threads<A: Allocator>(
     run: &SourceRun<'_, A, A>,
     regs: &[[Word; REGISTERS]],
 ) -> Result<(), AllocError>
-    requires few { head.now.threads ≤ MAX_THREADS }
+    requires bounded { head.now.threads ≤ MAX_THREADS }
     requires threads { length run.now.state.threads ≡ head.now.threads }
     requires regs { regs.now ≡ map (λ (t : Thread). t.regs) run.now.state.threads }
     ensures { OnOk result (string_bytes out.new ≡ string_bytes out.old
@@ -227,7 +227,7 @@ fn write_processors<M: MemorySystem, A: Allocator>(
     machine: &Machine<'_, M, A, A>,
     regs: &[[Word; REGISTERS]],
 ) -> Result<(), AllocError>
-    requires few { head.now.threads ≤ MAX_THREADS }
+    requires bounded { head.now.threads ≤ MAX_THREADS }
     requires threads { length machine.now.state.processors ≡ head.now.threads }
     requires words { length (M.content machine.now.state.memory) ≡ length head.now.locs }
     requires regs { regs.now ≡ map (λ (p : Processor). p.regs) machine.now.state.processors }

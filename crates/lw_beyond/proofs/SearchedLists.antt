@@ -69,5 +69,5 @@ AreObservedOutcomesOf-x86_search list caches test names (Ok s) ok same reached c
 }
   where
     over : (o : FinalState) → OutcomeOverCaches Mesi test o ↔ OutcomeOf (Of_x86 test) o
-    over o = caches Mesi test o (IsWellScoped-well_formed x86_language ok) ok.head.few
+    over o = caches Mesi test o (IsWellScoped-well_formed x86_language ok) ok.head.bounded
 AreObservedOutcomesOf-x86_search list caches test names (Err e) ok same reached covered shapes = tt

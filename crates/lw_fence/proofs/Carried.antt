@@ -39,15 +39,17 @@ pub data BuffersStatement (s : Stmt) (v : Thread) (b : Buffer) (m : List ℕ) (c
       → n ≡ words_after (source_operation s) v m
       → BuffersStatement s v b m c n
 
--- After the statement s of the thread v is executed over the buffer b and the memory m, the processor is q and the memory n.
+-- The statement s of the thread v, executed over the buffer b and the memory m, gives the processor q its position, registers and buffer,
+-- and leaves the memory n.
 pub record ExecutesStatement (starts : List ℕ) (s : Stmt) (v : Thread) (b : Buffer) (m : List ℕ) (q : Processor)
     (n : List ℕ) : Type 0 where
   pub position : q.position ≡ slice_index starts (thread_after (source_operation s) v m).position
   pub regs : q.regs ≡ (thread_after (source_operation s) v m).regs
   pub stored : BuffersStatement s v b m q.buffer n
 
--- The instruction i of the processor p, whatever its buffer holds, executes s. A load requires an empty buffer.
-pub record CompletesStatement (starts : List ℕ) (v : Thread) (s : Stmt) (p : Processor) (i : Instr) : Type 0 where
+-- If the instruction i has an effect on the processor p, whatever its buffer holds, this effect executes the statement s of the thread v.
+-- A load is executed only over an empty buffer, and p has one.
+pub record EffectExecutesStatement (starts : List ℕ) (v : Thread) (s : Stmt) (p : Processor) (i : Instr) : Type 0 where
   pub empty : is_load (source_operation s) ≡ true → p.buffer ≡ []
   pub carries : (b : Buffer) (m : List ℕ)
       → (is_load (source_operation s) ≡ true → b ≡ [])
@@ -55,15 +57,15 @@ pub record CompletesStatement (starts : List ℕ) (v : Thread) (s : Stmt) (p : P
       → EffectLeadsTo m (step_effect (Some i) (record p { buffer = b })) q n
       → ExecutesStatement starts s v b m q n
 
--- The instruction before i leads the processor p to q, at whose position i executes the statement s of the thread v.
+-- The processor q is one position after p, with the same buffer, and an effect of the instruction i on q executes the statement s of v.
 pub record AdvancesToLast (starts : List ℕ) (v : Thread) (s : Stmt) (p : Processor) (i : Instr) (q : Processor) : Type 0 where
   pub position : q.position ≡ p.position + 1
   pub buffer : q.buffer ≡ p.buffer
-  pub ends : CompletesStatement starts v s q i
+  pub ends : EffectExecutesStatement starts v s q i
 
 -- A lowering executes the statement s of the thread v on the processor p, which is at the lowering's first instruction.
 abbrev pub ExecutesLowering : List ℕ → Thread → Stmt → Processor → Lowered → Type 0
-ExecutesLowering starts v s p (One i) = CompletesStatement starts v s p i
+ExecutesLowering starts v s p (One i) = EffectExecutesStatement starts v s p i
 ExecutesLowering starts v s p (Two i j) =
     (m : List ℕ) (q : Processor) (n : List ℕ)
     → EffectLeadsTo m (step_effect (Some i) p) q n
@@ -88,15 +90,15 @@ module _ (starts : List ℕ) (v : Thread) where
       (record { position = position; regs = regs; stored = stored })
 
   -- An instruction executes a statement without a location, whatever the memory and the buffer.
-  CompletesStatement-local : {s : Stmt} {p : Processor} {i : Instr} {k : ℕ} {regs : List ℕ} {flag : Bool}
+  EffectExecutesStatement-local : {s : Stmt} {p : Processor} {i : Instr} {k : ℕ} {regs : List ℕ} {flag : Bool}
       → IsLocal s
       → ((b : Buffer)
       → step_effect (Some i) (record p { buffer = b })
       ≡ LocalStep (record { position = k; regs = regs; zero_flag = flag; buffer = b }))
       → k ≡ slice_index starts (thread_after (source_operation s) v []).position
       → regs ≡ (thread_after (source_operation s) v []).regs
-      → CompletesStatement starts v s p i
-  CompletesStatement-local {s = s} l goes position same = record {
+      → EffectExecutesStatement starts v s p i
+  EffectExecutesStatement-local {s = s} l goes position same = record {
     empty = λ load. absurd (true≢false (sym load ∙ (no_store_no_load-if_unlocated (source_operation s) l).1));
     carries = λ b m load q n done.
         let next = thread_after-no_location (source_operation s) v [] m l in
@@ -115,8 +117,10 @@ module _ (starts : List ℕ) (v : Thread) where
   -- The last instruction of a lowering.
   module _ (p : Processor) (next : slice_index starts (v.position + 1) ≡ p.position + 1) where
     -- `MOV [x],w` executes the store of w at x.
-    CompletesStatement-store : (x : ℕ) (w : Operand) → p.regs ≡ v.regs → CompletesStatement starts v (Store x w) p (x86.Store x w)
-    CompletesStatement-store x w regs = record {
+    EffectExecutesStatement-store : (x : ℕ) (w : Operand)
+        → p.regs ≡ v.regs
+        → EffectExecutesStatement starts v (Store x w) p (x86.Store x w)
+    EffectExecutesStatement-store x w regs = record {
       empty = λ load. absurd cc;
       carries = λ b m load q n done.
           ExecutesStatement-of_effect (Store x w) b m m n _ q (sym next) regs
@@ -124,11 +128,11 @@ module _ (starts : List ℕ) (v : Thread) where
     }
 
     -- `MOV d,[x]` executes the load of x into d, if the buffer is empty.
-    CompletesStatement-load : (d x : ℕ)
+    EffectExecutesStatement-load : (d x : ℕ)
         → p.regs ≡ v.regs
         → p.buffer ≡ []
-        → CompletesStatement starts v (Load d x) p (x86.Load d x)
-    CompletesStatement-load d x regs empty = record {
+        → EffectExecutesStatement starts v (Load d x) p (x86.Load d x)
+    EffectExecutesStatement-load d x regs empty = record {
       empty = λ load. empty;
       carries = λ b m load q n done.
           ExecutesStatement-of_effect (Load d x) b m m n _ q (sym next) (ap (λ r. slice_set r d (slice_index m x)) regs)
@@ -150,8 +154,8 @@ module _ (starts : List ℕ) (v : Thread) where
       set u = ap (λ r. slice_set r d u) moved ∙ set-set v.regs d (slice_index v.regs a) u
 
       -- After the move of a to d, `XCHG` of x and d executes the exchange of x and a into d.
-      CompletesStatement-swap : (x : ℕ) → CompletesStatement starts v (Swap d x a) p (x86.Xchg x d)
-      CompletesStatement-swap x = record {
+      EffectExecutesStatement-swap : (x : ℕ) → EffectExecutesStatement starts v (Swap d x a) p (x86.Xchg x d)
+      EffectExecutesStatement-swap x = record {
         empty = λ load. absurd cc;
         carries = λ b m load q n done.
             let once = EffectLeadsTo-if_buffer_empty b SwapWaits _ m n q done in
@@ -160,8 +164,8 @@ module _ (starts : List ℕ) (v : Thread) where
       }
 
       -- After the move of a to d, `LOCK XADD` of x and d executes the fetch-and-add of a to x.
-      CompletesStatement-fetch_add : (x : ℕ) → CompletesStatement starts v (FetchAdd d x a) p (x86.Xadd x d)
-      CompletesStatement-fetch_add x = record {
+      EffectExecutesStatement-fetch_add : (x : ℕ) → EffectExecutesStatement starts v (FetchAdd d x a) p (x86.Xadd x d)
+      EffectExecutesStatement-fetch_add x = record {
         empty = λ load. absurd cc;
         carries = λ b m load q n done.
             let once = EffectLeadsTo-if_buffer_empty b SwapWaits _ m n q done in
@@ -170,11 +174,12 @@ module _ (starts : List ℕ) (v : Thread) where
       }
 
       -- After the move of a to d, `ADD` of w to d executes the sum of a and w into d, if the move does not change the value of w.
-      CompletesStatement-add : (w : Operand)
+      EffectExecutesStatement-add : (w : Operand)
           → operand_value w p.regs ≡ operand_value w v.regs
-          → CompletesStatement starts v (Sum d a w) p (x86.Add d w)
-      CompletesStatement-add w right =
-          CompletesStatement-local refl (λ b. refl) (sym next) (ap (slice_set p.regs d) (ap₂ wrapping_sum word right) ∙ set _)
+          → EffectExecutesStatement starts v (Sum d a w) p (x86.Add d w)
+      EffectExecutesStatement-add w right =
+          EffectExecutesStatement-local refl (λ b. refl) (sym next)
+          (ap (slice_set p.regs d) (ap₂ wrapping_sum word right) ∙ set _)
 
   -- The lowerings of a statement, with the processor p at the first instruction.
   module _ (p : Processor) (regs : p.regs ≡ v.regs) where
@@ -186,7 +191,7 @@ module _ (starts : List ℕ) (v : Thread) where
     AdvancesToLast-of_step : (s : Stmt) (r q : Processor) (i : Instr) (m n : List ℕ)
         → r.position ≡ p.position + 1
         → r.buffer ≡ p.buffer
-        → CompletesStatement starts v s r i
+        → EffectExecutesStatement starts v s r i
         → (q ≡ r) × (n ≡ m)
         → AdvancesToLast starts v s p i q × (n ≡ m)
     AdvancesToLast-of_step s r q i m n position buffer ends d =
@@ -197,14 +202,14 @@ module _ (starts : List ℕ) (v : Thread) where
     ExecutesLowering-fenced d x next m q n done =
         let once = EffectLeadsTo-if_buffer_empty p.buffer FenceWaits _ m n q done in
         AdvancesToLast-of_step (Load d x) _ q (x86.Load d x) m n refl refl
-        (CompletesStatement-load _ (omega arith) d x regs once.0) once.1
+        (EffectExecutesStatement-load _ (omega arith) d x regs once.0) once.1
 
     -- A lowering that moves a register first.
     ExecutesLowering-moved : (s : Stmt) (d a : ℕ) (last : Instr)
         → ((q : Processor)
         → slice_index starts (v.position + 1) ≡ q.position + 1
         → q.regs ≡ slice_set v.regs d (slice_index v.regs a)
-        → CompletesStatement starts v s q last)
+        → EffectExecutesStatement starts v s q last)
         → ExecutesFrom s (with_move_if d a last)
     ExecutesLowering-moved s d a last ends =
         both_cases-selected (ExecutesFrom s) (d == a) (One last) (Two (x86.Set d (Register a)) last) (λ is next.
@@ -235,7 +240,7 @@ module _ (starts : List ℕ) (v : Thread) where
         record { position = p.position + 1; regs = p.regs; zero_flag = slice_index p.regs a == k; buffer = p.buffer } in
         let jump = start-of_jump (told (slice_index v.regs a == k)) to (omega arith) in
         AdvancesToLast-of_step s r q i m n refl refl
-        (CompletesStatement-local l (λ b. goes (record r { buffer = b }))
+        (EffectExecutesStatement-local l (λ b. goes (record r { buffer = b }))
         (ap (λ l. if told (slice_index l a == k) then slice_index starts to else behind) regs
         ∙ jump
         ∙ ap (λ t. slice_index starts t.position) (sym after)) (regs ∙ ap (λ t. t.regs) (sym after))) done
@@ -246,32 +251,32 @@ module _ (starts : List ℕ) (v : Thread) where
         → All IsRegisterIndex (registers_of (source_operation s))
         → (is_load (source_operation s) ≡ true → fence ≡ false → p.buffer ≡ [])
         → ExecutesFrom s (lowered starts fence s)
-    ExecutesLowering-lowered (Store x w) six registers empty = λ next. CompletesStatement-store p next x w regs
+    ExecutesLowering-lowered (Store x w) six registers empty = λ next. EffectExecutesStatement-store p next x w regs
     ExecutesLowering-lowered (Load d x) {fence = fence} six registers empty =
         both_cases-selected (ExecutesFrom (Load d x)) fence (Two x86.Mfence (x86.Load d x)) (One (x86.Load d x))
-        (λ is. ExecutesLowering-fenced d x) (λ is next. CompletesStatement-load p next d x regs (empty refl is))
+        (λ is. ExecutesLowering-fenced d x) (λ is next. EffectExecutesStatement-load p next d x regs (empty refl is))
     ExecutesLowering-lowered (Swap d x a) six registers empty =
         ExecutesLowering-moved (Swap d x a) d a (x86.Xchg x d)
-        (λ q next moved. CompletesStatement-swap q next d a (omega (arith, registers 0 0 (omega arith))) moved x)
+        (λ q next moved. EffectExecutesStatement-swap q next d a (omega (arith, registers 0 0 (omega arith))) moved x)
     ExecutesLowering-lowered (FetchAdd d x a) six registers empty =
         ExecutesLowering-moved (FetchAdd d x a) d a (x86.Xadd x d)
-        (λ q next moved. CompletesStatement-fetch_add q next d a (omega (arith, registers 0 0 (omega arith))) moved x)
+        (λ q next moved. EffectExecutesStatement-fetch_add q next d a (omega (arith, registers 0 0 (omega arith))) moved x)
     ExecutesLowering-lowered (Set d w) six registers empty =
-        λ next. CompletesStatement-local refl (λ b. refl) (sym next) (ap (λ r. slice_set r d (operand_value w r)) regs)
+        λ next. EffectExecutesStatement-local refl (λ b. refl) (sym next) (ap (λ r. slice_set r d (operand_value w r)) regs)
     ExecutesLowering-lowered (Sum d a (Number k)) six registers empty =
-        ExecutesLowering-moved (Sum d a (Number k)) d a (x86.Add d (Number k))
-        (λ q next moved. CompletesStatement-add q next d a (omega (arith, registers 0 0 (omega arith))) moved (Number k) refl)
+        ExecutesLowering-moved (Sum d a (Number k)) d a (x86.Add d (Number k)) (λ q next moved.
+        EffectExecutesStatement-add q next d a (omega (arith, registers 0 0 (omega arith))) moved (Number k) refl)
     ExecutesLowering-lowered (Sum d a (Register b)) six registers empty =
         let in_range : d < length v.regs = omega (arith, registers 0 0 (omega arith)) in
         both_cases-selected (ExecutesFrom (Sum d a (Register b))) (d == b) (One (x86.Add d (Register a))) _ (λ is next.
-        CompletesStatement-local refl (λ c. refl) (sym next)
+        EffectExecutesStatement-local refl (λ c. refl) (sym next)
         (ap (λ r. slice_set r d (wrapping_sum (slice_index r d) (slice_index r a))) regs
         ∙ ap (slice_set v.regs d) (wrapping_sum-comm_destination d a b is)))
         (λ is.
         ExecutesLowering-moved (Sum d a (Register b)) d a _
         (λ q next moved.
-        CompletesStatement-add q next d a in_range moved (Register b)
+        EffectExecutesStatement-add q next d a in_range moved (Register b)
         (ap (λ r. slice_index r b) moved ∙ get_or-set_other v.regs d b (slice_index v.regs a) 0 (λ e. eqb-false d b is (sym e)))))
     ExecutesLowering-lowered (IfEq a k to) six registers empty = ExecutesLowering-jump a k to (λ flag. flag) refl (λ q. refl) refl
     ExecutesLowering-lowered (IfNe a k to) six registers empty = ExecutesLowering-jump a k to not refl (λ q. refl) refl
-    ExecutesLowering-lowered (Goto to) six registers empty = λ next. CompletesStatement-local refl (λ b. refl) refl regs
+    ExecutesLowering-lowered (Goto to) six registers empty = λ next. EffectExecutesStatement-local refl (λ b. refl) refl regs

@@ -144,7 +144,7 @@ pub record IsLaidOut (code : List Stmt) (instrs : List Instr) (starts : List ℕ
   pub short : length instrs ≤ 2 * length code
   pub at : (j : ℕ) (x : Stmt) → slice_get code j ≡ Some x → HasLowering instrs starts j x
 
--- A thread in x86 with fences exactly before the loads that need them.
+-- A thread laid out in x86, with a fence before a statement exactly if it needs one.
 pub record IsFencedAsNeeded (code : List Stmt) (instrs : List Instr) (starts : List ℕ) : Type 0 where
   pub laid : IsLaidOut code instrs starts
   pub needed : (j : ℕ) (x : Stmt) (at : slice_get code j ≡ Some x) → ((laid.at j x at).fence ≡ true) ↔ NeedsFence code j

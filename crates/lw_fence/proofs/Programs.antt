@@ -293,7 +293,7 @@ IsWellFormedHead-in_x86 : {h : TestHead} → IsWellFormedHead h → IsWellFormed
 IsWellFormedHead-in_x86 well_formed = record {
   name = well_formed.name;
   has_thread = well_formed.has_thread;
-  few = well_formed.few;
+  bounded = well_formed.bounded;
   table = well_formed.table;
   regs = well_formed.regs;
   register_counts = well_formed.register_counts;
@@ -302,7 +302,7 @@ IsWellFormedHead-in_x86 well_formed = record {
   location_words = well_formed.location_words;
   listed_in_range = well_formed.listed_in_range;
   ascending = well_formed.ascending;
-  nodes_few = well_formed.nodes_few;
+  nodes_bounded = well_formed.nodes_bounded;
   condition = well_formed.condition;
 }
 

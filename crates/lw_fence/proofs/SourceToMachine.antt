@@ -33,7 +33,7 @@ module _ (source : SourceTest) (program : X86Test) (starts : List (List ℕ)) (w
   abbrev InStep : State → MachineState (List ℕ) → Type 0
   InStep ss ms = ThreadsCorrespond source IsAtStartOfStatement ss ms
 
-  -- The machine follows by these events.
+  -- These events lead the machine to a state that is in step with the source's state `after`.
   record MachineFollowsBy (es : List Event) (ms : MachineState (List ℕ)) (after : State) : Type 0 where
     end : MachineState (List ℕ)
     ran : MachineRunsTo flat_memory program.threads es ms end

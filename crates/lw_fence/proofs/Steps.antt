@@ -10,7 +10,7 @@ use Rattle.lw_fence.proofs.Common.{length-set_word_if_some, Compare, Fence, Bran
 use Rattle.lw_litmus.specs.declared.operation.Operation.TheVariants.{Store, FetchAdd}
 use Rattle.lw_fence.proofs.Marks.{IsSuccessor-forward}
 
--- What a statement of a well-scoped thread has: its registers are there, and a jump leads forward, at most to the end.
+-- What a statement of a well-scoped thread has: its registers exist, and a jump leads forward, at most to the end.
 pub record IsAllowedStatement (code : List Stmt) (j : ℕ) (x : Stmt) : Type 0 where
   pub registers : All IsRegisterIndex (registers_of (source_operation x))
   pub target : ForSome (branch_target (source_operation x)) (λ to. (j < to) × (to ≤ length code))

@@ -8,7 +8,7 @@ use Rattle.lw_fence.proofs.Common.{drain_effect, EventEffect, step_effect, Effec
 use Rattle.lw_fence.proofs.Common.{false≢true, none-some, slice_get_past, slice_get-in_range, is_load}
 use Rattle.lw_fence.proofs.Common.{source_operation, thread_after, thread_after-no_location, Lowered, One}
 use Rattle.lw_fence.proofs.Common.{Two, lowered, instrs_of, HasKind, NeedsFence}
-use Rattle.lw_fence.proofs.Carried.{CompletesStatement, BuffersStatement, apart, buffered, at_once}
+use Rattle.lw_fence.proofs.Carried.{EffectExecutesStatement, BuffersStatement, apart, buffered, at_once}
 use Rattle.lw_fence.proofs.Carried.{ExecutesStatement, AdvancesToLast, ExecutesLowering}
 use Rattle.lw_fence.proofs.Carried.{ExecutesLowering-lowered}
 use Rattle.lw_fence.proofs.Moves.{ThreadMoves, ThreadMoves-refl, ThreadMoves-trans, ThreadMoves-statement}
@@ -18,13 +18,13 @@ use Rattle.lw_fence.proofs.PendingStores.{IsReachableFromStore-pending_store}
 use Rattle.lw_fence.proofs.Steps.{IsThreadInBounds, IsAllowedStatement, IsThreadInBounds-step}
 use Rattle.lw_fence.proofs.CodeLayout.{IsFencedAsNeeded, StandsAt}
 
--- The processor is at the first instruction of v's next statement, or in its middle, before its last instruction.
+-- The processor is at the start of v's next statement, with v's registers, or at an instruction whose effect executes this statement.
 pub data Stage (code : List Stmt) (instrs : List Instr) (starts : List ℕ) (v : Thread) (p : Processor) : Type 0 where
   whole : p.position ≡ slice_index starts v.position → p.regs ≡ v.regs → Stage code instrs starts v p
   midway : (s : Stmt) (i : Instr)
       → slice_get code v.position ≡ Some s
       → slice_get instrs p.position ≡ Some i
-      → CompletesStatement starts v s p i
+      → EffectExecutesStatement starts v s p i
       → Stage code instrs starts v p
 
 -- How far the processor p is ahead of the thread th: by the pending statements that lead th to `ahead`, at whose statement the processor

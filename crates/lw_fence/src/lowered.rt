@@ -90,8 +90,8 @@ impl Lowered {
 
     /// Returns the number of instructions.
     pub(crate) fn len(&self) -> usize
-        ensures is { result ≡ length (table.instrs_of self.now) }
-        ensures few { result ≤ 2 }
+        ensures result_is { result ≡ length (table.instrs_of self.now) }
+        ensures bounded { result ≤ 2 }
     {
         match self {
             Lowered::One(_) => 1,

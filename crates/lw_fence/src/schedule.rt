@@ -51,7 +51,7 @@ pub fn push_next<A: Allocator>(
     index: usize,
 ) -> Result<(), AllocError>
     requires compiled { IsCompiled (source_of source.now) (program_of compiled.now.program) compiled.now.starts }
-    requires there { index < length (thread_code source.now.threads cpu) }
+    requires in_range { index < length (thread_code source.now.threads cpu) }
     ensures ok { IfOk result (λ _. events.new.items ≡ events.old.items
         ++ statement_events cpu (thread_code compiled.now.starts cpu) index (slice_get (thread_code source.now.threads cpu) index)) }
     ensures err { OnErr result (events.new.items ≡ events.old.items) }

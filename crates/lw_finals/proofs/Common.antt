@@ -78,8 +78,6 @@ pub use Rattle.lw_paths.proofs.api.Counting.{GivesReasons, LimitFaultIsTrue-of_c
 pub use Rattle.lw_paths.proofs.api.Counting.{LimitFaultOfChoice-items_refused}
 pub use Rattle.lw_paths.proofs.api.Counting.{LimitFaultOfChoices-visit_fails, VisitorView}
 pub use Rattle.lw_paths.proofs.api.Enumerated.{Contains-path_assignments}
-pub use Rattle.lw_paths.proofs.api.FixedOrder.{AreOrdered, HasOrdered-if_respected, Respects-if_ordered}
-pub use Rattle.lw_paths.proofs.api.FixedPairs.{AreAscending-conflicts, Contains-conflict_pair}
 pub use Rattle.lw_paths.proofs.api.Members.{Contains-cons, Contains-head, Contains-map_inv}
 pub use Rattle.lw_paths.proofs.api.Members.{Contains-singleton, Contains-tail, not-Contains-nil}
 pub use Rattle.lw_paths.proofs.api.Mutual.{conflict_by-sym}
@@ -91,6 +89,8 @@ pub use Rattle.lw_paths.proofs.api.Numbering.{index_lt-if_rank_lt, item, item_in
 pub use Rattle.lw_paths.proofs.api.Numbering.{item_slot-increasing, item_slot-store_before_drain}
 pub use Rattle.lw_paths.proofs.api.Numbering.{length-path_assignment, thread_rank, thread_rank-increasing}
 pub use Rattle.lw_paths.proofs.api.PairRanges.{All-indices_in_range}
+pub use Rattle.lw_paths.proofs.api.PreservedOrder.{AreOrdered, HasOrdered-if_respected, Respects-if_ordered}
+pub use Rattle.lw_paths.proofs.api.PreservedPairs.{AreAscending-conflicts, Contains-conflict_pair}
 pub use Rattle.lw_paths.proofs.api.Reduced.{IsLinearExtension-reduced_iff}
 pub use Rattle.lw_paths.proofs.api.ReducedPairs.{IsWellFormed-reduced_pairs}
 pub use Rattle.lw_paths.proofs.api.Successors.{IsFlowSuccessor-in_range}

@@ -63,18 +63,18 @@ module _ {S : Type 0} (language : Language S) (test : Test S) {State : Type 0} (
         let t : Constraints = reduced_constraints paths in
         let same = IsLinearExtension-reduced_iff language test.threads paths in
         let given = complete.exactly_one t (IsWellFormed-reduced paths choice) c.order ((same c.order).1 c.keeps) in
-        let is_member : Contains (orders t) given.one =
-        subst (λ (xs : List (List ℕ)). Contains xs given.one) (sym given.split)
-        (Contains-append_right given.before _ given.one (Contains-head given.one given.one given.after refl)) in
+        let is_member : Contains (orders t) given.element =
+        subst (λ (xs : List (List ℕ)). Contains xs given.element) (sym given.split)
+        (Contains-append_right given.before _ given.element (Contains-head given.element given.element given.after refl)) in
         let keeps =
-        (same given.one).0 (All-contains (IsLinearExtension t) _ _ (complete.each t (IsWellFormed-reduced paths choice))
+        (same given.element).0 (All-contains (IsLinearExtension t) _ _ (complete.each t (IsWellFormed-reduced paths choice))
         is_member) in
         let forward : All (JumpsForward language) test.threads =
         All-weaker (IsWellScopedThread language (length test.head.locs)) (JumpsForward language) (λ code t. t.forward)
         test.threads well_scoped.code in (
           paths,
           (Contains-path_assignments language test.threads paths forward).1 choice,
-          (given.one, is_member, alike paths choice c.order given.one o c.keeps keeps given.has c.run),
+          (given.element, is_member, alike paths choice c.order given.element o c.keeps keeps given.has c.run),
         )
 
     module _ (Has : FinalState → Type 0) (choices : (o : FinalState) → Has o ↔ OfChoice language test.threads system o)
@@ -133,12 +133,14 @@ module _ {S : Type 0} (language : Language S) (test : Test S) {State : Type 0} (
         -- What is collected with schedules is the test's complete list.
         complete_list : IsComplete Has program entries
         complete_list = record {
-          all = all_outcomes (ReplaysFlatTo program) (λ events o h. (events, h)) entries gathers;
+          has_all_outcomes = all_outcomes (ReplaysFlatTo program) (λ events o h. (events, h)) entries gathers;
           replays = replays;
           of_program = All-weaker _ _ (λ e h. flat_too.of_test Mesi e.1 e.0 h) entries (replays Mesi);
         }
 
-  -- Why a test's list is complete: its outcomes are those of the path assignments, and those of this program on the flat machine.
+  -- What makes a test's list complete: the test is well-scoped; trace-equivalent orders have the same outcomes, and the enumerated orders are
+  -- complete; `Has` holds exactly of the outcomes of path assignments, which are those of this program on the flat machine; and over caches
+  -- the program has the same ones.
   pub record CanBeListed (Has : FinalState → Type 0) (program : X86Test) : Type 0 where
     pub well_scoped : IsWellScoped language test
     pub alike : AreAlike

@@ -69,7 +69,8 @@ module _ {Kept : Type 0} (Leads : Kept → FinalState → Type 0) where
     lead = λ h. b.lead (a.lead h);
   }
 
--- Of all orders some remain, and `found` is collected so far: once those are collected too, all are.
+-- The orders to come are among all. If entries that grew from `found` collect the outcomes of those to come, they have grown from `old` and
+-- collect the outcomes of all.
 pub record CollectedUpTo {Kept : Type 0} (Ends : List ℕ → FinalState → Type 0) (Leads : Kept → FinalState → Type 0)
     (all to_come : List (List ℕ)) (old found : OutcomesWith Kept) : Type 0 where
   pub among : (order : List ℕ) → Contains to_come order → Contains all order

@@ -9,8 +9,8 @@ use Rattle.lw_finals.proofs.Common.{OrderRunsTo, FollowsPathsToEnd}
 item_at-of_read : (items : List Item) (n : ℕ) (x : Item) → n < length items → x ≡ get_or items n x → item_at items n ≡ x
 item_at-of_read items n x in_range e = get_or_from_slice_get items n x _ (slice_get-get_or items n x in_range ∙ ap Some (sym e))
 
--- The item x is the next one of an order whose first k items are done: its number is read at index k of the order.
-pub record IsNext (items : List Item) (order : List ℕ) (k : ℕ) (x : Item) : Type 0 where
+-- The order has the index of the item x at its index k; both indices are in range.
+pub record IsItemAt (items : List Item) (order : List ℕ) (k : ℕ) (x : Item) : Type 0 where
   pub index : ℕ
   pub past : ℕ
   pub place_in_range : k < length order
@@ -23,10 +23,11 @@ module _ {State : Type 0} (system : ItemTransitionSystem State) (items : List It
   abbrev Ran : List ℕ → State → State → Type 0
   Ran = OrderRunsTo system items
 
-  -- The first k items of an order have reached a state, and every run of the order goes through it.
-  pub record RanFirst (order : List ℕ) (k : ℕ) (now : State) : Type 0 where
-    pub goes : (end : State) → Ran order system.start end → Ran (drop k order) now end
-    pub comes : (end : State) → Ran (drop k order) now end → Ran order system.start end
+  -- The runs of an order continue from the state `now` after its first k items: the order leads from the start to a state exactly if its
+  -- items from index k on lead from `now` to it.
+  pub record RunsContinueFrom (order : List ℕ) (k : ℕ) (now : State) : Type 0 where
+    pub rest_runs : (end : State) → Ran order system.start end → Ran (drop k order) now end
+    pub whole_runs : (end : State) → Ran (drop k order) now end → Ran order system.start end
 
   -- The item of number n is the next one.
   drop_order-cons_item : (order : List ℕ) (k n d : ℕ)
@@ -37,63 +38,63 @@ module _ {State : Type 0} (system : ItemTransitionSystem State) (items : List It
 
   -- If the next item is not enabled, the order has no run.
   pub not-Ran-if_not_enabled : (order : List ℕ) (k : ℕ) (x : Item) (now : State)
-      → IsNext items order k x
+      → IsItemAt items order k x
       → ((next : State) → system.Carried x now next → ⊥)
-      → RanFirst order k now
+      → RunsContinueFrom order k now
       → (end : State)
       → Ran order system.start end
       → ⊥
   not-Ran-if_not_enabled order k x now one none r end o =
       let split = drop_order-cons_item order k one.index one.past one.place_in_range one.is_number in
-      let m = subst (λ (xs : List ℕ). Ran xs now end) split (r.goes end o) in
+      let m = subst (λ (xs : List ℕ). Ran xs now end) split (r.rest_runs end o) in
       none m.0
       (subst (λ (y : Item). system.Carried y now m.0) (item_at-of_read items one.index x one.item_in_range one.is_item) m.1)
 
   -- If the next item has exactly one successor state, one more item has reached it.
-  pub RanFirst-next : (order : List ℕ) (k : ℕ) (x : Item) (now next : State)
-      → IsNext items order k x
+  pub RunsContinueFrom-next : (order : List ℕ) (k : ℕ) (x : Item) (now next : State)
+      → IsItemAt items order k x
       → system.Carried x now next
       → ((other : State) → system.Carried x now other → other ≡ next)
-      → RanFirst order k now
-      → RanFirst order (k + 1) next
-  RanFirst-next order k x now next one carried alone r =
+      → RunsContinueFrom order k now
+      → RunsContinueFrom order (k + 1) next
+  RunsContinueFrom-next order k x now next one carried alone r =
       let split = drop_order-cons_item order k one.index one.past one.place_in_range one.is_number in
       let more : suc k ≡ k + 1 = omega arith in
       let item = item_at-of_read items one.index x one.item_in_range one.is_item in
       record {
-        goes = λ end o.
-            let m = subst (λ (xs : List ℕ). Ran xs now end) split (r.goes end o) in
+        rest_runs = λ end o.
+            let m = subst (λ (xs : List ℕ). Ran xs now end) split (r.rest_runs end o) in
             subst (λ s. Ran (drop (k + 1) order) s end) (alone m.0 (subst (λ (y : Item). system.Carried y now m.0) item m.1))
             (subst (λ (j : ℕ). Ran (drop j order) m.0 end) more m.2);
-        comes = λ end o.
+        whole_runs = λ end o.
             let m : Ran (one.index ∷ drop (suc k) order) now end = (
               next,
               subst (λ (y : Item). system.Carried y now next) (sym item) carried,
               subst (λ (j : ℕ). Ran (drop j order) next end) (sym more) o,
             ) in
-            r.comes end (subst (λ (xs : List ℕ). Ran xs now end) (sym split) m);
+            r.whole_runs end (subst (λ (xs : List ℕ). Ran xs now end) (sym split) m);
       }
 
   -- After the last item a run is at its end.
   pub Ran-end_unique : (order : List ℕ) (k : ℕ) (now : State)
       → length order ≤ k
-      → RanFirst order k now
+      → RunsContinueFrom order k now
       → (end : State)
       → Ran order system.start end
       → end ≡ now
-  Ran-end_unique order k now past r end o = subst (λ xs. Ran xs now end) (drop_all k order past) (r.goes end o)
+  Ran-end_unique order k now past r end o = subst (λ xs. Ran xs now end) (drop_all k order past) (r.rest_runs end o)
 
   -- If all items of an order have reached a state, the order's run ends there.
   pub Ran-if_all_ran : (order : List ℕ) (k : ℕ) (now : State)
       → length order ≤ k
-      → RanFirst order k now
+      → RunsContinueFrom order k now
       → Ran order system.start now
-  Ran-if_all_ran order k now past r = r.comes now (subst (λ xs. Ran xs now now) (sym (drop_all k order past)) refl)
+  Ran-if_all_ran order k now past r = r.whole_runs now (subst (λ xs. Ran xs now now) (sym (drop_all k order past)) refl)
 
   -- If all items of an order have reached a state, the order's only outcome is that state's, and the state is final.
   pub outcome_at_end-unique : {order : List ℕ} {k : ℕ} {now : State}
       → length order ≤ k
-      → RanFirst order k now
+      → RunsContinueFrom order k now
       → (o : FinalState)
       → FollowsPathsToEnd system items order o
       → (o ≡ system.outcome_of now) × IsTrue (system.is_final now)
@@ -104,7 +105,7 @@ module _ {State : Type 0} (system : ItemTransitionSystem State) (items : List It
   -- If all items of an order have reached a final state, the order follows its paths and reaches that state's outcome.
   pub FollowsPathsToEnd-if_final : {order : List ℕ} {k : ℕ} {now : State}
       → length order ≤ k
-      → RanFirst order k now
+      → RunsContinueFrom order k now
       → IsTrue (system.is_final now)
       → FollowsPathsToEnd system items order (system.outcome_of now)
   FollowsPathsToEnd-if_final {order} {k} {now} past r final =

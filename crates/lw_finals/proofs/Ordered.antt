@@ -1,5 +1,5 @@
 -- The order of the items that a run of a program to a final state executes, in either language: it has each item of the paths exactly once,
--- and respects the fixed pairs. So the run's outcome is one of a path assignment.
+-- and respects the preserved pairs. So the run's outcome is one of a path assignment.
 use Rattle.lw_finals.proofs.Common.{◌≡◌, ℕ, zero, suc, ◌+◌, ◌<◌, inl, inr, List, [], ◌∷◌, map, length, Option}
 use Rattle.lw_finals.proofs.Common.{Some, Bool, true, false, Result, refl, sym, ap, ◌∙◌, subst, arith}
 use Rattle.lw_finals.proofs.Common.{slice_get, All, Contains, IsTrue, cases_eq, cases_lt, cases_order}
@@ -98,7 +98,7 @@ module _ {S : Type 0} (language : Language S) (program : List (List S)) (items :
     AreDistinct-of_right xs h.1,
   )
 
-  -- If item j precedes item i in such an order, no fixed pair orders them the other way.
+  -- If item j precedes item i in such an order, no preserved pair orders them the other way.
   MayPrecede-if_before : (xs : List ℕ) (j i : ℕ)
       → Pairwise (MayPrecede language program) (map it xs)
       → index_in xs j < index_in xs i
@@ -185,7 +185,7 @@ module _ {S : Type 0} (language : Language S) (program : List (List S)) {State :
         Named-of_items language program its completed.done
         (All-weaker _ (HasItem its) HasItem-if_ahead completed.done completed.ahead)
 
-    -- In the order of execution, no fixed pair orders two items the other way.
+    -- In the order of execution, no preserved pair orders two items the other way.
     right : Pairwise (MayPrecede language program) (map nth_item names.order)
     right = subst (Pairwise (MayPrecede language program)) (sym names.same) completed.right
 
@@ -200,8 +200,8 @@ module _ {S : Type 0} (language : Language S) (program : List (List S)) {State :
         (ap (λ (x : Item). x.position) m.2) (ap (λ (x : Item). x.is_drain) m.2) in
         subst (λ k. index_in names.order k < length names.order) same found
 
-    -- The order of execution respects the fixed pairs.
-    Respects-names_order : Respects (constraints_of language program its).fixed names.order
+    -- The order of execution respects the preserved pairs.
+    Respects-names_order : Respects (constraints_of language program its).preserved names.order
     Respects-names_order = Respects-if_ordered language program its names.order Before-if_ordered
       where
         -- Of two items of a thread that are ordered, the first was executed first.

@@ -34,11 +34,11 @@ module _ {X Y : Type 0} (starting : X → Y) (position : Y → ℕ) (at_first : 
       y.2 ∙ (ap position x.2 ∙ at_first x.0)
 
 module _ {S : Type 0} (language : Language S) (program : List (List S)) where
-  -- Item a may precede item b: no fixed pair orders them the other way.
+  -- Item a may precede item b: no preserved pair orders them the other way.
   abbrev pub MayPrecede : Item → Item → Type 0
   MayPrecede a b = a.thread ≡ b.thread → thread_rank b ≤ thread_rank a → AreOrdered language program b a → ⊥
 
-  -- An item still to be executed: of the remaining paths, or the drain of a waiting store.
+  -- The item is at a statement on its thread's path in `paths`, or is the drain of one of the waiting stores; a drain's statement stores.
   pub record IsAhead (paths pending : ℕ → List ℕ) (a : Item) : Type 0 where
     pub statement : S
     pub at : slice_get (thread_code program a.thread) a.position ≡ Some statement
@@ -46,7 +46,8 @@ module _ {S : Type 0} (language : Language S) (program : List (List S)) where
     pub store : a.is_drain ≡ true → IsStoring language statement
 
   module _ {State : Type 0} (system : ItemTransitionSystem State) (position_of : State → ℕ → Option ℕ) where
-    -- A run to a final state from a state in which these stores wait, as paths and executed items.
+    -- Flow paths from the threads' positions in s to their ends, and items that lead from s to `end`, each pair in an order that the
+    -- preserved pairs permit: exactly the statements on these paths, the drains of their stores, and the drains of the stores that wait in s.
     pub record Completed (pending : ℕ → List ℕ) (s end : State) : Type 0 where
       pub paths : ℕ → List ℕ
       pub done : List Item
@@ -202,7 +203,7 @@ module _ {S : Type 0} (language : Language S) (program : List (List S)) where
           → IsAhead paths after x
           → MayPrecede executed x
       MayPrecede-before_ahead paths x up ahead same le ordered = elim ahead.on [
-        | inl on ↦ not_on_path (subst (λ (u : ℕ). IsMember x.position (paths u)) (sym same) on)
+        | inl on ↦ not-on_path (subst (λ (u : ℕ). IsMember x.position (paths u)) (sym same) on)
         | inr (d, on) ↦
             elim (waits_after-cases language program pending executed effect.old effect.climbs effect.oldest x.thread _ on) [
               | inl (w, ne) ↦ waiting d (ne same) (subst (λ (u : ℕ). IsMember x.position (pending u)) (sym same) w)
@@ -212,27 +213,27 @@ module _ {S : Type 0} (language : Language S) (program : List (List S)) where
       ]
         where
           -- A later position has a greater rank.
-          not_later : item_position < x.position → ⊥
-          not_later less = absurd (omega (arith, item_slot-increasing item_is_drain x.is_drain item_position x.position less, le))
+          not-later : item_position < x.position → ⊥
+          not-later less = absurd (omega (arith, item_slot-increasing item_is_drain x.is_drain item_position x.position less, le))
 
           -- Positions on the remaining path are later.
-          not_on_path : IsMember x.position (paths item_thread) → ⊥
-          not_on_path is_member =
-              not_later (omega (
+          not-on_path : IsMember x.position (paths item_thread) → ⊥
+          not-on_path is_member =
+              not-later (omega (
                 arith,
                 beyond,
                 IsAscendingFrom-lower_bound effect.new x.position (paths item_thread) up is_member,
               ))
 
           -- So is a store that waits after the oldest.
-          not_newer : (rest : List ℕ)
+          not-newer : (rest : List ℕ)
               → IsAscendingBetween 0 (item_position ∷ rest) effect.old
               → x.position ≢ item_position
               → IsMember x.position (item_position ∷ rest)
               → ⊥
-          not_newer rest climbs ne (inl e) = ne (sym e)
-          not_newer rest climbs ne (inr h) =
-              not_later (IsAscendingBetween-member (suc item_position) effect.old x.position rest climbs.1 h).0
+          not-newer rest climbs ne (inl e) = ne (sym e)
+          not-newer rest climbs ne (inr h) =
+              not-later (IsAscendingBetween-member (suc item_position) effect.old x.position rest climbs.1 h).0
 
           -- A statement that is ordered after a drain waits for it.
           waits_at : item_is_drain ≡ false
@@ -252,7 +253,7 @@ module _ {S : Type 0} (language : Language S) (program : List (List S)) where
           waiting d ne is_member = elim (cases_Bool item_is_drain) [
             | inl f ↦
                 (let (rest, head) = effect.oldest f in
-                not_newer rest (subst (λ (ws : List ℕ). IsAscendingBetween 0 ws effect.old) head effect.climbs) (ne f)
+                not-newer rest (subst (λ (ws : List ℕ). IsAscendingBetween 0 ws effect.old) head effect.climbs) (ne f)
                 (subst (IsMember x.position) head is_member))
             | inr f ↦ effect.waited f (waits_at f (ordered d)) x.position is_member
           ]
@@ -281,7 +282,7 @@ module _ {S : Type 0} (language : Language S) (program : List (List S)) where
         ];
         drained = λ u p k h e on at store.
             let there = position-exists_after u p e in
-            ⊎_elim (λ g. not_on_path u there.0 k h there.1 at store g) (λ g. waiting u there.0 k h there.1 at store g) on;
+            ⊎_elim (λ g. not-on_path u there.0 k h there.1 at store g) (λ g. waiting u there.0 k h there.1 at store g) on;
         right = (
           All-weaker (IsAhead r.paths after) (MayPrecede executed) (λ x h. MayPrecede-before_ahead r.paths x rest_is_ascending h)
               r.done r.ahead,
@@ -404,13 +405,13 @@ module _ {S : Type 0} (language : Language S) (program : List (List S)) where
               ap (λ t. item t item_position item_is_drain) tu ∙ (ap (λ j. item u j item_is_drain) jk ∙ ap (λ b. item u k b) bd)
 
           -- The drain of a store is executed if the store is on the path: if the store is the item itself, it waits from then on.
-          not_on_path : (u p k : ℕ) (h : S)
+          not-on_path : (u p k : ℕ) (h : S)
               → position_of mid u ≡ Some p
               → slice_get (thread_code program u) k ≡ Some h
               → IsStoring language h
               → IsMember k (before u)
               → Contains (executed ∷ r.done) (item u k true)
-          not_on_path u p k h there found_at store is_member = elim (before-cases u k is_member) [
+          not-on_path u p k h there found_at store is_member = elim (before-cases u k is_member) [
             | inl (same, f, e) ↦
                 (let is : h ≡ item_statement =
                 same_Some h item_statement
@@ -457,13 +458,14 @@ module _ {S : Type 0} (language : Language S) (program : List (List S)) where
       pub moves : ItemEffect pending s mid
       pub sound : Sound (waits_after language program moves.item pending) mid
 
-    -- Each event executes an item; and in a final state each thread is past its code, and no store waits.
+    -- In the initial state no store waits, and each thread is at position 0. Each event executes an item. In a final state each thread is past
+    -- its code, and no store waits.
     pub record AreItemRuns (Done : Event → State → Result (Unit {0}) Stop → State → Type 0)
         (Sound : (ℕ → List ℕ) → State → Type 0) : Type 0 where
       pub first : Sound (λ t. []) system.start
       pub starts : (t : ℕ) → t < length program → position_of system.start t ≡ Some 0
       pub at_start : (t p : ℕ) → position_of system.start t ≡ Some p → p ≡ 0
-      pub one : (e : Event) (pending : ℕ → List ℕ) (s mid : State)
+      pub executes_item : (e : Event) (pending : ℕ → List ℕ) (s mid : State)
           → Sound pending s
           → Done e s (Ok tt) mid
           → ExecutesItem Sound pending s mid
@@ -488,7 +490,7 @@ module _ {S : Type 0} (language : Language S) (program : List (List S)) where
           (Completed-at_end pending s within
           (runs.ended pending s sound (subst (λ (z : State). IsTrue (system.is_final z)) ran final)))
       Completed-of_run (e ∷ es) pending s end within sound (mid, done, ran) final =
-          let o : ExecutesItem Sound pending s mid = runs.one e pending s mid sound done in
+          let o : ExecutesItem Sound pending s mid = runs.executes_item e pending s mid sound done in
           Completed-after_item forward pending s mid o.moves end
           (Completed-of_run es (waits_after language program o.moves.item pending) mid end
           (IsWithin-next forward pending s mid o.moves within) o.sound ran final)

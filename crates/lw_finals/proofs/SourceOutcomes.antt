@@ -79,7 +79,7 @@ module _ (program : List (List Stmt)) (paths : List (List ℕ)) where
       IsItemOnPath-of_member source_language program paths i in_range in
       false_from_ne_true (nth_item i).is_drain (λ d. none-some (r.store d).0 (r.store d).1)
 
-  -- Two adjacent items that neither conflict nor are fixed can be executed in the other order, with the same state after both.
+  -- Two adjacent items that neither conflict nor are preserved can be executed in the other order, with the same state after both.
   SourceItemTransition-swap_neighbours : (order : List ℕ) (k x y : ℕ)
       → Neighbours source_language program paths order k x y
       → (s mid end : State)
@@ -223,7 +223,7 @@ module _ (test : SourceTest) where
         position-at_start initial_thread (λ (x : Thread). x.position) (λ x. refl) test.head.init_regs t
         (omega (arith, l, well_scoped.head.regs, well_scoped.as_many));
     at_start = position-at_start_unique initial_thread (λ (x : Thread). x.position) (λ x. refl) test.head.init_regs;
-    one = λ e pending s mid none done. ExecutesItem-source_step done.0 pending s mid none done.1;
+    executes_item = λ e pending s mid none done. ExecutesItem-source_step done.0 pending s mid none done.1;
     ended =
         λ pending s none final t p e. (position_past_end-if_final program s t p final e, λ j h. subst (IsMember j) (none t) h);
   }

@@ -1,5 +1,5 @@
 -- Trace-equivalent orders of a path assignment's items reach the same outcome, in either language, if adjacent items that neither conflict
--- nor are fixed commute. SourceOutcomes and X86TraceEquivalence apply it to each language.
+-- nor are preserved commute. SourceOutcomes and X86TraceEquivalence apply it to each language.
 use Rattle.lw_finals.proofs.Common.{◌≡◌, ◌≢◌, ℕ, suc, ◌<◌, true, List, [], ◌∷◌, ◌++◌, length, refl, sym, ap}
 use Rattle.lw_finals.proofs.Common.{◌∙◌, subst, inl, inr, arith, append_assoc, append-nil, length-append}
 use Rattle.lw_finals.proofs.Common.{cases_order, Contains-append_right, FinalState, Language, Constraints}
@@ -15,7 +15,7 @@ module _ {S : Type 0} (language : Language S) (program : List (List S)) (paths :
   abbrev items : List Item
   items = items_of language program paths
 
-  -- The items' fixed pairs and conflicts.
+  -- The items' preserved pairs and conflicts.
   abbrev constraints : Constraints
   constraints = constraints_of language program items
 
@@ -23,15 +23,15 @@ module _ {S : Type 0} (language : Language S) (program : List (List S)) (paths :
   abbrev nth_item : ℕ → Item
   nth_item i = item_at items i
 
-  -- The list is an order of the items that respects the fixed pairs.
-  abbrev RespectsFixedPairs : List ℕ → Type 0
-  RespectsFixedPairs = IsLinearExtension constraints
+  -- The list is an order of the items that respects the preserved pairs.
+  abbrev RespectsPreservedPairs : List ℕ → Type 0
+  RespectsPreservedPairs = IsLinearExtension constraints
 
-  -- No fixed pair orders item x before item y.
+  -- No preserved pair orders item x before item y.
   abbrev pub IsFree : ℕ → ℕ → Type 0
   IsFree x y = x < y → (nth_item x).thread ≡ (nth_item y).thread → AreOrdered language program (nth_item x) (nth_item y) → ⊥
 
-  -- The items x and y neither conflict nor are fixed, and are adjacent in the order, x at index k.
+  -- The items x and y neither conflict nor are preserved, and are adjacent in the order, x at index k.
   pub record Neighbours (order : List ℕ) (k x y : ℕ) : Type 0 where
     pub x_below : x < length items
     pub y_below : y < length items
@@ -43,10 +43,10 @@ module _ {S : Type 0} (language : Language S) (program : List (List S)) (paths :
     pub forth : IsFree x y
     pub back : IsFree y x
 
-  -- If two orders that respect the fixed pairs differ by a swap of adjacent independent items, these items neither conflict nor are fixed.
+  -- If two orders that respect the preserved pairs differ by a swap of adjacent independent items, these items neither conflict nor are preserved.
   Neighbours-of_swap : (xs ys : List ℕ)
-      → RespectsFixedPairs xs
-      → RespectsFixedPairs ys
+      → RespectsPreservedPairs xs
+      → RespectsPreservedPairs ys
       → (e : IsAdjacentSwap (AreDependent constraints) xs ys)
       → Neighbours xs (length e.front) e.x e.y
   Neighbours-of_swap xs ys ix iy e = record {
@@ -58,10 +58,10 @@ module _ {S : Type 0} (language : Language S) (program : List (List S)) (paths :
     apart = λ c. elim (cases_order e.x e.y) [
       | inl same ↦ differ same
       | inr (inl less) ↦
-          e.free (inl (Contains-append_right constraints.fixed constraints.conflicts (e.x, e.y)
+          e.free (inl (Contains-append_right constraints.preserved constraints.conflicts (e.x, e.y)
           (Contains-conflict_pair language program items e.x e.y less indices_in_first.1 c)))
       | inr (inr more) ↦
-          e.free (inr (Contains-append_right constraints.fixed _ (e.y, e.x)
+          e.free (inr (Contains-append_right constraints.preserved _ (e.y, e.x)
           (Contains-conflict_pair language program items e.y e.x more indices_in_first.0
           (conflict_by-sym language (nth_item e.y).is_drain (nth_item e.x).is_drain (statement_of language program (nth_item e.y))
           (statement_of language program (nth_item e.x))
@@ -113,12 +113,12 @@ module _ {S : Type 0} (language : Language S) (program : List (List S)) (paths :
       differ : e.x ≢ e.y
       differ same = omega (arith, ap (index_in xs) same, indices_in_first.2, indices_in_first.3)
 
-  -- If one of two trace-equivalent orders that respect the fixed pairs follows its paths, so does the other, with the same outcome.
+  -- If one of two trace-equivalent orders that respect the preserved pairs follows its paths, so does the other, with the same outcome.
   abbrev pub OrdersEndAlike : {State : Type 0} → ItemTransitionSystem State → Type 0
   OrdersEndAlike system =
       (xs ys : List ℕ) (o : FinalState)
-      → RespectsFixedPairs xs
-      → RespectsFixedPairs ys
+      → RespectsPreservedPairs xs
+      → RespectsPreservedPairs ys
       → AreTraceEquivalent constraints.conflicts xs ys
       → FollowsPathsToEnd system items xs o
       → FollowsPathsToEnd system items ys o
@@ -129,7 +129,7 @@ module _ {S : Type 0} (language : Language S) (program : List (List S)) (paths :
     pub record CanExchange : Type 0 where
       pub first : (order : List ℕ) → Holds order 0 system.start
       pub next : (order : List ℕ)
-          → RespectsFixedPairs order
+          → RespectsPreservedPairs order
           → (k i : ℕ)
           → i < length items
           → index_in order i ≡ k
@@ -138,7 +138,7 @@ module _ {S : Type 0} (language : Language S) (program : List (List S)) (paths :
           → system.Carried (nth_item i) s mid
           → Holds order (suc k) mid
       pub exchange : (order : List ℕ)
-          → RespectsFixedPairs order
+          → RespectsPreservedPairs order
           → (k x y : ℕ)
           → Neighbours order k x y
           → (s mid end : State)
@@ -154,8 +154,8 @@ module _ {S : Type 0} (language : Language S) (program : List (List S)) (paths :
 
       -- After a swap of adjacent independent items an order's run has the same end.
       Ran-after_swap : (xs ys : List ℕ)
-          → RespectsFixedPairs xs
-          → RespectsFixedPairs ys
+          → RespectsPreservedPairs xs
+          → RespectsPreservedPairs ys
           → IsAdjacentSwap (AreDependent constraints) xs ys
           → (end : State)
           → Ran xs system.start end

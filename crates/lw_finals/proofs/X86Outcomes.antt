@@ -69,7 +69,7 @@ module _ (test : X86Test) where
   instr_exists-if_step None p q m n d = absurd d
   instr_exists-if_step (Some i) p q m n d = (i, refl)
 
-  -- These stores wait in the buffers.
+  -- These stores wait in the buffers, and each thread has a processor.
   record IsSound (pending : ℕ → List ℕ) (s : MachineState (List ℕ)) : Type 0 where
     hold : AllHold program pending s
     processor_count : length s.processors ≡ length program
@@ -108,8 +108,8 @@ module _ (test : X86Test) where
             ∙ sym (slice_get-map (λ (x : Processor). x.position) s.processors u));
         climbs = buffer_holds.climbs;
         follows = λ f. (
-          item_step.stands f,
-          subst (λ (k : ℕ). IsSuccessor (x86_operation i) k item_step.new.position) (item_step.stands f)
+          item_step.position_is f,
+          subst (λ (k : ℕ). IsSuccessor (x86_operation i) k item_step.new.position) (item_step.position_is f)
               (OperationTransition-of_step b f item_step).leads,
         );
         waited = λ f w.
@@ -158,7 +158,7 @@ module _ (test : X86Test) where
         let d : EventOccurrence program (Step t) s mid = EventOccurrence-of_event program (Step t) s mid done in
         let i = instr_exists-if_step _ d.from d.to s.memory d.words d.does in
         Carries-item t d.from.position false i.0 pending s mid sound i.1
-        (record { stands = position_of-in_range s t d.was; done = done }) (λ f. absurd (true≢false (sym f)))
+        (record { is_at_position = position_of-in_range s t d.was; done = done }) (λ f. absurd (true≢false (sym f)))
         (λ f. absurd (true≢false (sym f)))
     Carries-event (Drain t) pending s mid sound done =
         let d : EventOccurrence program (Drain t) s mid = EventOccurrence-of_event program (Drain t) s mid done in
@@ -167,7 +167,8 @@ module _ (test : X86Test) where
         BufferHolds-oldest (thread_code program t) (pending t) shape.entry shape.newer
         (subst (BufferHolds (thread_code program t) (pending t)) shape.buffer_is (sound.hold t d.from d.was).waits) in
         let i = IsStoring-if_entry (slice_get (thread_code program t) o.0) shape.entry.0 o.3 in
-        Carries-item t o.0 true i.0 pending s mid sound i.1 (record { stands = tt; done = done }) (λ f. (o.1, o.2)) (λ f. i.2)
+        Carries-item t o.0 true i.0 pending s mid sound i.1 (record { is_at_position = tt; done = done }) (λ f. (o.1, o.2))
+        (λ f. i.2)
     Carries-event (Evict t x) pending s mid sound done =
         let d : EventOccurrence program (Evict t x) s mid = EventOccurrence-of_event program (Evict t x) s mid done in
         absurd (not-EffectLeadsTo-evict_event program (length s.memory) t x d.from d.to s.memory d.words d.does)
@@ -186,7 +187,7 @@ module _ (test : X86Test) where
           position-at_start initial_processor (λ (x : Processor). x.position) (λ x. refl) test.head.init_regs t
           (omega (arith, l, well_scoped.head.regs, well_scoped.as_many));
       at_start = position-at_start_unique initial_processor (λ (x : Processor). x.position) (λ x. refl) test.head.init_regs;
-      one = Carries-event;
+      executes_item = Carries-event;
       ended = λ pending s sound final. nothing_waits-if_final pending s sound.hold sound.processor_count final;
     }
 

@@ -8,7 +8,8 @@ use Rattle.lw_finals.proofs.Common.{EventResult, MachineTransition, over_flat_me
 use Rattle.lw_finals.proofs.Common.{initial_machine_state, IsInitialMemory, MachineTransition-deterministic}
 use Rattle.lw_finals.proofs.Common.{Instr, X86Test, Item, event_by, event_of, X86ItemTransition}
 use Rattle.lw_finals.proofs.Common.{x86_item_system, X86FollowsPathsToEnd}
-use Rattle.lw_finals.proofs.OrderSteps.{RanFirst, IsNext, not-Ran-if_not_enabled, RanFirst-next}
+use Rattle.lw_finals.proofs.OrderSteps.{RunsContinueFrom, IsItemAt, not-Ran-if_not_enabled}
+use Rattle.lw_finals.proofs.OrderSteps.{RunsContinueFrom-next}
 
 -- The thread of a step's item is at the item if and only if its position is the item's.
 pub IsAtPosition-iff_item : {M : Type 0} (a : Item) (s : MachineState M) (p q : ℕ)
@@ -49,11 +50,13 @@ module _ {M : Type 0} (mem : Memory M) where
   }
 
   module _ (test : X86Test) (m : M) (items : List Item) where
-    -- The first k items of an order have reached a state, over this memory by a run, and over flat memory in every run of the order.
-    pub record RanFlat (order : List ℕ) (k : ℕ) (now : MachineState M) : Type 0 where
+    -- Some run over this memory reaches the state `now`; and over flat memory the order's runs continue from its content after the first k
+    -- items.
+    pub record HasFlatRuns (order : List ℕ) (k : ℕ) (now : MachineState M) : Type 0 where
       pub events : List Event
       pub reached : MachineRunsTo mem test.threads events (initial_machine_state test m) now
-      pub first : RanFirst (x86_item_system flat_memory test test.head.init_words) items order k (over_flat_memory mem now)
+      pub first :
+          RunsContinueFrom (x86_item_system flat_memory test test.head.init_words) items order k (over_flat_memory mem now)
 
     -- An event that is no eviction has the same effect over the memory as over flat memory.
     abbrev pub EventsAreFlat : Type 0
@@ -67,7 +70,7 @@ module _ {M : Type 0} (mem : Memory M) where
     module _ (over_flat : EventsAreFlat) where
       -- An item's event is executed over flat memory too.
       done_flat : (order : List ℕ) (k : ℕ) (item : Item) (now after : MachineState M) (answer : EventResult)
-          → RanFlat order k now
+          → HasFlatRuns order k now
           → MachineTransition mem test.threads (event_of item) now answer after
           → MachineTransition flat_memory test.threads (event_of item) (over_flat_memory mem now) answer
           (over_flat_memory mem after)
@@ -75,12 +78,12 @@ module _ {M : Type 0} (mem : Memory M) where
           over_flat r.events now after (event_of item) answer r.reached (no_eviction item.is_drain item.thread) done
 
       -- One more item is executed.
-      pub RanFlat-next : (order : List ℕ) (k : ℕ) (item : Item) (now next : MachineState M)
-          → IsNext items order k item
-          → RanFlat order k now
+      pub HasFlatRuns-next : (order : List ℕ) (k : ℕ) (item : Item) (now next : MachineState M)
+          → IsItemAt items order k item
+          → HasFlatRuns order k now
           → X86ItemTransition mem test.threads item now next
-          → RanFlat order (k + 1) next
-      RanFlat-next order k item now next one r carried =
+          → HasFlatRuns order (k + 1) next
+      HasFlatRuns-next order k item now next one r carried =
           let done = done_flat order k item now next (Ok tt) r carried.done in
           record {
             events = r.events ++ event_of item ∷ [];
@@ -88,31 +91,32 @@ module _ {M : Type 0} (mem : Memory M) where
                 RunsTo-append (MachineTransition mem test.threads) r.events (event_of item ∷ []) (initial_machine_state test m)
                 now next r.reached (next, carried.done, refl);
             first =
-                RanFirst-next (x86_item_system flat_memory test test.head.init_words) items order k item _ _ one
-                (record { stands = (IsAtPosition-iff_flat _ item.thread item.position now).0 carried.stands; done = done })
-                (λ other c.
+                RunsContinueFrom-next (x86_item_system flat_memory test test.head.init_words) items order k item _ _ one (record {
+                  is_at_position = (IsAtPosition-iff_flat _ item.thread item.position now).0 carried.is_at_position;
+                  done = done;
+                }) (λ other c.
                 (MachineTransition-deterministic test.threads (event_of item) (over_flat_memory mem now) other _ (Ok tt) (Ok tt)
                 c.done done).1) r.first;
           }
 
       -- An item that is not executed ends every run.
       pub not-outcome_if_refused : (order : List ℕ) (k : ℕ) (item : Item) (now after : MachineState M)
-          → IsNext items order k item
-          → RanFlat order k now
+          → IsItemAt items order k item
+          → HasFlatRuns order k now
           → (IsAtPosition (event_of item) item.position now
           → (stop : Stop) × MachineTransition mem test.threads (event_of item) now (Err stop) after)
           → (o : FinalState)
           → X86FollowsPathsToEnd flat_memory test test.head.init_words items order o
           → ⊥
       not-outcome_if_refused order k item now after one r refused o run =
-          not-Ran-if_not_enabled _ items order k item (over_flat_memory mem now) one not_enabled r.first run.end run.ran
+          not-Ran-if_not_enabled _ items order k item (over_flat_memory mem now) one not-enabled r.first run.end run.ran
         where
           -- The item is not enabled over flat memory either.
-          not_enabled : (next : MachineState (List ℕ))
+          not-enabled : (next : MachineState (List ℕ))
               → X86ItemTransition flat_memory test.threads item (over_flat_memory mem now) next
               → ⊥
-          not_enabled next c =
-              let no = refused ((IsAtPosition-iff_flat item.is_drain item.thread item.position now).1 c.stands) in
+          not-enabled next c =
+              let no = refused ((IsAtPosition-iff_flat item.is_drain item.thread item.position now).1 c.is_at_position) in
               let done = done_flat order k item now after (Err no.0) r no.1 in
               let same =
               (MachineTransition-deterministic _ (event_of item) (over_flat_memory mem now) next _ (Ok tt) _ c.done done).0 in

@@ -1,4 +1,4 @@
--- Adjacent items of an x86 test's order that neither conflict nor are fixed are independent events. By lw_tso
+-- Adjacent items of an x86 test's order that neither conflict nor are preserved are independent events. By lw_tso
 -- such events commute, so `X86TraceEquivalence` follows.
 use Rattle.lw_finals.proofs.Common.{◌≡◌, ◌≢◌, ℕ, ◌<◌, Bool, true, false, List, [], ◌∷◌, length, Option, Some}
 use Rattle.lw_finals.proofs.Common.{None, refl, sym, ap, ◌∙◌, subst, inl, arith, slice_get, ◌||◌}
@@ -60,7 +60,7 @@ accessed_location-of_drain code k ws (f ∷ b) q w found_at e = sym (ap (entry_l
 -- of the store that has waited longest.
 pub record ItemMoves (program : List (List Instr)) (pending : ℕ → List ℕ) (t j : ℕ) (b : Bool) (i : Instr)
     (s mid : MachineState (List ℕ)) : Type 0 where
-  pub stands : slice_get (thread_code program t) j ≡ Some i
+  pub instr_at : slice_get (thread_code program t) j ≡ Some i
   pub hold : AllHold program pending s
   pub oldest : DrainsOldest b j (pending t)
   pub carried : ItemStep program t j b s mid
@@ -75,12 +75,12 @@ accessed_location-of_item {program = program} {t = t} {j = j} true x z e =
     let c = x.carried in
     let h = x.oldest refl in (
       accessed_location-of_drain (thread_code program t) j h.0 c.old.buffer c.old
-          (subst (λ ws. BufferHolds (thread_code program t) ws c.old.buffer) h.1 (x.hold t c.old c.was).waits) x.stands e,
+          (subst (λ ws. BufferHolds (thread_code program t) ws c.old.buffer) h.1 (x.hold t c.old c.was).waits) x.instr_at e,
       λ f. refl,
     )
 accessed_location-of_item {program = program} {t = t} false x z e =
     let c = x.carried in
-    let here = ap (λ k. slice_get (thread_code program t) k) (c.stands refl) ∙ x.stands in
+    let here = ap (λ k. slice_get (thread_code program t) k) (c.position_is refl) ∙ x.instr_at in
     let r = accessed_location-of_step _ c.old z (ap (λ o. machine.accessed_location (step_effect o c.old)) (sym here) ∙ e) in
     (r.0, λ f. r.1 (ap (λ o. machine.event_writes (step_effect o c.old)) (sym here) ∙ f))
 
@@ -125,9 +125,9 @@ own_waits-only_own : (o : Option ℕ) (j k : ℕ) (rest : List ℕ) → own_wait
 own_waits-only_own (Some x) j k rest e = cc
 own_waits-only_own None j k rest e = cc
 
--- The pairs of one thread's items that are not fixed: not two statements, nor two drains, nor a statement and its own drain, nor a drain
+-- The pairs of one thread's items that are not preserved: not two statements, nor two drains, nor a statement and its own drain, nor a drain
 -- and a statement that waits for it.
-pub record IsUnfixedPair (b c : Bool) (h : Instr) (j k : ℕ) : Type 0 where
+pub record IsUnpreservedPair (b c : Bool) (h : Instr) (j k : ℕ) : Type 0 where
   pub kinds_differ : b ≡ c → ⊥
   pub others : b ≡ false → c ≡ true → j ≡ k → ⊥
   pub no_wait : b ≡ true → c ≡ false → j < k → needs_empty_buffer (x86_operation h) ≡ true → ⊥
@@ -137,15 +137,15 @@ module _ (program : List (List Instr)) (pending : ℕ → List ℕ) (s m1 m2 : M
   full_empty : (b : List (ℕ × ℕ)) (e : ℕ × ℕ) (newer : List (ℕ × ℕ)) → b ≡ e ∷ newer → b ≡ [] → ⊥
   full_empty b e newer f is_nil = cc
 
-  -- Two adjacent items of one thread that neither conflict nor are fixed: the statement i or its drain is executed, and then h or its
+  -- Two adjacent items of one thread that neither conflict nor are preserved: the statement i or its drain is executed, and then h or its
   -- drain. What the first stores, if it does, is at o.
   record OfOneThread (t j k : ℕ) (b c : Bool) (i h : Instr) (o : Option ℕ) : Type 0 where
     moves : ItemMoves program pending t j b i s m1
-    stands : slice_get (thread_code program t) k ≡ Some h
+    instr_at : slice_get (thread_code program t) k ≡ Some h
     oldest : DrainsOldest c k (own_waits b o j (pending t))
     next : ItemStep program t k c m1 m2
     free : conflict_by x86_language b c (Some i) (Some h) ≡ true → ⊥
-    unfixed : IsUnfixedPair b c h j k
+    unpreserved : IsUnpreservedPair b c h j k
 
   -- One of them is a drain, and the other commutes with the drain of the oldest entry.
   AreDrainAndPassing-one_thread : (t j k : ℕ) (b c : Bool) (i h : Instr) (o : Option ℕ) (two : OfOneThread t j k b c i h o)
@@ -154,9 +154,9 @@ module _ (program : List (List Instr)) (pending : ℕ → List ℕ) (s m1 m2 : M
       let x = two.moves.carried in
       let at = two.moves.hold t x.old x.was in
       let found_at : slice_get (thread_code program t) x.old.position ≡ Some i =
-      ap (λ n. slice_get (thread_code program t) n) (x.stands refl) ∙ two.moves.stands in
+      ap (λ n. slice_get (thread_code program t) n) (x.position_is refl) ∙ two.moves.instr_at in
       let shape : OperationTransition (x86_operation i) x.old x.new =
-      OperationTransition-of_item program t j i s m1 x two.moves.stands in
+      OperationTransition-of_item program t j i s m1 x two.moves.instr_at in
       let (rest, head) = two.oldest refl in
       let (e, newer, full, stores) = drains_found_entry (pending t) at.waits at.climbs rest head in
       MayPassOldest-if_commutes x.old.buffer (slice_get (thread_code program t) x.old.position) e newer i full found_at
@@ -173,23 +173,23 @@ module _ (program : List (List Instr)) (pending : ℕ → List ℕ) (s m1 m2 : M
           × (newer : List (ℕ × ℕ))
           × (two.moves.carried.old.buffer ≡ e ∷ newer)
           × (drained_location x86_language h ≡ Some e.0)
-      drains_found_entry [] w c rest e = absurd (two.unfixed.others refl refl (own_waits-only_own o j k rest e))
+      drains_found_entry [] w c rest e = absurd (two.unpreserved.others refl refl (own_waits-only_own o j k rest e))
       drains_found_entry (v ∷ ws) w c rest e =
           BufferHolds-oldest_entry (thread_code program t) k ws two.moves.carried.old.buffer h
           (subst (λ v. BufferHolds (thread_code program t) (v ∷ ws) two.moves.carried.old.buffer)
-          (own_waits-same_oldest o j v k ws rest e) w) two.stands
+          (own_waits-same_oldest o j v k ws rest e) w) two.instr_at
   AreDrainAndPassing-one_thread t j k true false i h o two =
       let x = two.moves.carried in
       let (rest, head) = two.moves.oldest refl in
       let g = two.moves.hold t x.old x.was in
       let (e, newer, full, stores) =
       BufferHolds-oldest_entry (thread_code program t) j rest x.old.buffer i
-      (subst (λ ws. BufferHolds (thread_code program t) ws x.old.buffer) head g.waits) two.moves.stands in
+      (subst (λ ws. BufferHolds (thread_code program t) ws x.old.buffer) head g.waits) two.moves.instr_at in
       let at : x.old.position ≡ k = old_position in
       let less = IsAscendingBetween-member 0 x.old.position j (j ∷ rest) (rw head at g.climbs) (inl refl) in
       MayPassOldest-if_commutes x.old.buffer (slice_get (thread_code program t) x.old.position) e newer h full
-      (ap (λ n. slice_get (thread_code program t) n) at ∙ two.stands)
-      (CommutesWithDrain-if_elsewhere e.0 _ (λ w. two.unfixed.no_wait refl refl (omega (arith, less.1, at)) w)
+      (ap (λ n. slice_get (thread_code program t) n) at ∙ two.instr_at)
+      (CommutesWithDrain-if_elsewhere e.0 _ (λ w. two.unpreserved.no_wait refl refl (omega (arith, less.1, at)) w)
       (λ same. two.free (conflict_by-same_location true false i h e.0 stores same refl)))
     where
       -- After the drain the thread is where the second item finds it.
@@ -202,8 +202,8 @@ module _ (program : List (List Instr)) (pending : ℕ → List ℕ) (s m1 m2 : M
           (sym (ap (λ (z : MachineState (List ℕ)). slice_get z.processors t) x.state_is
           ∙ get-set_same s.processors t x.new x.old x.was)
           ∙ two.next.was) in
-          ap (λ (z : Processor). z.position) (sym d.processor_is) ∙ (ap (λ z. z.position) same ∙ two.next.stands refl)
-  AreDrainAndPassing-one_thread t j k _ _ i h o two = absurd (two.unfixed.kinds_differ refl)
+          ap (λ (z : Processor). z.position) (sym d.processor_is) ∙ (ap (λ z. z.position) same ∙ two.next.position_is refl)
+  AreDrainAndPassing-one_thread t j k _ _ i h o two = absurd (two.unpreserved.kinds_differ refl)
 
   -- Two adjacent items of different threads that do not conflict; and the processors that they find.
   record OfTwoThreads (t u j k : ℕ) (b c : Bool) (i h : Instr) (V : ℕ → List ℕ) (p q : Processor) : Type 0 where
@@ -251,14 +251,14 @@ module _ (program : List (List Instr)) (pending : ℕ → List ℕ) (s m1 m2 : M
   cpu_of-item_event true t = refl
   cpu_of-item_event false t = refl
 
-  -- The events of adjacent items that neither conflict nor are fixed are independent.
-  pub AreIndependent-unfixed_items : (a b : Item) (i h : Instr)
+  -- The events of adjacent items that neither conflict nor are preserved are independent.
+  pub AreIndependent-unpreserved_items : (a b : Item) (i h : Instr)
       → ItemMoves program pending a.thread a.position a.is_drain i s m1
       → ItemMoves program (waits_after x86_language program a pending) b.thread b.position b.is_drain h m1 m2
       → (items_conflict x86_language program a b ≡ true → ⊥)
-      → (a.thread ≡ b.thread → IsUnfixedPair a.is_drain b.is_drain h a.position b.position)
+      → (a.thread ≡ b.thread → IsUnpreservedPair a.is_drain b.is_drain h a.position b.position)
       → AreIndependent program (event_of a) (event_of b) s
-  AreIndependent-unfixed_items a b i h first second free unfixed = record {
+  AreIndependent-unpreserved_items a b i h first second free unpreserved = record {
     of_two = λ ne p q e f.
         let threads : a.thread ≢ b.thread =
         λ same. ne (cpu_of-item_event a.is_drain a.thread ∙ (same ∙ sym (cpu_of-item_event b.is_drain b.thread))) in
@@ -274,7 +274,7 @@ module _ (program : List (List Instr)) (pending : ℕ → List ℕ) (s m1 m2 : M
           threads_differ = threads;
           first = first;
           second = second;
-          free = not_in_conflict;
+          free = not-in_conflict;
           first_processor = e';
           second_processor = f';
         })));
@@ -289,19 +289,19 @@ module _ (program : List (List Instr)) (pending : ℕ → List ℕ) (s m1 m2 : M
         (AreDrainAndPassing-one_thread a.thread a.position b.position a.is_drain b.is_drain i h
         (entry_location x86_language (statement_of x86_language program a)) (record {
           moves = first;
-          stands = subst (λ u. slice_get (thread_code program u) b.position ≡ Some h) (sym same_thread) second.stands;
+          instr_at = subst (λ u. slice_get (thread_code program u) b.position ≡ Some h) (sym same_thread) second.instr_at;
           oldest = own_waits-drained_is_oldest same_thread;
           next = subst (λ u. ItemStep program u b.position b.is_drain m1 m2) (sym same_thread) second.carried;
-          free = not_in_conflict;
-          unfixed = unfixed same_thread;
+          free = not-in_conflict;
+          unpreserved = unpreserved same_thread;
         })));
   }
     where
       -- The two items do not conflict, with their instructions in place of their indices.
-      not_in_conflict : conflict_by x86_language a.is_drain b.is_drain (Some i) (Some h) ≡ true → ⊥
-      not_in_conflict e =
-          free (ap (λ o. conflict_by x86_language a.is_drain b.is_drain o (statement_of x86_language program b)) first.stands
-          ∙ (ap (λ o. conflict_by x86_language a.is_drain b.is_drain (Some i) o) second.stands ∙ e))
+      not-in_conflict : conflict_by x86_language a.is_drain b.is_drain (Some i) (Some h) ≡ true → ⊥
+      not-in_conflict e =
+          free (ap (λ o. conflict_by x86_language a.is_drain b.is_drain o (statement_of x86_language program b)) first.instr_at
+          ∙ (ap (λ o. conflict_by x86_language a.is_drain b.is_drain (Some i) o) second.instr_at ∙ e))
 
       -- The drain is that of the thread's store that has waited longest.
       own_waits-drained_is_oldest : a.thread ≡ b.thread

@@ -15,7 +15,7 @@ use Rattle.lw_finals.proofs.api.X86Waiting.{AllHold, AllHold-after_item, AllHold
 use Rattle.lw_finals.proofs.api.X86Waiting.{ItemStep-of_transition}
 use Rattle.lw_finals.proofs.api.X86Prefix.{AreWaitingStores, AreWaitingStores-start, DrainsOldest-at_turn}
 use Rattle.lw_finals.proofs.api.X86Prefix.{AreWaitingStores-next}
-use Rattle.lw_finals.proofs.X86Swap.{IsUnfixedPair, AreIndependent-unfixed_items}
+use Rattle.lw_finals.proofs.X86Swap.{IsUnpreservedPair, AreIndependent-unpreserved_items}
 
 module _ (program : List (List Instr)) (forward : (u : ℕ) → JumpsForward x86_language (thread_code program u))
     (paths : List (List ℕ)) (choice : IsPathAssignment x86_language program paths) where
@@ -27,31 +27,32 @@ module _ (program : List (List Instr)) (forward : (u : ℕ) → JumpsForward x86
   abbrev nth_item : ℕ → Item
   nth_item i = item_at items i
 
-  -- The list is an order of the items that respects the fixed pairs.
-  abbrev RespectsFixedPairs : List ℕ → Type 0
-  RespectsFixedPairs = IsLinearExtension (constraints_of x86_language program items)
+  -- The list is an order of the items that respects the preserved pairs.
+  abbrev RespectsPreservedPairs : List ℕ → Type 0
+  RespectsPreservedPairs = IsLinearExtension (constraints_of x86_language program items)
 
-  -- These stores wait after the first k items of an order are executed.
-  pub record HasReached (order : List ℕ) (k : ℕ) (pending : ℕ → List ℕ) (s : MachineState (List ℕ)) : Type 0 where
+  -- The buffers hold these stores, which wait after the first k items of the order.
+  pub record HoldsWaitingStores (order : List ℕ) (k : ℕ) (pending : ℕ → List ℕ) (s : MachineState (List ℕ)) : Type 0 where
     pub waiting : AreWaitingStores program forward paths choice order k pending
     pub hold : AllHold program pending s
 
-  -- An item's turn: it is an instruction, or the drain of the store that has waited longest.
+  -- The item i of an order leads from s to `mid`: it is an instruction, or the drain of the store that has waited longest. Then the buffers
+  -- hold the stores that wait after one more item.
   pub record ItemTurn (order : List ℕ) (k i : ℕ) (pending : ℕ → List ℕ) (s mid : MachineState (List ℕ)) : Type 0 where
     pub instr : Instr
     pub statement : statement_of x86_language program (nth_item i) ≡ Some instr
     pub did : CarriedItem program (nth_item i) s mid
     pub head : DrainsOldest (nth_item i).is_drain (nth_item i).position (pending (nth_item i).thread)
-    pub reached : HasReached order (suc k) (waits_after x86_language program (nth_item i) pending) mid
+    pub reached : HoldsWaitingStores order (suc k) (waits_after x86_language program (nth_item i) pending) mid
 
   -- The transition of the item at index k of an order is the item's turn.
   ItemTurn-of_transition : (order : List ℕ)
-      → RespectsFixedPairs order
+      → RespectsPreservedPairs order
       → (k i : ℕ)
       → i < length items
       → index_in order i ≡ k
       → (pending : ℕ → List ℕ) (s mid : MachineState (List ℕ))
-      → HasReached order k pending s
+      → HoldsWaitingStores order k pending s
       → X86ItemTransition flat_memory program (nth_item i) s mid
       → ItemTurn order k i pending s mid
   ItemTurn-of_transition order is k i in_range there pending s mid r done =
@@ -72,14 +73,14 @@ module _ (program : List (List Instr)) (forward : (u : ℕ) → JumpsForward x86
         };
       }
 
-  -- Adjacent items of one thread are not fixed.
-  IsUnfixedPair-neighbours : (order : List ℕ) (k x y : ℕ)
+  -- Adjacent items of one thread are not preserved.
+  IsUnpreservedPair-neighbours : (order : List ℕ) (k x y : ℕ)
       → Neighbours x86_language program paths order k x y
       → (h : Instr)
       → statement_of x86_language program (nth_item y) ≡ Some h
       → (nth_item x).thread ≡ (nth_item y).thread
-      → IsUnfixedPair (nth_item x).is_drain (nth_item y).is_drain h (nth_item x).position (nth_item y).position
-  IsUnfixedPair-neighbours order k x y n h is same = record {
+      → IsUnpreservedPair (nth_item x).is_drain (nth_item y).is_drain h (nth_item x).position (nth_item y).position
+  IsUnpreservedPair-neighbours order k x y n h is same = record {
     kinds_differ = λ kind. elim (cases_order x y) [
       | inl is ↦ n.differ is
       | inr (inl less) ↦ n.forth less same (λ d. inl (sym kind ∙ d))
@@ -97,20 +98,20 @@ module _ (program : List (List Instr)) (forward : (u : ℕ) → JumpsForward x86
         (λ d. inr (ap (λ o. option_map_or (statement_needs_empty_buffer x86_language) o false) is ∙ w));
   }
     where
-      -- No fixed pair orders the two items.
+      -- No preserved pair orders the two items.
       not-ordered_neighbours : thread_rank (nth_item x) < thread_rank (nth_item y)
           → AreOrdered x86_language program (nth_item x) (nth_item y)
           → ⊥
       not-ordered_neighbours less =
           n.forth (index_lt-if_rank_lt x86_language program paths forward choice x y n.x_below same less) same
 
-  -- Two adjacent items that neither conflict nor are fixed can be executed in the other order, with the same state after both.
+  -- Two adjacent items that neither conflict nor are preserved can be executed in the other order, with the same state after both.
   X86ItemTransition-swap : (order : List ℕ)
-      → RespectsFixedPairs order
+      → RespectsPreservedPairs order
       → (k x y : ℕ)
       → Neighbours x86_language program paths order k x y
       → (pending : ℕ → List ℕ) (s mid end : MachineState (List ℕ))
-      → HasReached order k pending s
+      → HoldsWaitingStores order k pending s
       → X86ItemTransition flat_memory program (nth_item x) s mid
       → X86ItemTransition flat_memory program (nth_item y) mid end
       → (other : MachineState (List ℕ))
@@ -122,10 +123,10 @@ module _ (program : List (List Instr)) (forward : (u : ℕ) → JumpsForward x86
       ItemTurn-of_transition order is (suc k) y n.y_below n.y_index (waits_after x86_language program (nth_item x) pending) mid
       end u.reached two in
       let free =
-      AreIndependent-unfixed_items program pending s mid end (nth_item x) (nth_item y) u.instr v.instr
-      (record { stands = u.statement; hold = r.hold; oldest = u.head; carried = u.did })
-      (record { stands = v.statement; hold = u.reached.hold; oldest = v.head; carried = v.did }) n.apart
-      (IsUnfixedPair-neighbours order k x y n v.instr v.statement) in
+      AreIndependent-unpreserved_items program pending s mid end (nth_item x) (nth_item y) u.instr v.instr
+      (record { instr_at = u.statement; hold = r.hold; oldest = u.head; carried = u.did })
+      (record { instr_at = v.statement; hold = u.reached.hold; oldest = v.head; carried = v.did }) n.apart
+      (IsUnpreservedPair-neighbours order k x y n v.instr v.statement) in
       EventsCommute-independent program (event_of (nth_item x)) (event_of (nth_item y)) s free (nth_item x).position
       (nth_item y).position mid end one two
 
@@ -138,7 +139,7 @@ OrdersEndAlike-x86 test paths well_scoped choice =
     let forward : (u : ℕ) → JumpsForward x86_language (thread_code test.threads u) =
     JumpsForward-thread x86_language test well_scoped in
     OrdersEndAlike-if_swaps x86_language test.threads paths (x86_item_system flat_memory test test.head.init_words)
-    (λ order k s. (pending : ℕ → List ℕ) × HasReached test.threads forward paths choice order k pending s) (record {
+    (λ order k s. (pending : ℕ → List ℕ) × HoldsWaitingStores test.threads forward paths choice order k pending s) (record {
       first = λ order. (
         (λ u. []),
         record {

@@ -12,7 +12,7 @@ ghost use Rattle.lw_paths.specs.Visits.{IsVisitable};
 use crate::runner::OrderRunner;
 use lw_base::Sequence;
 use lw_litmus::Statement;
-use lw_orders::{Order, Orders, one_order_without_open_conflicts};
+use lw_orders::{Order, Orders, one_order_without_unordered_conflicts};
 use lw_outcome_map::{Listing, OutcomeMap};
 use lw_paths::{
     Item, ListFault, PathAssignment, Visitor, check_limits, conflicts_of, fill_few_items,
@@ -84,7 +84,7 @@ fn collect_items<S: Statement, A: Allocator + Copy, B: Allocator, R: OrderRunner
     items: &[Item],
     found: &mut OutcomeMap<A, R::Kept>,
 ) -> Result<(), ListFault>
-    requires few { length items.now ≤ most_items }
+    requires bounded { length items.now ≤ most_items }
     requires apart { is_apart ≡ true → (constraints_of S.language program.now items.now).conflicts ≡ [] }
     ensures same { R.test runner.new ≡ R.test runner.old }
     ensures gathered { OnOk result (CollectsOutcomes
@@ -111,7 +111,7 @@ fn collect_conflicting<S: Statement, A: Allocator + Copy, B: Allocator, R: Order
     conflicts: Vec<(u8, u8), A>,
     found: &mut OutcomeMap<A, R::Kept>,
 ) -> Result<(), ListFault>
-    requires few { length items.now ≤ most_items }
+    requires bounded { length items.now ≤ most_items }
     requires conflicts { conflicts.items ≡ (constraints_of S.language program.now items.now).conflicts }
     ensures same { R.test runner.new ≡ R.test runner.old }
     ensures gathered { OnOk result (CollectsOutcomes
@@ -134,7 +134,7 @@ fn collect_single_order<S: Statement, A: Allocator, B: Allocator, R: OrderRunner
     items: &[Item],
     found: &mut OutcomeMap<A, R::Kept>,
 ) -> Result<(), ListFault>
-    requires few { length items.now ≤ most_items }
+    requires bounded { length items.now ≤ most_items }
     requires none { (constraints_of S.language program.now items.now).conflicts ≡ [] }
     ensures same { R.test runner.new ≡ R.test runner.old }
     ensures gathered { OnOk result (CollectsOutcomes
@@ -142,7 +142,7 @@ fn collect_single_order<S: Statement, A: Allocator, B: Allocator, R: OrderRunner
         (R.leads (R.test runner.old)) found.old found.new) }
     ensures err { IfErr result (TellsOfGiven S.language program.now items.now) }
 {
-    one_order_without_open_conflicts();
+    one_order_without_unordered_conflicts();
     let order = Order::ascending(items.len());
     collect_order(runner, items, order.as_slice(), found)?;
     Ok(())

@@ -1,6 +1,6 @@
 //! The complete lists of final states. The list of a source test has each reachable outcome once, with a schedule of
 //! the compiled program that reaches it; the list of an x86 test has each outcome that the machine reaches, with a
-//! schedule. `list_source_outcomes` and `list_raw_outcomes` list the same outcomes without schedules. Crates above
+//! schedule. `list_source_outcomes` and `list_x86_outcomes` list the same outcomes without schedules. Crates above
 //! rely on the contracts of these four.
 //! How a list is made, for either language:
 //! 1. lw_paths visits each path assignment, and computes its items with their preserved pairs and conflicts; it also
@@ -27,7 +27,7 @@ pub use laws::{
     source_outcomes_are_those_of_path_assignments, trace_equivalent_source_orders_have_one_outcome,
     trace_equivalent_x86_orders_have_one_outcome, x86_outcomes_are_those_of_path_assignments,
 };
-pub use list::{list_raw, list_raw_outcomes, list_source, list_source_outcomes};
+pub use list::{list_source, list_source_outcomes, list_x86, list_x86_outcomes};
 pub use lw_outcome_map::{Listing, OutcomeList, outcomes_stand_once};
 pub use lw_paths::{
     ListFault, Path, PathAssignment, Visitor, path_assignments_are_complete,

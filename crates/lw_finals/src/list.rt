@@ -107,7 +107,7 @@ fn list_compiled_outcomes<A: Allocator + Copy>(
 }
 
 /// Lists all final states of an x86 test on the whole machine, each with a schedule of steps and drains.
-pub fn list_raw<A: Allocator + Copy>(
+pub fn list_x86<A: Allocator + Copy>(
     alloc: A,
     program: &Program<A>,
 ) -> Result<Listing<A>, ListFault>
@@ -131,7 +131,7 @@ pub fn list_raw<A: Allocator + Copy>(
 }
 
 /// Lists all final states of an x86 test on the whole machine, without schedules.
-pub fn list_raw_outcomes<A: Allocator + Copy>(
+pub fn list_x86_outcomes<A: Allocator + Copy>(
     alloc: A,
     program: &Program<A>,
 ) -> Result<OutcomeList<A>, ListFault>

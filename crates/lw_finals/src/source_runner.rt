@@ -107,7 +107,7 @@ fn schedule_of_items<A: Allocator>(
 ) -> Result<Vec<Event, A>, AllocError>
     requires within { All (λ i. i < length items.now) order.now }
     requires compiled { IsCompiled (source_of source.now) (program_of compiled.now.program) compiled.now.starts }
-    requires there { All (λ i. HasStatementAt source.now.threads (item_at items.now i)) order.now }
+    requires has_statements { All (λ i. HasStatementAt source.now.threads (item_at items.now i)) order.now }
     ensures { IfOk result (λ v. v.items ≡ item_events source.now.threads compiled.now.starts items.now order.now) }
 {
     let mut events = Vec::with_capacity(alloc, order.len().saturating_mul(2))?;

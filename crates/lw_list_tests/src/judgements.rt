@@ -8,7 +8,7 @@ ghost use Rattle.lw_base.specs.WellFormed.{MentionsLocationsBelow, MentionsOnly}
 ghost use Rattle.lw_outcome_map.specs.Listings.{outcomes_of};
 
 use lw_base::{Head, Word};
-use lw_finals::{list_raw, list_source};
+use lw_finals::{list_source, list_x86};
 use lw_litmus::{Program, Source};
 use lw_outcome_map::{Listing, OutcomeMap};
 use lw_report::{Claim, States, Verdict, project, states_of, verdict, write_report};
@@ -101,7 +101,7 @@ fn is_source_judged(alloc: Global, source: &Source, told: &str) -> bool {
 
 /// Returns whether those of an x86 test are.
 fn is_x86_judged(alloc: Global, program: &Program, told: &str) -> bool {
-    match list_raw(alloc, program) {
+    match list_x86(alloc, program) {
         Ok(listing) => is_judged(alloc, &program.head, &listing, told),
         Err(_) => false,
     }

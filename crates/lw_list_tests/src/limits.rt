@@ -1,5 +1,5 @@
 //! Tests that exceed the limits of lists: the causes as values.
-use lw_finals::{list_raw, list_source};
+use lw_finals::{list_source, list_x86};
 use lw_paths::ListFault;
 use lw_test_reader::{program_of, source_of};
 use std::alloc::Global;
@@ -14,7 +14,7 @@ fn fault_of(alloc: Global, text: &str) -> Option<ListFault> {
 /// Returns why an x86 test has no list.
 fn raw_fault_of(alloc: Global, text: &str) -> Option<ListFault> {
     let program = program_of(alloc, text)?;
-    list_raw(alloc, &program).err()
+    list_x86(alloc, &program).err()
 }
 
 /// Seven stores against three: 2^21 orientations of their conflicts.

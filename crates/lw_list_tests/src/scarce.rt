@@ -1,5 +1,5 @@
 //! Making lists while memory is refused, each growth in turn.
-use lw_finals::{list_raw, list_raw_outcomes, list_source, list_source_outcomes};
+use lw_finals::{list_source, list_source_outcomes, list_x86, list_x86_outcomes};
 use lw_outcome_map::{Listing, OutcomeList};
 use lw_paths::ListFault;
 use lw_test_reader::{Made, MadeByAllocator, Refusing, program_of, refusals, source_of};
@@ -82,7 +82,7 @@ struct X86List;
 impl MadeByAllocator for X86List {
     fn make<'a>(&self, ample: &'a Refusing, scarce: &'a Refusing) -> Option<Made> {
         let program = program_of(ample, X86_STORE_BUFFERING)?;
-        listed(list_raw(scarce, &program), list_raw(ample, &program))
+        listed(list_x86(scarce, &program), list_x86(ample, &program))
     }
 }
 
@@ -106,8 +106,8 @@ impl MadeByAllocator for X86Outcomes {
     fn make<'a>(&self, ample: &'a Refusing, scarce: &'a Refusing) -> Option<Made> {
         let program = program_of(ample, X86_STORE_BUFFERING)?;
         outcomes_listed(
-            list_raw_outcomes(scarce, &program),
-            list_raw_outcomes(ample, &program),
+            list_x86_outcomes(scarce, &program),
+            list_x86_outcomes(ample, &program),
         )
     }
 }

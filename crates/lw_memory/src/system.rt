@@ -104,13 +104,13 @@ pub trait MemorySystem {
     /// Returns the number of processors.
     fn cpu_count(&self) -> usize
         ensures count { result ≡ cpus self.now }
-        ensures few { result ≤ most_threads }
+        ensures bounded { result ≤ most_threads }
         ensures sound { sound self.now };
 
     /// Returns the number of locations.
     fn location_count(&self) -> usize
         ensures count { result ≡ length (content self.now) }
-        ensures few { result ≤ most_locations }
+        ensures bounded { result ≤ most_locations }
         ensures sound { sound self.now };
 
     /// Resets the system to its initial state, with these words. Does not allocate.

@@ -29,18 +29,18 @@ is_owner-sound None t h = cc
 is_owner-sound (Some o) t h = ap (λ (x : ℕ). Some x) (eqb-true o t h)
 
 -- A processor without a copy is not the owner.
-pub not_owner-if_invalid : (own d b s : Bool) (w : ℕ) → copy_of_bits own d b s w ≡ Invalid → own ≡ false
-not_owner-if_invalid true true true s w e = cc
-not_owner-if_invalid true true false s w e = cc
-not_owner-if_invalid true false b s w e = cc
-not_owner-if_invalid false d b s w e = refl
+pub own-false_if_invalid : (own d b s : Bool) (w : ℕ) → copy_of_bits own d b s w ≡ Invalid → own ≡ false
+own-false_if_invalid true true true s w e = cc
+own-false_if_invalid true true false s w e = cc
+own-false_if_invalid true false b s w e = cc
+own-false_if_invalid false d b s w e = refl
 
 -- A processor whose copy is in S is not the owner.
-pub not_owner-if_shared : (own d b s : Bool) (w : ℕ) → copy_state (copy_of_bits own d b s w) ≡ S → own ≡ false
-not_owner-if_shared true true true s w e = cc
-not_owner-if_shared true true false s w e = cc
-not_owner-if_shared true false b s w e = cc
-not_owner-if_shared false d b s w e = refl
+pub own-false_if_shared : (own d b s : Bool) (w : ℕ) → copy_state (copy_of_bits own d b s w) ≡ S → own ≡ false
+own-false_if_shared true true true s w e = cc
+own-false_if_shared true true false s w e = cc
+own-false_if_shared true false b s w e = cc
+own-false_if_shared false d b s w e = refl
 
 -- A processor with a dirty copy is the owner, and the packed line is marked dirty.
 pub is_owner-of_dirty_copy : (own d b s : Bool) (w : ℕ) → IsDirty (copy_of_bits own d b s w) → (own ≡ true) × (d ≡ true)
@@ -160,4 +160,4 @@ pub is_owner-false_if_invalid : (p : Inside) (t : ℕ)
     → copy_of (unpacked p) t ≡ Invalid
     → is_owner p.owner t ≡ false
 is_owner-false_if_invalid p t lt free =
-    not_owner-if_invalid _ p.is_dirty p.is_owned _ p.word (sym (copy_of-unpacked p t lt) ∙ free)
+    own-false_if_invalid _ p.is_dirty p.is_owned _ p.word (sym (copy_of-unpacked p t lt) ∙ free)

@@ -208,9 +208,9 @@ is_held_anywhere-false (c ∷ copies) h =
     (is_held_anywhere-false copies (λ t. h (suc t)))
 
 -- A processor without a copy is not a sharer.
-not_sharer-if_invalid : (s : Bool) (w : ℕ) → sharer_copy s w ≡ Invalid → s ≡ false
-not_sharer-if_invalid true w e = cc
-not_sharer-if_invalid false w e = refl
+sharer-false_if_invalid : (s : Bool) (w : ℕ) → sharer_copy s w ≡ Invalid → s ≡ false
+sharer-false_if_invalid true w e = cc
+sharer-false_if_invalid false w e = refl
 
 module _ (p : Inside) (t : ℕ) (q : Protocol) (reader : IsReader p t) (own : p.owner ≡ None) where
   -- The packed line is well formed.
@@ -287,5 +287,5 @@ module _ (p : Inside) (t : ℕ) (q : Protocol) (reader : IsReader p t) (own : p.
           → u < most_threads
           → slice_index_or p.sharers u false ≡ false
       nobody_if none u within =
-          not_sharer-if_invalid (slice_index_or p.sharers u false) p.word
+          sharer-false_if_invalid (slice_index_or p.sharers u false) p.word
           (sym (sharer_at u) ∙ sym (copy_of-unpacked p u within) ∙ none_held (unpacked p).copies none u)

@@ -9,7 +9,7 @@ use Rattle.lw_mesi.proofs.Common.{empty_cpu_set, is_owner, cache_line_to_write, 
 use Rattle.lw_mesi.proofs.Common.{on_evict, cache_line_evicted, IsOnlyCopy, copy_in, copy_map, put_here}
 use Rattle.lw_mesi.proofs.Common.{put_there, Inside, IsPacked, sharer_copy, copy_at, unpacked}
 use Rattle.lw_mesi.proofs.IndexLemmas.{length-at_each, get_or-at_each, at_each-set_of_list}
-use Rattle.lw_mesi.proofs.PackedCopies.{copy_of_bits, copy_of-unpacked, is_owner-sound, not_owner-if_shared}
+use Rattle.lw_mesi.proofs.PackedCopies.{copy_of_bits, copy_of-unpacked, is_owner-sound, own-false_if_shared}
 use Rattle.lw_mesi.proofs.PackedCopies.{is_owner-of_only_copy, copy_word-is_line_word, coherent_word-unpacked}
 use Rattle.lw_mesi.proofs.PackedCopies.{cache_line_of}
 
@@ -140,7 +140,7 @@ pub unpacked-sharer_evicted : (p : Inside) (t : ℕ)
     → copy_state (copy_of (unpacked p) t) ≡ S
     → unpacked (record p { sharers = set p.sharers t false }) ≡ cache_line_evicted t (unpacked p)
 unpacked-sharer_evicted p t ok lt shared =
-    let other = not_owner-if_shared _ _ p.is_owned _ p.word (sym (ap copy_state (copy_of-unpacked p t lt)) ∙ shared) in
+    let other = own-false_if_shared _ _ p.is_owned _ p.word (sym (ap copy_state (copy_of-unpacked p t lt)) ∙ shared) in
     let copies : (unpacked (record p { sharers = set p.sharers t false })).copies ≡ set (unpacked p).copies t Invalid =
     at_each-set_of_list (copy_at (record p { sharers = set p.sharers t false })) (unpacked p).copies t Invalid Invalid
     (length-at_each (copy_at p)) lt

@@ -73,7 +73,7 @@ module _ (p : Protocol) (m now : Caches) (t x i : ℕ) (before : CacheLine) (bor
 
   -- The processor is one of the most that there may be.
   cpu_lt_most_threads : t < most_threads
-  cpu_lt_most_threads = omega (arith, borrowed.cpu, borrowed.kept.coherent.few, ap (λ (k : Caches). k.cpus) borrowed.same)
+  cpu_lt_most_threads = omega (arith, borrowed.cpu, borrowed.kept.coherent.bounded, ap (λ (k : Caches). k.cpus) borrowed.same)
 
   -- The borrowed cache line satisfies the protocol.
   LineSatisfiesProtocol-borrowed : LineSatisfiesProtocol p before

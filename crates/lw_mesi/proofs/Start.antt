@@ -49,6 +49,6 @@ pub SatisfiesProtocol-empty_caches : (p : Protocol) (cpus : ℕ) (words : List �
     → cpus ≤ most_threads
     → SatisfiesProtocol p (empty_caches cpus words)
 SatisfiesProtocol-empty_caches p cpus words few = record {
-  coherent = record { few = few; cache_lines = λ x lt. (LineSatisfiesProtocol-empty_caches p words x lt).coherent };
+  coherent = record { bounded = few; cache_lines = λ x lt. (LineSatisfiesProtocol-empty_caches p words x lt).coherent };
   states = λ x lt. (LineSatisfiesProtocol-empty_caches p words x lt).states;
 }

@@ -34,7 +34,7 @@ pub record IsCoherentCacheLine (line : CacheLine) : Type 0 where
 
 -- The caches are coherent: the cache line of every location is.
 pub record IsCoherent (m : Caches) : Type 0 where
-  pub few : m.cpus ≤ most_threads
+  pub bounded : m.cpus ≤ most_threads
   pub cache_lines : (x : ℕ) → x < length m.cache_lines → IsCoherentCacheLine (cache_line_at m.cache_lines x)
 
 -- The copy is in a state of the protocol. Only MOESI has O.

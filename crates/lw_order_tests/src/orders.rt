@@ -12,15 +12,15 @@ use std::test::Fail;
 fn items_of(
     alloc: Global,
     len: usize,
-    fixed: &[(u8, u8)],
+    preserved: &[(u8, u8)],
     conflicts: &[(u8, u8)],
 ) -> Result<Items, AllocError>
-    requires { IsWellFormed (record { len = len; fixed = fixed.now; conflicts = conflicts.now }) }
-    ensures { IfOk result (λ r. r ≡ record { len = len; fixed = fixed.now; conflicts = conflicts.now }) }
+    requires { IsWellFormed (record { len = len; preserved = preserved.now; conflicts = conflicts.now }) }
+    ensures { IfOk result (λ r. r ≡ record { len = len; preserved = preserved.now; conflicts = conflicts.now }) }
 {
-    let fixed = fixed.to_vec(alloc)?;
+    let preserved = preserved.to_vec(alloc)?;
     let conflicts = conflicts.to_vec(alloc)?;
-    Ok(Items::new(len, fixed, conflicts))
+    Ok(Items::new(len, preserved, conflicts))
 }
 
 /// Returns all orders of the items in sequence, concatenated.
@@ -63,7 +63,7 @@ fn three_items_in_all_orders(rt: HostRuntime) -> Result<(), Fail> {
 }
 
 #[test]
-fn a_fixed_pair_decides_its_conflict(rt: HostRuntime) -> Result<(), Fail> {
+fn a_preserved_pair_decides_its_conflict(rt: HostRuntime) -> Result<(), Fail> {
     let items = items_of(rt.alloc(), 2, &[(0, 1)], &[(0, 1)])?;
     assert!(rt; have_orders(rt.alloc(), &items, 1, &[0, 1])?);
     Ok(())
@@ -104,7 +104,7 @@ fn no_items_have_the_empty_order(rt: HostRuntime) -> Result<(), Fail> {
 
 /// One thread stores five times to a location, and another four times to the same.
 #[test]
-fn twenty_open_conflicts_are_counted(rt: HostRuntime) -> Result<(), Fail> {
+fn twenty_unordered_conflicts_are_counted(rt: HostRuntime) -> Result<(), Fail> {
     let items = items_of(
         rt.alloc(),
         9,
@@ -140,7 +140,7 @@ fn twenty_open_conflicts_are_counted(rt: HostRuntime) -> Result<(), Fail> {
 
 /// One thread stores seven times to a location, and another three times to the same.
 #[test]
-fn twenty_one_open_conflicts_are_too_many(rt: HostRuntime) -> Result<(), Fail> {
+fn twenty_one_unordered_conflicts_are_too_many(rt: HostRuntime) -> Result<(), Fail> {
     let items = items_of(
         rt.alloc(),
         10,
@@ -197,14 +197,14 @@ fn most_items(rt: HostRuntime) -> Result<(), Fail> {
 fn items_as_plain(
     alloc: Global,
     len: u8,
-    fixed: &[(u8, u8)],
+    preserved: &[(u8, u8)],
     conflicts: &[(u8, u8)],
 ) -> Result<usize, AllocError>
-    requires { IsWellFormed (record { len = len; fixed = fixed.now; conflicts = conflicts.now }) }
+    requires { IsWellFormed (record { len = len; preserved = preserved.now; conflicts = conflicts.now }) }
 {
-    let items = items_of(alloc, usize::from(len), fixed, conflicts)?;
+    let items = items_of(alloc, usize::from(len), preserved, conflicts)?;
     let orders = given_orders(alloc, &items)?;
-    let plain = plain_orders(alloc, len, fixed, conflicts)?;
+    let plain = plain_orders(alloc, len, preserved, conflicts)?;
     Ok(if orders == plain { orders.len() } else { 0 })
 }
 
@@ -219,8 +219,8 @@ fn store_buffering_is_as_the_plain_body_has_it(rt: HostRuntime) -> Result<(), Fa
 /// before its drain and its load, and each drain conflicts with the other thread's load.
 #[test]
 fn drained_store_buffering_is_as_the_plain_body_has_it(rt: HostRuntime) -> Result<(), Fail> {
-    let fixed = [(0, 1), (0, 2), (3, 4), (3, 5)];
-    assert!(rt; items_as_plain(rt.alloc(), 6, &fixed, &[(1, 5), (2, 4)])? == 4 * 6);
+    let preserved = [(0, 1), (0, 2), (3, 4), (3, 5)];
+    assert!(rt; items_as_plain(rt.alloc(), 6, &preserved, &[(1, 5), (2, 4)])? == 4 * 6);
     Ok(())
 }
 
@@ -228,7 +228,7 @@ fn drained_store_buffering_is_as_the_plain_body_has_it(rt: HostRuntime) -> Resul
 /// that one's drain, its second store and that one's drain; the drains stand in sequence too.
 #[test]
 fn crossed_stores_are_as_the_plain_body_has_them(rt: HostRuntime) -> Result<(), Fail> {
-    let fixed = [
+    let preserved = [
         (0, 1),
         (0, 2),
         (1, 3),
@@ -238,7 +238,7 @@ fn crossed_stores_are_as_the_plain_body_has_them(rt: HostRuntime) -> Result<(), 
         (5, 7),
         (6, 7),
     ];
-    assert!(rt; items_as_plain(rt.alloc(), 8, &fixed, &[(1, 7), (3, 5)])? == 3 * 8);
+    assert!(rt; items_as_plain(rt.alloc(), 8, &preserved, &[(1, 7), (3, 5)])? == 3 * 8);
     Ok(())
 }
 
@@ -246,9 +246,9 @@ fn crossed_stores_are_as_the_plain_body_has_them(rt: HostRuntime) -> Result<(), 
 /// store, the drain and the two loads; a drain conflicts with the loads of its location by both threads.
 #[test]
 fn own_stores_first_are_as_the_plain_body_has_them(rt: HostRuntime) -> Result<(), Fail> {
-    let fixed = [(0, 1), (0, 2), (2, 3), (4, 5), (4, 6), (6, 7)];
+    let preserved = [(0, 1), (0, 2), (2, 3), (4, 5), (4, 6), (6, 7)];
     let conflicts = [(1, 2), (1, 7), (3, 5), (5, 6)];
-    assert!(rt; items_as_plain(rt.alloc(), 8, &fixed, &conflicts)? == 15 * 8);
+    assert!(rt; items_as_plain(rt.alloc(), 8, &preserved, &conflicts)? == 15 * 8);
     Ok(())
 }
 

@@ -16,29 +16,29 @@ fn leads(alloc: Global, pairs: &[(u8, u8)], from: u8, to: u8) -> Result<bool, Al
     Ok(reached.contains(&to))
 }
 
-/// Returns the conflicts whose items no path of fixed pairs connects.
-fn left_open(
+/// Returns the conflicts whose items no path of preserved pairs connects.
+fn left_unordered(
     alloc: Global,
-    fixed: &[(u8, u8)],
+    preserved: &[(u8, u8)],
     conflicts: &[(u8, u8)],
 ) -> Result<Vec<(u8, u8)>, AllocError> {
-    let mut open = Vec::new(alloc);
+    let mut unordered = Vec::new(alloc);
     for (first, second) in conflicts {
-        if !leads(alloc, fixed, *first, *second)? {
-            open.push((*first, *second))?;
+        if !leads(alloc, preserved, *first, *second)? {
+            unordered.push((*first, *second))?;
         }
     }
-    Ok(open)
+    Ok(unordered)
 }
 
 /// Appends the unordered pairs, reversed if their bit of the number is 1. The first pair has the highest bit.
 fn push_directed(
     pairs: &mut Vec<(u8, u8)>,
-    open: &[(u8, u8)],
+    unordered: &[(u8, u8)],
     number: u32,
 ) -> Result<(), AllocError> {
     let mut bits = number;
-    for (first, second) in open.iter().rev() {
+    for (first, second) in unordered.iter().rev() {
         if bits % 2 == 0 {
             pairs.push((*first, *second))?;
         } else {
@@ -71,16 +71,16 @@ fn plain_order(alloc: Global, len: u8, pairs: &[(u8, u8)]) -> Result<Option<Vec<
     Ok(Some(taken))
 }
 
-/// Returns the order of the fixed pairs and of the unordered ones, oriented by the number.
+/// Returns the order of the preserved pairs and of the unordered ones, oriented by the number.
 fn order_of_number(
     alloc: Global,
     len: u8,
-    fixed: &[(u8, u8)],
-    open: &[(u8, u8)],
+    preserved: &[(u8, u8)],
+    unordered: &[(u8, u8)],
     number: u32,
 ) -> Result<Option<Vec<u8>>, AllocError> {
-    let mut pairs = fixed.to_vec(alloc)?;
-    push_directed(&mut pairs, open, number)?;
+    let mut pairs = preserved.to_vec(alloc)?;
+    push_directed(&mut pairs, unordered, number)?;
     plain_order(alloc, len, pairs.as_slice())
 }
 
@@ -88,14 +88,20 @@ fn order_of_number(
 pub(crate) fn plain_orders(
     alloc: Global,
     len: u8,
-    fixed: &[(u8, u8)],
+    preserved: &[(u8, u8)],
     conflicts: &[(u8, u8)],
 ) -> Result<Vec<u8>, AllocError> {
-    let open = left_open(alloc, fixed, conflicts)?;
+    let unordered = left_unordered(alloc, preserved, conflicts)?;
     let mut orders = Vec::new(alloc);
     for number in 0..1024u32 {
-        if number >> open.len().min(10) == 0
-            && let Some(order) = order_of_number(alloc, len, fixed, open.as_slice(), number)?
+        if number >> unordered.len().min(10) == 0
+            && let Some(order) = order_of_number(
+                alloc,
+                len,
+                preserved,
+                unordered.as_slice(),
+                number,
+            )?
         {
             orders.extend_from_slice(order.as_slice())?;
         }

@@ -21,17 +21,17 @@ greedy_order-ascending pairs up (suc n) k =
     let rest : without (indices k (suc n)) k ≡ indices (suc k) n = rw (eq-eqb k k refl) refl in
     rw first (rw rest (rw (greedy_order-ascending pairs up n (suc k)) refl))
 
--- If every fixed pair is ascending and no conflict is unordered, the only order lists the items from 0 up.
+-- If every preserved pair is ascending and no conflict is unordered, the only order lists the items from 0 up.
 pub orders-of_ascending : (t : Constraints)
-    → AreAscending t.len t.fixed
+    → AreAscending t.len t.preserved
     → unordered_conflicts t ≡ []
     → orders t ≡ indices 0 t.len ∷ []
 orders-of_ascending t up is_nil =
-    let one : lowest_order t.len (t.fixed ++ []) ≡ Some (indices 0 t.len) =
-    ap (lowest_order t.len) (append-nil t.fixed)
-    ∙ greedy_order-ascending t.fixed (All-weaker (λ p. (p.0 < p.1) × (p.1 < t.len)) (λ p. p.0 < p.1) (λ p h. h.0) t.fixed up)
-    t.len 0 in
-    ap (λ ps. filter_map (λ ds. lowest_order t.len (t.fixed ++ ds)) (orientations ps)) is_nil ∙ ap (λ o. cons_option o []) one
+    let one : lowest_order t.len (t.preserved ++ []) ≡ Some (indices 0 t.len) =
+    ap (lowest_order t.len) (append-nil t.preserved)
+    ∙ greedy_order-ascending t.preserved
+    (All-weaker (λ p. (p.0 < p.1) × (p.1 < t.len)) (λ p. p.0 < p.1) (λ p h. h.0) t.preserved up) t.len 0 in
+    ap (λ ps. filter_map (λ ds. lowest_order t.len (t.preserved ++ ds)) (orientations ps)) is_nil ∙ ap (λ o. cons_option o []) one
 
 -- The `n + 1` numbers from k up are the first n of them, followed by `k + n`.
 indices-from_suc : (k n : ℕ) → indices k (suc n) ≡ indices k n ++ (k + n) ∷ []

@@ -38,7 +38,7 @@ pub use Rattle.std.specs.Int.Count.{trailing_of_zero}
 pub use Rattle.std.specs.List.{cons_option, list_any}
 pub use Rattle.std.specs.Vec.{with_items}
 pub use mir.Val.{bits}
-pub use Rattle.lw_orders.specs.Limits.{most_items, most_open, most_orders}
+pub use Rattle.lw_orders.specs.Limits.{most_items, most_orders, most_unordered}
 pub use Rattle.lw_orders.specs.Order.{AreAscending, AreDistinct, AreSorted, AreTraceEquivalent}
 pub use Rattle.lw_orders.specs.Order.{AreUnorderedConflicts, Before, Constraints, ExactlyOne}
 pub use Rattle.lw_orders.specs.Order.{HasOrientationCount, IsLexicographicallyLess, IsLinearExtension}
@@ -57,7 +57,7 @@ pub use Rattle.lw_orders.specs.inner.Closure.{IsTransitiveBelow, Reaches}
 pub use Rattle.lw_orders.specs.inner.Directions.{IsTaken, TriedAs, TriesOrientation, pair_at}
 pub use Rattle.lw_orders.specs.inner.Remaining.{CanBeSearched, HasSearchTables, IsSearchState, calls_left}
 pub use Rattle.lw_orders.specs.inner.Remaining.{most_of_call, most_tries, reach, remaining_orders}
-pub use Rattle.lw_orders.specs.inner.Search.{SearchState, TurnedLast, after_ways, from_ways, oriented}
-pub use Rattle.lw_orders.specs.inner.Search.{reverse_if, search_from, search_on}
+pub use Rattle.lw_orders.specs.inner.Search.{SearchState, TurnedLast, after_reversals, from_reversals}
+pub use Rattle.lw_orders.specs.inner.Search.{oriented, reverse_if, search_from, search_on}
 pub use Rattle.lw_orders.specs.inner.Sets.{AreNeighbours, ArePredecessors, EdgesAreIn, are_disjoint, has}
 pub use Rattle.lw_orders.specs.inner.Sets.{has_edge, reaches_in}

@@ -21,16 +21,17 @@ module _ (p : ℕ → Bool) where
   is_in-indices : (k n i : ℕ) → k ≤ i → i < k + n → is_in (filter p (indices k n)) i ≡ p i
   is_in-indices k zero i a b = absurd (omega arith)
   is_in-indices k (suc n) i a b = elim (cases_eq k i) [
-    | inl e ↦
-        rw (← e)
-        (elim (cases_Bool (p k)) [ inl y ↦ rw (y, eq-eqb k k refl) refl | inr f ↦ rw f (not_below (suc k) n k (omega arith)) ])
+    | inl e ↦ rw (← e) (elim (cases_Bool (p k)) [
+      | inl y ↦ rw (y, eq-eqb k k refl) refl
+      | inr f ↦ rw f (is_in-false_below (suc k) n k (omega arith))
+    ])
     | inr ne ↦ grind (arith, nat_tests, is_in-indices (suc k) n i)
   ]
     where
       -- A number below the range is not in the list.
-      not_below : (k n i : ℕ) → i < k → is_in (filter p (indices k n)) i ≡ false
-      not_below k zero i l = refl
-      not_below k (suc n) i l = grind (arith, nat_tests, not_below (suc k) n i)
+      is_in-false_below : (k n i : ℕ) → i < k → is_in (filter p (indices k n)) i ≡ false
+      is_in-false_below k zero i l = refl
+      is_in-false_below k (suc n) i l = grind (arith, nat_tests, is_in-false_below (suc k) n i)
 
   -- If all numbers of the range satisfy p, the list is the whole range.
   filter_all : (k n : ℕ) → ((i : ℕ) → k ≤ i → i < k + n → p i ≡ true) → filter p (indices k n) ≡ indices k n
@@ -104,7 +105,7 @@ items_below len left = filter (has left) (indices 0 len)
 
 -- The loop's invariant: `items` starts with the items taken, one for each turn, in sequence, and `left` has the rest. Every item left is a
 -- candidate or blocked; and every item that an item left reaches is left.
-pub record Searching (pairs : List (ℕ × ℕ)) (len : ℕ) (predecessors reach items : List ℕ)
+pub record TakenSoFar (pairs : List (ℕ × ℕ)) (len : ℕ) (predecessors reach items : List ℕ)
     (left candidates turn : ℕ) : Type 0 where
   pub so_far : lowest_order len pairs
       ≡ option_map (λ xs. take turn items ++ xs) (greedy_order (len - turn) pairs (items_below len left))
@@ -113,11 +114,11 @@ pub record Searching (pairs : List (ℕ × ℕ)) (len : ℕ) (predecessors reach
   pub closed : (i j : ℕ) → i < len → j < len → has left i ≡ true → reaches_in reach i j ≡ true → has left j ≡ true
 
 -- Before the first turn every item is left and a candidate.
-pub Searching-start : {len : ℕ} {predecessors reach items : List ℕ} (pairs : List (ℕ × ℕ)) (left : ℕ)
+pub TakenSoFar-start : {len : ℕ} {predecessors reach items : List ℕ} (pairs : List (ℕ × ℕ)) (left : ℕ)
     → len ≤ most_items
     → ((k : ℕ) → k < most_items → has left k ≡ ltb k len)
-    → Searching pairs len predecessors reach items left left 0
-Searching-start {len = len} pairs left len_le below =
+    → TakenSoFar pairs len predecessors reach items left left 0
+TakenSoFar-start {len = len} pairs left len_le below =
     let all : items_below len left ≡ indices 0 len =
     filter_all (has left) 0 len (λ k a b. below k (omega arith) ∙ lt-ltb k len (omega arith)) in
     record {
@@ -138,7 +139,7 @@ option_map-push front x more (Some xs) e = ap Some (sym (ap (λ ys. ys ++ xs) e 
 module _ {pairs : List (ℕ × ℕ)} {len : ℕ} {predecessors reach neighbours items : List ℕ} {left candidates turn : ℕ}
     (few : len ≤ most_items) (fits : left < 2 ^ most_items) (l : turn < len)
     (tables : AreGraphTables len pairs predecessors reach neighbours)
-    (so : Searching pairs len predecessors reach items left candidates turn) where
+    (so : TakenSoFar pairs len predecessors reach items left candidates turn) where
   -- No item that is left is a predecessor of i: i is minimal.
   abbrev NoneLeads : ℕ → Type 0
   NoneLeads i = (j : ℕ) → j < len → Contains pairs (j, i) → has left j ≡ true → ⊥
@@ -231,8 +232,8 @@ module _ {pairs : List (ℕ × ℕ)} {len : ℕ} {predecessors reach neighbours 
         (λ x. option_map (λ xs. x ∷ xs) (greedy_order (len - (turn + 1)) pairs (without (items_below len left) x))) f)) e)
 
     -- If no candidate is found, no item is minimal, so there is no order.
-    pub Searching-none : IsFound len predecessors left narrow None → lowest_order len pairs ≡ None
-    Searching-none none =
+    pub TakenSoFar-none : IsFound len predecessors left narrow None → lowest_order len pairs ≡ None
+    TakenSoFar-none none =
         lowest_order-turn None (find-none_passing (has left) (is_minimal pairs (items_below len left)) 0 len (λ k lk there.
         is_minimal-are_disjoint k (omega arith) ∙ IsBlocked-no_candidate k (omega arith) there (none k (omega arith))))
 
@@ -279,10 +280,10 @@ module _ {pairs : List (ℕ × ℕ)} {len : ℕ} {predecessors reach neighbours 
           ]))))
 
       -- The invariant holds in the next turn. Candidates are then those left over, and the neighbours of the item taken that are left.
-      pub Searching-more : (more : ℕ)
+      pub TakenSoFar-more : (more : ℕ)
           → ((k : ℕ) → k < most_items → has more k ≡ ((has narrow k || reaches_in neighbours item k) && has next k))
-          → Searching pairs len predecessors reach (set items turn item) next more (turn + 1)
-      Searching-more more says = record {
+          → TakenSoFar pairs len predecessors reach (set items turn item) next more (turn + 1)
+      TakenSoFar-more more says = record {
         so_far = lowest_order-so_far_next;
         inside = λ k lk h. grind (arith, says k lk);
         waiting = λ k lk h gone.

@@ -11,7 +11,7 @@ use Rattle.lw_orders.proofs.Walks.{has_edge-inv, has_edge-of_member}
 -- to be visited; the lowest of them is `next`.
 pub record IsReaching (item len steps : ℕ) (sets : List ℕ) (set left next : ℕ) : Type 0 where
   pub itself : has set item ≡ true
-  pub all : (k j : ℕ)
+  pub has_reached_or_left : (k j : ℕ)
       → k < len
       → j < most_items
       → has steps k ≡ true
@@ -35,7 +35,7 @@ pub IsReaching-start : {len steps : ℕ} {sets : List ℕ} (item set none next :
     → IsReaching item len steps sets set steps next
 IsReaching-start item set none next l with empty below lowest = record {
   itself = grind (arith, nat_tests, with item l);
-  all = λ k j lk lj s r. inl s;
+  has_reached_or_left = λ k j lk lj s r. inl s;
   nothing_else = λ j lj e. inl (grind (arith, nat_tests, with j lj, empty j lj));
   left_are_steps = λ k lk s. s;
   below = below;
@@ -48,7 +48,8 @@ module _ {item len steps : ℕ} {sets : List ℕ} {set left next : ℕ} (few : l
   pub IsReachedFrom-end : len ≤ next → IsReachedFrom item len steps sets set
   IsReachedFrom-end end = record {
     itself = r.itself;
-    all = λ k j lk lj s t. elim (r.all k j lk lj s t) [ inl h ↦ cc (r.below k (omega (arith, lk, end)), h) | inr h ↦ h ];
+    has_reached = λ k j lk lj s t.
+        elim (r.has_reached_or_left k j lk lj s t) [ inl h ↦ cc (r.below k (omega (arith, lk, end)), h) | inr h ↦ h ];
     nothing_else = r.nothing_else;
   }
 
@@ -60,7 +61,7 @@ module _ {item len steps : ℕ} {sets : List ℕ} {set left next : ℕ} (few : l
     pub IsReaching-next : IsReaching item len steps sets more rest further
     IsReaching-next = record {
       itself = join item low ∙ or_left _ _ r.itself;
-      all = λ k j lk lj s t. elim (r.all k j lk lj s t) [
+      has_reached_or_left = λ k j lk lj s t. elim (r.has_reached_or_left k j lk lj s t) [
         | inl h ↦ elim (cases_eq k next) [
           | inl e ↦ inr (join j lj ∙ or_right _ _ (rw e at t))
           | inr ne ↦ inl (drop_next k (omega (arith, lk, few)) ∙ rw (ne_eqb k next ne, h) refl)
@@ -82,30 +83,30 @@ module _ {item len steps : ℕ} {sets : List ℕ} {set left next : ℕ} (few : l
     next_lt_further = grind (arith, eq-eqb further next, drop_next further, r.below further)
 
 -- The set computed for an item has exactly the items to which a walk leads, if this holds of the sets of higher items.
-pub Decides-set_of_steps : {item len set_of steps : ℕ} {sets : List ℕ} (fixed : List (ℕ × ℕ))
-    → AreAscending len fixed
+pub Decides-set_of_steps : {item len set_of steps : ℕ} {sets : List ℕ} (preserved : List (ℕ × ℕ))
+    → AreAscending len preserved
     → len ≤ most_items
-    → ((k : ℕ) → k < most_items → has steps k ≡ has_edge fixed item k)
+    → ((k : ℕ) → k < most_items → has steps k ≡ has_edge preserved item k)
     → IsReachedFrom item len steps sets set_of
     → (j : ℕ)
     → j < len
-    → ((k : ℕ) → item < k → k < len → Decides (reaches_in sets k j) ((m : ℕ) × Walk fixed m k j))
-    → Decides (has set_of j) ((m : ℕ) × Walk fixed m item j)
-Decides-set_of_steps {item = item} {len = len} {set_of = set_of} fixed up len_le says r j lj above = (
+    → ((k : ℕ) → item < k → k < len → Decides (reaches_in sets k j) ((m : ℕ) × Walk preserved m k j))
+    → Decides (has set_of j) ((m : ℕ) × Walk preserved m item j)
+Decides-set_of_steps {item = item} {len = len} {set_of = set_of} preserved up len_le says r j lj above = (
   λ e. elim (r.nothing_else j (omega (arith, lj, len_le)) e) [
     | inl q ↦ (0, q)
     | inr (k, lk, s, l) ↦
-        (let c = has_edge-inv fixed item k (sym (says k (omega (arith, lk, len_le))) ∙ s) in
-        let (m, w) = (above k (All-contains (λ p. (p.0 < p.1) × (p.1 < len)) fixed (item, k) up c).0 lk).0 l in
+        (let c = has_edge-inv preserved item k (sym (says k (omega (arith, lk, len_le))) ∙ s) in
+        let (m, w) = (above k (All-contains (λ p. (p.0 < p.1) × (p.1 < len)) preserved (item, k) up c).0 lk).0 l in
         (suc m, (k, c, w)))
   ],
   λ w. has-of_walk w.0 w.1,
 )
   where
     -- The set has what a walk from the item reaches.
-    has-of_walk : (m : ℕ) → Walk fixed m item j → has set_of j ≡ true
+    has-of_walk : (m : ℕ) → Walk preserved m item j → has set_of j ≡ true
     has-of_walk zero e = rw (← e) r.itself
     has-of_walk (suc m) (k, c, w) =
-        let (a, b) = All-contains (λ p. (p.0 < p.1) × (p.1 < len)) fixed (item, k) up c in
-        r.all k j b (omega (arith, lj, len_le)) (says k (omega (arith, b, len_le)) ∙ has_edge-of_member fixed item k c)
-        ((above k a b).1 (m, w))
+        let (a, b) = All-contains (λ p. (p.0 < p.1) × (p.1 < len)) preserved (item, k) up c in
+        r.has_reached k j b (omega (arith, lj, len_le))
+        (says k (omega (arith, b, len_le)) ∙ has_edge-of_member preserved item k c) ((above k a b).1 (m, w))

@@ -10,7 +10,7 @@ use Rattle.lw_orders.proofs.Common.{get_or-replicate, length-replicate, All-appe
 use Rattle.lw_orders.proofs.Common.{All-drop, All-head, All-tail, Respects, All-push, lowest_order}
 use Rattle.lw_orders.proofs.Common.{AreInRange, has, reaches_in, ArePredecessors, EdgesAreIn, AreNeighbours}
 use Rattle.lw_orders.proofs.Common.{Reaches, IsAcyclicClosure, SearchState, reverse_if, TurnedLast, oriented}
-use Rattle.lw_orders.proofs.Common.{search_from, after_ways, from_ways, IsTaken, pair_at, reach}
+use Rattle.lw_orders.proofs.Common.{search_from, after_reversals, from_reversals, IsTaken, pair_at, reach}
 use Rattle.lw_orders.proofs.Common.{CanBeSearched, IsSearchState, HasSearchTables, remaining_orders}
 use Rattle.lw_orders.proofs.SearchTree.{oriented-push, from-down, after-on, after-true, from-all, from-none}
 use Rattle.lw_orders.proofs.Walks.{closure-antisym}
@@ -22,39 +22,42 @@ use Rattle.lw_orders.proofs.api.Complete.{All-parts, IsWithin, IsAscendingPair, 
 -- that closes a cycle to the pair before it, and tries one direction for each pair that it leaves. After the first direction taken it goes
 -- down, and tries at most two for each pair: if the first closes a cycle, the second does not.
 abbrev pub Phase : List (ℕ × ℕ) → SearchState → Option ℕ → ℕ → Type 0
-Phase undecided s None tried = tried ≤ 3 * length undecided
-Phase undecided s (Some level) tried =
-    ((get_or s.ways level false ≡ true) × (tried + level + 1 ≤ length undecided))
-    ⊎ ((tried ≤ length undecided + 2 * level + cond (get_or s.ways level false) 1 0)
-    × (get_or s.ways level false ≡ true
-    → reach s.saved level (get_or undecided level (0, 0)).1 (get_or undecided level (0, 0)).0 ≡ true))
+Phase unordered s None tried = tried ≤ 3 * length unordered
+Phase unordered s (Some level) tried =
+    ((get_or s.reversals level false ≡ true) × (tried + level + 1 ≤ length unordered))
+    ⊎ ((tried ≤ length unordered + 2 * level + cond (get_or s.reversals level false) 1 0)
+    × (get_or s.reversals level false ≡ true
+    → reach s.saved level (get_or unordered level (0, 0)).1 (get_or unordered level (0, 0)).0 ≡ true))
 
--- ---- after some ways
-module _ (ways : List Bool) (ps : List (ℕ × ℕ)) (long : length ways ≡ length ps) where
-  -- The first `k + 1` ways are the first k, and the next one.
-  take_ways-suc : (k : ℕ) (w : Bool) → k < length ps → get_or ways k false ≡ w → take (k + 1) ways ≡ take k ways ++ w ∷ []
-  take_ways-suc k w in_range e = take_more ways k false (omega (arith, long)) ∙ ap (λ v. take k ways ++ v ∷ []) e
+-- ---- after some reversals
+module _ (reversals : List Bool) (ps : List (ℕ × ℕ)) (long : length reversals ≡ length ps) where
+  -- The first `k + 1` reversals are the first k, and the next one.
+  take_reversals-suc : (k : ℕ) (w : Bool)
+      → k < length ps
+      → get_or reversals k false ≡ w
+      → take (k + 1) reversals ≡ take k reversals ++ w ∷ []
+  take_reversals-suc k w in_range e = take_more reversals k false (omega (arith, long)) ∙ ap (λ v. take k reversals ++ v ∷ []) e
 
-  -- The first k ways are k in number.
-  length_take-ways : (k : ℕ) → k ≤ length ps → length (take k ways) ≡ k
-  length_take-ways k l = length-take-le k ways (omega (arith, long))
+  -- The first k reversals are k in number.
+  length_take-reversals : (k : ℕ) → k ≤ length ps → length (take k reversals) ≡ k
+  length_take-reversals k l = length-take-le k reversals (omega (arith, long))
 
-module _ (len : ℕ) (graph ps : List (ℕ × ℕ)) (ways : List Bool) (long : length ways ≡ length ps) where
-  -- The orders that come after those whose first k ways are these.
+module _ (len : ℕ) (graph ps : List (ℕ × ℕ)) (reversals : List Bool) (long : length reversals ≡ length ps) where
+  -- The orders that come after those whose first k reversals are these.
   abbrev orders_after : ℕ → List (List ℕ)
-  orders_after k = after_ways len graph ps (take k ways)
+  orders_after k = after_reversals len graph ps (take k reversals)
 
   -- After a reversed pair come the orders that come after the pairs before it.
-  orders_after-reversed : (k : ℕ) → k < length ps → get_or ways k false ≡ true → orders_after (k + 1) ≡ orders_after k
+  orders_after-reversed : (k : ℕ) → k < length ps → get_or reversals k false ≡ true → orders_after (k + 1) ≡ orders_after k
   orders_after-reversed k in_range on =
-      ap (after_ways len graph ps) (take_ways-suc ways ps long k true in_range on)
-      ∙ after-true len graph ps (take k ways) (omega (arith, length_take-ways ways ps long k (omega arith)))
+      ap (after_reversals len graph ps) (take_reversals-suc reversals ps long k true in_range on)
+      ∙ after-true len graph ps (take k reversals) (omega (arith, length_take-reversals reversals ps long k (omega arith)))
 
   -- After d reversed pairs come the orders that come after the pairs before them.
   orders_after-all_reversed : (d from upto : ℕ)
       → from + d ≡ upto
       → upto ≤ length ps
-      → ((k : ℕ) → from ≤ k → k < upto → get_or ways k false ≡ true)
+      → ((k : ℕ) → from ≤ k → k < upto → get_or reversals k false ≡ true)
       → orders_after upto ≡ orders_after from
   orders_after-all_reversed zero from upto e l all = let same : upto ≡ from = omega arith in ap orders_after same
   orders_after-all_reversed (suc d) from upto e l all =
@@ -62,26 +65,30 @@ module _ (len : ℕ) (graph ps : List (ℕ × ℕ)) (ways : List Bool) (long : l
       ∙ orders_after-reversed from (omega arith) (all from (omega arith) (omega arith))
 
   -- If the last pair not yet reversed, among the first `upto`, is reversed, the remaining orders are those that come after all orders with
-  -- these first ways: the later pairs were reversed already.
+  -- these first reversals: the later pairs were reversed already.
   pub remaining_orders-reversed_last : (next : List Bool) (upto : ℕ) (found : Option ℕ)
       → upto ≤ length ps
-      → TurnedLast ways next upto found
+      → TurnedLast reversals next upto found
       → remaining_orders found len graph ps next ≡ orders_after upto
   remaining_orders-reversed_last next upto None l (same, all) =
       sym (orders_after-all_reversed upto 0 upto (omega arith) l (λ k a b. all k b))
   remaining_orders-reversed_last next upto (Some i) l (li, off, is, on) =
-      let now : take (i + 1) next ≡ take i ways ++ true ∷ [] =
-      ap (take (i + 1)) is ∙ take_more_set ways i true (omega (arith, li, l, long)) in
-      let was : take (i + 1) ways ≡ take i ways ++ false ∷ [] = take_ways-suc ways ps long i false (omega (arith, li, l)) off in
-      let other_way : after_ways len graph ps (take i ways ++ false ∷ []) ≡ from_ways len graph ps (take i ways ++ true ∷ []) =
-      after-on len graph ps (take i ways) (omega (arith, li, l, length_take-ways ways ps long i (omega (arith, li, l)))) in
+      let now : take (i + 1) next ≡ take i reversals ++ true ∷ [] =
+      ap (take (i + 1)) is ∙ take_more_set reversals i true (omega (arith, li, l, long)) in
+      let was : take (i + 1) reversals ≡ take i reversals ++ false ∷ [] =
+      take_reversals-suc reversals ps long i false (omega (arith, li, l)) off in
+      let other_reversal : after_reversals len graph ps (take i reversals ++ false ∷ [])
+      ≡ from_reversals len graph ps (take i reversals ++ true ∷ []) =
+      after-on len graph ps (take i reversals)
+      (omega (arith, li, l, length_take-reversals reversals ps long i (omega (arith, li, l)))) in
       let rest_turned : orders_after upto ≡ orders_after (i + 1) =
       orders_after-all_reversed (upto - (i + 1)) (i + 1) upto (omega (arith, li)) l (λ k a b. on k (omega arith) b) in
-      ap (from_ways len graph ps) now ∙ (sym other_way ∙ (sym (ap (after_ways len graph ps) was) ∙ sym rest_turned))
+      ap (from_reversals len graph ps) now
+      ∙ (sym other_reversal ∙ (sym (ap (after_reversals len graph ps) was) ∙ sym rest_turned))
 
 -- ---- the search state
 
--- The first i oriented pairs are oriented by the first i ways.
+-- The first i oriented pairs are oriented by the first i reversals.
 take-oriented : (i : ℕ) (ps : List (ℕ × ℕ)) (ws : List Bool) → oriented ps (take i ws) ≡ take i (oriented ps ws)
 take-oriented zero [] ws = refl
 take-oriented zero (p ∷ ps) ws = refl
@@ -104,148 +111,152 @@ All-oriented P (p ∷ ps) (w ∷ ws) all =
     reverse_if-both false h = h.0
     reverse_if-both true h = h.1
 
--- Reversing the last pair not yet reversed preserves the ways before it and their number.
-TurnedLast-front_unchanged : (ways next : List Bool) (upto : ℕ) (found : Option ℕ)
-    → TurnedLast ways next upto found
-    → (length next ≡ length ways)
-    × (take (unwrap_or found 0) next ≡ take (unwrap_or found 0) ways)
+-- Reversing the last pair not yet reversed preserves the reversals before it and their number.
+TurnedLast-front_unchanged : (reversals next : List Bool) (upto : ℕ) (found : Option ℕ)
+    → TurnedLast reversals next upto found
+    → (length next ≡ length reversals)
+    × (take (unwrap_or found 0) next ≡ take (unwrap_or found 0) reversals)
     × (unwrap_or found 0 ≤ upto - 1)
-TurnedLast-front_unchanged ways next upto None (same, all) = (ap length same, ap (take 0) same, omega arith)
-TurnedLast-front_unchanged ways next upto (Some i) (li, off, is, on) =
-    (ap length is ∙ length-set ways i true, ap (take i) is ∙ take-set ways i true, omega arith)
+TurnedLast-front_unchanged reversals next upto None (same, all) = (ap length same, ap (take 0) same, omega arith)
+TurnedLast-front_unchanged reversals next upto (Some i) (li, off, is, on) =
+    (ap length is ∙ length-set reversals i true, ap (take i) is ∙ take-set reversals i true, omega arith)
 
-module _ {len : ℕ} {fixed undecided : List (ℕ × ℕ)} {s : SearchState} {level : ℕ}
-    (st : IsSearchState len fixed undecided s level) where
+module _ {len : ℕ} {preserved unordered : List (ℕ × ℕ)} {s : SearchState} {level : ℕ}
+    (st : IsSearchState len preserved unordered s level) where
   -- After the last pair not yet reversed is reversed, the search is at that pair.
   pub IsSearchState-on : (next : List Bool) (upto : ℕ) (found : Option ℕ)
       → upto ≤ level + 1
-      → TurnedLast s.ways next upto found
-      → IsSearchState len fixed undecided (record { ways = next; chosen = s.chosen; saved = s.saved }) (unwrap_or found 0)
+      → TurnedLast s.reversals next upto found
+      → IsSearchState len preserved unordered (record { reversals = next; chosen = s.chosen; saved = s.saved })
+      (unwrap_or found 0)
   IsSearchState-on next upto found l turn =
-      let (long, same, low) = TurnedLast-front_unchanged s.ways next upto found turn in
+      let (long, same, low) = TurnedLast-front_unchanged s.reversals next upto found turn in
       let i : ℕ = unwrap_or found 0 in
       record {
         can = st.can;
-        ways_long = long ∙ st.ways_long;
+        reversals_long = long ∙ st.reversals_long;
         chosen_long = st.chosen_long;
         saved_long = st.saved_long;
         level_in = omega (arith, low, st.level_in);
-        ways_chosen =
+        reversals_chosen =
             sym (take-take i level s.chosen (omega (arith, low)))
-            ∙ (ap (take i) st.ways_chosen
-            ∙ (sym (take-oriented i undecided (take level s.ways))
-            ∙ ap (oriented undecided) (take-take i level s.ways (omega (arith, low)) ∙ sym same)));
+            ∙ (ap (take i) st.reversals_chosen
+            ∙ (sym (take-oriented i unordered (take level s.reversals))
+            ∙ ap (oriented unordered) (take-take i level s.reversals (omega (arith, low)) ∙ sym same)));
         closed = λ k lk. st.closed k (omega (arith, lk, low));
       }
 
   -- At a leaf every pair has its direction: the only order there comes first, and then those after it.
-  module _ (leaf : level ≡ length undecided) where
+  module _ (leaf : level ≡ length unordered) where
     -- All directions are chosen.
     all_chosen : take level s.chosen ≡ s.chosen
     all_chosen = take_all level s.chosen (omega (arith, st.chosen_long, leaf))
 
-    -- From this level on, the first ways are all ways.
-    all_ways : (k : ℕ) → level ≤ k → take k s.ways ≡ s.ways
-    all_ways k l = take_all k s.ways (omega (arith, st.ways_long, leaf))
+    -- From this level on, the first reversals are all reversals.
+    all_reversals : (k : ℕ) → level ≤ k → take k s.reversals ≡ s.reversals
+    all_reversals k l = take_all k s.reversals (omega (arith, st.reversals_long, leaf))
 
-    -- The directions chosen are those of the ways.
-    chosen_directed : s.chosen ≡ oriented undecided s.ways
-    chosen_directed = sym all_chosen ∙ (st.ways_chosen ∙ ap (oriented undecided) (all_ways _ (omega arith)))
+    -- The directions chosen are those of the reversals.
+    chosen_directed : s.chosen ≡ oriented unordered s.reversals
+    chosen_directed = sym all_chosen ∙ (st.reversals_chosen ∙ ap (oriented unordered) (all_reversals _ (omega arith)))
 
-    -- The saved sets are the acyclic closure of the fixed pairs and all directions chosen.
-    pub leaf_closes : IsAcyclicClosure len (fixed ++ s.chosen) (reaches_in (get_or s.saved level []))
+    -- The saved sets are the acyclic closure of the preserved pairs and all directions chosen.
+    pub leaf_closes : IsAcyclicClosure len (preserved ++ s.chosen) (reaches_in (get_or s.saved level []))
     leaf_closes = rw all_chosen at (st.closed level (omega arith))
 
     -- The directions chosen are of items in range.
     pub chosen_within : AreInRange len s.chosen
-    chosen_within = (All-parts (IsWithin len) fixed s.chosen leaf_closes.within).1
+    chosen_within = (All-parts (IsWithin len) preserved s.chosen leaf_closes.within).1
 
-    -- Neighbours by the fixed pairs and the unordered ones include those by the directions chosen.
+    -- Neighbours by the preserved pairs and the unordered ones include those by the directions chosen.
     pub leaf_neighbours : (neighbours : List ℕ)
-        → EdgesAreIn fixed neighbours
-        → AreNeighbours undecided neighbours
-        → EdgesAreIn (fixed ++ s.chosen) neighbours
+        → EdgesAreIn preserved neighbours
+        → AreNeighbours unordered neighbours
+        → EdgesAreIn (preserved ++ s.chosen) neighbours
     leaf_neighbours neighbours into both =
-        All-append (λ p. reaches_in neighbours p.0 p.1 ≡ true) fixed s.chosen into
-        (rw chosen_directed (All-oriented (λ p. reaches_in neighbours p.0 p.1 ≡ true) undecided s.ways both))
+        All-append (λ p. reaches_in neighbours p.0 p.1 ≡ true) preserved s.chosen into
+        (rw chosen_directed (All-oriented (λ p. reaches_in neighbours p.0 p.1 ≡ true) unordered s.reversals both))
 
     -- There is a lowest order with the directions chosen, and it comes before the orders that are left.
     pub lowest_order-at_leaf : (o : List ℕ)
-        × (lowest_order len (fixed ++ s.chosen) ≡ Some o)
-        × (from_ways len fixed undecided (take (level + 1) s.ways) ≡ o ∷ after_ways len fixed undecided (take level s.ways))
+        × (lowest_order len (preserved ++ s.chosen) ≡ Some o)
+        × (from_reversals len preserved unordered (take (level + 1) s.reversals)
+        ≡ o ∷ after_reversals len preserved unordered (take level s.reversals))
     lowest_order-at_leaf =
         let (o, h) = lowest_order-if_acyclic leaf_closes in (
           o,
           h,
-          rw (all_ways level (omega arith), all_ways (level + 1) (omega arith))
-              (from-all len fixed undecided s.ways o st.ways_long
-              (ap (λ cs. lowest_order len (fixed ++ cs)) (sym chosen_directed) ∙ h)),
+          rw (all_reversals level (omega arith), all_reversals (level + 1) (omega arith))
+              (from-all len preserved unordered s.reversals o st.reversals_long
+              (ap (λ cs. lowest_order len (preserved ++ cs)) (sym chosen_directed) ∙ h)),
         )
 
   -- At a pair the search tries a direction.
-  module _ (below : level < length undecided) where
+  module _ (below : level < length unordered) where
     -- The direction to try.
     abbrev p : ℕ × ℕ
-    p = pair_at undecided s.ways level
+    p = pair_at unordered s.reversals level
 
     -- Its items are in range.
     p_within : (p.0 < len) × (p.1 < len)
-    p_within = let (a, b) = st.can.undecided_up level (0, 0) below in grind arith
+    p_within = let (a, b) = st.can.unordered_up level (0, 0) below in grind arith
 
-    -- The ways before this pair are as many as the level says.
-    long_here : length (take level s.ways) ≡ level
-    long_here = length_take-ways s.ways undecided st.ways_long level st.level_in
+    -- The reversals before this pair are as many as the level says.
+    long_here : length (take level s.reversals) ≡ level
+    long_here = length_take-reversals s.reversals unordered st.reversals_long level st.level_in
 
-    -- Oriented by the ways up to this pair, the pairs are those chosen before, and the direction to try.
-    way_chosen : oriented undecided (take (level + 1) s.ways) ≡ take level s.chosen ++ p ∷ []
-    way_chosen =
-        ap (oriented undecided) (take_ways-suc s.ways _ st.ways_long level (get_or s.ways level false) below refl)
-        ∙ (oriented-push _ _ _ (0, 0) (omega (arith, long_here)) ∙ rw (long_here, st.ways_chosen) refl)
+    -- Oriented by the reversals up to this pair, the pairs are those chosen before, and the direction to try.
+    reversal_chosen : oriented unordered (take (level + 1) s.reversals) ≡ take level s.chosen ++ p ∷ []
+    reversal_chosen =
+        ap (oriented unordered)
+        (take_reversals-suc s.reversals _ st.reversals_long level (get_or s.reversals level false) below refl)
+        ∙ (oriented-push _ _ _ (0, 0) (omega (arith, long_here)) ∙ rw (long_here, st.reversals_chosen) refl)
 
-    -- The fixed pairs with these oriented pairs are those at the level, and the direction to try.
-    graph_is : fixed ++ oriented undecided (take (level + 1) s.ways) ≡ (fixed ++ take level s.chosen) ++ p ∷ []
-    graph_is = ap (λ ds. fixed ++ ds) way_chosen ∙ sym (append_assoc fixed (take level s.chosen) (p ∷ []))
+    -- The preserved pairs with these oriented pairs are those at the level, and the direction to try.
+    graph_is : preserved ++ oriented unordered (take (level + 1) s.reversals) ≡ (preserved ++ take level s.chosen) ++ p ∷ []
+    graph_is = ap (λ ds. preserved ++ ds) reversal_chosen ∙ sym (append_assoc preserved (take level s.chosen) (p ∷ []))
 
     -- A direction that closes a cycle has no orders, so the search skips it.
-    pub from_ways-closing_cycle : reach s.saved level p.1 p.0 ≡ true
-        → from_ways len fixed undecided (take (level + 1) s.ways) ≡ after_ways len fixed undecided (take (level + 1) s.ways)
-    from_ways-closing_cycle back =
-        from-none len fixed undecided (take (level + 1) s.ways)
-        (omega (arith, length_take-ways s.ways undecided st.ways_long (level + 1) (omega (arith, below))))
-        (rw graph_is (All-push (IsWithin len) (fixed ++ take level s.chosen) p closure_at_level.within p_within))
-        (All-drop (IsAscendingPair len) (length (take (level + 1) s.ways)) undecided st.can.undecided_up)
+    pub from_reversals-closing_cycle : reach s.saved level p.1 p.0 ≡ true
+        → from_reversals len preserved unordered (take (level + 1) s.reversals)
+        ≡ after_reversals len preserved unordered (take (level + 1) s.reversals)
+    from_reversals-closing_cycle back =
+        from-none len preserved unordered (take (level + 1) s.reversals)
+        (omega (arith, length_take-reversals s.reversals unordered st.reversals_long (level + 1) (omega (arith, below))))
+        (rw graph_is (All-push (IsWithin len) (preserved ++ take level s.chosen) p closure_at_level.within p_within))
+        (All-drop (IsAscendingPair len) (length (take (level + 1) s.reversals)) unordered st.can.unordered_up)
         (λ o keeps. no_order o (rw graph_is at keeps))
       where
         -- The sets at this level are the closure of the pairs chosen before.
-        closure_at_level : IsAcyclicClosure len (fixed ++ take level s.chosen) (reach s.saved level)
+        closure_at_level : IsAcyclicClosure len (preserved ++ take level s.chosen) (reach s.saved level)
         closure_at_level = st.closed level (omega arith)
 
         -- No order respects the direction, since it closes a cycle.
-        no_order : (o : List ℕ) → Respects ((fixed ++ take level s.chosen) ++ p ∷ []) o → ⊥
+        no_order : (o : List ℕ) → Respects ((preserved ++ take level s.chosen) ++ p ∷ []) o → ⊥
         no_order o keeps =
-            let (graph, pair) = Respects-push_inv (fixed ++ take level s.chosen) p o keeps in
+            let (graph, pair) = Respects-push_inv (preserved ++ take level s.chosen) p o keeps in
             not-Before-if_cycle p.0 p.1 p_within.0 p_within.1 closure_at_level back o graph pair
 
     module _ {next : SearchState} (taken : IsTaken len p level s next) where
       -- After a direction that closes no cycle, the search is at the next pair.
-      pub IsSearchState-down : reach s.saved level p.1 p.0 ≡ false → IsSearchState len fixed undecided next (level + 1)
+      pub IsSearchState-down : reach s.saved level p.1 p.0 ≡ false → IsSearchState len preserved unordered next (level + 1)
       IsSearchState-down free = record {
         can = st.can;
-        ways_long = taken.long ∙ st.ways_long;
+        reversals_long = taken.long ∙ st.reversals_long;
         chosen_long = ap length taken.chosen ∙ (length-set s.chosen level p ∙ st.chosen_long);
         saved_long = ap length taken.saved ∙ (length-set s.saved (level + 1) (get_or next.saved (level + 1) []) ∙ st.saved_long);
         level_in = omega (arith, below);
-        ways_chosen = chosen_now ∙ (sym way_chosen ∙ ap (oriented undecided) (sym taken.before));
+        reversals_chosen = chosen_now ∙ (sym reversal_chosen ∙ ap (oriented unordered) (sym taken.before));
         closed = λ i li. elim (cases_eq i (level + 1)) [
           | inl q ↦
-              rw (q, chosen_now, ← append_assoc fixed (take level s.chosen) (p ∷ []))
+              rw (q, chosen_now, ← append_assoc preserved (take level s.chosen) (p ∷ []))
               (IsAcyclicClosure-more p.0 p.1 p_within.0 p_within.1 (st.closed level (omega arith)) free taken.reached)
           | inr n ↦
               (let was = ap (take i) taken.chosen ∙ take-set-le i s.chosen level p (omega arith) in
               let set_of =
               ap (λ xs. get_or xs i []) taken.saved
               ∙ get_or-set_other s.saved (level + 1) i (get_or next.saved (level + 1) []) [] n in
-              subst (λ xs. IsAcyclicClosure len (fixed ++ take i next.chosen) (reaches_in xs)) (sym set_of)
+              subst (λ xs. IsAcyclicClosure len (preserved ++ take i next.chosen) (reaches_in xs)) (sym set_of)
               (rw was (st.closed i (omega arith))))
         ];
       }
@@ -254,51 +265,52 @@ module _ {len : ℕ} {fixed undecided : List (ℕ × ℕ)} {s : SearchState} {le
           chosen_now : take (level + 1) next.chosen ≡ take level s.chosen ++ p ∷ []
           chosen_now = ap (take (level + 1)) taken.chosen ∙ take_more_set s.chosen level p (omega (arith, st.chosen_long, below))
 
-      -- The orders from these ways on are those from the ways at the next pair on.
-      pub from_ways-next_pair : from_ways len fixed undecided (take (level + 1) s.ways)
-          ≡ from_ways len fixed undecided (take (level + 1 + 1) next.ways)
-      from_ways-next_pair = elim (cases_lt (level + 1) (length undecided)) [
+      -- The orders from these reversals on are those from the reversals at the next pair on.
+      pub from_reversals-next_pair : from_reversals len preserved unordered (take (level + 1) s.reversals)
+          ≡ from_reversals len preserved unordered (take (level + 1 + 1) next.reversals)
+      from_reversals-next_pair = elim (cases_lt (level + 1) (length unordered)) [
         | inl l ↦
-            from-down len fixed undecided (take (level + 1) s.ways)
-            (omega (arith, length_take-ways s.ways undecided st.ways_long (level + 1) (omega arith)))
-            ∙ ap (from_ways len fixed undecided)
+            from-down len preserved unordered (take (level + 1) s.reversals)
+            (omega (arith, length_take-reversals s.reversals unordered st.reversals_long (level + 1) (omega arith)))
+            ∙ ap (from_reversals len preserved unordered)
             (ap (λ ws. ws ++ false ∷ []) (sym taken.before)
-            ∙ sym (take_ways-suc next.ways undecided (taken.long ∙ st.ways_long) (level + 1) false l taken.behind))
+            ∙ sym (take_reversals-suc next.reversals unordered (taken.long ∙ st.reversals_long) (level + 1) false l taken.behind))
         | inr g ↦
-            ap (from_ways len fixed undecided)
-            (sym (take_all (level + 1 + 1) next.ways (omega (arith, st.ways_long, taken.long))
-            ∙ (sym (take_all (level + 1) next.ways (omega (arith, st.ways_long, taken.long))) ∙ taken.before)))
+            ap (from_reversals len preserved unordered)
+            (sym (take_all (level + 1 + 1) next.reversals (omega (arith, st.reversals_long, taken.long))
+            ∙ (sym (take_all (level + 1) next.reversals (omega (arith, st.reversals_long, taken.long))) ∙ taken.before)))
       ]
 
     -- ---- the count of directions tried: at most one direction of a pair closes a cycle
-    not-both_close_cycle : reach s.saved level (get_or undecided level (0, 0)).1 (get_or undecided level (0, 0)).0 ≡ true
-        → reach s.saved level (get_or undecided level (0, 0)).0 (get_or undecided level (0, 0)).1 ≡ true
+    not-both_close_cycle : reach s.saved level (get_or unordered level (0, 0)).1 (get_or unordered level (0, 0)).0 ≡ true
+        → reach s.saved level (get_or unordered level (0, 0)).0 (get_or unordered level (0, 0)).1 ≡ true
         → ⊥
     not-both_close_cycle x y =
-        let (a, b) = st.can.undecided_up level (0, 0) below in
+        let (a, b) = st.can.unordered_up level (0, 0) below in
         omega (arith, closure-antisym (st.closed level (omega arith)) _ _ (omega arith) b y x)
 
-    module _ (tried : ℕ) (ph : Phase undecided s (Some level) tried) where
+    module _ (tried : ℕ) (ph : Phase unordered s (Some level) tried) where
       -- The count of tries is within its bound after a direction that closes a cycle is abandoned.
-      pub Phase-direction_abandoned : (way : Bool) (next : List Bool) (found : Option ℕ)
-          → get_or s.ways level false ≡ way
-          → reach s.saved level (reverse_if way (get_or undecided level (0, 0))).1
-          (reverse_if way (get_or undecided level (0, 0))).0
+      pub Phase-direction_abandoned : (reversed : Bool) (next : List Bool) (found : Option ℕ)
+          → get_or s.reversals level false ≡ reversed
+          → reach s.saved level (reverse_if reversed (get_or unordered level (0, 0))).1
+          (reverse_if reversed (get_or unordered level (0, 0))).0
           ≡ true
-          → TurnedLast s.ways next (level + 1) found
-          → Phase undecided (record { ways = next; chosen = s.chosen; saved = s.saved }) found (tried + 1)
+          → TurnedLast s.reversals next (level + 1) found
+          → Phase unordered (record { reversals = next; chosen = s.chosen; saved = s.saved }) found (tried + 1)
       Phase-direction_abandoned false next None e back (same, all) = cc (all level (omega arith))
       Phase-direction_abandoned true next None e back (same, all) =
           elim ph [ inl a ↦ omega (arith, a.1) | inr b ↦ absurd (not-both_close_cycle (b.1 e) back) ]
       Phase-direction_abandoned true next (Some i) e back (li, off, is, on) =
           let ne : i ≡ level → ⊥ = λ q. cc (e, off, q) in
           inl (
-            ap (λ ws. get_or ws i false) is ∙ get_or-set_same s.ways i true false (omega (arith, li, below, st.ways_long)),
+            ap (λ ws. get_or ws i false) is
+                ∙ get_or-set_same s.reversals i true false (omega (arith, li, below, st.reversals_long)),
             elim ph [ inl a ↦ omega (arith, a.1, li, ne) | inr b ↦ absurd (not-both_close_cycle (b.1 e) back) ],
           )
       Phase-direction_abandoned false next (Some i) e back (li, off, is, on) = elim (cases_eq i level) [
         | inl q ↦ inr (
-          rw (is, get_or-set_same s.ways i true false (omega (arith, li, below, st.ways_long)), q)
+          rw (is, get_or-set_same s.reversals i true false (omega (arith, li, below, st.reversals_long)), q)
               (elim ph [ inl a ↦ cc (a.0, e) | inr b ↦ omega (arith, rw e at b.0) ]),
           λ _. rw q back,
         )
@@ -307,31 +319,31 @@ module _ {len : ℕ} {fixed undecided : List (ℕ × ℕ)} {s : SearchState} {le
 
       -- The count of tries is within its bound after a direction is taken.
       pub Phase-next_pair : (next : SearchState)
-          → get_or next.ways (level + 1) false ≡ false
-          → Phase undecided next (Some (level + 1)) (tried + 1)
+          → get_or next.reversals (level + 1) false ≡ false
+          → Phase unordered next (Some (level + 1)) (tried + 1)
       Phase-next_pair next off =
           inr (rw off (elim ph [ inl a ↦ omega (arith, a.1) | inr b ↦ grind (arith, b.0) ]), λ t. cc (off, t))
 
   -- A call tries at most three directions for each unordered pair.
-  pub tries-le_three_per_pair : (tried : ℕ) → Phase undecided s (Some level) tried → tried ≤ 3 * length undecided
+  pub tries-le_three_per_pair : (tried : ℕ) → Phase unordered s (Some level) tried → tried ≤ 3 * length unordered
   tries-le_three_per_pair tried (inl a) = omega (arith, a.1)
-  tries-le_three_per_pair tried (inr b) = elim (cases_lt level (length undecided)) [
+  tries-le_three_per_pair tried (inr b) = elim (cases_lt level (length unordered)) [
     | inl lt ↦ grind (arith, b.0)
-    | inr ge ↦ omega (arith, rw (get_or_past s.ways level false (omega (arith, st.ways_long))) at b.0, st.level_in)
+    | inr ge ↦ omega (arith, rw (get_or_past s.reversals level false (omega (arith, st.reversals_long))) at b.0, st.level_in)
   ]
 
 -- ---- the start
 
 -- Before the first step all orders of the search remain.
-pub from_ways-start : (n : ℕ) (fixed undecided : List (ℕ × ℕ)) (ways : List Bool)
-    → length ways ≡ length undecided
-    → get_or ways 0 false ≡ false
-    → from_ways n fixed undecided (take (0 + 1) ways) ≡ search_from n fixed undecided
-from_ways-start n fixed [] [] long off = refl
-from_ways-start n fixed (p ∷ ps) [] long off = refl
-from_ways-start n fixed [] (w ∷ ways) long off = refl
-from_ways-start n fixed (p ∷ ps) (w ∷ ways) long off =
-    ap (λ v. from_ways n fixed (p ∷ ps) (v ∷ [])) off ∙ sym (from-down n fixed (p ∷ ps) [] (omega arith))
+pub from_reversals-start : (n : ℕ) (preserved unordered : List (ℕ × ℕ)) (reversals : List Bool)
+    → length reversals ≡ length unordered
+    → get_or reversals 0 false ≡ false
+    → from_reversals n preserved unordered (take (0 + 1) reversals) ≡ search_from n preserved unordered
+from_reversals-start n preserved [] [] long off = refl
+from_reversals-start n preserved (p ∷ ps) [] long off = refl
+from_reversals-start n preserved [] (w ∷ reversals) long off = refl
+from_reversals-start n preserved (p ∷ ps) (w ∷ reversals) long off =
+    ap (λ v. from_reversals n preserved (p ∷ ps) (v ∷ [])) off ∙ sym (from-down n preserved (p ∷ ps) [] (omega arith))
 
 -- If no pair is reversed, the first is not.
 pub get_or-replicate_false : (n : ℕ) → get_or (replicate n false) 0 false ≡ false
@@ -339,54 +351,55 @@ get_or-replicate_false zero = refl
 get_or-replicate_false (suc n) = refl
 
 -- At the start the search is at the first pair, and no pair is reversed.
-pub IsSearchState-start : {len : ℕ} {fixed undecided : List (ℕ × ℕ)} {s : SearchState} (sets : List ℕ) (k : ℕ)
-    → CanBeSearched len fixed undecided
-    → k ≡ length undecided
-    → s.ways ≡ replicate k false
-    → s.chosen ≡ undecided
+pub IsSearchState-start : {len : ℕ} {preserved unordered : List (ℕ × ℕ)} {s : SearchState} (sets : List ℕ) (k : ℕ)
+    → CanBeSearched len preserved unordered
+    → k ≡ length unordered
+    → s.reversals ≡ replicate k false
+    → s.chosen ≡ unordered
     → s.saved ≡ replicate (k + 1) sets
-    → Reaches len fixed (reaches_in sets)
-    → IsSearchState len fixed undecided s 0
-IsSearchState-start {len = len} {fixed = fixed} {undecided = undecided} {s = s} sets k can kl w c sv reaches = record {
+    → Reaches len preserved (reaches_in sets)
+    → IsSearchState len preserved unordered s 0
+IsSearchState-start {len = len} {preserved = preserved} {unordered = unordered} {s = s} sets k can kl w c sv reaches = record {
   can = can;
-  ways_long = ap length w ∙ (length-replicate k false ∙ kl);
+  reversals_long = ap length w ∙ (length-replicate k false ∙ kl);
   chosen_long = ap length c;
   saved_long = ap length sv ∙ (length-replicate (k + 1) sets ∙ ap (λ n. n + 1) kl);
   level_in = omega arith;
-  ways_chosen = sym (take-oriented 0 undecided s.ways);
+  reversals_chosen = sym (take-oriented 0 unordered s.reversals);
   closed = λ i li.
       (let e : i ≡ 0 = omega arith in
-      rw (e, append-nil fixed) (rw (← first_saved) at (IsAcyclicClosure-start can.fixed_up reaches)));
+      rw (e, append-nil preserved) (rw (← first_saved) at (IsAcyclicClosure-start can.preserved_up reaches)));
 }
   where
     -- The first of the saved sets are these.
     first_saved : get_or s.saved 0 [] ≡ sets
     first_saved = ap (λ xs. get_or xs 0 []) sv ∙ get_or-replicate (k + 1) 0 sets [] (omega arith)
 
--- How the code fills the tables of a search: with two copies of `sets`, the predecessors by the fixed pairs; and with the first `len` sets
--- of `all`, the neighbours by the fixed and the unordered pairs.
-pub record TablesAreMade (len : ℕ) (fixed undecided : List (ℕ × ℕ)) (tables : List (List ℕ))
+-- How the code fills the tables of a search: with two copies of `sets`, the predecessors by the preserved pairs; and with the first `len` sets
+-- of `all`, the neighbours by the preserved and the unordered pairs.
+pub record TablesAreMade (len : ℕ) (preserved unordered : List (ℕ × ℕ)) (tables : List (List ℕ))
     (neighbours sets all : List ℕ) : Type 0 where
   pub copies : tables ≡ replicate 2 sets
-  pub predecessors : ArePredecessors most_items fixed sets
+  pub predecessors : ArePredecessors most_items preserved sets
   pub first : neighbours ≡ take len all
   pub long : length neighbours ≡ len
-  pub fixed_are_edges : EdgesAreIn fixed all
-  pub unordered_are_neighbours : AreNeighbours undecided all
+  pub preserved_are_edges : EdgesAreIn preserved all
+  pub unordered_are_neighbours : AreNeighbours unordered all
 
 -- A search can start with tables that are filled so.
-pub Tabled-start : {len : ℕ} {fixed undecided : List (ℕ × ℕ)} {tables : List (List ℕ)} {neighbours : List ℕ} (sets all : List ℕ)
-    → CanBeSearched len fixed undecided
-    → TablesAreMade len fixed undecided tables neighbours sets all
-    → HasSearchTables len fixed undecided tables neighbours
+pub Tabled-start : {len : ℕ} {preserved unordered : List (ℕ × ℕ)} {tables : List (List ℕ)} {neighbours : List ℕ}
+    (sets all : List ℕ)
+    → CanBeSearched len preserved unordered
+    → TablesAreMade len preserved unordered tables neighbours sets all
+    → HasSearchTables len preserved unordered tables neighbours
 Tabled-start {len = len} {neighbours = neighbours} sets all can made = record {
   two = ap length made.copies;
   sets = rw made.copies made.predecessors;
   neighbours_long = omega (arith, made.long);
-  neighbours_fixed =
-      λ k d l. (let (a, b) = can.fixed_up k d l in same_reach _ _ (omega (arith, a, b)) ∙ made.fixed_are_edges k d l);
-  neighbours_open = λ k d l.
-      (let (a, b) = can.undecided_up k d l in
+  neighbours_preserved =
+      λ k d l. (let (a, b) = can.preserved_up k d l in same_reach _ _ (omega (arith, a, b)) ∙ made.preserved_are_edges k d l);
+  neighbours_unordered = λ k d l.
+      (let (a, b) = can.unordered_up k d l in
       let (there, back) = made.unordered_are_neighbours k d l in
       (same_reach _ _ (omega (arith, a, b)) ∙ there, same_reach _ _ b ∙ back));
 }

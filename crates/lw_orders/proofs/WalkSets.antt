@@ -13,20 +13,20 @@ use Rattle.lw_orders.proofs.Walks.{IsOrderedByPath-if_ordered, is_ordered-if_pat
 pub unordered_conflicts-by_sets : (t : Constraints)
     → IsWellFormed t
     → (sets : List ℕ)
-    → Reaches t.len t.fixed (reaches_in sets)
+    → Reaches t.len t.preserved (reaches_in sets)
     → filter (λ p. not (reaches_in sets p.0 p.1)) t.conflicts ≡ unordered_conflicts t
 unordered_conflicts-by_sets t are sets walks = filter_ordered-same t.conflicts are.conflicts_up
   where
     -- For each pair both tests have the same value.
     filter_ordered-same : (ps : List (ℕ × ℕ))
         → AreAscending t.len ps
-        → filter (λ p. not (reaches_in sets p.0 p.1)) ps ≡ filter (λ p. not (is_ordered t.fixed p)) ps
+        → filter (λ p. not (reaches_in sets p.0 p.1)) ps ≡ filter (λ p. not (is_ordered t.preserved p)) ps
     filter_ordered-same [] up = refl
     filter_ordered-same (p ∷ ps) up =
         let (a, b) = All-head (λ p. (p.0 < p.1) × (p.1 < t.len)) p ps up in
-        let same : reaches_in sets p.0 p.1 ≡ is_ordered t.fixed p =
+        let same : reaches_in sets p.0 p.1 ≡ is_ordered t.preserved p =
         same_from_decides _ _ (walks p.0 p.1 (omega (arith, a, b)) b)
-        (IsOrderedByPath-if_ordered t.fixed p, is_ordered-if_path t.len t.fixed p are.fixed_up) in
+        (IsOrderedByPath-if_ordered t.preserved p, is_ordered-if_path t.len t.preserved p are.preserved_up) in
         let rest = filter_ordered-same ps (All-tail (λ p. (p.0 < p.1) × (p.1 < t.len)) p ps up) in
         cc
 

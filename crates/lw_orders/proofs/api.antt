@@ -4,4 +4,4 @@ pub mod Indices
 pub mod SwapInvariance
 pub mod Complete
 pub mod Closure
-pub mod OpenPairs
+pub mod UnorderedPairs

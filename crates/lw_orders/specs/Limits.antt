@@ -6,9 +6,9 @@ abbrev pub most_items : ℕ
 most_items = 128
 
 -- The maximum number of unordered conflicts.
-abbrev pub most_open : ℕ
-most_open = 20
+abbrev pub most_unordered : ℕ
+most_unordered = 20
 
 -- The maximum number of orders: each unordered conflict has two orientations.
 abbrev pub most_orders : ℕ
-most_orders = 2 ^ most_open
+most_orders = 2 ^ most_unordered

@@ -13,11 +13,11 @@ reaches_within pairs (suc n) i j = (i == j) || list_any (λ p. (p.0 == i) && rea
 -- Tests whether the preserved pairs order a pair, by a search for paths. An ascending path to an item has at most as many steps as the
 -- item's number.
 abbrev pub is_ordered : List (ℕ × ℕ) → ℕ × ℕ → Bool
-is_ordered fixed p = reaches_within fixed p.1 p.0 p.1
+is_ordered preserved p = reaches_within preserved p.1 p.0 p.1
 
 -- The conflicts that the preserved pairs do not order.
 abbrev pub unordered_conflicts : Constraints → List (ℕ × ℕ)
-unordered_conflicts t = filter (λ p. not (is_ordered t.fixed p)) t.conflicts
+unordered_conflicts t = filter (λ p. not (is_ordered t.preserved p)) t.conflicts
 
 -- The number of orientations of the unordered conflicts.
 abbrev pub orientation_count : Constraints → ℕ

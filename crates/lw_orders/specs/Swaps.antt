@@ -4,7 +4,7 @@ use Rattle.lw_orders.specs.Order.{Constraints, IsLinearExtension}
 
 -- The two items are a preserved pair or a conflict, in either order.
 abbrev pub AreDependent : Constraints → ℕ → ℕ → Type 0
-AreDependent t i j = Contains (t.fixed ++ t.conflicts) (i, j) ⊎ Contains (t.fixed ++ t.conflicts) (j, i)
+AreDependent t i j = Contains (t.preserved ++ t.conflicts) (i, j) ⊎ Contains (t.preserved ++ t.conflicts) (j, i)
 
 -- The list ys is xs with two adjacent items that are not dependent swapped.
 pub record IsAdjacentSwap (Tied : ℕ → ℕ → Type 0) (xs ys : List ℕ) : Type 0 where

@@ -46,17 +46,17 @@ pub(crate) fn successors_of(pairs: &[(u8, u8)]) -> Successors
 }
 
 /// Returns the neighbours of each item: its successors along the preserved pairs, and the items with which it is in
-/// an undecided pair.
-pub(crate) fn neighbours_of(fixed: &[(u8, u8)], undecided: &[(u8, u8)]) -> SetOfEach
-    requires fixed { AreInRange most_items fixed.now }
-    requires undecided { AreInRange most_items undecided.now }
-    ensures fixed { EdgesAreIn fixed.now result }
-    ensures undecided { AreNeighbours undecided.now result }
+/// an unordered pair.
+pub(crate) fn neighbours_of(preserved: &[(u8, u8)], unordered: &[(u8, u8)]) -> SetOfEach
+    requires preserved { AreInRange most_items preserved.now }
+    requires unordered { AreInRange most_items unordered.now }
+    ensures preserved { EdgesAreIn preserved.now result }
+    ensures unordered { AreNeighbours unordered.now result }
 {
     let mut neighbours = [ItemSet::empty(); MAX_ITEMS];
-    add_reversed(&mut neighbours, fixed);
-    add_reversed(&mut neighbours, undecided);
-    add_pairs(&mut neighbours, undecided);
+    add_reversed(&mut neighbours, preserved);
+    add_reversed(&mut neighbours, unordered);
+    add_pairs(&mut neighbours, unordered);
     neighbours
 }
 
@@ -95,12 +95,12 @@ fn insert_into(sets: &mut SetOfEach, at: usize, item: usize)
 /// Fills the second table with the predecessors along the preserved and the chosen pairs. The first table, which is
 /// unchanged, has those along the preserved pairs.
 pub(crate) fn fill_next_predecessors(len: usize, tables: &mut [Predecessors], chosen: &[(u8, u8)])
-    requires few { len ≤ most_items }
+    requires bounded { len ≤ most_items }
     requires two { length tables.old ≡ 2 }
     requires chosen_within { AreInRange len chosen.now }
     ensures kept { slice_index_or tables.new 0 [] ≡ slice_index_or tables.old 0 [] }
-    ensures filled { (fixed : List (ℕ × ℕ)) → ArePredecessors most_items fixed (slice_index_or tables.old 0 [])
-        → ArePredecessors len (fixed ++ chosen.now) (slice_index_or tables.new 1 []) }
+    ensures filled { (preserved : List (ℕ × ℕ)) → ArePredecessors most_items preserved (slice_index_or tables.old 0 [])
+        → ArePredecessors len (preserved ++ chosen.now) (slice_index_or tables.new 1 []) }
 {
     let (before, room) = tables.split_at_mut(1);
     fill_predecessors(len, &before[0], &mut room[0], chosen);
@@ -114,9 +114,9 @@ fn fill_predecessors(
     sets: &mut Predecessors,
     chosen: &[(u8, u8)],
 )
-    requires few { len ≤ most_items }
+    requires bounded { len ≤ most_items }
     requires chosen_within { AreInRange len chosen.now }
-    ensures { (fixed : List (ℕ × ℕ)) → ArePredecessors most_items fixed before.now → ArePredecessors len (fixed ++ chosen.now) sets.new }
+    ensures { (preserved : List (ℕ × ℕ)) → ArePredecessors most_items preserved before.now → ArePredecessors len (preserved ++ chosen.now) sets.new }
 {
     sets[..len].copy_from_slice(&before[..len]);
     add_pairs(sets, chosen);

@@ -26,7 +26,7 @@ pub fn trace_equivalent_orders_agree()
 /// States, for readers, that a pair is ordered if and only if a path of preserved pairs leads from its first item to
 /// its second.
 pub fn paths_order_pairs()
-    ensures { (t : Constraints) → IsWellFormed t → (p : ℕ × ℕ) → IsTrue (is_ordered t.fixed p) ↔ IsOrderedByPath t.fixed p }
+    ensures { (t : Constraints) → IsWellFormed t → (p : ℕ × ℕ) → IsTrue (is_ordered t.preserved p) ↔ IsOrderedByPath t.preserved p }
 {}
 
 /// States, for readers, that the computed unordered conflicts are those that no path orders, and that the number of
@@ -45,7 +45,7 @@ pub fn orders_are_complete()
 {}
 
 /// States that there is one order if no conflict is unordered: the items in ascending order.
-pub fn one_order_without_open_conflicts()
+pub fn one_order_without_unordered_conflicts()
     ensures { (t : Constraints) → IsWellFormed t → unordered_conflicts t ≡ [] → orders t ≡ indices 0 t.len ∷ [] }
 {}
 

@@ -34,10 +34,10 @@ mod reach;
 
 pub use items::{Items, count};
 pub use laws::{
-    one_order_without_open_conflicts, orders_are_complete, orders_are_permutations,
+    one_order_without_unordered_conflicts, orders_are_complete, orders_are_permutations,
     orientations_are_counted, paths_order_pairs, trace_equivalent_orders_agree,
     trace_equivalent_orders_are_connected,
 };
-pub use limits::{MAX_ITEMS, MAX_OPEN, MAX_ORDERS, the_constants_are_the_limits};
+pub use limits::{MAX_ITEMS, MAX_ORDERS, MAX_UNORDERED, the_constants_are_the_limits};
 pub use order::Order;
 pub use orders::Orders;

@@ -40,11 +40,11 @@ pub use Rattle.lw_litmus.specs.declared.operation.Operation.{Operation}
 pub use Rattle.lw_litmus.specs.declared.operation.Operation.TheVariants.{Branch}
 pub use Rattle.lw_orders.proofs.Common.{AreAscending, AreSorted, Before, Constraints, IsLinearExtension}
 pub use Rattle.lw_orders.proofs.Common.{IsOrderedByPath, IsWellFormed, Respects, indices, is_ordered}
-pub use Rattle.lw_orders.proofs.Common.{most_items, most_open, most_orders, orientation_count}
+pub use Rattle.lw_orders.proofs.Common.{most_items, most_orders, most_unordered, orientation_count}
 pub use Rattle.lw_orders.proofs.api.Closure.{IsOrderedByPath-along, Leads, Leads-trans, LeadsAlong-refl}
 pub use Rattle.lw_orders.proofs.api.Closure.{orientation_count-same_closure}
 pub use Rattle.lw_orders.proofs.api.Complete.{All-parts}
-pub use Rattle.lw_orders.proofs.api.OpenPairs.{HasOrientationCount-computed, HasOrientationCount-unique}
+pub use Rattle.lw_orders.proofs.api.UnorderedPairs.{HasOrientationCount-computed, HasOrientationCount-unique}
 pub use Rattle.lw_paths.specs.ChoiceLists.{next_and_target, path_assignments, paths_from, paths_of}
 pub use Rattle.lw_paths.specs.ChoiceLists.{paths_through, successor_list, successors}
 pub use Rattle.lw_paths.specs.Choices.{IsPathAssignment, JumpsForward}
@@ -56,8 +56,8 @@ pub use Rattle.lw_paths.specs.Items.{needs_earlier_drains, pairs_from, path_item
 pub use Rattle.lw_paths.specs.Items.{statement_needs_empty_buffer, statement_of, writes_by}
 pub use Rattle.lw_paths.specs.Totals.{LimitFaultOfChoice, LimitFaultOfChoices, TellsOfGiven, orders_at_choice}
 pub use Rattle.lw_paths.specs.Totals.{orders_of, total_of}
-pub use Rattle.lw_paths.specs.TransitiveReduction.{edge_from, fixed_at, fixed_from, last_of_thread}
-pub use Rattle.lw_paths.specs.TransitiveReduction.{none_before, record_last, transitive_reduction}
+pub use Rattle.lw_paths.specs.TransitiveReduction.{edge_from, last_of_thread, none_before, record_last}
+pub use Rattle.lw_paths.specs.TransitiveReduction.{reduced_at, reduced_from, transitive_reduction}
 pub use Rattle.lw_paths.specs.Views.{choice_of, path_of}
 pub use Rattle.lw_paths.specs.Visits.{CanExtendPath, IsVisitable, VisitFails, VisitsAll, choices_along}
 pub use Rattle.lw_paths.specs.Visits.{paths_at}

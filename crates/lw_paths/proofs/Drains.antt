@@ -1,13 +1,13 @@
 -- Among the items of a path assignment each drain comes immediately after its store. So in an ascending list
--- of items a store and its drain are neighbours, which `api/FixedOrder` uses.
+-- of items a store and its drain are neighbours, which `api/PreservedOrder` uses.
 use Rattle.lw_paths.proofs.Common.{◌≡◌, ℕ, zero, suc, ◌<◌, true, false, true≢false, List, [], ◌∷◌, ◌++◌}
 use Rattle.lw_paths.proofs.Common.{length, Option, Some, None, refl, sym, arith, slice_get, option_map_or}
 use Rattle.lw_paths.proofs.Common.{Item, Language, drained_location, item_at, items_at, path_items}
 use Rattle.lw_paths.proofs.Common.{items_from, items_of}
 use Rattle.lw_paths.proofs.api.Numbering.{item}
 
--- Item a is the store whose entry item b drains.
-pub record IsStoreOf (a b : Item) : Type 0 where
+-- Item a is the statement at the thread and the position of item b.
+pub record IsStatementOf (a b : Item) : Type 0 where
   pub thread : a.thread ≡ b.thread
   pub position : a.position ≡ b.position
   pub statement : a.is_drain ≡ false
@@ -15,7 +15,7 @@ pub record IsStoreOf (a b : Item) : Type 0 where
 -- In the items that follow a, each drain comes immediately after its store.
 abbrev DrainsFollowStores : Item → List Item → Type 0
 DrainsFollowStores a [] = Unit {0}
-DrainsFollowStores a (b ∷ items) = (b.is_drain ≡ true → IsStoreOf a b) × DrainsFollowStores b items
+DrainsFollowStores a (b ∷ items) = (b.is_drain ≡ true → IsStatementOf a b) × DrainsFollowStores b items
 
 -- The property of `DrainsFollowStores` holds of a concatenation, if the second list does not start with a drain.
 DrainsFollowStores-append : (a : Item) (xs ys : List Item)
@@ -32,7 +32,7 @@ DrainsFollowStores-at : (a : Item) (items : List Item)
     → (j : ℕ)
     → j < length items
     → (item_at items j).is_drain ≡ true
-    → IsStoreOf (item_at (a ∷ items) j) (item_at items j)
+    → IsStatementOf (item_at (a ∷ items) j) (item_at items j)
 DrainsFollowStores-at a [] follow j in_range d = absurd (omega arith)
 DrainsFollowStores-at a (b ∷ items) follow zero in_range d = follow.0 d
 DrainsFollowStores-at a (b ∷ items) follow (suc j) in_range d = DrainsFollowStores-at b items follow.1 j (omega arith) d
@@ -71,16 +71,16 @@ module _ {S : Type 0} (language : Language S) where
     at i = item_at (items_of language program paths) i
 
     -- The item immediately before a drain is its store.
-    pub IsStoreOf-before_drain : (j : ℕ)
+    pub IsStatementOf-before_drain : (j : ℕ)
         → j < length (items_of language program paths)
         → (at j).is_drain ≡ true
-        → (i : ℕ) × (j ≡ suc i) × IsStoreOf (at i) (at j)
-    IsStoreOf-before_drain zero in_range d =
+        → (i : ℕ) × (j ≡ suc i) × IsStatementOf (at i) (at j)
+    IsStatementOf-before_drain zero in_range d =
         let store =
         DrainsFollowStores-at (item 0 0 true) (items_of language program paths)
         (DrainsFollowStores-program 0 program paths (item 0 0 true)) 0 in_range d in
         absurd (true≢false store.statement)
-    IsStoreOf-before_drain (suc i) in_range d = (
+    IsStatementOf-before_drain (suc i) in_range d = (
       i,
       refl,
       DrainsFollowStores-at (item 0 0 true) (items_of language program paths)

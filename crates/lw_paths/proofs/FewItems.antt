@@ -61,6 +61,6 @@ not-HasTooManyItems-source s well_formed (paths, choice, many) = omega (
   arith,
   length-items_from_le source_language (λ s. refl) (length s.head.locs) (omega arith) 0 s.threads paths well_formed.code choice,
   many,
-  well_formed.head.few,
+  well_formed.head.bounded,
   well_formed.as_many,
 )

@@ -8,10 +8,10 @@ use Rattle.lw_paths.proofs.Common.{mul-le-mul, pow_mono, pow-add, one-le-pow, ca
 use Rattle.lw_paths.proofs.Common.{length-map, get_or_past, sum_by-cons, AllPass-from_list_all, drop-nil}
 use Rattle.lw_paths.proofs.Common.{All-head, All-tail, slice_get_within, get_or_from_slice_get, thread_code}
 use Rattle.lw_paths.proofs.Common.{is_same_location, Language, branch_target, falls_through, location_of}
-use Rattle.lw_paths.proofs.Common.{most_open, most_orders, Item, JumpsForward, successor_list, successors}
-use Rattle.lw_paths.proofs.Common.{paths_through, paths_from, paths_of, path_assignments, orders_at_choice}
-use Rattle.lw_paths.proofs.Common.{orders_of, total_of, is_drained, location_by, writes_by, conflict_by}
-use Rattle.lw_paths.proofs.Common.{items_conflict, statement_of, items_of, item_at, pairs_from}
+use Rattle.lw_paths.proofs.Common.{most_unordered, most_orders, Item, JumpsForward, successor_list}
+use Rattle.lw_paths.proofs.Common.{successors, paths_through, paths_from, paths_of, path_assignments}
+use Rattle.lw_paths.proofs.Common.{orders_at_choice, orders_of, total_of, is_drained, location_by, writes_by}
+use Rattle.lw_paths.proofs.Common.{conflict_by, items_conflict, statement_of, items_of, item_at, pairs_from}
 use Rattle.lw_paths.proofs.Common.{constraints_of, branches, code_has_no_access, has_no_access}
 
 -- If each element's list has at most m elements, the concatenation has at most m for each element.
@@ -205,7 +205,7 @@ module _ {S : Type 0} (language : Language S) where
 
     -- If no statement accesses a location, and there are few branches, the total is within the limit of orders.
     pub total_of-le_most_orders : All (JumpsForward language) program
-        → sum_by (branches language) program ≤ most_open
+        → sum_by (branches language) program ≤ most_unordered
         → total_of language program ≤ most_orders
     total_of-le_most_orders forward few = omega (
       arith,

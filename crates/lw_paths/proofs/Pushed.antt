@@ -5,14 +5,14 @@ use Rattle.lw_paths.proofs.Common.{Bool, false, ◌||◌, List, [], ◌∷◌, �
 use Rattle.lw_paths.proofs.Common.{slice_get, Option, Some, None, SomeIff, refl, sym, ◌∙◌, ◌^◌, arith, IsSome}
 use Rattle.lw_paths.proofs.Common.{if◌then◌else◌, filter, not, append_assoc, append-nil, Constraints}
 use Rattle.lw_paths.proofs.Common.{orientation_count, is_ordered, drop_more, Item, LastItems, Language}
-use Rattle.lw_paths.proofs.Common.{edge_from, fixed_at, record_last, last_of_thread, items_at, path_items}
-use Rattle.lw_paths.proofs.Common.{items_from, needs_earlier_drains, fixed_from}
+use Rattle.lw_paths.proofs.Common.{edge_from, reduced_at, record_last, last_of_thread, items_at, path_items}
+use Rattle.lw_paths.proofs.Common.{items_from, needs_earlier_drains, reduced_from}
 
 -- The pairs pushed for an item are its reduced pairs.
-fixed_at-as_pushed : (d w : Bool) (last : LastItems) (n : ℕ)
-    → edge_from last.statement n ++ (if d || w then edge_from last.drain n else []) ≡ fixed_at d w last n
-fixed_at-as_pushed false false last n = append-nil (edge_from last.statement n)
-fixed_at-as_pushed _ _ last n = refl
+reduced_at-as_pushed : (d w : Bool) (last : LastItems) (n : ℕ)
+    → edge_from last.statement n ++ (if d || w then edge_from last.drain n else []) ≡ reduced_at d w last n
+reduced_at-as_pushed false false last n = append-nil (edge_from last.statement n)
+reduced_at-as_pushed _ _ last n = refl
 
 -- A property holds after a failure if it holds in every case.
 pub OnErr-always : {T E P : Type 0} (r : Result T E) → P → OnErr r P
@@ -70,7 +70,7 @@ module _ {S : Type 0} (language : Language S) where
         rw (n, append_assoc, plus) (rw (drop_more program t code lp, drop_more paths t path lq, ← ec, ← ep, plus) at h)
 
   -- Pushing the reduced pairs of item n preserves that `whole` is the pairs listed and those of the later items.
-  pub fixed_from-push : {last next : LastItems} {a : Item} {waits : Bool} {new whole : List (ℕ × ℕ)} (program : List (List S))
+  pub reduced_from-push : {last next : LastItems} {a : Item} {waits : Bool} {new whole : List (ℕ × ℕ)} (program : List (List S))
       (items : List Item) (n t : ℕ) (before : LastItems) (old : List (ℕ × ℕ))
       → n < length items
       → a ≡ get_or items n a
@@ -78,13 +78,13 @@ module _ {S : Type 0} (language : Language S) where
       → last ≡ last_of_thread t a.thread before
       → next ≡ record_last a.is_drain last n
       → new ≡ old ++ edge_from last.statement n ++ (if waits then edge_from last.drain n else [])
-      → old ++ fixed_from language program n t before (drop n items) ≡ whole
-      → new ++ fixed_from language program (n + 1) a.thread next (drop (n + 1) items) ≡ whole
-  fixed_from-push {last = last} {a = a} {waits = waits} program items n t before old in_range ea ew el en is h =
+      → old ++ reduced_from language program n t before (drop n items) ≡ whole
+      → new ++ reduced_from language program (n + 1) a.thread next (drop (n + 1) items) ≡ whole
+  reduced_from-push {last = last} {a = a} {waits = waits} program items n t before old in_range ea ew el en is h =
       let plus : n + 1 ≡ suc n = omega arith in
       let here : edge_from last.statement n ++ (if waits then edge_from last.drain n else [])
-      ≡ fixed_at a.is_drain (needs_earlier_drains language program a) (last_of_thread t a.thread before) n =
-      rw (← el, ew) (fixed_at-as_pushed _ _ last n) in
+      ≡ reduced_at a.is_drain (needs_earlier_drains language program a) (last_of_thread t a.thread before) n =
+      rw (← el, ew) (reduced_at-as_pushed _ _ last n) in
       rw (
         is,
         append_assoc old (edge_from last.statement n) (if waits then edge_from last.drain n else []),
@@ -102,6 +102,6 @@ orientation_count-no_conflicts t none = one-without_pairs t.conflicts none
     -- No pair is left to be chosen.
     one-without_pairs : (pairs : List (ℕ × ℕ))
         → length pairs ≡ 0
-        → 1 ≡ 2 ^ length (filter (λ p. not (is_ordered t.fixed p)) pairs)
+        → 1 ≡ 2 ^ length (filter (λ p. not (is_ordered t.preserved p)) pairs)
     one-without_pairs [] e = refl
     one-without_pairs (p ∷ pairs) e = absurd (omega (arith, e))

@@ -25,9 +25,13 @@ IsMost-two f xs a b m are first second reached =
       | inr in_tail ↦ omega (arith, ap f (Contains-singleton b x in_tail), second)
     ] in
     rw are (elim reached [
-      | inl e ↦ record { none_more = more; one = a; is_one = Contains-head a a (b ∷ []) refl; reached = sym e }
-      | inr e ↦
-          record { none_more = more; one = b; is_one = Contains-tail a b (b ∷ []) (Contains-head b b [] refl); reached = sym e }
+      | inl e ↦ record { none_more = more; element = a; is_element = Contains-head a a (b ∷ []) refl; reached = sym e }
+      | inr e ↦ record {
+        none_more = more;
+        element = b;
+        is_element = Contains-tail a b (b ∷ []) (Contains-head b b [] refl);
+        reached = sym e;
+      }
     ])
 
 -- A list of a first position and an optional second one contains the first.
@@ -66,7 +70,7 @@ module _ {S : Type 0} {language : Language S} {code : List S} where
   -- At the end of the code the maximum is 0.
   IsKnown-end : IsKnown language code (length code) 0
   IsKnown-end = record {
-    is_most = record { none_more = size-at_end; one = []; is_one = refl; reached = refl };
+    is_most = record { none_more = size-at_end; element = []; is_element = refl; reached = refl };
     at_most_two_each = omega arith;
   }
     where
@@ -88,22 +92,27 @@ module _ {S : Type 0} {language : Language S} {code : List S} where
     -- The maximum at the statement is its size plus the largest maximum of its successors.
     IsKnown-statement : IsKnown language code at (statement_size language s + behind)
     IsKnown-statement =
-        let rest = (IsKnown-successor largest.one largest.is_one).is_most in
+        let rest = (IsKnown-successor largest.element largest.is_element).is_most in
         record {
           is_most = record {
             none_more = size-at_statement;
-            one = at ∷ rest.one;
-            is_one = (refl, largest.one, successors-only language _ s at largest.one statement_at largest.is_one, rest.is_one);
+            element = at ∷ rest.element;
+            is_element = (
+              refl,
+              largest.element,
+              successors-only language _ s at largest.element statement_at largest.is_element,
+              rest.is_element,
+            );
             reached =
-                path_size-cons language code at rest.one s statement_at
+                path_size-cons language code at rest.element s statement_at
                 ∙ ap (λ n. statement_size language s + n) (rest.reached ∙ largest.reached);
           };
           at_most_two_each = omega (
             arith,
-            (IsKnown-successor largest.one largest.is_one).at_most_two_each,
+            (IsKnown-successor largest.element largest.is_element).at_most_two_each,
             largest.reached,
             statement_size-le_two language s,
-            (successors-in_range language code at largest.one s forward statement_at largest.is_one).0,
+            (successors-in_range language code at largest.element s forward statement_at largest.is_element).0,
           );
         }
       where
@@ -206,9 +215,9 @@ module _ {S : Type 0} (language : Language S) where
       → IsMost (IsPathAssignment language program) (items_at_choice language program) (m + n)
   IsMost-more_threads program code others m n are first rest = rw are (record {
     none_more = size-of_choice;
-    one = first.one ∷ rest.one;
-    is_one = (first.is_one, rest.is_one);
-    reached = items_at_choice-cons code others first.one rest.one ∙ ap₂ (λ a b. a + b) first.reached rest.reached;
+    element = first.element ∷ rest.element;
+    is_element = (first.is_element, rest.is_element);
+    reached = items_at_choice-cons code others first.element rest.element ∙ ap₂ (λ a b. a + b) first.reached rest.reached;
   })
     where
       -- A choice has a path of the first thread, and a choice of the others.
@@ -223,7 +232,7 @@ module _ {S : Type 0} (language : Language S) where
   pub IsMost-no_threads : (program : List (List S))
       → length program ≡ 0
       → IsMost (IsPathAssignment language program) (items_at_choice language program) 0
-  IsMost-no_threads [] none = record { none_more = items_at_choice-no_threads; one = []; is_one = tt; reached = refl }
+  IsMost-no_threads [] none = record { none_more = items_at_choice-no_threads; element = []; is_element = tt; reached = refl }
     where
       -- A choice for no threads has no item.
       items_at_choice-no_threads : (paths : List (List ℕ))
@@ -244,7 +253,7 @@ module _ {S : Type 0} (language : Language S) where
     visitable_rest =
         let all = rw are at visitable in (
           record {
-            few = omega (arith, all.few);
+            bounded = omega (arith, all.bounded);
             short = λ k d lt. all.short (suc k) d (omega (arith, lt));
             forward = λ k d lt. all.forward (suc k) d (omega (arith, lt));
           },

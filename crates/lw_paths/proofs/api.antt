@@ -5,8 +5,8 @@ pub mod Enumerated
 pub mod Visitable
 pub mod PairRanges
 pub mod Numbering
-pub mod FixedPairs
-pub mod FixedOrder
+pub mod PreservedPairs
+pub mod PreservedOrder
 pub mod ReducedPairs
 pub mod Reduced
 pub mod Mutual

@@ -26,7 +26,7 @@ module _ {S : Type 0} (language : Language S) (program : List (List S)) where
   -- The number n is the sum of the order counts of all path assignments, each counted once.
   pub record IsTotalOrderCount (n : ℕ) : Type 0 where
     pub choices : List (List (List ℕ))
-    pub all : (paths : List (List ℕ)) → Contains choices paths ↔ IsPathAssignment language program paths
+    pub exactly : (paths : List (List ℕ)) → Contains choices paths ↔ IsPathAssignment language program paths
     pub without_duplicates : IsDuplicateFree choices
     pub orders : HaveOrderCounts choices n
 

@@ -113,6 +113,6 @@ module _ {S : Type 0} (language : Language S) where
   abbrev pub constraints_of : List (List S) → List Item → Constraints
   constraints_of program items = record {
     len = length items;
-    fixed = filter (λ (p : ℕ × ℕ). is_preserved program (item_at items p.0) (item_at items p.1)) (pairs_from 0 (length items));
+    preserved = filter (λ (p : ℕ × ℕ). is_preserved program (item_at items p.0) (item_at items p.1)) (pairs_from 0 (length items));
     conflicts = filter (λ (p : ℕ × ℕ). items_conflict program (item_at items p.0) (item_at items p.1)) (pairs_from 0 (length items));
   }

@@ -18,10 +18,10 @@ edge_from (Some m) n = (m, n) ∷ []
 
 -- The pairs of the item with number n and its direct predecessors: the statement before it; for a drain (whose own statement is the last
 -- one) and for a statement that needs earlier drains, the last drain too.
-abbrev pub fixed_at : Bool → Bool → LastItems → ℕ → List (ℕ × ℕ)
-fixed_at true statement_waits last n = edge_from last.statement n ++ edge_from last.drain n
-fixed_at false true last n = edge_from last.statement n ++ edge_from last.drain n
-fixed_at false false last n = edge_from last.statement n
+abbrev pub reduced_at : Bool → Bool → LastItems → ℕ → List (ℕ × ℕ)
+reduced_at true statement_waits last n = edge_from last.statement n ++ edge_from last.drain n
+reduced_at false true last n = edge_from last.statement n ++ edge_from last.drain n
+reduced_at false false last n = edge_from last.statement n
 
 -- The last items of a thread after its item n, which becomes the last drain (true) or the last statement.
 abbrev pub record_last : Bool → LastItems → ℕ → LastItems
@@ -34,16 +34,16 @@ last_of_thread t u last = if t == u then last else none_before
 
 module _ {S : Type 0} (language : Language S) where
   -- The reduced pairs of the items from number n on, after an item of thread t.
-  abbrev pub fixed_from : List (List S) → ℕ → ℕ → LastItems → List Item → List (ℕ × ℕ)
-  fixed_from program n t last [] = []
-  fixed_from program n t last (a ∷ items) =
-      fixed_at a.is_drain (needs_earlier_drains language program a) (last_of_thread t a.thread last) n
-      ++ fixed_from program (suc n) a.thread (record_last a.is_drain (last_of_thread t a.thread last) n) items
+  abbrev pub reduced_from : List (List S) → ℕ → ℕ → LastItems → List Item → List (ℕ × ℕ)
+  reduced_from program n t last [] = []
+  reduced_from program n t last (a ∷ items) =
+      reduced_at a.is_drain (needs_earlier_drains language program a) (last_of_thread t a.thread last) n
+      ++ reduced_from program (suc n) a.thread (record_last a.is_drain (last_of_thread t a.thread last) n) items
 
   -- The items, with the transitive reduction of their preserved pairs, and their conflicts.
   abbrev pub transitive_reduction : List (List S) → List Item → Constraints
   transitive_reduction program items = record {
     len = length items;
-    fixed = fixed_from program 0 0 none_before items;
+    preserved = reduced_from program 0 0 none_before items;
     conflicts = (constraints_of language program items).conflicts;
   }

@@ -1,4 +1,4 @@
--- The paths in an array of fixed size.
+-- The paths in an array of preserved size.
 use Rattle.std.specs.Prelude.{ℕ, List, map, take}
 use Rattle.lw_paths.specs.declared.path.Path.{Path}
 use Rattle.lw_paths.specs.declared.path.PathAssignment.{PathAssignment}

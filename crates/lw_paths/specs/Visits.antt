@@ -22,7 +22,7 @@ module _ {S : Type 0} (language : Language S) where
   -- The program's path assignments have room: it has no more threads, and no longer ones, than a test can have, and jumps lead forward, at
   -- most to the end.
   pub record IsVisitable (program : List (List S)) : Type 0 where
-    pub few : length program ≤ most_threads
+    pub bounded : length program ≤ most_threads
     pub short : All (λ code. length code ≤ most_instructions) program
     pub forward : All (JumpsForward language) program
 

@@ -13,7 +13,7 @@ use crate::fault::ListFault;
 use crate::item::Item;
 use crate::items::fill_items;
 use crate::path::PathAssignment;
-use crate::preserved_order::preserved_pairs;
+use crate::preserved_order::reduced_pairs;
 use crate::visit::Visitor;
 use lw_base::Sequence;
 use lw_litmus::Statement;
@@ -28,7 +28,7 @@ pub fn fill_few_items<S: Statement, A: Allocator, B: Allocator>(
     items: &mut Vec<Item, A>,
 ) -> Result<(), ListFault>
     ensures ok { OnOk result (items.new.items ≡ items_of S.language program.now (choice_of choice.now)) }
-    ensures few { OnOk result (length items.new.items ≤ most_items) }
+    ensures bounded { OnOk result (length items.new.items ≤ most_items) }
     ensures err { IfErr result (LimitFaultOfItems S.language program.now (choice_of choice.now)) }
     ensures left { OnErr result ((filled : ℕ) × (items.new.items ≡ take filled (items_of S.language program.now (choice_of choice.now)))) }
 {
@@ -47,12 +47,12 @@ pub fn reduced_constraints<S: Statement, A: Allocator, B: Allocator>(
     items: &[Item],
     conflicts: Vec<(u8, u8), A>,
 ) -> Result<Items<A>, AllocError>
-    requires few { length items.now ≤ most_items }
+    requires bounded { length items.now ≤ most_items }
     requires conflicts { conflicts.items ≡ (constraints_of S.language program.now items.now).conflicts }
     ensures { IfOk result (λ t. t ≡ transitive_reduction S.language program.now items.now) }
 {
-    let fixed = preserved_pairs(alloc, program, items)?;
-    Ok(Items::new(items.len(), fixed, conflicts))
+    let preserved = reduced_pairs(alloc, program, items)?;
+    Ok(Items::new(items.len(), preserved, conflicts))
 }
 
 /// Returns the number of orders of a path assignment's items, or `None` above the limit. If nothing conflicts there
@@ -62,7 +62,7 @@ fn count_orders<S: Statement, A: Allocator + Copy, B: Allocator>(
     program: &[Sequence<S, B>],
     items: &[Item],
 ) -> Result<Option<u64>, AllocError>
-    requires few { length items.now ≤ most_items }
+    requires bounded { length items.now ≤ most_items }
     requires of_choice { (paths : List (List ℕ)) × (items.now ≡ items_of S.language program.now paths) }
     ensures { IfOk result (λ c. MatchOption c
         (most_orders < orientation_count (constraints_of S.language program.now items.now))

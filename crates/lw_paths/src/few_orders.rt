@@ -1,7 +1,7 @@
 //! A quick test for few orders, without a visit of all path assignments.
 ghost use Rattle.std.specs.Prelude.{◌≡◌, ◌≤◌, true, List, []};
 ghost use Rattle.std.specs.List.{sum_by};
-ghost use Rattle.lw_orders.specs.Limits.{most_open, most_orders};
+ghost use Rattle.lw_orders.specs.Limits.{most_unordered, most_orders};
 ghost use Rattle.lw_paths.specs.Totals.{total_of};
 ghost use Rattle.lw_paths.specs.Items.{constraints_of};
 ghost use Rattle.lw_paths.specs.declared.item.Item.{Item};
@@ -10,12 +10,12 @@ ghost use Rattle.lw_paths.specs.inner.Few.{branches, code_has_no_access as silen
 
 use lw_base::Sequence;
 use lw_litmus::Statement;
-use lw_orders::MAX_OPEN;
+use lw_orders::MAX_UNORDERED;
 use std::alloc::Allocator;
 
 /// The maximum number of branches of a program that is known to have few path assignments: there are at most 2 to
 /// this power.
-const MAX_BRANCHES: usize = MAX_OPEN;
+const MAX_BRANCHES: usize = MAX_UNORDERED;
 
 /// Returns the number of branches of a thread.
 fn count_branches<S: Statement, A: Allocator>(code: &Sequence<S, A>) -> usize
@@ -52,7 +52,7 @@ pub fn has_no_conflicts<S: Statement, A: Allocator>(program: &[Sequence<S, A>]) 
 
 /// Returns whether a program has few enough branches to have few path assignments.
 fn has_few_branches<S: Statement, A: Allocator>(program: &[Sequence<S, A>]) -> bool
-    ensures { result ≡ true → sum_by (branches S.language) program.now ≤ most_open }
+    ensures { result ≡ true → sum_by (branches S.language) program.now ≤ most_unordered }
 {
     let mut room = MAX_BRANCHES;
     for code in program {

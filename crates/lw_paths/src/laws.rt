@@ -21,7 +21,7 @@ use lw_litmus::Statement;
 /// States that the list of path assignments of a program has each of them once, and nothing else, if jumps lead
 /// forward, at most to the end.
 pub fn path_assignments_are_complete<S: Statement>()
-    ensures all { (program : List (List S)) (paths : List (List ℕ)) → All (JumpsForward S.language) program
+    ensures complete { (program : List (List S)) (paths : List (List ℕ)) → All (JumpsForward S.language) program
         → Contains (path_assignments S.language program) paths ↔ IsPathAssignment S.language program paths }
     ensures once { (program : List (List S)) → All (JumpsForward S.language) program → IsDuplicateFree (path_assignments S.language program) }
 {}
@@ -33,8 +33,8 @@ pub fn transitive_reduction_is_equivalent<S: Statement>()
         → IsLinearExtension (transitive_reduction S.language program (items_of S.language program paths)) order
         ↔ IsLinearExtension (constraints_of S.language program (items_of S.language program paths)) order }
     ensures ordered { (program : List (List S)) (paths : List (List ℕ)) (p : ℕ × ℕ)
-        → IsOrderedByPath (transitive_reduction S.language program (items_of S.language program paths)).fixed p
-        ↔ IsOrderedByPath (constraints_of S.language program (items_of S.language program paths)).fixed p }
+        → IsOrderedByPath (transitive_reduction S.language program (items_of S.language program paths)).preserved p
+        ↔ IsOrderedByPath (constraints_of S.language program (items_of S.language program paths)).preserved p }
     ensures orientations { (program : List (List S)) (paths : List (List ℕ))
         → orientation_count (transitive_reduction S.language program (items_of S.language program paths))
         ≡ orientation_count (constraints_of S.language program (items_of S.language program paths)) }
@@ -45,7 +45,7 @@ pub fn transitive_reduction_is_equivalent<S: Statement>()
 pub fn totals_are_counted<S: Statement>()
     ensures counted { (program : List (List S)) → All (JumpsForward S.language) program
         → IsTotalOrderCount S.language program (total_of S.language program) }
-    ensures one { (program : List (List S)) (n m : ℕ)
+    ensures unique { (program : List (List S)) (n m : ℕ)
         → IsTotalOrderCount S.language program n → IsTotalOrderCount S.language program m → n ≡ m }
     ensures apart { (program : List (List S)) (f : ListFault) → f ≢ Memory
         → LimitFaultIsTrue S.language program f → IsWithinLimits S.language program → ⊥ }

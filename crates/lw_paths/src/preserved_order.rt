@@ -4,7 +4,7 @@ ghost use Rattle.std.specs.Prelude.{◌≡◌, ◌≤◌, ◌++◌, ◌||◌, []
 ghost use Rattle.lw_orders.specs.Limits.{most_items};
 ghost use Rattle.lw_paths.specs.Items as choice_items;
 ghost use Rattle.lw_paths.specs.Items.{needs_earlier_drains};
-ghost use Rattle.lw_paths.specs.TransitiveReduction.{none_before, edge_from, record_last, last_of_thread, fixed_from};
+ghost use Rattle.lw_paths.specs.TransitiveReduction.{none_before, edge_from, record_last, last_of_thread, reduced_from};
 
 use crate::item::{Item, LastItems};
 use crate::statement::waits;
@@ -112,13 +112,13 @@ fn push_preserved<A: Allocator>(
 }
 
 /// Returns the transitive reduction of the preserved pairs of the items.
-pub(crate) fn preserved_pairs<S: Statement, A: Allocator, B: Allocator>(
+pub(crate) fn reduced_pairs<S: Statement, A: Allocator, B: Allocator>(
     alloc: A,
     program: &[Sequence<S, B>],
     items: &[Item],
 ) -> Result<Vec<(u8, u8), A>, AllocError>
     requires { length items.now ≤ most_items }
-    ensures { IfOk result (λ v. v.items ≡ fixed_from S.language program.now 0 0 none_before items.now) }
+    ensures { IfOk result (λ v. v.items ≡ reduced_from S.language program.now 0 0 none_before items.now) }
 {
     let mut pairs = Vec::with_capacity(alloc, 2 * items.len())?;
     let mut last = LastItems::none();

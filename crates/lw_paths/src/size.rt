@@ -21,7 +21,7 @@ use std::alloc::Allocator;
 const POSITIONS: usize = MAX_INSTRUCTIONS + 1;
 
 /// Returns the number of items of a statement: itself, and its drain if it has one.
-fn count_items<S: Statement>(stmt: &S) -> usize
+fn statement_size<S: Statement>(stmt: &S) -> usize
     ensures { result ≡ statement_size S.language stmt.now }
 {
     match drains(stmt) {
@@ -53,14 +53,14 @@ fn max_items_of_thread<S: Statement, A: Allocator>(code: &Sequence<S, A>) -> usi
     requires short { length code.now ≤ most_instructions }
     requires forward { JumpsForward S.language code.now }
     ensures most { IsMost (IsFlowPathFrom S.language code.now 0) (path_size S.language code.now) result }
-    ensures few { result ≤ 2 * most_instructions }
+    ensures bounded { result ≤ 2 * most_instructions }
 {
     let stmts = code.as_slice();
     let mut most = [0; POSITIONS];
     for done in 0..stmts.len() {
         let at = stmts.len() - 1 - done;
         let stmt = &stmts[at];
-        most[at] = count_items(stmt) + max_items_from(&most, stmt, at);
+        most[at] = statement_size(stmt) + max_items_from(&most, stmt, at);
     }
     most[0]
 }
@@ -69,7 +69,7 @@ fn max_items_of_thread<S: Statement, A: Allocator>(code: &Sequence<S, A>) -> usi
 fn max_items<S: Statement, A: Allocator>(program: &[Sequence<S, A>]) -> usize
     requires { IsVisitable S.language program.now }
     ensures most { IsMost (IsPathAssignment S.language program.now) (items_at_choice S.language program.now) result }
-    ensures few { result ≤ 2 * most_instructions * length program.now }
+    ensures bounded { result ≤ 2 * most_instructions * length program.now }
 {
     match program.split_first() {
         Some((code, others)) => max_items_of_thread(code) + max_items(others),
@@ -82,7 +82,7 @@ pub(crate) fn check_items<S: Statement, A: Allocator>(
     program: &[Sequence<S, A>],
 ) -> Result<(), ListFault>
     requires { IsVisitable S.language program.now }
-    ensures few { OnOk result (HasTooManyItems S.language program.now → ⊥) }
+    ensures bounded { OnOk result (HasTooManyItems S.language program.now → ⊥) }
     ensures fault { IfErr result (λ e. e ≡ PastItems) }
     ensures many { IfErr result (λ e. HasTooManyItems S.language program.now) }
 {

@@ -77,10 +77,10 @@ label-location {text} {loc} head before at is =
 -- ---- One more label.
 
 -- The labels of names with one more are those of the names, followed by its label.
-labels-append : (head : TestHead) (names : List Seen) (x : Seen)
+labels-append_one : (head : TestHead) (names : List Seen) (x : Seen)
     → labels head (names ++ x ∷ []) ≡ labels head names ++ label head (gap (length names)) x ∷ []
-labels-append head [] x = refl
-labels-append head (s ∷ names) x =
+labels-append_one head [] x = refl
+labels-append_one head (s ∷ names) x =
     ap (λ (ts : List Bytes). label head [] s ∷ ts) (map-append (label head (codes " ")) names (x ∷ []))
 
 -- The label of the k-th name was rendered and appended to these texts.
@@ -107,7 +107,7 @@ labels-push head names k texts new one made =
     one.pushed
     ∙ ap (λ (ts : List Bytes). ts ++ one.text ∷ []) made
     ∙ ap (λ (t : Bytes). labels head (take k names) ++ t ∷ []) here
-    ∙ sym (ap (labels head) more ∙ labels-append head (take k names) x)
+    ∙ sym (ap (labels head) more ∙ labels-append_one head (take k names) x)
 
 -- When as many labels are appended as there are names, they are the labels of all names.
 pub labels-all : (head : TestHead) (names : List Seen) (k : ℕ) (texts : List Bytes)

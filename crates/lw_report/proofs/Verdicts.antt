@@ -93,5 +93,5 @@ OkMeans-of_outcomes head Has states are =
     record {
       exists_some = Ok-iff_some_passes (positive states) (negative states) true_ones;
       exists_none = Ok-iff_none_passes (positive states) (negative states) true_ones;
-      all = Ok-iff_all_pass (positive states) (negative states) (counted head Has states are not);
+      forall_all = Ok-iff_all_pass (positive states) (negative states) (counted head Has states are not);
     }

@@ -40,4 +40,4 @@ observation_of Listed p q = if p == 0 then seen.Unknown else if q == 0 then seen
 pub record OkMeans (head : TestHead) (Has : FinalState → Type 0) (p q : ℕ) : Type 0 where
   pub exists_some : verdict_of Exact Exists p q ≡ verdict.Ok ↔ ((o : FinalState) × Has o × (is_true head.condition o ≡ true))
   pub exists_none : verdict_of Exact NotExists p q ≡ verdict.Ok ↔ ((o : FinalState) → Has o → is_true head.condition o ≡ false)
-  pub all : verdict_of Exact Forall p q ≡ verdict.Ok ↔ ((o : FinalState) → Has o → is_true head.condition o ≡ true)
+  pub forall_all : verdict_of Exact Forall p q ≡ verdict.Ok ↔ ((o : FinalState) → Has o → is_true head.condition o ≡ true)

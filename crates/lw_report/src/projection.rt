@@ -39,7 +39,7 @@ pub fn observed<A: Allocator, B: Allocator>(
 ) -> Result<Sequence<Seen, A>, AllocError>
     requires { head.now.threads ≤ most_threads }
     ensures names { IfOk result (λ names. names ≡ specs.observed (head_of head.now)) }
-    ensures there { IfOk result (λ names. All (IsSeenInRange head.now.threads (length head.now.locs)) names) }
+    ensures in_range { IfOk result (λ names. All (IsSeenInRange head.now.threads (length head.now.locs)) names) }
 {
     let mut names = Sequence::new(alloc);
     for cpu in &Cpu::all()[..head.threads] {

@@ -21,5 +21,5 @@ pub record CanTerminate {M : Type 0} (mem : Memory M) (program : List (List Inst
   pub end : MachineState M
   pub ran : MachineRunsTo mem program more s end
   pub final : IsTrue (is_final program end)
-  pub few : (t : ℕ) → events_of t more ≤ 2 * length (thread_code program t)
+  pub bounded : (t : ℕ) → events_of t more ≤ 2 * length (thread_code program t)
   pub no_evictions : without_evictions more ≡ more

@@ -66,7 +66,7 @@ IsAtPosition (Evict t x) j s = Unit {0}
 
 -- The event is enabled, as a step at this position, and leads from one state to another.
 pub record TransitionAt {M : Type 0} (mem : Memory M) (program : List (List Instr)) (e : Event) (j : ℕ) (s after : MachineState M) : Type 0 where
-  pub stands : IsAtPosition e j s
+  pub is_at_position : IsAtPosition e j s
   pub done : MachineTransition mem program e s (Ok tt) after
 
 -- If e followed by f leads to a state, so does f followed by e, each at the same position.

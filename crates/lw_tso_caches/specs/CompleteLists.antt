@@ -27,6 +27,6 @@ pub record AreAllOutcomes (Has : FinalState → Type 0) (program : X86Test) (out
 -- The list has all these outcomes, and its schedules replay to them over caches of each protocol. For the crates that make lists; no public
 -- call cites it.
 pub record IsComplete (Has : FinalState → Type 0) (program : X86Test) (entries : OutcomeEntries) : Type 0 where
-  pub all : AreAllOutcomes Has program (outcomes_of entries)
+  pub has_all_outcomes : AreAllOutcomes Has program (outcomes_of entries)
   pub replays : (protocol : Protocol) → All (λ e. ReplaysToOverCaches protocol program e.1 e.0) entries
   pub of_program : All (IsListedOutcome program.head) entries

@@ -54,7 +54,7 @@ outcomes-iff_OutcomeOf_x86 : CachesAreFlat
     → Contains outcomes o ↔ OutcomeOf (Of_x86 test) o
 outcomes-iff_OutcomeOf_x86 caches test outcomes ok exactly o =
     let listed = exactly Mesi o in
-    let over = caches Mesi test o (IsWellScoped-well_formed x86_language ok) ok.head.few in
+    let over = caches Mesi test o (IsWellScoped-well_formed x86_language ok) ok.head.bounded in
     ((λ there. over.0 (listed.0 there)), (λ outcome. listed.1 (over.1 outcome)))
 
 -- Sorted entries that have exactly an x86 test's outcomes over caches, each with a schedule that reaches it, are the test's list.

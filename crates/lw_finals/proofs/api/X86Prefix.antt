@@ -1,4 +1,4 @@
--- What has been executed, and which stores wait, after a prefix of an order of an x86 test's items that respects the fixed pairs.
+-- What has been executed, and which stores wait, after a prefix of an order of an x86 test's items that respects the preserved pairs.
 -- X86TraceEquivalence and the axioms' proofs follow runs of such an order by this.
 use Rattle.lw_finals.proofs.Common.{◌≡◌, ℕ, suc, ◌<◌, ◌≤◌, Bool, true, false, true≢false, List, [], ◌∷◌}
 use Rattle.lw_finals.proofs.Common.{length, Some, refl, sym, ap, ap₂, ◌∙◌, subst, inl, inr, arith, slice_get}
@@ -23,8 +23,8 @@ module _ (program : List (List Instr)) (forward : (t : ℕ) → JumpsForward x86
   abbrev it : ℕ → Item
   it i = item_at items i
 
-  -- A store's drain is in the order, and still to be executed.
-  pub record IsComing (order : List ℕ) (k t w : ℕ) : Type 0 where
+  -- Some item is the drain of the store of thread t at position w, and is none of the first k of the order.
+  pub record IsDrainedLater (order : List ℕ) (k t w : ℕ) : Type 0 where
     pub index : ℕ
     pub below : index < length items
     pub thread : (it index).thread ≡ t
@@ -32,9 +32,10 @@ module _ (program : List (List Instr)) (forward : (t : ℕ) → JumpsForward x86
     pub is_drain : (it index).is_drain ≡ true
     pub later : k ≤ index_in order index
 
-  -- The stores that wait after the first k items of an order.
+  -- These stores wait after the first k items of an order: the drain of each is none of them; and a store among them waits if its drain is
+  -- none of them.
   pub record AreWaitingStores (order : List ℕ) (k : ℕ) (pending : ℕ → List ℕ) : Type 0 where
-    pub coming : (t w : ℕ) → IsMember w (pending t) → IsComing order k t w
+    pub coming : (t w : ℕ) → IsMember w (pending t) → IsDrainedLater order k t w
     pub waits : (s d : ℕ)
         → s < length items
         → d < length items
@@ -121,14 +122,14 @@ module _ (program : List (List Instr)) (forward : (t : ℕ) → JumpsForward x86
         -- The drained store is the first of those that wait, since each of them is drained before all later ones.
         own_store_is_first : (ws : List ℕ)
             → IsAscendingBetween 0 ws high
-            → ((v : ℕ) → IsMember v ws → IsComing order k (it i).thread v)
+            → ((v : ℕ) → IsMember v ws → IsDrainedLater order k (it i).thread v)
             → IsMember (it i).position ws
             → (rest : List ℕ) × (ws ≡ (it i).position ∷ rest)
         own_store_is_first [] climbs coming is_member = absurd is_member
         own_store_is_first (v ∷ ws) climbs coming (inl e) = (ws, ap (λ x. x ∷ ws) e)
         own_store_is_first (v ∷ ws) climbs coming (inr h) =
             let lower = IsAscendingBetween-member (suc v) high (it i).position ws climbs.1 h in
-            let c : IsComing order k (it i).thread v = coming v (inl refl) in
+            let c : IsDrainedLater order k (it i).thread v = coming v (inl refl) in
             let before : Before order c.index i =
             Before-if_ordered_items c.index i c.below in_range c.thread
             (item_slot-increasing (it c.index).is_drain (it i).is_drain (it c.index).position (it i).position
@@ -153,8 +154,8 @@ module _ (program : List (List Instr)) (forward : (t : ℕ) → JumpsForward x86
     AreWaitingStores-next k high i pending w climbs in_range at = record {
       coming = λ t v h. elim (waits_after-cases x86_language program pending (it i) high climbs drains_oldest t v h) [
         | inl (g, ne) ↦
-            (let c : IsComing order k t v = w.coming t v g in
-            IsComing-next t v c (λ e.
+            (let c : IsDrainedLater order k t v = w.coming t v g in
+            IsDrainedLater-next t v c (λ e.
             ne (ap (λ d. (it d).thread) (sym e) ∙ c.thread) (subst (λ d. (it d).is_drain ≡ true) e c.is_drain)
             (sym c.position ∙ ap (λ d. (it d).position) e)))
         | inr (same, f, s, e) ↦
@@ -189,8 +190,8 @@ module _ (program : List (List Instr)) (forward : (t : ℕ) → JumpsForward x86
         drains_oldest f = DrainsOldest-at_turn k high i pending w climbs in_range at f
 
         -- A drain other than the item itself comes later.
-        IsComing-next : (t v : ℕ) (c : IsComing order k t v) → (c.index ≡ i → ⊥) → IsComing order (suc k) t v
-        IsComing-next t v c ne = record {
+        IsDrainedLater-next : (t v : ℕ) (c : IsDrainedLater order k t v) → (c.index ≡ i → ⊥) → IsDrainedLater order (suc k) t v
+        IsDrainedLater-next t v c ne = record {
           index = c.index;
           below = c.below;
           thread = c.thread;

@@ -28,7 +28,7 @@ pub record ItemStep (program : List (List Instr)) (t j : ℕ) (b : Bool) (s mid 
   pub new : Processor
   pub words : List ℕ
   pub was : slice_get s.processors t ≡ Some old
-  pub stands : b ≡ false → old.position ≡ j
+  pub position_is : b ≡ false → old.position ≡ j
   pub does : EffectLeadsTo s.memory (effect_by program t b old) new words
   pub state_is : mid ≡ state (slice_set s.processors t new) words
 
@@ -43,7 +43,7 @@ ItemStep-of_transition program t j true s mid d =
       new = x.to;
       words = x.words;
       was = x.was;
-      stands = λ f. absurd (true≢false f);
+      position_is = λ f. absurd (true≢false f);
       does = x.does;
       state_is = x.state_is;
     }
@@ -54,7 +54,7 @@ ItemStep-of_transition program t j false s mid d =
       new = x.to;
       words = x.words;
       was = x.was;
-      stands = λ f. same_Some x.from.position j (sym (position_at x.from x.was) ∙ d.stands);
+      position_is = λ f. same_Some x.from.position j (sym (position_at x.from x.was) ∙ d.is_at_position);
       does = x.does;
       state_is = x.state_is;
     }
@@ -154,7 +154,7 @@ module _ (program : List (List Instr)) where
       → slice_get (thread_code program t) j ≡ Some i
       → OperationTransition (x86_operation i) c.old c.new
   OperationTransition-of_item t j i s mid c found_at =
-      let here = ap (λ k. slice_get (thread_code program t) k) (c.stands refl) ∙ found_at in
+      let here = ap (λ k. slice_get (thread_code program t) k) (c.position_is refl) ∙ found_at in
       OperationTransition-of_effect _ _ c.new _ _
       (subst (λ o. EffectLeadsTo s.memory (step_effect o c.old) c.new c.words) here c.does)
 
@@ -176,7 +176,7 @@ module _ (program : List (List Instr)) where
         })
     HoldsStores-after_item t j i false ws s mid c found_at h =
         let a : OperationTransition (x86_operation i) c.old c.new = OperationTransition-of_item t j i s mid c found_at in
-        let there : c.old.position ≡ j = c.stands refl in
+        let there : c.old.position ≡ j = c.position_is refl in
         let lt =
         IsFlowSuccessor-in_range x86_language (thread_code program t) j c.new.position (forward t)
         (subst (λ (o : Option Instr). IsFlowSuccessor x86_language o j c.new.position) (sym found_at) (rw there at a.leads)) in

@@ -49,7 +49,7 @@ set_kept p m x line ok lt s =
     y
     (omega (arith, length-set m.cache_lines x line))
     in record {
-      coherent = record { few = ok.coherent.few; cache_lines = each IsCoherentCacheLine s.coherent ok.coherent.cache_lines };
+      coherent = record { bounded = ok.coherent.bounded; cache_lines = each IsCoherentCacheLine s.coherent ok.coherent.cache_lines };
       states = each (HasProtocolStates p) s.states ok.states;
     }
 
@@ -103,7 +103,7 @@ module _ (p : Protocol) (m : Caches) (ok : SatisfiesProtocol p m) where
 
     -- The processor is one of the most that there may be.
     lt : t < most_threads
-    lt = omega (arith, ok.coherent.few, cpu)
+    lt = omega (arith, ok.coherent.bounded, cpu)
 
     -- The line of location x satisfies the protocol.
     kept : LineSatisfiesProtocol p line

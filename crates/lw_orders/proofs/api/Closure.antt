@@ -48,24 +48,24 @@ bool-ext true b forth back = sym (forth refl)
 bool-ext false true forth back = back refl
 bool-ext false false forth back = refl
 
--- Two constraints with the same conflicts, and fixed pairs of the same closure, have the same number of orientations.
-module _ (t u : Constraints) (t_up : AreAscending t.len t.fixed) (u_up : AreAscending u.len u.fixed)
-    (forth : LeadsAlong u.fixed t.fixed) (back : LeadsAlong t.fixed u.fixed) where
+-- Two constraints with the same conflicts, and preserved pairs of the same closure, have the same number of orientations.
+module _ (t u : Constraints) (t_up : AreAscending t.len t.preserved) (u_up : AreAscending u.len u.preserved)
+    (forth : LeadsAlong u.preserved t.preserved) (back : LeadsAlong t.preserved u.preserved) where
   -- A pair is ordered by both or by neither.
-  is_ordered-same_closure : (p : ℕ × ℕ) → is_ordered t.fixed p ≡ is_ordered u.fixed p
+  is_ordered-same_closure : (p : ℕ × ℕ) → is_ordered t.preserved p ≡ is_ordered u.preserved p
   is_ordered-same_closure p =
-      bool-ext (is_ordered t.fixed p) (is_ordered u.fixed p) (λ e.
-      is_ordered-if_path u.len u.fixed p u_up
-      (IsOrderedByPath-along u.fixed t.fixed forth p (IsOrderedByPath-if_ordered t.fixed p e))) (λ e.
-      is_ordered-if_path t.len t.fixed p t_up
-      (IsOrderedByPath-along t.fixed u.fixed back p (IsOrderedByPath-if_ordered u.fixed p e)))
+      bool-ext (is_ordered t.preserved p) (is_ordered u.preserved p) (λ e.
+      is_ordered-if_path u.len u.preserved p u_up
+      (IsOrderedByPath-along u.preserved t.preserved forth p (IsOrderedByPath-if_ordered t.preserved p e))) (λ e.
+      is_ordered-if_path t.len t.preserved p t_up
+      (IsOrderedByPath-along t.preserved u.preserved back p (IsOrderedByPath-if_ordered u.preserved p e)))
 
   -- Two lists of pairs with the same closure leave the same conflicts unordered.
   pub unordered_conflicts-same_closure : t.conflicts ≡ u.conflicts → unordered_conflicts t ≡ unordered_conflicts u
   unordered_conflicts-same_closure same =
-      filter_agree (λ p. not (is_ordered t.fixed p)) (λ p. not (is_ordered u.fixed p)) (λ p. ap not (is_ordered-same_closure p))
-      t.conflicts
-      ∙ ap (filter (λ p. not (is_ordered u.fixed p))) same
+      filter_agree (λ p. not (is_ordered t.preserved p)) (λ p. not (is_ordered u.preserved p))
+      (λ p. ap not (is_ordered-same_closure p)) t.conflicts
+      ∙ ap (filter (λ p. not (is_ordered u.preserved p))) same
 
   -- Two lists of pairs with the same closure have the same number of orientations.
   pub orientation_count-same_closure : t.conflicts ≡ u.conflicts → orientation_count t ≡ orientation_count u

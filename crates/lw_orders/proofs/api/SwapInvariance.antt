@@ -22,7 +22,7 @@ index_in-swap : (front rest : List ℕ) (x y i : ℕ)
 index_in-swap [] rest x y i l = grind (arith, nat_tests)
 index_in-swap (z ∷ front) rest x y i l = grind (arith, nat_tests, index_in-swap front rest x y i)
 
--- A swap of adjacent independent items preserves that an order respects the fixed pairs.
+-- A swap of adjacent independent items preserves that an order respects the preserved pairs.
 IsLinearExtension-swap : (t : Constraints) (front rest : List ℕ) (x y : ℕ)
     → ¬ AreDependent t x y
     → IsLinearExtension t (front ++ x ∷ y ∷ rest)
@@ -33,11 +33,11 @@ IsLinearExtension-swap t front rest x y free ((long, there), keeps) =
       (same, λ i l. omega (arith, same, index_in-swap front rest x y i (omega (arith, there i l, long)))),
       λ k d l.
           Before-swap front rest x y _ _
-          (λ a b. free (rw (← a, ← b) (inl (Contains-append_left t.fixed t.conflicts _ (Contains-get_or t.fixed k d l)))))
+          (λ a b. free (rw (← a, ← b) (inl (Contains-append_left t.preserved t.conflicts _ (Contains-get_or t.preserved k d l)))))
           (keeps k d l),
     )
 
--- Along swaps of adjacent independent items all orders respect the fixed pairs.
+-- Along swaps of adjacent independent items all orders respect the preserved pairs.
 AreConnectedBySwaps-of_swaps : (t : Constraints) (n : ℕ) (xs ys : List ℕ)
     → IsLinearExtension t xs
     → SwapsTo (AreDependent t) n xs ys
@@ -48,7 +48,7 @@ AreConnectedBySwaps-of_swaps t (suc n) xs ys is_extension (mid, e, j) =
     rw e.new (IsLinearExtension-swap t e.front e.rest e.x e.y e.free (rw e.old at is_extension)) in
     (mid, e, on, AreConnectedBySwaps-of_swaps t n mid ys on j)
 
--- Trace-equivalent orders that respect the fixed pairs are connected by swaps of adjacent independent items.
+-- Trace-equivalent orders that respect the preserved pairs are connected by swaps of adjacent independent items.
 pub trace_equivalent_orders_are_connected : (t : Constraints)
     → AreAscending t.len t.conflicts
     → (xs ys : List ℕ)

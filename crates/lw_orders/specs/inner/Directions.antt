@@ -11,23 +11,23 @@ pub record IsTaken (len : ℕ) (p : ℕ × ℕ) (level : ℕ) (old new : SearchS
   pub saved : new.saved ≡ slice_set old.saved (level + 1) (slice_index_or new.saved (level + 1) [])
   pub reached : (i j : ℕ) → i < len → j < len
       → reach new.saved (level + 1) i j ≡ (reach old.saved level i j || (reach old.saved level i p.0 && reach old.saved level p.1 j))
-  pub long : length new.ways ≡ length old.ways
-  pub before : take (level + 1) new.ways ≡ take (level + 1) old.ways
-  pub behind : slice_index_or new.ways (level + 1) false ≡ false
+  pub long : length new.reversals ≡ length old.reversals
+  pub before : take (level + 1) new.reversals ≡ take (level + 1) old.reversals
+  pub behind : slice_index_or new.reversals (level + 1) false ≡ false
 
 -- The effect of trying the orientation p on the search, from old to new, and the level at which it continues. If p closes a cycle (true),
 -- the last pair up to here that can be is reversed; otherwise p is chosen.
 abbrev pub TriedAs : Bool → ℕ → ℕ × ℕ → ℕ → SearchState → SearchState → Option ℕ → Type 0
 TriedAs true len p level old new found =
-    TurnedLast old.ways new.ways (level + 1) found × (new.chosen ≡ old.chosen) × (new.saved ≡ old.saved)
+    TurnedLast old.reversals new.reversals (level + 1) found × (new.chosen ≡ old.chosen) × (new.saved ≡ old.saved)
 TriedAs false len p level old new found = IsTaken len p level old new × (found ≡ Some (level + 1))
 
--- The unordered pair of a level, reversed if its way says so.
+-- The unordered pair of a level, reversed if its reversal is true.
 abbrev pub pair_at : List (ℕ × ℕ) → List Bool → ℕ → ℕ × ℕ
-pair_at undecided ways level = reverse_if (slice_index_or ways level false) (slice_index_or undecided level (0, 0))
+pair_at unordered reversals level = reverse_if (slice_index_or reversals level false) (slice_index_or unordered level (0, 0))
 
 -- The effect of trying the current orientation of a level's pair on the search, and the level at which it continues.
 abbrev pub TriesOrientation : ℕ → List (ℕ × ℕ) → ℕ → SearchState → SearchState → Option ℕ → Type 0
-TriesOrientation len undecided level old new found =
-    TriedAs (reach old.saved level (pair_at undecided old.ways level).1 (pair_at undecided old.ways level).0)
-    len (pair_at undecided old.ways level) level old new found
+TriesOrientation len unordered level old new found =
+    TriedAs (reach old.saved level (pair_at unordered old.reversals level).1 (pair_at unordered old.reversals level).0)
+    len (pair_at unordered old.reversals level) level old new found

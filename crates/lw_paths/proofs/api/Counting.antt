@@ -36,7 +36,7 @@ module _ {S : Type 0} (language : Language S) where
     pub orders : ℕ
     pub made : items ≡ items_of language program paths
     pub within_item_limit : length items ≤ most_items
-    pub ways : orders ≡ orientation_count (constraints_of language program items)
+    pub orders_are : orders ≡ orientation_count (constraints_of language program items)
     pub total : after ≡ min (before + orders) (2 ^ 64 - 1)
     pub within_order_limit : after ≤ most_orders
 
@@ -45,7 +45,7 @@ module _ {S : Type 0} (language : Language S) where
       → Counted program before paths after
       → Counts program before paths program after
   Counts-if_counted program before paths after c =
-      let same : c.orders ≡ orders_at_choice language program paths = rw (← c.made) c.ways in
+      let same : c.orders ≡ orders_at_choice language program paths = rw (← c.made) c.orders_are in
       (refl, rw c.made at c.within_item_limit, omega (arith, c.total, c.within_order_limit, same), c.within_order_limit)
 
   -- If the saturated sum of a path assignment's orders and those before passes the limit, so does the exact sum.
@@ -108,7 +108,7 @@ module _ {S : Type 0} (language : Language S) where
         omega arith
 
   module _ {V : Type 0} (view : VisitorView S V) where
-    -- What a visitor's failures mean for the path assignments visited.
+    -- A visitor whose visits preserve the program and count at most the orders that there are, and whose causes of failure are true.
     pub record GivesReasons : Type 0 where
       -- A visit preserves the program.
       pub keeps : (v : V) (paths : List (List ℕ)) (w : V) → view.visits v paths w → view.program w ≡ view.program v

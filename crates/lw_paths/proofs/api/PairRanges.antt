@@ -1,4 +1,4 @@
--- Lists of pairs that pass a test, sorted. The fixed pairs and the conflicts of a path assignment are such
+-- Lists of pairs that pass a test, sorted. The preserved pairs and the conflicts of a path assignment are such
 -- lists.
 use Rattle.lw_paths.proofs.Common.{◌≡◌, ℕ, zero, suc, ◌+◌, ◌<◌, ◌≤◌, Bool, true, List, [], ◌∷◌, ◌++◌, map}
 use Rattle.lw_paths.proofs.Common.{refl, subst, inl, inr, ◌⊎◌, arith, All, Contains, filter, cases_eq}

@@ -1,16 +1,17 @@
--- The transitive reduction of the fixed pairs is equivalent to them: a transitive relation has the reduced pairs if and only if it has all.
+-- The transitive reduction of the preserved pairs is equivalent to them: a transitive relation has the reduced pairs if and only if it has all.
 -- So the same orders respect them, and they have the same closure.
 use Rattle.lw_paths.proofs.Common.{◌≡◌, ℕ, zero, suc, ◌<◌, ◌≤◌, ◌⊎◌, ◌↔◌, inl, inr, List, [], length, Option}
 use Rattle.lw_paths.proofs.Common.{Some, None, Bool, true, false, refl, sym, ap, ◌∙◌, arith, All, cases_eq}
 use Rattle.lw_paths.proofs.Common.{All-head, Before, IsOrderedByPath, IsLinearExtension, All-parts, Leads}
 use Rattle.lw_paths.proofs.Common.{LeadsAlong-refl, Leads-trans, IsOrderedByPath-along}
 use Rattle.lw_paths.proofs.Common.{orientation_count-same_closure, orientation_count, Item, LastItems}
-use Rattle.lw_paths.proofs.Common.{Language, item_at, items_of, edge_from, fixed_at, record_last}
+use Rattle.lw_paths.proofs.Common.{Language, item_at, items_of, edge_from, reduced_at, record_last}
 use Rattle.lw_paths.proofs.Common.{needs_earlier_drains, constraints_of, transitive_reduction}
 use Rattle.lw_paths.proofs.api.ReducedPairs.{last_of_thread-same, last_by, thread_upto, last_upto, last_at}
 use Rattle.lw_paths.proofs.api.ReducedPairs.{reduced-at, All-reduced_pairs, AreAscending-reduced}
-use Rattle.lw_paths.proofs.api.FixedOrder.{HasOrdered, HasOrdered-if_fixed_related, All-fixed_related}
-use Rattle.lw_paths.proofs.api.FixedPairs.{AreAscending-fixed}
+use Rattle.lw_paths.proofs.api.PreservedOrder.{HasOrdered, HasOrdered-if_preserved_related}
+use Rattle.lw_paths.proofs.api.PreservedOrder.{All-preserved_related}
+use Rattle.lw_paths.proofs.api.PreservedPairs.{AreAscending-preserved}
 use Rattle.lw_paths.proofs.api.Numbering.{thread_le-index}
 
 module _ {S : Type 0} (language : Language S) (program : List (List S)) where
@@ -33,7 +34,7 @@ module _ {S : Type 0} (language : Language S) (program : List (List S)) where
 
     -- An item that reaches a last item is related to the next item, if that comes after the last one.
     related-if_reaches_last : (d w b : Bool) (last : LastItems) (n i : ℕ)
-        → All Related (fixed_at d w last n)
+        → All Related (reduced_at d w last n)
         → (b ≡ true → (d ≡ true) ⊎ (w ≡ true))
         → Reaches i (last_by b last)
         → R i n
@@ -49,7 +50,7 @@ module _ {S : Type 0} (language : Language S) (program : List (List S)) where
       at i = item_at all i
 
       module _ (up : (i j : ℕ) → i ≤ j → j < length all → (at i).thread ≤ (at j).thread)
-          (has : All Related (transitive_reduction language program all).fixed) where
+          (has : All Related (transitive_reduction language program all).preserved) where
         -- Each item of the thread before index n reaches the last statement or the last drain.
         abbrev Covers : ℕ → ℕ → LastItems → Type 0
         Covers n t last = (b : Bool) (i : ℕ) → i < n → (at i).thread ≡ t → (at i).is_drain ≡ b → Reaches i (last_by b last)
@@ -96,7 +97,7 @@ module _ {S : Type 0} (language : Language S) (program : List (List S)) where
             (Covers-thread_of_item j l (covers j (omega arith)) (at i).is_drain i less same refl)
 
       -- A relation that has all ordered pairs has the reduced ones.
-      has_reduced : HasOrdered language program R all → All Related (transitive_reduction language program all).fixed
+      has_reduced : HasOrdered language program R all → All Related (transitive_reduction language program all).preserved
       has_reduced has =
           All-reduced_pairs all language program Related
           (λ b m n less l same is ordered. has m n less l same (λ drain. ordered (sym is ∙ drain)))
@@ -108,16 +109,17 @@ module _ {S : Type 0} (language : Language S) (program : List (List S)) where
     items = items_of language program paths
 
     module _ (R : ℕ → ℕ → Type 0) (go_on : (i j k : ℕ) → R i j → R j k → R i k) where
-      -- A transitive relation that has the reduced pairs has all fixed pairs.
-      all_from_reduced : All (λ p. R p.0 p.1) (transitive_reduction language program items).fixed
-          → All (λ p. R p.0 p.1) (constraints_of language program items).fixed
+      -- A transitive relation that has the reduced pairs has all preserved pairs.
+      all_from_reduced : All (λ p. R p.0 p.1) (transitive_reduction language program items).preserved
+          → All (λ p. R p.0 p.1) (constraints_of language program items).preserved
       all_from_reduced has =
-          All-fixed_related language program R items (reduced_ordered R go_on items (thread_le-index language program paths) has)
+          All-preserved_related language program R items
+          (reduced_ordered R go_on items (thread_le-index language program paths) has)
 
-      -- A transitive relation that has all fixed pairs has the reduced ones.
-      reduced_from_all : All (λ p. R p.0 p.1) (constraints_of language program items).fixed
-          → All (λ p. R p.0 p.1) (transitive_reduction language program items).fixed
-      reduced_from_all has = has_reduced R go_on items (HasOrdered-if_fixed_related language program paths R go_on has)
+      -- A transitive relation that has all preserved pairs has the reduced ones.
+      reduced_from_all : All (λ p. R p.0 p.1) (constraints_of language program items).preserved
+          → All (λ p. R p.0 p.1) (transitive_reduction language program items).preserved
+      reduced_from_all has = has_reduced R go_on items (HasOrdered-if_preserved_related language program paths R go_on has)
 
     -- The same orders respect the reduced pairs and all pairs.
     pub IsLinearExtension-reduced_iff : (order : List ℕ)
@@ -128,27 +130,27 @@ module _ {S : Type 0} (language : Language S) (program : List (List S)) where
       λ is. (is.0, reduced_from_all (Before order) (λ i j k a b. omega (arith, a, b)) is.1),
     )
 
-    -- All fixed pairs of the path assignment's items.
-    abbrev fixed : List (ℕ × ℕ)
-    fixed = (constraints_of language program items).fixed
+    -- All preserved pairs of the path assignment's items.
+    abbrev preserved : List (ℕ × ℕ)
+    preserved = (constraints_of language program items).preserved
 
-    -- The reduced fixed pairs of these items.
+    -- The reduced preserved pairs of these items.
     abbrev reduced : List (ℕ × ℕ)
-    reduced = (transitive_reduction language program items).fixed
+    reduced = (transitive_reduction language program items).preserved
 
-    -- Each reduced pair is a walk along all fixed pairs.
-    Leads-reduced_along_fixed : All (λ p. Leads fixed p.0 p.1) reduced
-    Leads-reduced_along_fixed = reduced_from_all (Leads fixed) (Leads-trans fixed) (LeadsAlong-refl fixed)
+    -- Each reduced pair is a walk along all preserved pairs.
+    Leads-reduced_along_preserved : All (λ p. Leads preserved p.0 p.1) reduced
+    Leads-reduced_along_preserved = reduced_from_all (Leads preserved) (Leads-trans preserved) (LeadsAlong-refl preserved)
 
-    -- Each fixed pair is a walk along the reduced ones.
-    Leads-fixed_along_reduced : All (λ p. Leads reduced p.0 p.1) fixed
-    Leads-fixed_along_reduced = all_from_reduced (Leads reduced) (Leads-trans reduced) (LeadsAlong-refl reduced)
+    -- Each preserved pair is a walk along the reduced ones.
+    Leads-preserved_along_reduced : All (λ p. Leads reduced p.0 p.1) preserved
+    Leads-preserved_along_reduced = all_from_reduced (Leads reduced) (Leads-trans reduced) (LeadsAlong-refl reduced)
 
     -- The reduced pairs have the same closure as all pairs.
-    pub IsOrderedByPath-reduced_iff : (p : ℕ × ℕ) → IsOrderedByPath reduced p ↔ IsOrderedByPath fixed p
+    pub IsOrderedByPath-reduced_iff : (p : ℕ × ℕ) → IsOrderedByPath reduced p ↔ IsOrderedByPath preserved p
     IsOrderedByPath-reduced_iff p = (
-      IsOrderedByPath-along fixed reduced Leads-reduced_along_fixed p,
-      IsOrderedByPath-along reduced fixed Leads-fixed_along_reduced p,
+      IsOrderedByPath-along preserved reduced Leads-reduced_along_preserved p,
+      IsOrderedByPath-along reduced preserved Leads-preserved_along_reduced p,
     )
 
     -- The reduced pairs have the same number of orientations as all pairs.
@@ -156,8 +158,8 @@ module _ {S : Type 0} (language : Language S) (program : List (List S)) where
         ≡ orientation_count (constraints_of language program items)
     orientation_count-reduced =
         orientation_count-same_closure (transitive_reduction language program items) (constraints_of language program items)
-        (AreAscending-reduced language program items) (AreAscending-fixed language program items) Leads-reduced_along_fixed
-        Leads-fixed_along_reduced refl
+        (AreAscending-reduced language program items) (AreAscending-preserved language program items)
+        Leads-reduced_along_preserved Leads-preserved_along_reduced refl
 
   -- The number of orientations by the reduced pairs is that by all pairs, if the items are a path assignment's.
   pub orientation_count-reduced_items : (given : List Item) (paths : List (List ℕ))

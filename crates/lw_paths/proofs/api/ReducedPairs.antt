@@ -1,14 +1,14 @@
--- The reduced fixed pairs of items, in either language, item by item: each is ascending, within a thread. And items with these pairs and
--- their conflicts are well-formed. Reduced proves from this that the orders are those of all fixed pairs.
+-- The reduced preserved pairs of items, in either language, item by item: each is ascending, within a thread. And items with these pairs and
+-- their conflicts are well-formed. Reduced proves from this that the orders are those of all preserved pairs.
 use Rattle.lw_paths.proofs.Common.{◌≡◌, Bool, true, false, ℕ, zero, suc, ◌+◌, ◌<◌, ◌≤◌, ◌==◌, ◌⊎◌, List, []}
 use Rattle.lw_paths.proofs.Common.{◌++◌, length, drop, drop-cons, flat_map, Option, Some, None, refl, ap, ◌∙◌}
 use Rattle.lw_paths.proofs.Common.{subst, inl, inr, arith, All, eq-eqb, ne_eqb, cases_eq, cond-true}
 use Rattle.lw_paths.proofs.Common.{cond-false, drop_all, All-nil, All-cons, All-append, AreAscending}
 use Rattle.lw_paths.proofs.Common.{most_items, indices, All-parts, Item, LastItems, Language, item_at}
-use Rattle.lw_paths.proofs.Common.{none_before, edge_from, fixed_at, record_last, last_of_thread}
-use Rattle.lw_paths.proofs.Common.{needs_earlier_drains, fixed_from, constraints_of, transitive_reduction}
+use Rattle.lw_paths.proofs.Common.{none_before, edge_from, reduced_at, record_last, last_of_thread}
+use Rattle.lw_paths.proofs.Common.{needs_earlier_drains, reduced_from, constraints_of, transitive_reduction}
 use Rattle.lw_paths.proofs.Common.{IsWellFormed}
-use Rattle.lw_paths.proofs.api.FixedPairs.{IsWellFormed-constraints}
+use Rattle.lw_paths.proofs.api.PreservedPairs.{IsWellFormed-constraints}
 
 -- If the item before is of the same thread t, its last items are the thread's.
 pub last_of_thread-same : (t u : ℕ) (last : LastItems) → t ≡ u → last_of_thread t u last ≡ last
@@ -30,13 +30,13 @@ module _ (Q : ℕ × ℕ → Type 0) (n : ℕ) where
   All-edge_from (Some m) each = All-cons Q (m, n) [] (each m refl) (All-nil Q)
 
   -- What holds of item n's pair with the last statement, and with the last drain if n comes after drains, holds of all its reduced pairs.
-  pub All-fixed_at : (d w : Bool) (last : LastItems)
+  pub All-reduced_at : (d w : Bool) (last : LastItems)
       → ((m : ℕ) → last.statement ≡ Some m → Q (m, n))
       → ((d ≡ true) ⊎ (w ≡ true) → (m : ℕ) → last.drain ≡ Some m → Q (m, n))
-      → All Q (fixed_at d w last n)
-  All-fixed_at true w last s d = All-append Q _ _ (All-edge_from _ s) (All-edge_from last.drain (d (inl refl)))
-  All-fixed_at false true last s d = All-append Q _ _ (All-edge_from _ s) (All-edge_from last.drain (d (inr refl)))
-  All-fixed_at false false last s d = All-edge_from last.statement s
+      → All Q (reduced_at d w last n)
+  All-reduced_at true w last s d = All-append Q _ _ (All-edge_from _ s) (All-edge_from last.drain (d (inl refl)))
+  All-reduced_at false true last s d = All-append Q _ _ (All-edge_from _ s) (All-edge_from last.drain (d (inr refl)))
+  All-reduced_at false false last s d = All-edge_from last.statement s
 
 module _ (Q : ℕ × ℕ → Type 0) (f : ℕ → List (ℕ × ℕ)) where
   -- If Q holds of all pairs of each index in a range, it holds of the concatenation.
@@ -111,29 +111,30 @@ module _ (all : List Item) where
 
   module _ {S : Type 0} (language : Language S) (program : List (List S)) where
     -- The reduced pairs of item n with its predecessors.
-    abbrev fixed_of : ℕ → List (ℕ × ℕ)
-    fixed_of n = fixed_at (it n).is_drain (needs_earlier_drains language program (it n)) (last_at n) n
+    abbrev preserved_of : ℕ → List (ℕ × ℕ)
+    preserved_of n = reduced_at (it n).is_drain (needs_earlier_drains language program (it n)) (last_at n) n
 
     -- The reduced pairs of the items from index n on are those of the item at each of these indices.
-    fixed_from-by_index : (d n : ℕ)
+    reduced_from-by_index : (d n : ℕ)
         → n + d ≡ length all
-        → fixed_from language program n (thread_upto n) (last_upto n) (drop n all) ≡ flat_map fixed_of (indices n d)
-    fixed_from-by_index zero n e = ap (fixed_from language program n (thread_upto n) (last_upto n)) (drop_all n all (omega arith))
-    fixed_from-by_index (suc d) n e =
-        ap (fixed_from language program n (thread_upto n) (last_upto n)) (drop-cons all n _ (omega arith))
-        ∙ ap (λ ps. fixed_of n ++ ps) (fixed_from-by_index d (suc n) (omega arith))
+        → reduced_from language program n (thread_upto n) (last_upto n) (drop n all) ≡ flat_map preserved_of (indices n d)
+    reduced_from-by_index zero n e =
+        ap (reduced_from language program n (thread_upto n) (last_upto n)) (drop_all n all (omega arith))
+    reduced_from-by_index (suc d) n e =
+        ap (reduced_from language program n (thread_upto n) (last_upto n)) (drop-cons all n _ (omega arith))
+        ∙ ap (λ ps. preserved_of n ++ ps) (reduced_from-by_index d (suc n) (omega arith))
 
     -- All reduced pairs are those of the item at each index.
-    reduction-by_index : (transitive_reduction language program all).fixed ≡ flat_map fixed_of (indices 0 (length all))
-    reduction-by_index = fixed_from-by_index (length all) 0 (omega arith)
+    reduction-by_index : (transitive_reduction language program all).preserved ≡ flat_map preserved_of (indices 0 (length all))
+    reduction-by_index = reduced_from-by_index (length all) 0 (omega arith)
 
     -- What holds of all reduced pairs holds of those of item n.
     pub reduced-at : (Q : ℕ × ℕ → Type 0)
-        → All Q (transitive_reduction language program all).fixed
+        → All Q (transitive_reduction language program all).preserved
         → (n : ℕ)
         → n < length all
-        → All Q (fixed_of n)
-    reduced-at Q each n in_range = All-index Q fixed_of 0 _ (rw reduction-by_index at each) n (omega arith) (omega arith)
+        → All Q (preserved_of n)
+    reduced-at Q each n in_range = All-index Q preserved_of 0 _ (rw reduction-by_index at each) n (omega arith) (omega arith)
 
     -- What holds of each last item of a thread with a later item holds of all reduced pairs.
     pub All-reduced_pairs : (Q : ℕ × ℕ → Type 0)
@@ -144,16 +145,17 @@ module _ (all : List Item) where
         → (it m).is_drain ≡ b
         → (b ≡ true → ((it n).is_drain ≡ true) ⊎ (needs_earlier_drains language program (it n) ≡ true))
         → Q (m, n))
-        → All Q (transitive_reduction language program all).fixed
-    All-reduced_pairs Q each = rw reduction-by_index (All-numbered Q fixed_of 0 (length all) (λ n a l.
+        → All Q (transitive_reduction language program all).preserved
+    All-reduced_pairs Q each = rw reduction-by_index (All-numbered Q preserved_of 0 (length all) (λ n a l.
         (let last = AreEarlier-of_thread n (thread_upto n) (it n).thread (last_upto n) (AreEarlier-upto n) in
-        All-fixed_at Q n (it n).is_drain (needs_earlier_drains language program (it n)) (last_at n)
+        All-reduced_at Q n (it n).is_drain (needs_earlier_drains language program (it n)) (last_at n)
         (λ m e. (let (less, same, is) = last false m e in each false m n less (omega (arith, l)) same is (λ bad. cc (bad))))
         (λ ordered m e. (let (less, same, is) = last true m e in each true m n less (omega (arith, l)) same is (λ _. ordered))))))
 
 module _ {S : Type 0} (language : Language S) (program : List (List S)) where
   -- Each reduced pair is ascending.
-  pub AreAscending-reduced : (items : List Item) → AreAscending (length items) (transitive_reduction language program items).fixed
+  pub AreAscending-reduced : (items : List Item)
+      → AreAscending (length items) (transitive_reduction language program items).preserved
   AreAscending-reduced items =
       All-reduced_pairs items language program (λ p. (p.0 < p.1) × (p.1 < length items))
       (λ b m n less l same is ordered. (less, l))
@@ -166,16 +168,16 @@ module _ {S : Type 0} (language : Language S) (program : List (List S)) where
       let well_formed : IsWellFormed (constraints_of language program items) =
       IsWellFormed-constraints language program items few in
       record {
-        few = few;
-        fixed_up = AreAscending-reduced items;
+        bounded = few;
+        preserved_up = AreAscending-reduced items;
         conflicts_up = well_formed.conflicts_up;
         sorted = well_formed.sorted;
       }
 
   -- Items within the limit are well-formed with their reduced pairs and their conflicts.
-  pub IsWellFormed-with_reduced_pairs : (items : List Item) (fixed conflicts : List (ℕ × ℕ))
+  pub IsWellFormed-with_reduced_pairs : (items : List Item) (preserved conflicts : List (ℕ × ℕ))
       → length items ≤ most_items
-      → fixed ≡ fixed_from language program 0 0 none_before items
+      → preserved ≡ reduced_from language program 0 0 none_before items
       → conflicts ≡ (constraints_of language program items).conflicts
-      → IsWellFormed (record { len = length items; fixed = fixed; conflicts = conflicts })
-  IsWellFormed-with_reduced_pairs items fixed conflicts few f c = rw (f, c) (IsWellFormed-reduced_pairs items few)
+      → IsWellFormed (record { len = length items; preserved = preserved; conflicts = conflicts })
+  IsWellFormed-with_reduced_pairs items preserved conflicts few f c = rw (f, c) (IsWellFormed-reduced_pairs items few)

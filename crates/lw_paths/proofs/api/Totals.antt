@@ -8,7 +8,7 @@ use Rattle.lw_paths.proofs.Common.{HasOrientationCount-computed, HasOrientationC
 use Rattle.lw_paths.proofs.Common.{Memory, TooManyItems, TooManyOrders, LimitFaultIsTrue, IsWithinLimits, ◌≢◌}
 use Rattle.lw_paths.proofs.Once.{IsDuplicateFree-path_assignments}
 use Rattle.lw_paths.proofs.api.Enumerated.{Contains-path_assignments}
-use Rattle.lw_paths.proofs.api.FixedPairs.{AreAscending-fixed, AreSorted-conflicts}
+use Rattle.lw_paths.proofs.api.PreservedPairs.{AreAscending-preserved, AreSorted-conflicts}
 use Rattle.lw_paths.proofs.api.Members.{not-Contains-nil, Contains-head, Contains-tail, Contains-cons}
 
 module _ {S : Type 0} (language : Language S) (program : List (List S)) where
@@ -17,7 +17,7 @@ module _ {S : Type 0} (language : Language S) (program : List (List S)) where
       → HasOrderCount language program paths (orders_at_choice language program paths)
   HasOrderCount-computed paths =
       let items = items_of language program paths in
-      HasOrientationCount-computed (constraints_of language program items) (AreAscending-fixed language program items)
+      HasOrientationCount-computed (constraints_of language program items) (AreAscending-preserved language program items)
       (AreSorted-conflicts language program items)
 
   -- The computed number of orders of some path assignments is theirs together.
@@ -37,7 +37,7 @@ module _ {S : Type 0} (language : Language S) (program : List (List S)) where
       → IsTotalOrderCount language program (total_of language program)
   IsTotalOrderCount-total_of forward = record {
     choices = path_assignments language program;
-    all = λ paths. Contains-path_assignments language program paths forward;
+    exactly = λ paths. Contains-path_assignments language program paths forward;
     without_duplicates = IsDuplicateFree-path_assignments language program forward;
     orders = HaveOrderCounts-computed (path_assignments language program);
   }
@@ -135,7 +135,7 @@ module _ {S : Type 0} (language : Language S) (program : List (List S)) where
   pub IsTotalOrderCount-unique : (n m : ℕ) → IsTotalOrderCount language program n → IsTotalOrderCount language program m → n ≡ m
   IsTotalOrderCount-unique n m a b =
       HaveOrderCounts-unique a.choices b.choices n m a.without_duplicates b.without_duplicates
-      (λ c. ((λ h. (b.all c).1 ((a.all c).0 h)), λ h. (a.all c).1 ((b.all c).0 h))) a.orders b.orders
+      (λ c. ((λ h. (b.exactly c).1 ((a.exactly c).0 h)), λ h. (a.exactly c).1 ((b.exactly c).0 h))) a.orders b.orders
 
   -- No test is both past a limit and within the limits.
   pub not-LimitFaultIsTrue-within_limits : (f : ListFault)

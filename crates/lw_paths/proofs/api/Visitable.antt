@@ -10,7 +10,7 @@ module _ {S : Type 0} (language : Language S) (test : Test S) (well_formed : IsW
   -- The path assignments of a well-formed test can be visited.
   pub IsVisitable-well_formed : language.most ≤ 32 → IsVisitable language test.threads
   IsVisitable-well_formed short = record {
-    few = omega (arith, well_formed.as_many, well_formed.head.few);
+    bounded = omega (arith, well_formed.as_many, well_formed.head.bounded);
     short =
         All-weaker (IsWellFormedThread language (length test.head.locs)) (λ code. length code ≤ 32)
         (λ code t. omega (arith, short, t.short)) test.threads well_formed.code;

@@ -7,9 +7,9 @@ use Rattle.lw_paths.specs.Items.{drained_location, path_items}
 -- The number is the maximum of a size among all values of a kind: none has more, and one has it.
 pub record IsMost {X : Type 0} (Is : X → Type 0) (size : X → ℕ) (most : ℕ) : Type 0 where
   pub none_more : (x : X) → Is x → size x ≤ most
-  pub one : X
-  pub is_one : Is one
-  pub reached : size one ≡ most
+  pub element : X
+  pub is_element : Is element
+  pub reached : size element ≡ most
 
 module _ {S : Type 0} (language : Language S) where
   -- The number of items of a statement: itself, and its drain if it has one.

@@ -315,7 +315,7 @@ module _ {M : Type 0} (mem : Memory M) (inv : Invariant M) (laws : IsLawful mem 
         let all : IsTrue (is_final program a.end) =
         is_final-each_terminated program a.end.processors
         (λ t p got. a.done t p (omega (arith, slice_get_within a.end.processors t p got, a.in_invariant.as_many)) got) in
-        record { more = a.events; end = a.end; ran = a.ran; final = all; few = a.within_bound; no_evictions = a.kept }
+        record { more = a.events; end = a.end; ran = a.ran; final = all; bounded = a.within_bound; no_evictions = a.kept }
 
   -- Every run of a well-scoped test can be brought to a final state.
   pub CanTerminate-reached : (test : X86Test)

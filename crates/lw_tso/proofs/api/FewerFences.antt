@@ -197,7 +197,7 @@ IsWellFormedHead-other_name : (h : TestHead) (name : List ℕ)
 IsWellFormedHead-other_name h name named ok = record {
   name = named;
   has_thread = ok.has_thread;
-  few = ok.few;
+  bounded = ok.bounded;
   table = ok.table;
   regs = ok.regs;
   register_counts = ok.register_counts;
@@ -206,7 +206,7 @@ IsWellFormedHead-other_name h name named ok = record {
   location_words = ok.location_words;
   listed_in_range = ok.listed_in_range;
   ascending = ok.ascending;
-  nodes_few = ok.nodes_few;
+  nodes_bounded = ok.nodes_bounded;
   condition = ok.condition;
 }
 

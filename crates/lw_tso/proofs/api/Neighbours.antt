@@ -74,7 +74,7 @@ module _ (program : List (List Instr)) where
       → StandsAtIndex e j d.from
       → TransitionAt flat_memory program e j s mid
   TransitionAt-of_occurrence e j s mid d is = record {
-    stands = IsAtPosition-of_processor e j s d.from d.was is;
+    is_at_position = IsAtPosition-of_processor e j s d.from d.was is;
     done =
         subst (λ after. MachineTransition flat_memory program e s (Ok tt) after) (sym d.state_is)
         (MachineTransition-of_effect program e s.processors d.from d.to s.memory d.words d.was d.does);
@@ -317,7 +317,7 @@ module _ (program : List (List Instr)) where
         let x = EventOccurrence-of_event program (Step t) s mid a.done in
         step_drain s mid end t x.from (PassedEntry-of_buffer _ _ (pass x.from x.was)) j k x
         (EventOccurrence-of_event program (Drain t) mid end b.done) refl
-        (StandsAtIndex-of_machine (Step t) j s x.from x.was a.stands)
+        (StandsAtIndex-of_machine (Step t) j s x.from x.was a.is_at_position)
 
     -- A drain and the next step of its thread commute, if the instruction commutes with the drain of the oldest entry.
     EventsCommute-drain_step : (t : ℕ) → PassEachOther (Drain t) (Step t) → EventsCommute program (Drain t) (Step t) s
@@ -325,7 +325,7 @@ module _ (program : List (List Instr)) where
         let x = EventOccurrence-of_event program (Drain t) s mid a.done in
         let y = EventOccurrence-of_event program (Step t) mid end b.done in
         drain_step s mid end t x.from (PassedEntry-of_buffer _ _ (pass x.from x.was)) j k x y refl
-        (StandsAtIndex-of_machine (Step t) k mid y.from y.was b.stands)
+        (StandsAtIndex-of_machine (Step t) k mid y.from y.was b.is_at_position)
 
     -- If the processor does not exist, no event of it is enabled.
     EventsCommute-no_processor : {e : Event} (f : Event)
@@ -355,8 +355,8 @@ module _ (program : List (List Instr)) where
     EventsCommute-two_processors e f ne free j k mid end a b =
         let x = EventOccurrence-of_event program e s mid a.done in
         let y = EventOccurrence-of_event program f mid end b.done in
-        AreExchanged-two_processors s mid end e f j k ne free x y (StandsAtIndex-of_machine e j s _ x.was a.stands)
-        (StandsAtIndex-of_machine f k mid y.from y.was b.stands)
+        AreExchanged-two_processors s mid end e f j k ne free x y (StandsAtIndex-of_machine e j s _ x.was a.is_at_position)
+        (StandsAtIndex-of_machine f k mid y.from y.was b.is_at_position)
 
   -- Independent events commute.
   pub EventsCommute-independent : (e f : Event) (s : MachineState (List ℕ))

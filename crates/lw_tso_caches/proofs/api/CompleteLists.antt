@@ -35,8 +35,13 @@ module _ (s : SourceTest) (program : X86Test) (starts : List (List ℕ)) (compil
     (Has : FinalState → Type 0) (entries : OutcomeEntries) (c : IsComplete Has program entries) where
   -- It lists the outcomes of the compiled program on the whole machine, with schedules.
   pub on_machine : ListsMachine s entries
-  on_machine =
-      record { program = program; starts = starts; compiled = compiled; outcomes = c.all.over_caches; replays = c.replays }
+  on_machine = record {
+    program = program;
+    starts = starts;
+    compiled = compiled;
+    outcomes = c.has_all_outcomes.over_caches;
+    replays = c.replays;
+  }
 
   -- The compiled program has the test's threads and locations.
   pub IsListedOutcome-of_source : All (IsListedOutcome s.head) entries

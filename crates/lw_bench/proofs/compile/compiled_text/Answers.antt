@@ -15,7 +15,7 @@ returns g c =
       program = program;
       starts = compiled.starts;
       compiled = told.compiled;
-      is = is;
+      text_is = is;
       outcomes =
           IsCompilation-OutcomeOverCaches source program c.outcomes_over_caches_are_flat.ensures compiled.program.well_formed
           told.outcomes;

@@ -4,4 +4,4 @@ use Rattle.lw_bench.proofs.Common.{IsCompiled-exists, IsCompiled-unique}
 use Rattle.lw_bench.proofs.laws.a_source_has_one_compiled_program.Goals as goal
 
 pub returns : goal.returns
-returns c = record { some = IsCompiled-exists; one = IsCompiled-unique }
+returns c = record { some = IsCompiled-exists; unique = IsCompiled-unique }

@@ -6,7 +6,7 @@ use Rattle.lw_bench.proofs.laws.every_test_has_its_program.Goals as goal
 
 pub returns : goal.returns
 returns c = record {
-  there = λ text test says. has_program test (well_formed text test says);
+  machine = λ text test says. has_program test (well_formed text test says);
   caches = λ text test program says runs.
       runs_over_caches c.outcomes_over_caches_are_flat.ensures test program (well_formed text test says) runs;
   each = λ text test program says runs. program_runs test _ (well_formed text test says) runs;

@@ -7,5 +7,5 @@ use Rattle.lw_bench.proofs.laws.message_passing_is_forbidden_on_x86.Goals as goa
 pub returns : goal.returns
 returns c protocol o reached =
     let ok = IsWellScoped-well_formed x86_language message_passing_formed in
-    let over = c.outcomes_over_caches_are_flat.ensures protocol message_passing_in_x86 o ok message_passing_formed.head.few in
+    let over = c.outcomes_over_caches_are_flat.ensures protocol message_passing_in_x86 o ok message_passing_formed.head.bounded in
     message_passing_forbidden o (over.0 reached)

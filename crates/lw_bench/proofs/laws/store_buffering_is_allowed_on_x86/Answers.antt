@@ -9,5 +9,5 @@ returns c protocol =
     let ok = IsWellScoped-well_formed x86_language store_buffering_formed in
     let over =
     c.outcomes_over_caches_are_flat.ensures protocol store_buffering_in_x86 store_buffering_allowed.0 ok
-    store_buffering_formed.head.few in
+    store_buffering_formed.head.bounded in
     (store_buffering_allowed.0, over.1 store_buffering_allowed.1, store_buffering_allowed.2)

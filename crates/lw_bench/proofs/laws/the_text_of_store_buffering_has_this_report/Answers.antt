@@ -7,4 +7,5 @@ use Rattle.lw_bench.proofs.ExampleTexts.{HasTest-store_buffering}
 use Rattle.lw_bench.proofs.laws.the_text_of_store_buffering_has_this_report.Goals as goal
 
 pub returns : goal.returns
-returns c = record { test = Of_x86 store_buffering_in_x86; has_test = HasTest-store_buffering; is = IsReport-store_buffering }
+returns c =
+    record { test = Of_x86 store_buffering_in_x86; has_test = HasTest-store_buffering; is_made = IsReport-store_buffering }

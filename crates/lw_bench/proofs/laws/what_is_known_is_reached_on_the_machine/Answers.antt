@@ -10,6 +10,6 @@ if_known P each (Some text) = each text
 
 pub returns : goal.returns
 returns c = record {
-  machine = if_known _ c.every_test_has_its_program.ensures.there;
+  machine = if_known _ c.every_test_has_its_program.ensures.machine;
   caches = if_known _ c.every_test_has_its_program.ensures.caches;
 }

@@ -12,5 +12,5 @@ returns-in-Source-clause-listed g c =
 pub returns-in-X86-clause-listed : goal.returns-in-X86-clause-listed
 returns-in-X86-clause-listed g c =
     rw c.in-X86.is
-    (AreOutcomesOf-x86_result c.outcomes_over_caches_are_flat.ensures _ c.list_raw_outcomes.result c.in-X86.program.well_formed
-    c.list_raw_outcomes.ensures.exactly c.list_raw_outcomes.ensures.of_test)
+    (AreOutcomesOf-x86_result c.outcomes_over_caches_are_flat.ensures _ c.list_x86_outcomes.result c.in-X86.program.well_formed
+    c.list_x86_outcomes.ensures.exactly c.list_x86_outcomes.ensures.of_test)

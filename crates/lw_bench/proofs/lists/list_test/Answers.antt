@@ -13,5 +13,5 @@ returns-in-Source-clause-listed g c =
 pub returns-in-X86-clause-listed : goal.returns-in-X86-clause-listed
 returns-in-X86-clause-listed g c =
     rw c.in-X86.is
-    (IsListOf-x86_result c.outcomes_over_caches_are_flat.ensures _ c.list_raw.result c.in-X86.program.well_formed
-    c.list_raw.ensures.sorted c.list_raw.ensures.exactly c.list_raw.ensures.replays c.list_raw.ensures.of_test)
+    (IsListOf-x86_result c.outcomes_over_caches_are_flat.ensures _ c.list_x86.result c.in-X86.program.well_formed
+    c.list_x86.ensures.sorted c.list_x86.ensures.exactly c.list_x86.ensures.replays c.list_x86.ensures.of_test)

@@ -6,7 +6,7 @@ use Rattle.lw_bench.proofs.TestReports.{marks_of_list, HasOutcomeShape-of_listin
 use Rattle.lw_bench.proofs.lists.marks_of_listing.Goals as goal
 
 pub states_of-states-requires-clause-threads : goal.states_of-states-requires-clause-threads
-states_of-states-requires-clause-threads g c = c.head-head.ensures.formed.few
+states_of-states-requires-clause-threads g c = c.head-head.ensures.formed.bounded
 
 pub states_of-states-requires-clause-condition : goal.states_of-states-requires-clause-condition
 states_of-states-requires-clause-condition g c = c.head-head.ensures.formed.condition
@@ -17,7 +17,7 @@ states_of-states-requires-clause-outcomes g c =
     c.head-head.ensures.head
 
 pub write_marks-list-requires : goal.write_marks-list-requires
-write_marks-list-requires g c = c.head-head.ensures.formed.few
+write_marks-list-requires g c = c.head-head.ensures.formed.bounded
 
 pub returns : goal.returns
 returns g c =

@@ -7,7 +7,7 @@ use Rattle.lw_bench.proofs.TestReports.{report_of_list, HasOutcomeShape-of_listi
 use Rattle.lw_bench.proofs.lists.report_of_listing.Goals as goal
 
 pub states_of-states-requires-clause-threads : goal.states_of-states-requires-clause-threads
-states_of-states-requires-clause-threads g c = c.head-head.ensures.formed.few
+states_of-states-requires-clause-threads g c = c.head-head.ensures.formed.bounded
 
 pub states_of-states-requires-clause-condition : goal.states_of-states-requires-clause-condition
 states_of-states-requires-clause-condition g c = c.head-head.ensures.formed.condition
@@ -30,4 +30,4 @@ returns g c =
     c.write_report-report.ensures
 
 pub write_report-report-requires-clause-threads : goal.write_report-report-requires-clause-threads
-write_report-report-requires-clause-threads g c = c.head-head.ensures.formed.few
+write_report-report-requires-clause-threads g c = c.head-head.ensures.formed.bounded

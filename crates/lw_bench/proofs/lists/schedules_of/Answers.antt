@@ -6,4 +6,4 @@ pub schedules_of_listing-list-requires : goal.schedules_of_listing-list-requires
 schedules_of_listing-list-requires g c = c.in_ok-listing.ensures.listed
 
 pub returns-clause-found : goal.returns-clause-found
-returns-clause-found g c = record { within = c.in_ok-listing.ensures.within; is = c.in_ok-list.ensures }
+returns-clause-found g c = record { within = c.in_ok-listing.ensures.within; is_schedule_list = c.in_ok-list.ensures }

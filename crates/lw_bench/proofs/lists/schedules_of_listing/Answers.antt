@@ -7,7 +7,7 @@ use Rattle.lw_bench.proofs.TestReports.{schedules_of_list, HasOutcomeShape-of_li
 use Rattle.lw_bench.proofs.lists.schedules_of_listing.Goals as goal
 
 pub states_of-requires-clause-threads : goal.states_of-requires-clause-threads
-states_of-requires-clause-threads g c = c.head-head.ensures.formed.few
+states_of-requires-clause-threads g c = c.head-head.ensures.formed.bounded
 
 pub states_of-requires-clause-condition : goal.states_of-requires-clause-condition
 states_of-requires-clause-condition g c = c.head-head.ensures.formed.condition
@@ -18,7 +18,7 @@ states_of-requires-clause-outcomes g c =
     c.head-head.ensures.head
 
 pub write_schedules-list-requires-clause-threads : goal.write_schedules-list-requires-clause-threads
-write_schedules-list-requires-clause-threads g c = c.head-head.ensures.formed.few
+write_schedules-list-requires-clause-threads g c = c.head-head.ensures.formed.bounded
 
 pub write_schedules-list-requires-clause-schedules : goal.write_schedules-list-requires-clause-schedules
 write_schedules-list-requires-clause-schedules g c =

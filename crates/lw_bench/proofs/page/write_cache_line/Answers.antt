@@ -19,7 +19,7 @@ loop-loc-preserved g c =
 
 pub returns : goal.returns
 returns g c =
-    let table : length c.args.locs.now ≤ 8 = c.len.ensures.table.few in
+    let table : length c.args.locs.now ≤ 8 = c.len.ensures.table.bounded in
     let whole : length c.args.locs.now ≤ c.loop-loc.loc-index =
     omega (
       arith,

@@ -7,7 +7,7 @@ use Rattle.lw_bench.proofs.page.write_machine_page.Goals as goal
 
 pub write_processors-requires : goal.write_processors-requires
 write_processors-requires g c = record {
-  few = c.requires.few;
+  bounded = c.requires.bounded;
   threads = c.requires.threads;
   words = c.requires.words;
   regs = c.as_slice.ensures ∙ ap (λ (o : FinalState). o.regs) (c.state.view_is ∙ c.requires.outcome);
@@ -24,9 +24,9 @@ pub returns : goal.returns
 returns g c =
     on_ok_weaker c.write_words.result
     (λ is. machine_page-MachineParts (head_of c.args.head.now) c.args.replay _ _ _ _ _ _ (record {
-      one = string_bytes c.write_first_lines.new.out;
-      two = string_bytes c.write_processors.new.out;
-      three = string_bytes c.write_memory.new.out;
+      after_first_lines = string_bytes c.write_first_lines.new.out;
+      after_processors = string_bytes c.write_processors.new.out;
+      after_memory = string_bytes c.write_memory.new.out;
       in_memory = g.M.MemorySystem.memory c.memory.result.now;
       in_content = c.as_slice-2.result.now;
       begun = c.in_ok-write_first_lines.ensures;

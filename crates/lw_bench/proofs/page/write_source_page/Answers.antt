@@ -7,7 +7,7 @@ use Rattle.lw_bench.proofs.page.write_source_page.Goals as goal
 
 pub write_threads-requires : goal.write_threads-requires
 write_threads-requires g c = record {
-  few = c.requires.few;
+  bounded = c.requires.bounded;
   threads = c.requires.threads;
   regs = c.as_slice.ensures ∙ ap (λ (o : FinalState). o.regs) (c.state.view_is ∙ c.requires.outcome);
 }
@@ -19,8 +19,8 @@ write_words-requires g c =
 pub returns : goal.returns
 returns g c =
     on_ok_weaker c.write_words.result (λ is. source_page-SourceParts (head_of c.args.head.now) c.args.replay _ _ _ (record {
-      one = string_bytes c.write_first_lines.new.out;
-      two = string_bytes c.write_threads.new.out;
+      after_first_lines = string_bytes c.write_first_lines.new.out;
+      after_threads = string_bytes c.write_threads.new.out;
       words = c.as_slice-2.result.now;
       begun = c.in_ok-write_first_lines.ensures;
       threads = c.in_ok-write_threads.ensures;

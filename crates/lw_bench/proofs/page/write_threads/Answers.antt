@@ -40,7 +40,7 @@ returns g c = AllWritten-of_every c.loop-cpu.invariant (omega (
   length-take c.args.head.now.threads c.all.result,
   ap length c.all.ensures,
   c.requires.threads,
-  c.requires.few,
+  c.requires.bounded,
   c.loop-cpu-test.false,
 ))
 

@@ -7,7 +7,7 @@ pub returns-clause-made : goal.returns-clause-made
 returns-clause-made g c = c.render_text.ensures.found
 
 pub returns-clause-machine : goal.returns-clause-machine
-returns-clause-machine g c = c.every_test_has_its_program.ensures.there _
+returns-clause-machine g c = c.every_test_has_its_program.ensures.machine _
 
 pub returns-clause-caches : goal.returns-clause-caches
 returns-clause-caches g c = c.every_test_has_its_program.ensures.caches _

@@ -14,7 +14,7 @@ returns-in_err-test-clause-device g c = Err-clause_propagated _ _ c.from_residua
 pub returns-clause-found : goal.returns-clause-found
 returns-clause-found g c =
     IfOk-weaker c.render-made.result _ _
-    (λ x made. record { test = litmus_test_of c.in_ok-test.test; has_test = c.in_ok-test.ensures.found; is = made })
+    (λ x made. record { test = litmus_test_of c.in_ok-test.test; has_test = c.in_ok-test.ensures.found; is_made = made })
     c.render-made.ensures.found
 
 pub returns-clause-told : goal.returns-clause-told

@@ -5,7 +5,8 @@ use Rattle.lw_bench.proofs.Common.{◌≡◌, ◌⊎◌, inl, inr, ap, refl, IfO
 use Rattle.lw_bench.proofs.Common.{Err-clause_propagated, TestHead, litmus_test_of, IsReplayPage}
 use Rattle.lw_bench.proofs.Common.{ReplayFaultIsTrue, Memory}
 use Rattle.lw_bench.proofs.Replays.{IsReplay-IsPageOf}
-use Rattle.lw_bench.proofs.FaultTruths.{holds-schedule_run_fault, schedule_no_device, memory_is_no_device}
+use Rattle.lw_bench.proofs.FaultTruths.{holds-schedule_run_fault, schedule_no_device}
+use Rattle.lw_bench.proofs.FaultTruths.{IsNotDeviceFault-of_memory}
 use Rattle.lw_bench.proofs.replay.page_of.Goals as goal
 
 pub returns-in_err-events-clause-told : goal.returns-in_err-events-clause-told
@@ -34,4 +35,4 @@ pub returns-clause-told : goal.returns-clause-told
 returns-clause-told g c = IfErr-weaker _ _ _ (λ f is. inl is) c.page_of_events-page.ensures.fault
 
 pub returns-clause-device : goal.returns-clause-device
-returns-clause-device g c = IfErr-weaker _ _ _ memory_is_no_device c.page_of_events-page.ensures.fault
+returns-clause-device g c = IfErr-weaker _ _ _ IsNotDeviceFault-of_memory c.page_of_events-page.ensures.fault

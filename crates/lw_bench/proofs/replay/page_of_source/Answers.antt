@@ -19,7 +19,7 @@ pub source_page-page-requires : goal.source_page-page-requires
 source_page-page-requires g c =
     let source = c.args.source.now in
     record {
-      few = source.well_formed.head.few;
+      bounded = source.well_formed.head.bounded;
       threads =
           c.run-replay.ensures.threads
           ∙ ap (λ (s : State). length s.threads) c.in_ok-run.ensures.state

@@ -22,7 +22,7 @@ pub machine_page-page-requires : goal.machine_page-page-requires
 machine_page-page-requires g c =
     let program = c.args.program.now in
     record {
-      few = program.well_formed.head.few;
+      bounded = program.well_formed.head.bounded;
       threads =
           c.run-replay.ensures.processors
           ∙ ap (λ s. length s.processors) c.in-Ok.ensures.start

@@ -4,7 +4,7 @@
 use Rattle.lw_beyond.proofs.answers.answer_request.Goals as goal
 
 pub returns-clause-machine : goal.returns-clause-machine
-returns-clause-machine g c = c.every_test_has_its_program.ensures.there _
+returns-clause-machine g c = c.every_test_has_its_program.ensures.machine _
 
 pub returns-clause-caches : goal.returns-clause-caches
 returns-clause-caches g c = c.every_test_has_its_program.ensures.caches _

@@ -9,21 +9,21 @@ use Rattle.lw_fence.proofs.schedule.push_next.Goals as goal
 pub bounds-starts-index : goal.bounds-starts-index
 bounds-starts-index g c =
     let h =
-    HasStart-of_read c.requires.compiled c.requires.there c.as_slice-2.ensures c.index-2.ensures.value c.index-as_slice-index-2.is
-    c.as_slice-starts.ensures in
+    HasStart-of_read c.requires.compiled c.requires.in_range c.as_slice-2.ensures c.index-2.ensures.value
+    c.index-as_slice-index-2.is c.as_slice-starts.ensures in
     h.next
 
 pub bounds-starts-index-2 : goal.bounds-starts-index-2
 bounds-starts-index-2 g c =
     let h =
-    HasStart-of_read c.requires.compiled c.requires.there c.as_slice-2.ensures c.index-2.ensures.value c.index-as_slice-index-2.is
-    c.as_slice-starts.ensures in
+    HasStart-of_read c.requires.compiled c.requires.in_range c.as_slice-2.ensures c.index-2.ensures.value
+    c.index-as_slice-index-2.is c.as_slice-starts.ensures in
     omega (arith, h.next)
 
 pub bounds-as_slice-index : goal.bounds-as_slice-index
 bounds-as_slice-index g c = omega (
   arith,
-  thread_in_range-if_statement c.args.source.now.threads c.args.cpu c.args.index c.requires.there,
+  thread_in_range-if_statement c.args.source.now.threads c.args.cpu c.args.index c.requires.in_range,
   c.index.ensures.value,
   ap length c.as_slice.ensures,
 )
@@ -31,7 +31,7 @@ bounds-as_slice-index g c = omega (
 pub bounds-as_slice-index-2 : goal.bounds-as_slice-index-2
 bounds-as_slice-index-2 g c = omega (
   arith,
-  thread_in_range-if_statement c.args.source.now.threads c.args.cpu c.args.index c.requires.there,
+  thread_in_range-if_statement c.args.source.now.threads c.args.cpu c.args.index c.requires.in_range,
   c.requires.compiled.as_many_starts,
   c.index-2.ensures.value,
   ap length c.as_slice-2.ensures,
@@ -40,20 +40,20 @@ bounds-as_slice-index-2 g c = omega (
 pub overflow_sub-starts : goal.overflow_sub-starts
 overflow_sub-starts g c =
     let h =
-    HasStart-of_read c.requires.compiled c.requires.there c.as_slice-2.ensures c.index-2.ensures.value c.index-as_slice-index-2.is
-    c.as_slice-starts.ensures in
+    HasStart-of_read c.requires.compiled c.requires.in_range c.as_slice-2.ensures c.index-2.ensures.value
+    c.index-as_slice-index-2.is c.as_slice-starts.ensures in
     h.grows
 
 pub returns-in-Ok-clause-ok : goal.returns-in-Ok-clause-ok
 returns-in-Ok-clause-ok g c =
     let h =
-    HasStart-of_read c.requires.compiled c.requires.there c.as_slice-2.ensures c.index-2.ensures.value c.index-as_slice-index-2.is
-    c.as_slice-starts.ensures in
+    HasStart-of_read c.requires.compiled c.requires.in_range c.as_slice-2.ensures c.index-2.ensures.value
+    c.index-as_slice-index-2.is c.as_slice-starts.ensures in
     let code =
     thread_code-of_read c.as_slice.ensures c.index.ensures.value h.thread_in_range c.index-as_slice-index.is
     c.as_slice-code.ensures in
     let events =
-    statement_events-read c.args.cpu c.args.index _ _ code h.same (omega (arith, c.requires.there, ap length code))
+    statement_events-read c.args.cpu c.args.index _ _ code h.same (omega (arith, c.requires.in_range, ap length code))
     c.index-code-index.is in
     c.in-Ok.ensures.ok ∙ ap (λ (es : List Event). c.args.events.now.items ++ es) (sym events)
 
@@ -65,42 +65,42 @@ returns-in-Err-clause-err g c =
 pub bounds-code-index : goal.bounds-code-index
 bounds-code-index g c =
     let h =
-    HasStart-of_read c.requires.compiled c.requires.there c.as_slice-2.ensures c.index-2.ensures.value c.index-as_slice-index-2.is
-    c.as_slice-starts.ensures in
+    HasStart-of_read c.requires.compiled c.requires.in_range c.as_slice-2.ensures c.index-2.ensures.value
+    c.index-as_slice-index-2.is c.as_slice-starts.ensures in
     let code =
     thread_code-of_read c.as_slice.ensures c.index.ensures.value h.thread_in_range c.index-as_slice-index.is
     c.as_slice-code.ensures in
-    omega (arith, c.requires.there, ap length code)
+    omega (arith, c.requires.in_range, ap length code)
 
 pub offset_bounds-code-index : goal.offset_bounds-code-index
 offset_bounds-code-index g c =
     let h =
-    HasStart-of_read c.requires.compiled c.requires.there c.as_slice-2.ensures c.index-2.ensures.value c.index-as_slice-index-2.is
-    c.as_slice-starts.ensures in
+    HasStart-of_read c.requires.compiled c.requires.in_range c.as_slice-2.ensures c.index-2.ensures.value
+    c.index-as_slice-index-2.is c.as_slice-starts.ensures in
     let code =
     thread_code-of_read c.as_slice.ensures c.index.ensures.value h.thread_in_range c.index-as_slice-index.is
     c.as_slice-code.ensures in
-    omega (arith, c.requires.there, ap length code, c.as_slice-code.type_inv.1)
+    omega (arith, c.requires.in_range, ap length code, c.as_slice-code.type_inv.1)
 
 pub overflow_add-index : goal.overflow_add-index
 overflow_add-index g c =
     let h =
-    HasStart-of_read c.requires.compiled c.requires.there c.as_slice-2.ensures c.index-2.ensures.value c.index-as_slice-index-2.is
-    c.as_slice-starts.ensures in
+    HasStart-of_read c.requires.compiled c.requires.in_range c.as_slice-2.ensures c.index-2.ensures.value
+    c.index-as_slice-index-2.is c.as_slice-starts.ensures in
     omega (arith, h.next, c.as_slice-starts.type_inv.0)
 
 pub offset_bounds-starts-index : goal.offset_bounds-starts-index
 offset_bounds-starts-index g c =
     let h =
-    HasStart-of_read c.requires.compiled c.requires.there c.as_slice-2.ensures c.index-2.ensures.value c.index-as_slice-index-2.is
-    c.as_slice-starts.ensures in
+    HasStart-of_read c.requires.compiled c.requires.in_range c.as_slice-2.ensures c.index-2.ensures.value
+    c.index-as_slice-index-2.is c.as_slice-starts.ensures in
     omega (arith, h.next, c.as_slice-starts.type_inv.1)
 
 pub offset_bounds-starts-index-2 : goal.offset_bounds-starts-index-2
 offset_bounds-starts-index-2 g c =
     let h =
-    HasStart-of_read c.requires.compiled c.requires.there c.as_slice-2.ensures c.index-2.ensures.value c.index-as_slice-index-2.is
-    c.as_slice-starts.ensures in
+    HasStart-of_read c.requires.compiled c.requires.in_range c.as_slice-2.ensures c.index-2.ensures.value
+    c.index-as_slice-index-2.is c.as_slice-starts.ensures in
     omega (arith, h.next, c.as_slice-starts.type_inv.1)
 
 pub offset_bounds-as_slice-index-2 : goal.offset_bounds-as_slice-index-2

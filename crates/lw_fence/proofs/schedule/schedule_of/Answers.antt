@@ -15,8 +15,8 @@ position-index-requires g c =
     let turn = NextThreadStep-of_run c.loop-cpu-test.true c.cpu-item.is c.loop-cpu.invariant.possible in
     slice_get_within c.loop-cpu.run.state.threads c.cpu-item.result turn.thread turn.was
 
-pub push_next-requires-clause-there : goal.push_next-requires-clause-there
-push_next-requires-clause-there g c =
+pub push_next-requires-clause-in_range : goal.push_next-requires-clause-in_range
+push_next-requires-clause-in_range g c =
     let turn = NextThreadStep-of_run c.loop-cpu-test.true c.cpu-item.is c.loop-cpu.invariant.possible in
     rw (read_position-eq c.loop-cpu-test.true c.cpu-item.is turn c.position-index.ensures) turn.position_in_range
 

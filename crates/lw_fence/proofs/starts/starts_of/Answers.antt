@@ -9,14 +9,14 @@ loop-index-preserved g c = record {
   so_far =
       starts_from-push _ c.args.code.now _ _ c.loop-index-test.true c.requires.as_many c.index-code-index.is c.len-next.result
       c.loop-index.next _ c.push.new.self c.loop-index.invariant.so_far
-      (c.len-next.ensures.is ∙ ap (λ r. length (instrs_of r)) c.of.ensures) c.in_ok-push.ensures.ok;
-  few = omega (arith, c.loop-index.invariant.few, c.len-next.ensures.few);
+      (c.len-next.ensures.result_is ∙ ap (λ r. length (instrs_of r)) c.of.ensures) c.in_ok-push.ensures.ok;
+  bounded = omega (arith, c.loop-index.invariant.bounded, c.len-next.ensures.bounded);
 }
 
 pub loop-index-init : goal.loop-index-init
 loop-index-init g c = record {
   so_far = ap (λ starts. starts ++ starts_from 0 c.args.fences.now c.args.code.now) (sym c.new-starts.ensures);
-  few = omega arith;
+  bounded = omega arith;
 }
 
 pub bounds-code-index : goal.bounds-code-index
@@ -27,7 +27,7 @@ bounds-fences-index g c = omega (arith, c.loop-index-test.true, c.requires.as_ma
 
 pub overflow_add-next : goal.overflow_add-next
 overflow_add-next g c =
-    omega (arith, c.loop-index.invariant.few, c.len-next.ensures.few, c.loop-index-test.true, c.requires.short)
+    omega (arith, c.loop-index.invariant.bounded, c.len-next.ensures.bounded, c.loop-index-test.true, c.requires.short)
 
 pub returns : goal.returns
 returns g c =

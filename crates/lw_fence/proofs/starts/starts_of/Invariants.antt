@@ -6,5 +6,5 @@ use Rattle.lw_fence.proofs.starts.starts_of.Given as goal
 abbrev pub invariant-loop-index : goal.invariant-loop-index
 invariant-loop-index g l = record {
   so_far : starts_from 0 l.fences l.code ≡ l.starts ++ starts_from l.next (drop l.index l.fences) (drop l.index l.code);
-  few : l.next ≤ 2 * l.index;
+  bounded : l.next ≤ 2 * l.index;
 }

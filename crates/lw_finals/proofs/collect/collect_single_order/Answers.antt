@@ -1,5 +1,5 @@
 -- Of `collect_single_order`, which runs the ascending order of items without conflicts. By the law
--- `one_order_without_open_conflicts` it is the only order that is enumerated, so its outcome is all that
+-- `one_order_without_unordered_conflicts` it is the only order that is enumerated, so its outcome is all that
 -- there is (`CollectsOutcomes-only_order`).
 use Rattle.lw_finals.proofs.Common.{length, ap, ◌∙◌, filter, not, is_ordered, indices, transitive_reduction}
 use Rattle.lw_finals.proofs.Common.{IsWellFormed-reduced_pairs}
@@ -13,9 +13,9 @@ pub returns-clause-gathered : goal.returns-clause-gathered
 returns-clause-gathered g c =
     let items = c.args.items.now in
     let one =
-    c.one_order_without_open_conflicts.ensures (transitive_reduction g.S.Statement.language c.args.program.now items)
-    (IsWellFormed-reduced_pairs g.S.Statement.language c.args.program.now items c.requires.few) in
+    c.one_order_without_unordered_conflicts.ensures (transitive_reduction g.S.Statement.language c.args.program.now items)
+    (IsWellFormed-reduced_pairs g.S.Statement.language c.args.program.now items c.requires.bounded) in
     let given = rw (c.as_slice.ensures ∙ c.ascending-order.ensures) at c.in_ok-collect_order.ensures.gathered in
     CollectsOutcomes-only_order _ _ _ (indices 0 (length items)) _ _
-    (one (ap (filter (λ p. not (is_ordered (transitive_reduction g.S.Statement.language c.args.program.now items).fixed p)))
+    (one (ap (filter (λ p. not (is_ordered (transitive_reduction g.S.Statement.language c.args.program.now items).preserved p)))
     c.requires.none)) given

@@ -12,7 +12,7 @@ returns-clause-caches c program is =
     let ok = IsWellScoped-well_formed x86_language is in
     let replays = c.replays_over_caches_are_flat.ensures in
     record {
-      outcomes = λ protocol o. c.outcomes_over_caches_are_flat.ensures protocol program o ok is.head.few;
-      replays = λ protocol events o kept. replays.flat protocol program events o ok is.head.few kept;
-      of_test = λ protocol events o. replays.of_test protocol program events o ok is.head.few;
+      outcomes = λ protocol o. c.outcomes_over_caches_are_flat.ensures protocol program o ok is.head.bounded;
+      replays = λ protocol events o kept. replays.flat protocol program events o ok is.head.bounded kept;
+      of_test = λ protocol events o. replays.of_test protocol program events o ok is.head.bounded;
     }

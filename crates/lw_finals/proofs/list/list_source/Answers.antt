@@ -5,7 +5,8 @@ use Rattle.lw_finals.proofs.Common.{IfOk-weaker, program_of, on_machine, IsListe
 use Rattle.lw_finals.proofs.list.list_source.Goals as goal
 
 pub returns-clause-exactly : goal.returns-clause-exactly
-returns-clause-exactly g c = IfOk-weaker c.list_compiled.result _ _ (λ l whole. whole.all.exactly) c.list_compiled.ensures.whole
+returns-clause-exactly g c =
+    IfOk-weaker c.list_compiled.result _ _ (λ l whole. whole.has_all_outcomes.exactly) c.list_compiled.ensures.whole
 
 pub returns-clause-machine : goal.returns-clause-machine
 returns-clause-machine g c =

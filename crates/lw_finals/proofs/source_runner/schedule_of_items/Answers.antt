@@ -27,8 +27,8 @@ returns g c =
 pub offset_bounds-items-from : goal.offset_bounds-items-from
 offset_bounds-items-from g c = omega (arith, c.from.ensures, c.type_inv.order c.loop-index.index-index)
 
-pub push_next-requires-clause-there : goal.push_next-requires-clause-there
-push_next-requires-clause-there g c = grind (arith, common_steps)
+pub push_next-requires-clause-in_range : goal.push_next-requires-clause-in_range
+push_next-requires-clause-in_range g c = grind (arith, common_steps)
 
 pub loop-index-preserved : goal.loop-index-preserved
 loop-index-preserved g c = grind (arith, common_steps)

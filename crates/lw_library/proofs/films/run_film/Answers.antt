@@ -14,7 +14,8 @@ returns-in-Ok c =
     let schedule = c.args.schedule.now in
     let protocol = c.args.protocol in
     let is : IsAnswer (IsFilmed schedule protocol) (ReplayFaultIsTrue schedule) c.args.text.now c.write_result.result.status
-    c.in-Ok.film = record { test = made.test; has_test = made.has_test; is = (made.is, c.write_result.ensures.status) } in
+    c.in-Ok.film =
+    record { test = made.test; has_test = made.has_test; is_made = (made.is_made, c.write_result.ensures.status) } in
     IsCallResult-answer (IsFilmed schedule protocol) (ReplayFaultIsTrue schedule) c.args.text.now c.write_result.result _ _
     c.as_bytes.result.now
     (subst (λ (t : Bytes).

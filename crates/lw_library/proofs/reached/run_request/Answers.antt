@@ -13,7 +13,7 @@ returns-in-Ok-clause-told c =
     let made = c.in-Ok.ensures.made in
     let output = c.args.request.now.output in
     let makes : IsOutputOf (IsMadeFor output) c.args.text.now c.in-Ok.answer.text =
-    record { test = made.test; has_test = made.has_test; is = made.is.0 } in
+    record { test = made.test; has_test = made.has_test; is_made = made.is_made.0 } in
     IsReachTold-answer c.args.request.now c.args.text.now c.write_result.result _ _ c.as_bytes.result.now
     c.write_result.ensures.status
     (subst (IsOutputOf (IsMadeFor output) c.args.text.now) (sym (c.as_bytes.ensures.value ∙ c.as_str.ensures)) makes)

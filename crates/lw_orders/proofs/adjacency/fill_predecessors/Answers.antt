@@ -4,12 +4,12 @@ use Rattle.lw_orders.proofs.Common.{◌||◌, arith, ap, ◌∙◌, has, has_edg
 use Rattle.lw_orders.proofs.LowestBySets.{ArePredecessors-append, get_or-copied_set}
 use Rattle.lw_orders.proofs.adjacency.fill_predecessors.Goals as goal
 
--- The fixed pairs' sets are copied, and the chosen pairs added to them.
+-- The preserved pairs' sets are copied, and the chosen pairs added to them.
 pub returns : goal.returns
-returns c fixed are =
-    ArePredecessors-append c.args.len _ _ fixed c.args.chosen.now (λ i j li lj. are i j (omega (arith, li, c.requires.few)) lj)
-    (λ i j li lj.
-    c.add_pairs.ensures i j (omega (arith, li, c.requires.few)) lj
+returns c preserved are =
+    ArePredecessors-append c.args.len _ _ preserved c.args.chosen.now
+    (λ i j li lj. are i j (omega (arith, li, c.requires.bounded)) lj) (λ i j li lj.
+    c.add_pairs.ensures i j (omega (arith, li, c.requires.bounded)) lj
     ∙ ap (λ set_of. has set_of j || has_edge c.args.chosen.now j i)
-    (get_or-copied_set c.args.len i c.args.before.now _ _ li (omega (arith, c.told-before, c.requires.few))
+    (get_or-copied_set c.args.len i c.args.before.now _ _ li (omega (arith, c.told-before, c.requires.bounded))
     c.copy_from_slice.ensures.after))

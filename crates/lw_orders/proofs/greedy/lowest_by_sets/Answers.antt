@@ -1,30 +1,30 @@
--- Of `lowest_by_sets`, whose result is the greedy order of any pairs that the tables are of. `Searching-more`
--- takes the item that `first_free` found; if it found none, no order respects the pairs (`Searching-none`).
+-- Of `lowest_by_sets`, whose result is the greedy order of any pairs that the tables are of. `TakenSoFar-more`
+-- takes the item that `first_free` found; if it found none, no order respects the pairs (`TakenSoFar-none`).
 use Rattle.lw_orders.proofs.Common.{◌||◌, ◌&&◌, ◌∙◌, ap, sym, refl, length-set, arith, get_or_read, has}
-use Rattle.lw_orders.proofs.LowestBySets.{Searching-start, Searching-none, Searching-more}
+use Rattle.lw_orders.proofs.LowestBySets.{TakenSoFar-start, TakenSoFar-none, TakenSoFar-more}
 use Rattle.lw_orders.proofs.greedy.lowest_by_sets.Goals as goal
 
 pub loop-turn-init : goal.loop-turn-init
 loop-turn-init g c = record {
   room = refl;
   fits = c.below-left.ensures.fits;
-  searching = λ pairs drawn. Searching-start pairs _ c.requires.few c.below-left.ensures.items;
+  taken = λ pairs drawn. TakenSoFar-start pairs _ c.requires.bounded c.below-left.ensures.items;
 }
 
 pub returns-in_err-item : goal.returns-in_err-item
 returns-in_err-item g c pairs drawn =
     c.from_residual.ensures
-    ∙ sym (Searching-none c.requires.few c.loop-turn.invariant.fits c.loop-turn-test.true drawn
-    (c.loop-turn.invariant.searching pairs drawn) c.in_err-item.ensures.narrowed c.in_err-item.ensures.found)
+    ∙ sym (TakenSoFar-none c.requires.bounded c.loop-turn.invariant.fits c.loop-turn-test.true drawn
+    (c.loop-turn.invariant.taken pairs drawn) c.in_err-item.ensures.narrowed c.in_err-item.ensures.found)
 
 pub loop-turn-preserved : goal.loop-turn-preserved
 loop-turn-preserved g c = record {
   room = length-set c.loop-turn.items c.loop-turn.turn c.in_ok-item.item ∙ c.loop-turn.invariant.room;
   fits = c.without-left.ensures.fits;
-  searching =
+  taken =
       λ pairs drawn.
-      Searching-more c.requires.few c.loop-turn.invariant.fits c.loop-turn-test.true drawn
-      (c.loop-turn.invariant.searching pairs drawn) c.in_ok-item.ensures.narrowed c.in_ok-item.item c.in_ok-item.ensures.found
+      TakenSoFar-more c.requires.bounded c.loop-turn.invariant.fits c.loop-turn-test.true drawn
+      (c.loop-turn.invariant.taken pairs drawn) c.in_ok-item.ensures.narrowed c.in_ok-item.item c.in_ok-item.ensures.found
       c.loop-turn.invariant.room _ c.without-left.ensures.items (g.S.ItemBits.number c.with_all_among-candidates.result) (λ k l.
       c.with_all_among-candidates.ensures k l
       ∙ ap (λ set.

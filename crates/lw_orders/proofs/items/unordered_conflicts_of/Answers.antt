@@ -24,7 +24,7 @@ set_of-requires g c =
       arith,
       up.0,
       up.1,
-      c.items.invariant.few,
+      c.items.invariant.bounded,
       ap (λ (ps : List (ℕ × ℕ)). (get_or ps k (0, 0)).0) c.deref-pair-items.ensures.value,
     )
 
@@ -36,7 +36,7 @@ contains-requires g c =
     omega (
       arith,
       up.1,
-      c.items.invariant.few,
+      c.items.invariant.bounded,
       ap (λ (ps : List (ℕ × ℕ)). (get_or ps k (0, 0)).1) c.deref-pair-items.ensures.value,
     )
 

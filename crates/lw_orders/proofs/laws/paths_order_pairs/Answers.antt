@@ -4,4 +4,4 @@ use Rattle.lw_orders.proofs.Walks.{IsOrderedByPath-if_ordered, is_ordered-if_pat
 use Rattle.lw_orders.proofs.laws.paths_order_pairs.Goals as goal
 
 pub returns : goal.returns
-returns c t are p = (IsOrderedByPath-if_ordered t.fixed p, is_ordered-if_path t.len t.fixed p are.fixed_up)
+returns c t are p = (IsOrderedByPath-if_ordered t.preserved p, is_ordered-if_path t.len t.preserved p are.preserved_up)

@@ -26,14 +26,14 @@ loop-item-preserved g c =
     elim c.if-not-is_disjoint.branch [
       | then-not-is_disjoint w ↦
           rw w.more-is
-          (IsGrowing-set_joined c.requires.few c.loop-item-test.true c.loop-item.invariant w.union.result (λ j l.
+          (IsGrowing-set_joined c.requires.bounded c.loop-item-test.true c.loop-item.invariant w.union.result (λ j l.
           w.union.ensures j l
           ∙ (ap (λ set_of. has set_of j || has c.set_of-reached_from_to.result j) w.set_of-then-not-is_disjoint.ensures
           ∙ ap (λ set_of. reaches_in c.args.sets.now c.loop-item.item j || has set_of j) c.set_of-reached_from_to.ensures))
           (sym (not_disjoint-is_reaches g d) ∙ ap not w.if-not-is_disjoint.true))
       | else-not-is_disjoint w ↦
           rw w.more-is
-          (IsGrowing-set_unchanged c.requires.few c.loop-item-test.true c.loop-item.invariant
+          (IsGrowing-set_unchanged c.requires.bounded c.loop-item-test.true c.loop-item.invariant
           (sym (not_disjoint-is_reaches g d) ∙ ap not w.if-not-is_disjoint.false))
     ]
 

@@ -30,16 +30,16 @@ returns-else-len-le-WIDTH-clause-more c =
     split.ensures.front_len c.args.from c.args.to _ (omega (arith, split.ensures.back_len, c.requires.level))
     c.reach_more-else-len-le-WIDTH.ensures
 
-pub reach_more-requires-clause-on : goal.reach_more-requires-clause-on
-reach_more-requires-clause-on c =
+pub reach_more-requires-clause-transitive : goal.reach_more-requires-clause-transitive
+reach_more-requires-clause-transitive c =
     let split = c.split_at_mut-known in
     rw
     (get_or-front_level c.args.saved.now split.result.0.now split.result.1.now c.args.level split.ensures.value
-    split.ensures.front_len) c.requires.on
+    split.ensures.front_len) c.requires.transitive
 
-pub reach_more-requires-else-len-le-WIDTH-clause-on : goal.reach_more-requires-else-len-le-WIDTH-clause-on
-reach_more-requires-else-len-le-WIDTH-clause-on c =
+pub reach_more-requires-else-len-le-WIDTH-clause-transitive : goal.reach_more-requires-else-len-le-WIDTH-clause-transitive
+reach_more-requires-else-len-le-WIDTH-clause-transitive c =
     let split = c.split_at_mut-known in
     rw
     (get_or-front_level c.args.saved.now split.result.0.now split.result.1.now c.args.level split.ensures.value
-    split.ensures.front_len) c.requires.on
+    split.ensures.front_len) c.requires.transitive

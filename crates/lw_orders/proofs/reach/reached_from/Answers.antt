@@ -9,7 +9,7 @@ use Rattle.lw_orders.proofs.reach.reached_from.Goals as goal
 
 pub loop-next-init : goal.loop-next-init
 loop-next-init c =
-    IsReaching-start c.args.item c.with-set.result c.empty.result _ (omega (arith, c.requires.below, c.requires.few))
+    IsReaching-start c.args.item c.with-set.result c.empty.result _ (omega (arith, c.requires.below, c.requires.bounded))
     c.with-set.ensures (λ k lk. ap (λ n. has n k) c.empty.ensures ∙ ap (λ n. eqb n 1) (bit_at-zero k)) c.lowest-next.ensures.below
     c.lowest-next.ensures.found
 
@@ -21,20 +21,21 @@ join c k lk = c.union-set.ensures k lk ∙ ap (λ r. has c.loop-next.set k || ha
 
 pub loop-next-preserved : goal.loop-next-preserved
 loop-next-preserved c =
-    IsReaching-next c.requires.few (omega (arith, c.requires.below, c.requires.few)) c.loop-next.invariant c.union-set.result
-    c.without-left.result c.lowest-next-in-loop-next.result c.loop-next-test.true
+    IsReaching-next c.requires.bounded (omega (arith, c.requires.below, c.requires.bounded)) c.loop-next.invariant
+    c.union-set.result c.without-left.result c.lowest-next-in-loop-next.result c.loop-next-test.true
     (join (goal.at.loop-next-preserved c).After-lowest-next-in-loop-next) c.without-left.ensures.items
     c.lowest-next-in-loop-next.ensures.below c.lowest-next-in-loop-next.ensures.found
 
 pub loop-next-smaller : goal.loop-next-smaller
 loop-next-smaller c =
     let further =
-    next_lt_further c.requires.few (omega (arith, c.requires.below, c.requires.few)) c.loop-next.invariant c.union-set.result
-    c.without-left.result _ c.loop-next-test.true (join (goal.at.loop-next-smaller c).After-lowest-next-in-loop-next)
-    c.without-left.ensures.items c.lowest-next-in-loop-next.ensures.below c.lowest-next-in-loop-next.ensures.found in
+    next_lt_further c.requires.bounded (omega (arith, c.requires.below, c.requires.bounded)) c.loop-next.invariant
+    c.union-set.result c.without-left.result _ c.loop-next-test.true
+    (join (goal.at.loop-next-smaller c).After-lowest-next-in-loop-next) c.without-left.ensures.items
+    c.lowest-next-in-loop-next.ensures.below c.lowest-next-in-loop-next.ensures.found in
     omega (arith, further, c.loop-next-test.true)
 
 pub returns : goal.returns
 returns c =
-    IsReachedFrom-end c.requires.few (omega (arith, c.requires.below, c.requires.few)) c.loop-next.invariant
+    IsReachedFrom-end c.requires.bounded (omega (arith, c.requires.below, c.requires.bounded)) c.loop-next.invariant
     c.loop-next-test.false

@@ -20,7 +20,7 @@ loop-thread-preserved g c =
     ++ path_items g.S.Statement.language c.loop-thread.thread c.in-Some.code.now (path_of c.path-item.result) =
     rw (← same) c.in_ok-push_path.ensures.ok in
     record {
-      few = c.loop-thread.invariant.few;
+      bounded = c.loop-thread.invariant.bounded;
       items =
           items_from-push g.S.Statement.language path_of c.args.program.now c.as_slice-path-items.result.now c.loop-thread.thread
           c.loop-thread.items.items c.in-Some.ensures.lookup.3.0 c.loop-thread-test.true c.in-Some.ensures.lookup.1 c.path-item.is
@@ -36,12 +36,12 @@ returns-clause-ok g c =
     ) at c.loop-thread.invariant.items
 
 pub overflow_cast-thread : goal.overflow_cast-thread
-overflow_cast-thread g c = omega (arith, c.loop-thread-test.true, c.loop-thread.invariant.few)
+overflow_cast-thread g c = omega (arith, c.loop-thread-test.true, c.loop-thread.invariant.bounded)
 
 pub unwrap-cpu-requires : goal.unwrap-cpu-requires
 unwrap-cpu-requires g c =
     SomeIff-is_some c.new.result c.loop-thread.thread most_threads c.new.ensures
-    (omega (arith, c.loop-thread-test.true, c.loop-thread.invariant.few))
+    (omega (arith, c.loop-thread-test.true, c.loop-thread.invariant.bounded))
 
 pub returns-in_default-clause-ok : goal.returns-in_default-clause-ok
 returns-in_default-clause-ok g c =
@@ -56,7 +56,7 @@ bounds-path-items-thread g c = c.loop-thread-test.true
 
 pub offset_bounds-path-items-thread : goal.offset_bounds-path-items-thread
 offset_bounds-path-items-thread g c =
-    let few : length c.as_slice-path-items.result.now ≤ 4 = c.loop-thread.invariant.few in
+    let few : length c.as_slice-path-items.result.now ≤ 4 = c.loop-thread.invariant.bounded in
     omega (arith, few, c.loop-thread-test.true)
 
 pub returns-in_err-push_path-clause-err : goal.returns-in_err-push_path-clause-err
@@ -86,4 +86,4 @@ returns-in_err-push_path-clause-ok g c = IfOk-from_err _ _ c.from_residual.ensur
 
 pub loop-thread-init : goal.loop-thread-init
 loop-thread-init g c =
-    record { few = grind (arith, common_steps); items = rw (c.clear.ensures.items, c.as_slice-path-items.ensures) refl }
+    record { bounded = grind (arith, common_steps); items = rw (c.clear.ensures.items, c.as_slice-path-items.ensures) refl }

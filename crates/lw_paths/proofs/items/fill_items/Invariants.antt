@@ -5,7 +5,7 @@ use Rattle.lw_paths.proofs.items.fill_items.Given as goal
 
 abbrev pub invariant-loop-thread : goal.invariant-loop-thread
 invariant-loop-thread g l = record {
-  few : length l.path-items ≤ most_threads;
+  bounded : length l.path-items ≤ most_threads;
   items :
       l.items.items
       ++ items_from g.S.Statement.language l.thread (drop l.thread l.program) (map path_of (drop l.thread l.path-items))

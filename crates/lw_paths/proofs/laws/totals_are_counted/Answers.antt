@@ -7,8 +7,8 @@ use Rattle.lw_paths.proofs.laws.totals_are_counted.Goals as goal
 pub returns-clause-counted : goal.returns-clause-counted
 returns-clause-counted g c program forward = IsTotalOrderCount-total_of g.S.Statement.language program forward
 
-pub returns-clause-one : goal.returns-clause-one
-returns-clause-one g c program n m = IsTotalOrderCount-unique g.S.Statement.language program n m
+pub returns-clause-unique : goal.returns-clause-unique
+returns-clause-unique g c program n m = IsTotalOrderCount-unique g.S.Statement.language program n m
 
 pub returns-clause-apart : goal.returns-clause-apart
 returns-clause-apart g c program f told = not-LimitFaultIsTrue-within_limits g.S.Statement.language program f told

@@ -8,16 +8,16 @@ use Rattle.lw_paths.proofs.limits.check_limits.Goals as goal
 pub returns-clause-within : goal.returns-clause-within
 returns-clause-within g c =
     on_ok_weaker c.check_orders.result
-    (IsWithinLimits-of_total g.S.Statement.language c.args.program.now c.requires.forward c.in_ok-check_items.ensures.few)
+    (IsWithinLimits-of_total g.S.Statement.language c.args.program.now c.requires.forward c.in_ok-check_items.ensures.bounded)
     c.check_orders.ensures.orders
 
 pub returns-clause-err : goal.returns-clause-err
 returns-clause-err g c =
     IfErr-weaker c.check_orders.result _ _
-    (LimitFaultIsTrue-of_choices g.S.Statement.language c.args.program.now c.requires.forward c.in_ok-check_items.ensures.few)
+    (LimitFaultIsTrue-of_choices g.S.Statement.language c.args.program.now c.requires.forward c.in_ok-check_items.ensures.bounded)
     c.check_orders.ensures.err
 
 pub returns-then-has_few_orders-clause-within : goal.returns-then-has_few_orders-clause-within
 returns-then-has_few_orders-clause-within g c =
-    IsWithinLimits-of_total g.S.Statement.language c.args.program.now c.requires.forward c.in_ok-check_items.ensures.few
+    IsWithinLimits-of_total g.S.Statement.language c.args.program.now c.requires.forward c.in_ok-check_items.ensures.bounded
     (c.has_few_orders.ensures c.if-has_few_orders.true)

@@ -18,20 +18,25 @@ max_items-requires g t c κs within =
     search rules
 
 pub overflow_add-result : goal.overflow_add-result
-overflow_add-result g t c =
-    omega (arith, ap length c.in-Some.ensures.cases.0, c.requires.few, c.max_items_of_thread.ensures.few, c.max_items.ensures.few)
+overflow_add-result g t c = omega (
+  arith,
+  ap length c.in-Some.ensures.cases.0,
+  c.requires.bounded,
+  c.max_items_of_thread.ensures.bounded,
+  c.max_items.ensures.bounded,
+)
 
 pub returns-in-Some-clause-most : goal.returns-in-Some-clause-most
 returns-in-Some-clause-most g t c =
     IsMost-more_threads g.S.Statement.language c.args.program.now c.in-Some.code.now c.in-Some.others.now _ c.max_items.result
     c.in-Some.ensures.cases.0 c.max_items_of_thread.ensures.most c.max_items.ensures.most
 
-pub returns-in-Some-clause-few : goal.returns-in-Some-clause-few
-returns-in-Some-clause-few g t c =
-    omega (arith, ap length c.in-Some.ensures.cases.0, c.max_items_of_thread.ensures.few, c.max_items.ensures.few)
+pub returns-in-Some-clause-bounded : goal.returns-in-Some-clause-bounded
+returns-in-Some-clause-bounded g t c =
+    omega (arith, ap length c.in-Some.ensures.cases.0, c.max_items_of_thread.ensures.bounded, c.max_items.ensures.bounded)
 
 pub returns-in-None-clause-most : goal.returns-in-None-clause-most
 returns-in-None-clause-most g t c = IsMost-no_threads g.S.Statement.language _ c.in-None.ensures.cases
 
-pub returns-in-None-clause-few : goal.returns-in-None-clause-few
-returns-in-None-clause-few g t c = omega arith
+pub returns-in-None-clause-bounded : goal.returns-in-None-clause-bounded
+returns-in-None-clause-bounded g t c = omega arith

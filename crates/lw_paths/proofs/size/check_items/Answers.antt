@@ -6,5 +6,5 @@ use Rattle.lw_paths.proofs.size.check_items.Goals as goal
 pub max_items-requires : goal.max_items-requires
 max_items-requires g c = c.requires
 
-pub returns-clause-few : goal.returns-clause-few
-returns-clause-few g c (paths, is, more) = omega (arith, c.max_items.ensures.most.none_more paths is, more)
+pub returns-clause-bounded : goal.returns-clause-bounded
+returns-clause-bounded g c (paths, is, more) = omega (arith, c.max_items.ensures.most.none_more paths is, more)

@@ -33,7 +33,7 @@ overflow_add-most g c =
     size_sum_small c.loop-done.invariant (omega (arith, c.loop-done-test.true)) is
     (rw c.as_slice-stmts.ensures c.requires.forward) (omega (arith, c.requires.short, ap length c.as_slice-stmts.ensures))
     c.max_items_from.ensures in
-    omega (arith, few, c.count_items.ensures)
+    omega (arith, few, c.statement_size.ensures)
 
 pub loop-done-preserved : goal.loop-done-preserved
 loop-done-preserved g c =
@@ -43,17 +43,17 @@ loop-done-preserved g c =
     slice_get-get_or stmts at c.index-stmts-at.result (omega (arith, c.loop-done-test.true))
     ∙ ap Some (sym c.index-stmts-at.is) in
     subst (λ k.
-    AreKnownFrom g.S.Statement.language stmts k (slice_set c.loop-done.most at (c.count_items.result + c.max_items_from.result)))
-    (omega (arith, c.loop-done-test.true))
+    AreKnownFrom g.S.Statement.language stmts k
+    (slice_set c.loop-done.most at (c.statement_size.result + c.max_items_from.result))) (omega (arith, c.loop-done-test.true))
     (AreKnownFrom-set c.loop-done.invariant (omega (arith, c.loop-done-test.true)) is
     (rw c.as_slice-stmts.ensures c.requires.forward) (omega (arith, c.requires.short, ap length c.as_slice-stmts.ensures))
-    c.max_items_from.ensures _ (ap (λ n. n + c.max_items_from.result) c.count_items.ensures))
+    c.max_items_from.ensures _ (ap (λ n. n + c.max_items_from.result) c.statement_size.ensures))
 
 pub returns-clause-most : goal.returns-clause-most
 returns-clause-most g c = rw (← c.as_slice-stmts.ensures) (c.loop-done.invariant.each 0 (omega arith) (omega arith)).is_most
 
-pub returns-clause-few : goal.returns-clause-few
-returns-clause-few g c = omega (
+pub returns-clause-bounded : goal.returns-clause-bounded
+returns-clause-bounded g c = omega (
   arith,
   (c.loop-done.invariant.each 0 (omega arith) (omega arith)).at_most_two_each,
   c.requires.short,

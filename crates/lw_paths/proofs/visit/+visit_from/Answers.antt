@@ -43,7 +43,7 @@ visit_from-requires g t c κs within =
     let can : CanExtendPath g.S.Statement.language c.args.program.now (choice_of c.with-choice.result) (path_of c.new.result) 0 =
     n.0 in
     let more : length (choice_of c.with-choice.result) ≡ suc (length (choice_of c.args.choice.now)) = n.1 in
-    let there : length (choice_of c.with-choice.result) < most_threads = omega (arith, can.thread, can.visitable.few) in
+    let there : length (choice_of c.with-choice.result) < most_threads = omega (arith, can.thread, can.visitable.bounded) in
     let low : c.args.at ≤ most_instructions = c.requires.within_room in
     search rules
 

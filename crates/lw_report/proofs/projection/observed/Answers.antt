@@ -24,5 +24,6 @@ returns-clause-names g c =
     observed-registers_and_locations (head_of c.args.head.now) _ c.loop-cpu.names _ number c.loop-cpu.invariant
     c.in_ok-push_locations.ensures
 
-pub returns-clause-there : goal.returns-clause-there
-returns-clause-there g c = IsSeenInRange-observed (head_of c.args.head.now) c.push_locations.new.names (returns-clause-names g c)
+pub returns-clause-in_range : goal.returns-clause-in_range
+returns-clause-in_range g c =
+    IsSeenInRange-observed (head_of c.args.head.now) c.push_locations.new.names (returns-clause-names g c)

@@ -25,5 +25,5 @@ returns g c =
     let eight = ap length c.all.ensures in
     let most : k ≤ length c.args.head.now.locs = omega (arith, taken, c.len.ensures.len, c.loop-loc.auto.loc-index-end) in
     let least : length c.args.head.now.locs ≤ k =
-    omega (arith, taken, eight, c.len.ensures.len, c.len.ensures.table.few, c.loop-loc-test.false) in
+    omega (arith, taken, eight, c.len.ensures.len, c.len.ensures.table.bounded, c.loop-loc-test.false) in
     filter_prefix-all _ (λ x. Location x) k c.args.names.now c.loop-loc.names c.loop-loc.invariant _ most least

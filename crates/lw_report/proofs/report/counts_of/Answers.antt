@@ -7,19 +7,18 @@ use Rattle.lw_report.proofs.Counted.{count_false-negative}
 use Rattle.lw_report.proofs.report.counts_of.Goals as goal
 
 pub loop-state-init : goal.loop-state-init
-loop-state-init g c = record { counted = refl; few = omega arith }
+loop-state-init g c = record { counted = refl; bounded = omega arith }
 
 pub loop-state-preserved : goal.loop-state-preserved
 loop-state-preserved g c = record {
   counted =
       count_true-suc _ c.loop-state.state-index c.loop-state-test.true c.state-item.is
       (ap (λ (s : ListedState). s.holds) c.state.view_is) c.loop-state.invariant.counted c.from-positive.ensures;
-  few =
-      omega (
-        arith,
-        c.loop-state.invariant.few,
-        from_bool-le_one c.state.inside.holds c.from-positive.result c.from-positive.ensures,
-      );
+  bounded = omega (
+    arith,
+    c.loop-state.invariant.bounded,
+    from_bool-le_one c.state.inside.holds c.from-positive.result c.from-positive.ensures,
+  );
 }
 
 pub returns-clause-positive : goal.returns-clause-positive
@@ -29,12 +28,12 @@ pub returns-clause-negative : goal.returns-clause-negative
 returns-clause-negative g c = count_false-negative c.args.states.now _ (returns-clause-positive g c)
 
 pub overflow_sub-result : goal.overflow_sub-result
-overflow_sub-result g c = omega (arith, c.loop-state.invariant.few, c.loop-state.auto.state-index-end)
+overflow_sub-result g c = omega (arith, c.loop-state.invariant.bounded, c.loop-state.auto.state-index-end)
 
 pub overflow_add-positive : goal.overflow_add-positive
 overflow_add-positive g c =
     omega (
       arith,
-      c.loop-state.invariant.few,
+      c.loop-state.invariant.bounded,
       from_bool-le_one c.state.inside.holds c.from-positive.result c.from-positive.ensures,
     )

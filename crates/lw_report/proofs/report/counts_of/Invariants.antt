@@ -6,5 +6,5 @@ use Rattle.lw_report.proofs.report.counts_of.Given as goal
 abbrev pub invariant-loop-state : goal.invariant-loop-state
 invariant-loop-state g l = record {
   counted : l.positive ≡ length (filter (λ (s : ListedState). s.holds) (take l.state-index l.states));
-  few : l.positive ≤ l.state-index;
+  bounded : l.positive ≤ l.state-index;
 }

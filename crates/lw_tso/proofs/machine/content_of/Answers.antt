@@ -28,5 +28,5 @@ returns g c = c.loop-loc.invariant ∙ take_all c.loop-loc.loc-index (g.M.Memory
   length-take c.location_count.result c.all.result,
   ap length c.all.ensures,
   c.location_count.ensures.count,
-  c.location_count.ensures.few,
+  c.location_count.ensures.bounded,
 ))

@@ -6,7 +6,7 @@ use Rattle.lw_beyond.proofs.SearchedLists.{AreObservedOutcomesOf-x86_search}
 use Rattle.lw_beyond.proofs.kinds.ForReportsListKind.list_by_search.Goals as goal
 
 pub observed-requires : goal.observed-requires
-observed-requires g c = c.head.ensures.formed.few
+observed-requires g c = c.head.ensures.formed.bounded
 
 pub returns-in-Source-clause-listed : goal.returns-in-Source-clause-listed
 returns-in-Source-clause-listed g c =

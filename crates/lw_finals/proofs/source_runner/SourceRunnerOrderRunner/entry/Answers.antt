@@ -7,8 +7,8 @@ use Rattle.lw_finals.proofs.Common.{SourceFollowsPathsToEnd, ReplaysFlatTo, Runn
 use Rattle.lw_finals.proofs.SourceRunners.{HasStatementAt-all_executed, ReplaysTo-item_events}
 use Rattle.lw_finals.proofs.source_runner.SourceRunnerOrderRunner.entry.Goals as goal
 
-pub schedule_of_items-requires-clause-there : goal.schedule_of_items-requires-clause-there
-schedule_of_items-requires-clause-there g c =
+pub schedule_of_items-requires-clause-has_statements : goal.schedule_of_items-requires-clause-has_statements
+schedule_of_items-requires-clause-has_statements g c =
     let source = c.self.inside.source.now in
     let items = c.args.items.now in
     let order = c.args.order.now in

@@ -1,12 +1,12 @@
 -- Of the source runner's `run`: if it returns `true`, the order follows its paths, and `end` is its only
--- outcome; if `false`, it has none. `RanFirst-next` adds one executed item, since an item has at most one successor
+-- outcome; if `false`, it has none. `RunsContinueFrom-next` adds one executed item, since an item has at most one successor
 -- state. An item that is not executed leaves the order without a run (`not-Ran-if_not_enabled`). After the last item
 -- `FollowsPathsToEnd-if_final` and `outcome_at_end-unique` say that the outcome is the order's, and the only one.
 use Rattle.lw_finals.proofs.Common.{arith, ◌≡◌, ◌∙◌, ℕ, List, Ok, ap, sym, subst, true, true≢false}
 use Rattle.lw_finals.proofs.Common.{length-map, Stmt, FinalState, State, is_source_final, source_outcome}
 use Rattle.lw_finals.proofs.Common.{Item, SourceTest, source_of, source_item_system, SourceFollowsPathsToEnd}
 use Rattle.lw_finals.proofs.Common.{RunnerState, CompiledSource, refl, common_steps, SourceItemTransition}
-use Rattle.lw_finals.proofs.OrderSteps.{not-Ran-if_not_enabled, RanFirst-next, outcome_at_end-unique}
+use Rattle.lw_finals.proofs.OrderSteps.{not-Ran-if_not_enabled, RunsContinueFrom-next, outcome_at_end-unique}
 use Rattle.lw_finals.proofs.OrderSteps.{FollowsPathsToEnd-if_final}
 use Rattle.lw_finals.proofs.source_runner.SourceRunnerOrderRunner.run.Goals as goal
 
@@ -51,7 +51,7 @@ loop-index-preserved g c =
       many = c.carry_out.ensures.threads ∙ c.loop-index.invariant.many;
       words = c.carry_out.ensures.words ∙ c.loop-index.invariant.words;
       ran =
-          RanFirst-next _ c.args.items.now c.args.order.now c.loop-index.index-index item now next (record {
+          RunsContinueFrom-next _ c.args.items.now c.args.order.now c.loop-index.index-index item now next (record {
             index = c.from.result;
             past = 0;
             place_in_range = c.loop-index-test.true;
@@ -159,5 +159,5 @@ loop-index-init g c =
       start = run.start ∙ c.self.invariant.2;
       many = grind (arith, common_steps);
       words = grind (arith, common_steps);
-      ran = rw at_start (record { goes = λ end ran. ran; comes = λ end ran. ran });
+      ran = rw at_start (record { rest_runs = λ end ran. ran; whole_runs = λ end ran. ran });
     }

@@ -1,7 +1,7 @@
 -- At each round the items before the index were executed from the initial state; test, program and sizes are
 -- unchanged.
 use Rattle.lw_finals.proofs.Common.{◌≡◌, length, source_of, initial_state, source_item_system}
-use Rattle.lw_finals.proofs.OrderSteps.{RanFirst}
+use Rattle.lw_finals.proofs.OrderSteps.{RunsContinueFrom}
 use Rattle.lw_finals.proofs.source_runner.SourceRunnerOrderRunner.run.Given as goal
 
 -- The items before the index were executed.
@@ -15,6 +15,6 @@ invariant-loop-index g l = record {
   many : length l.self-inside.run.state.threads ≡ length l.initial.self-inside.source.now.threads;
   words : length l.self-inside.run.state.words ≡ length l.initial.self-inside.source.now.head.locs;
   ran :
-      RanFirst (source_item_system (source_of l.initial.self-inside.source.now)) l.items l.order l.index-index
+      RunsContinueFrom (source_item_system (source_of l.initial.self-inside.source.now)) l.items l.order l.index-index
       l.self-inside.run.state;
 }

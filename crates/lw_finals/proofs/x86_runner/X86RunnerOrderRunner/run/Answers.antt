@@ -1,6 +1,6 @@
 -- Of the x86 runner's `run`: if it returns `true`, the order follows its paths over flat memory, and `end` is
 -- its only outcome; if `false`, it has none. The code runs over MESI caches; the law `events_are_flat` says
--- that each event does the same over flat memory. `RanFlat-next` adds one item; `not-outcome_if_refused` is for an item that
+-- that each event does the same over flat memory. `HasFlatRuns-next` adds one item; `not-outcome_if_refused` is for an item that
 -- is refused.
 use Rattle.lw_finals.proofs.Common.{IsWellScoped-well_formed, x86_language, arith, ◌≡◌, ◌∙◌, ℕ, List, Err, ap}
 use Rattle.lw_finals.proofs.Common.{subst, sym, true, true≢false, FinalState, Stop, flat_memory, caches_by}
@@ -8,7 +8,7 @@ use Rattle.lw_finals.proofs.Common.{caches_invariant, Mesi, IsAtPosition, Machin
 use Rattle.lw_finals.proofs.Common.{is_final, Instr, X86Test, program_of, Item, RunnerState, event_of}
 use Rattle.lw_finals.proofs.Common.{X86ItemTransition, common_steps, x86_item_system, X86FollowsPathsToEnd}
 use Rattle.lw_finals.proofs.OrderSteps.{outcome_at_end-unique, FollowsPathsToEnd-if_final}
-use Rattle.lw_finals.proofs.X86Runners.{IsInitialMemory-after_reset, RanFlat-next, not-outcome_if_refused}
+use Rattle.lw_finals.proofs.X86Runners.{IsInitialMemory-after_reset, HasFlatRuns-next, not-outcome_if_refused}
 use Rattle.lw_finals.proofs.x86_runner.X86RunnerOrderRunner.run.Goals as goal
 
 -- The outcome of a run, for this test and outcome.
@@ -48,7 +48,7 @@ loop-index-preserved g c =
       processors = c.carry_out.ensures.processors ∙ c.loop-index.invariant.processors;
       words = c.carry_out.ensures.words ∙ c.loop-index.invariant.words;
       ran =
-          RanFlat-next _ _ m c.args.items.now (λ events s after e answer.
+          HasFlatRuns-next _ _ m c.args.items.now (λ events s after e answer.
           c.events_are_flat.ensures.over_flat test m events s after e answer
           (IsWellScoped-well_formed x86_language c.self.inside.program.now.well_formed) start) c.args.order.now
           c.loop-index.index-index item _ _ (record {

@@ -1,7 +1,7 @@
 -- At each round the items before the index were executed over flat memory too; test, program and sizes are
 -- unchanged.
 use Rattle.lw_finals.proofs.Common.{◌≡◌, length, caches_by, Mesi, program_of}
-use Rattle.lw_finals.proofs.X86Runners.{RanFlat}
+use Rattle.lw_finals.proofs.X86Runners.{HasFlatRuns}
 use Rattle.lw_finals.proofs.x86_runner.X86RunnerOrderRunner.run.Given as goal
 
 -- The items before the index were executed.
@@ -16,6 +16,6 @@ invariant-loop-index g l = record {
       length ((caches_by Mesi).content l.self-inside.machine.state.memory)
       ≡ length ((caches_by Mesi).content l.initial.self-inside.machine.state.memory);
   ran :
-      RanFlat (caches_by Mesi) (program_of l.initial.self-inside.program.now) l.initial.self-inside.machine.state.memory l.items
-      l.order l.index-index l.self-inside.machine.state;
+      HasFlatRuns (caches_by Mesi) (program_of l.initial.self-inside.program.now) l.initial.self-inside.machine.state.memory
+      l.items l.order l.index-index l.self-inside.machine.state;
 }

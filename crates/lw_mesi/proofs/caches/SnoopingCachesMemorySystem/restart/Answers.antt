@@ -52,7 +52,7 @@ returns-clause-words g c = ap coherent_words (returns-clause-start g c) ∙ cohe
 pub returns-clause-sound : goal.returns-clause-sound
 returns-clause-sound g c =
     let few : c.args.self.now.cpus ≤ most_threads =
-    omega (arith, ap (λ (m : Caches). m.cpus) c.self.view_is, c.self.invariant.1.coherent.few) in
+    omega (arith, ap (λ (m : Caches). m.cpus) c.self.view_is, c.self.invariant.1.coherent.bounded) in
     subst (SatisfiesProtocol g.P.ProtocolType.protocol) (sym (returns-clause-start g c))
     (SatisfiesProtocol-empty_caches _ _ _ few)
 

@@ -1,7 +1,7 @@
 -- Of the law that there is one order, the ascending one, if no conflict is unordered. This is the lemma
 -- `orders-of_ascending`.
 use Rattle.lw_orders.proofs.Ascending.{orders-of_ascending}
-use Rattle.lw_orders.proofs.laws.one_order_without_open_conflicts.Goals as goal
+use Rattle.lw_orders.proofs.laws.one_order_without_unordered_conflicts.Goals as goal
 
 pub returns : goal.returns
-returns c t are none = orders-of_ascending t are.fixed_up none
+returns c t are none = orders-of_ascending t are.preserved_up none

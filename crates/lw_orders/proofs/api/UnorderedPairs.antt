@@ -137,35 +137,37 @@ Contains-filter_pair_inv test ps p is_member = (
 -- ---- the unordered conflicts
 module _ (t : Constraints) where
   -- The computed list `unordered_conflicts` satisfies the definition `AreUnorderedConflicts`.
-  pub AreUnorderedConflicts-computed : AreAscending t.len t.fixed
+  pub AreUnorderedConflicts-computed : AreAscending t.len t.preserved
       → AreSorted t.conflicts
       → AreUnorderedConflicts t (unordered_conflicts t)
   AreUnorderedConflicts-computed up sorted =
-      record { all = λ p. (kept p, kept_if_unordered p); sorted = AreSorted-filter passes t.conflicts sorted }
+      record { exactly = λ p. (kept p, kept_if_unordered p); sorted = AreSorted-filter passes t.conflicts sorted }
     where
       -- The test that a pair passes if its items have no order yet.
       passes : ℕ × ℕ → Bool
-      passes q = not (is_ordered t.fixed q)
+      passes q = not (is_ordered t.preserved q)
 
       -- No pair that passes has an order.
-      unordered : (p : ℕ × ℕ) → passes p ≡ true → is_ordered t.fixed p ≡ true → ⊥
+      unordered : (p : ℕ × ℕ) → passes p ≡ true → is_ordered t.preserved p ≡ true → ⊥
       unordered p passed ordered = let bad : false ≡ true = rw ordered at passed in absurd cc
 
       -- A pair that is kept is a conflict that no path orders.
-      kept : (p : ℕ × ℕ) → Contains (unordered_conflicts t) p → Contains t.conflicts p × ¬ IsOrderedByPath t.fixed p
+      kept : (p : ℕ × ℕ) → Contains (unordered_conflicts t) p → Contains t.conflicts p × ¬ IsOrderedByPath t.preserved p
       kept p is_member =
           let found = Contains-filter_pair_inv passes t.conflicts p is_member in
-          (found.0, λ ordered. unordered p found.1 (is_ordered-if_path t.len t.fixed p up ordered))
+          (found.0, λ ordered. unordered p found.1 (is_ordered-if_path t.len t.preserved p up ordered))
 
       -- A conflict that no path orders is kept.
-      kept_if_unordered : (p : ℕ × ℕ) → Contains t.conflicts p × ¬ IsOrderedByPath t.fixed p → Contains (unordered_conflicts t) p
-      kept_if_unordered p c = Contains-filter_pair passes t.conflicts p c.0 (elim (cases_Bool (is_ordered t.fixed p)) [
-        | inl e ↦ absurd (c.1 (IsOrderedByPath-if_ordered t.fixed p e))
+      kept_if_unordered : (p : ℕ × ℕ)
+          → Contains t.conflicts p × ¬ IsOrderedByPath t.preserved p
+          → Contains (unordered_conflicts t) p
+      kept_if_unordered p c = Contains-filter_pair passes t.conflicts p c.0 (elim (cases_Bool (is_ordered t.preserved p)) [
+        | inl e ↦ absurd (c.1 (IsOrderedByPath-if_ordered t.preserved p e))
         | inr e ↦ ap not e
       ])
 
   -- The computed number `orientation_count` satisfies the definition `HasOrientationCount`.
-  pub HasOrientationCount-computed : AreAscending t.len t.fixed
+  pub HasOrientationCount-computed : AreAscending t.len t.preserved
       → AreSorted t.conflicts
       → HasOrientationCount t (orientation_count t)
   HasOrientationCount-computed up sorted = (unordered_conflicts t, AreUnorderedConflicts-computed up sorted, refl)
@@ -173,7 +175,8 @@ module _ (t : Constraints) where
   -- The definition determines the list of unordered conflicts.
   pub AreUnorderedConflicts-unique : (ps qs : List (ℕ × ℕ)) → AreUnorderedConflicts t ps → AreUnorderedConflicts t qs → ps ≡ qs
   AreUnorderedConflicts-unique ps qs p q =
-      AreSorted-unique ps qs p.sorted q.sorted (λ r. ((λ c. (q.all r).1 ((p.all r).0 c)), λ c. (p.all r).1 ((q.all r).0 c)))
+      AreSorted-unique ps qs p.sorted q.sorted
+      (λ r. ((λ c. (q.exactly r).1 ((p.exactly r).0 c)), λ c. (p.exactly r).1 ((q.exactly r).0 c)))
 
   -- The definition determines the number of orientations.
   pub HasOrientationCount-unique : (n m : ℕ) → HasOrientationCount t n → HasOrientationCount t m → n ≡ m
@@ -181,11 +184,11 @@ module _ (t : Constraints) where
       n_is ∙ (ap (λ (rs : List (ℕ × ℕ)). 2 ^ length rs) (AreUnorderedConflicts-unique ps qs p q) ∙ sym m_is)
 
   -- A number is the number of orientations if and only if it is the computed one.
-  pub HasOrientationCount-iff_computed : AreAscending t.len t.fixed
+  pub HasOrientationCount-iff_computed : AreAscending t.len t.preserved
       → AreSorted t.conflicts
       → (n : ℕ)
       → HasOrientationCount t n ↔ (n ≡ orientation_count t)
   HasOrientationCount-iff_computed up sorted n = (
-    λ ways. HasOrientationCount-unique n (orientation_count t) ways (HasOrientationCount-computed up sorted),
+    λ reversals. HasOrientationCount-unique n (orientation_count t) reversals (HasOrientationCount-computed up sorted),
     λ is. subst (HasOrientationCount t) (sym is) (HasOrientationCount-computed up sorted),
   )

@@ -1,11 +1,11 @@
--- What the fixed pairs order: of two items of a thread the first precedes the second if it is a statement, or if the second is a drain or
--- waits for drains. And an order with all these pairs respects the fixed pairs. Both hold of every transitive relation.
+-- What the preserved pairs order: of two items of a thread the first precedes the second if it is a statement, or if the second is a drain or
+-- waits for drains. And an order with all these pairs respects the preserved pairs. Both hold of every transitive relation.
 use Rattle.lw_paths.proofs.Common.{◌≡◌, ℕ, ◌<◌, ◌==◌, ◌⊎◌, inl, inr, List, length, Bool, true, false}
 use Rattle.lw_paths.proofs.Common.{true≢false, refl, sym, ◌∙◌, arith, All, cases_eq, cases_Bool, and_parts}
 use Rattle.lw_paths.proofs.Common.{eqb-true, eq-eqb, All-contains, Before, Respects, Item, Language, item_at}
 use Rattle.lw_paths.proofs.Common.{items_of, needs_earlier_drains, is_preserved, pairs_from, constraints_of}
-use Rattle.lw_paths.proofs.Drains.{IsStoreOf, IsStoreOf-before_drain}
-use Rattle.lw_paths.proofs.api.FixedPairs.{Contains-fixed_pair}
+use Rattle.lw_paths.proofs.Drains.{IsStatementOf, IsStatementOf-before_drain}
+use Rattle.lw_paths.proofs.api.PreservedPairs.{Contains-preserved_pair}
 use Rattle.lw_paths.proofs.api.PairRanges.{IsPairInRange, All-passing, IsPairInRange-pairs_from}
 
 module _ {S : Type 0} (language : Language S) (program : List (List S)) where
@@ -41,7 +41,7 @@ module _ {S : Type 0} (language : Language S) (program : List (List S)) where
     is_preserved-statements same_thread d e = rw (eq-eqb a.thread b.thread same_thread, d, e) refl
 
     -- A store and its drain are in preserved order.
-    is_preserved-store_and_drain : IsStoreOf a b → b.is_drain ≡ true → is_preserved language program a b ≡ true
+    is_preserved-store_and_drain : IsStatementOf a b → b.is_drain ≡ true → is_preserved language program a b ≡ true
     is_preserved-store_and_drain store e =
         rw (eq-eqb a.thread b.thread store.thread, store.statement, e, eq-eqb a.position b.position store.position) refl
 
@@ -67,13 +67,13 @@ module _ {S : Type 0} (language : Language S) (program : List (List S)) where
     abbrev at : ℕ → Item
     at i = item_at items i
 
-    -- R is transitive, and relates the fixed pairs of the items.
+    -- R is transitive, and relates the preserved pairs of the items.
     module _ (R : ℕ → ℕ → Type 0) (go_on : (i j k : ℕ) → R i j → R j k → R i k)
-        (has : All (λ p. R p.0 p.1) (constraints_of language program items).fixed) where
-      -- R relates two ascending items in preserved order, since that is a fixed pair.
+        (has : All (λ p. R p.0 p.1) (constraints_of language program items).preserved) where
+      -- R relates two ascending items in preserved order, since that is a preserved pair.
       related : (i j : ℕ) → i < j → j < length items → is_preserved language program (at i) (at j) ≡ true → R i j
-      related i j less in_range fixed =
-          All-contains (λ p. R p.0 p.1) _ (i, j) has (Contains-fixed_pair language program items i j less in_range fixed)
+      related i j less in_range preserved =
+          All-contains (λ p. R p.0 p.1) _ (i, j) has (Contains-preserved_pair language program items i j less in_range preserved)
 
       -- R relates two ascending items of a thread that are ordered. A store whose drain follows is related to that drain by way of its own.
       related-by_kinds : (d e : Bool) (i j : ℕ)
@@ -93,7 +93,7 @@ module _ {S : Type 0} (language : Language S) (program : List (List S)) where
         | inr waits ↦ related i j less in_range (is_preserved-drain_and_waiting (at i) (at j) same d e waits)
       ]
       related-by_kinds false true i j d e less in_range same ordered =
-          let (m, next, store) = IsStoreOf-before_drain language program paths j in_range e in
+          let (m, next, store) = IsStatementOf-before_drain language program paths j in_range e in
           let own = related m j (omega arith) in_range (is_preserved-store_and_drain (at m) (at j) store e) in
           elim (cases_eq i m) [
             | inl is ↦ rw is own
@@ -103,28 +103,28 @@ module _ {S : Type 0} (language : Language S) (program : List (List S)) where
                 (is_preserved-statements (at i) (at m) (same ∙ sym store.thread) d store.statement)) own
           ]
 
-      -- A transitive relation that relates the fixed pairs relates all ordered items.
-      pub HasOrdered-if_fixed_related : HasOrdered R items
-      HasOrdered-if_fixed_related i j = related-by_kinds (at i).is_drain (at j).is_drain i j refl refl
+      -- A transitive relation that relates the preserved pairs relates all ordered items.
+      pub HasOrdered-if_preserved_related : HasOrdered R items
+      HasOrdered-if_preserved_related i j = related-by_kinds (at i).is_drain (at j).is_drain i j refl refl
 
-    -- An order that respects the fixed pairs has all ordered items in order.
+    -- An order that respects the preserved pairs has all ordered items in order.
     pub HasOrdered-if_respected : (order : List ℕ)
-        → Respects (constraints_of language program items).fixed order
+        → Respects (constraints_of language program items).preserved order
         → HasOrdered (Before order) items
-    HasOrdered-if_respected order keeps = HasOrdered-if_fixed_related (Before order) (λ i j k a b. omega (arith, a, b)) keeps
+    HasOrdered-if_respected order keeps = HasOrdered-if_preserved_related (Before order) (λ i j k a b. omega (arith, a, b)) keeps
 
-  -- A relation of indices that relates all ordered items relates the fixed pairs.
-  pub All-fixed_related : (R : ℕ → ℕ → Type 0) (items : List Item)
+  -- A relation of indices that relates all ordered items relates the preserved pairs.
+  pub All-preserved_related : (R : ℕ → ℕ → Type 0) (items : List Item)
       → HasOrdered R items
-      → All (λ p. R p.0 p.1) (constraints_of language program items).fixed
-  All-fixed_related R items has =
+      → All (λ p. R p.0 p.1) (constraints_of language program items).preserved
+  All-preserved_related R items has =
       All-passing (λ p. is_preserved language program (item_at items p.0) (item_at items p.1)) (IsPairInRange 0 (length items))
-      (λ p. R p.0 p.1) (pairs_from 0 (length items)) (IsPairInRange-pairs_from 0 (length items)) (λ p within fixed.
-      (let (same, ordered) = AreOrdered-if_preserved (item_at items p.0) (item_at items p.1) fixed in
+      (λ p. R p.0 p.1) (pairs_from 0 (length items)) (IsPairInRange-pairs_from 0 (length items)) (λ p within preserved.
+      (let (same, ordered) = AreOrdered-if_preserved (item_at items p.0) (item_at items p.1) preserved in
       has p.0 p.1 within.1 (omega (arith, within.2)) same ordered))
 
-  -- An order that has all ordered items in order respects the fixed pairs.
+  -- An order that has all ordered items in order respects the preserved pairs.
   pub Respects-if_ordered : (items : List Item) (order : List ℕ)
       → HasOrdered (Before order) items
-      → Respects (constraints_of language program items).fixed order
-  Respects-if_ordered items order = All-fixed_related (Before order) items
+      → Respects (constraints_of language program items).preserved order
+  Respects-if_ordered items order = All-preserved_related (Before order) items

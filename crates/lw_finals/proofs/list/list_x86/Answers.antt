@@ -1,12 +1,12 @@
--- Of `list_raw`, the complete list of an x86 test with schedules. `IsComplete-x86_collected` says that what the orders
+-- Of `list_x86`, the complete list of an x86 test with schedules. `IsComplete-x86_collected` says that what the orders
 -- collect is complete (`IsComplete-list`), and the clauses are its parts. The limits are those of `list_program`.
 use Rattle.lw_finals.proofs.Common.{IsWellScoped-well_formed, x86_language, arith, IfOk, IfOk-weaker}
 use Rattle.lw_finals.proofs.Common.{IsComplete, IsMachineOutcome, flat_memory, program_of}
 use Rattle.lw_finals.proofs.Common.{IsVisitable-well_formed}
 use Rattle.lw_finals.proofs.X86List.{IsComplete-x86_collected}
-use Rattle.lw_finals.proofs.list.list_raw.Given.{Over}
-use Rattle.lw_finals.proofs.list.list_raw.Goals.{After-drop-runner-inside-4}
-use Rattle.lw_finals.proofs.list.list_raw.Goals as goal
+use Rattle.lw_finals.proofs.list.list_x86.Given.{Over}
+use Rattle.lw_finals.proofs.list.list_x86.Goals.{After-drop-runner-inside-4}
+use Rattle.lw_finals.proofs.list.list_x86.Goals as goal
 
 -- The list is complete, if there is one.
 IsComplete-list : (g : Over) (c : After-drop-runner-inside-4 g)
@@ -25,7 +25,7 @@ list_program-requires g c = rw c.as_slice.ensures (IsVisitable-well_formed _ _ c
 pub returns-clause-exactly : goal.returns-clause-exactly
 returns-clause-exactly g c =
     let d = (goal.at.returns-clause-exactly g c).After-drop-runner-inside-4 in
-    IfOk-weaker c.list_program.result _ _ (λ l is. is.all.over_caches) (IsComplete-list g d)
+    IfOk-weaker c.list_program.result _ _ (λ l is. is.has_all_outcomes.over_caches) (IsComplete-list g d)
 
 pub returns-clause-replays : goal.returns-clause-replays
 returns-clause-replays g c =

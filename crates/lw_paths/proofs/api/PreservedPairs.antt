@@ -1,4 +1,4 @@
--- The fixed pairs and the conflicts of items, in either language: each pair is ascending, and each ascending pair that passes the test is
+-- The preserved pairs and the conflicts of items, in either language: each pair is ascending, and each ascending pair that passes the test is
 -- listed. And items with these pairs are well-formed. So the orders of a path assignment can be computed by lw_orders.
 use Rattle.lw_paths.proofs.Common.{◌≡◌, Bool, true, ℕ, ◌<◌, ◌≤◌, List, length, filter, arith, Contains}
 use Rattle.lw_paths.proofs.Common.{AreSorted, AreAscending, most_items, Item, Language, item_at, pairs_from}
@@ -10,21 +10,21 @@ use Rattle.lw_paths.proofs.api.PairRanges.{Contains-filter}
 
 module _ {S : Type 0} (language : Language S) (program : List (List S)) where
   -- Tests whether the items of a pair of indices are in preserved order.
-  abbrev fixed_at : List Item → ℕ × ℕ → Bool
-  fixed_at items p = is_preserved language program (item_at items p.0) (item_at items p.1)
+  abbrev preserved_at : List Item → ℕ × ℕ → Bool
+  preserved_at items p = is_preserved language program (item_at items p.0) (item_at items p.1)
 
   -- Tests whether the items of a pair of indices conflict.
   abbrev conflict_at : List Item → ℕ × ℕ → Bool
   conflict_at items p = items_conflict language program (item_at items p.0) (item_at items p.1)
 
-  -- An ascending pair of items in preserved order is among the fixed pairs.
-  pub Contains-fixed_pair : (items : List Item) (i j : ℕ)
+  -- An ascending pair of items in preserved order is among the preserved pairs.
+  pub Contains-preserved_pair : (items : List Item) (i j : ℕ)
       → i < j
       → j < length items
       → is_preserved language program (item_at items i) (item_at items j) ≡ true
-      → Contains (constraints_of language program items).fixed (i, j)
-  Contains-fixed_pair items i j less below f =
-      Contains-filter (fixed_at items) (pairs_from 0 (length items)) (i, j)
+      → Contains (constraints_of language program items).preserved (i, j)
+  Contains-preserved_pair items i j less below f =
+      Contains-filter (preserved_at items) (pairs_from 0 (length items)) (i, j)
       (Contains-pairs_from 0 (length items) i j (omega arith) less (omega arith)) f
 
   -- An ascending pair of conflicting items is among the conflicts.
@@ -43,9 +43,9 @@ module _ {S : Type 0} (language : Language S) (program : List (List S)) where
       All-passing test (IsPairInRange 0 n) (λ p. (p.0 < p.1) × (p.1 < n)) (pairs_from 0 n) (IsPairInRange-pairs_from 0 n)
       (λ p h e. (h.1, omega (arith, h.2)))
 
-  -- Each fixed pair is ascending.
-  pub AreAscending-fixed : (items : List Item) → AreAscending (length items) (constraints_of language program items).fixed
-  AreAscending-fixed items = AreAscending-filtered_pairs (fixed_at items) (length items)
+  -- Each preserved pair is ascending.
+  pub AreAscending-preserved : (items : List Item) → AreAscending (length items) (constraints_of language program items).preserved
+  AreAscending-preserved items = AreAscending-filtered_pairs (preserved_at items) (length items)
 
   -- Each conflict is ascending.
   pub AreAscending-conflicts : (items : List Item) → AreAscending (length items) (constraints_of language program items).conflicts
@@ -63,8 +63,8 @@ module _ {S : Type 0} (language : Language S) (program : List (List S)) where
       → length items ≤ most_items
       → IsWellFormed (constraints_of language program items)
   IsWellFormed-constraints items few = record {
-    few = few;
-    fixed_up = AreAscending-fixed items;
+    bounded = few;
+    preserved_up = AreAscending-preserved items;
     conflicts_up = AreAscending-conflicts items;
     sorted = AreSorted-conflicts items;
   }

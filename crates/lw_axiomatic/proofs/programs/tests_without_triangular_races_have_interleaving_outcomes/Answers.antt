@@ -2,7 +2,7 @@
 -- interleaving. `IsAllowed-iff_InterleavingOutcome` says so of the axioms; the machine and the caches are exchanged for the axioms by
 -- the theorem.
 use Rattle.lw_axiomatic.proofs.RaceFree.{IsAllowed-iff_InterleavingOutcome}
-use Rattle.lw_axiomatic.proofs.programs.tests_without_triangular_races_are_interleaving.Goals as goal
+use Rattle.lw_axiomatic.proofs.programs.tests_without_triangular_races_have_interleaving_outcomes.Goals as goal
 
 pub returns : goal.returns
 returns c =

@@ -3,7 +3,7 @@
 -- sequentially consistent.
 use Rattle.lw_axiomatic.proofs.FencedTests.{IsFencedWhereShared-IsFencedWhereOthersWrite}
 use Rattle.lw_axiomatic.proofs.Sequenced.{fenced_where_overwritten-from_shared}
-use Rattle.lw_axiomatic.proofs.programs.tests_fenced_where_others_write_are_interleaving.Goals as goal
+use Rattle.lw_axiomatic.proofs.programs.tests_fenced_where_others_write_have_interleaving_outcomes.Goals as goal
 
 pub returns : goal.returns
 returns c = record {

@@ -1,12 +1,12 @@
--- Of `preserved_pairs`, which returns the transitive reduction of the preserved pairs. `fixed_from-push` appends
+-- Of `reduced_pairs`, which returns the transitive reduction of the preserved pairs. `reduced_from-push` appends
 -- the pairs of the next item, with the last statement and the last drain of its thread.
 use Rattle.lw_paths.proofs.Common.{refl, append-nil, drop_all, IfOk-from_err}
-use Rattle.lw_paths.proofs.Pushed.{fixed_from-push}
-use Rattle.lw_paths.proofs.preserved_order.preserved_pairs.Goals as goal
+use Rattle.lw_paths.proofs.Pushed.{reduced_from-push}
+use Rattle.lw_paths.proofs.preserved_order.reduced_pairs.Goals as goal
 
 pub loop-index-preserved : goal.loop-index-preserved
 loop-index-preserved g c =
-    fixed_from-push g.S.Statement.language c.args.program.now c.args.items.now c.loop-index.index c.loop-index.before
+    reduced_from-push g.S.Statement.language c.args.program.now c.args.items.now c.loop-index.index c.loop-index.before
     c.loop-index.last c.loop-index.pairs.items c.loop-index-test.true c.index-items-index.is
     c.needs_earlier_drains-is_behind_drains.ensures c.of-last.ensures c.with-last.ensures c.in_ok-push_preserved.ensures
     c.loop-index.invariant

@@ -1,12 +1,12 @@
--- Of `list_raw_outcomes`, the outcomes of an x86 test without schedules. `AreAllOutcomes-x86_collected` says that
+-- Of `list_x86_outcomes`, the outcomes of an x86 test without schedules. `AreAllOutcomes-x86_collected` says that
 -- they are all (`AreAllOutcomes-list`), and the clauses are its parts. The limits are those of `list_program`.
 use Rattle.lw_finals.proofs.Common.{IsWellScoped-well_formed, x86_language, arith, IfOk, IfOk-weaker}
 use Rattle.lw_finals.proofs.Common.{AreAllOutcomes, outcomes_of, IsMachineOutcome, flat_memory, program_of}
 use Rattle.lw_finals.proofs.Common.{IsVisitable-well_formed, ap, ◌∙◌, RunnerState, X86Test}
 use Rattle.lw_finals.proofs.X86List.{AreAllOutcomes-x86_collected}
-use Rattle.lw_finals.proofs.list.list_raw_outcomes.Given.{Over}
-use Rattle.lw_finals.proofs.list.list_raw_outcomes.Goals.{After-drop-outcomes-4}
-use Rattle.lw_finals.proofs.list.list_raw_outcomes.Goals as goal
+use Rattle.lw_finals.proofs.list.list_x86_outcomes.Given.{Over}
+use Rattle.lw_finals.proofs.list.list_x86_outcomes.Goals.{After-drop-outcomes-4}
+use Rattle.lw_finals.proofs.list.list_x86_outcomes.Goals as goal
 
 -- The list is complete, if there is one.
 AreAllOutcomes-list : (g : Over) (c : After-drop-outcomes-4 g)

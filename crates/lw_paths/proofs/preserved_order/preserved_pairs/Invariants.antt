@@ -1,8 +1,0 @@
--- At each round the pairs so far, followed by those of the items from `index` on, are all.
-use Rattle.lw_paths.proofs.Common.{◌≡◌, ◌++◌, drop, none_before, fixed_from}
-use Rattle.lw_paths.proofs.preserved_order.preserved_pairs.Given as goal
-
-abbrev pub invariant-loop-index : goal.invariant-loop-index
-invariant-loop-index g l =
-    l.pairs.items ++ fixed_from g.S.Statement.language l.program l.index l.before l.last (drop l.index l.items)
-    ≡ fixed_from g.S.Statement.language l.program 0 0 none_before l.items
