@@ -20,7 +20,7 @@ sys.dont_write_bytecode = True
 import films
 import given
 from lab import codes, quiz
-from make_site import format_in_script
+from make_site import format_literal
 from shapes.edges import NoCycle
 from shared import command, start
 
@@ -36,7 +36,7 @@ def make_page(count: int, seed: str, report: Callable[[str], str]) -> str:
         "@SYMBOLS@": codes.SYMBOLS, "@LETTERS@": codes.LETTERS, "@MARKS@": str(codes.MARKS), "@MOST@": str(codes.MAX_TESTS),
         "@BYTES@": str(codes.BYTES),
         "@PRIME@": str(codes.PRIME), "@SUM@": str(codes.LENGTH_OF_SUM),
-        "@QUIZ@": format_in_script(quiz.make_data(seed, quiz.make_tests(count, seed, report))),
+        "@QUIZ@": format_literal(quiz.make_data(seed, quiz.make_tests(count, seed, report))),
     }
     for name, part in parts.items():
         html = html.replace(name, part)

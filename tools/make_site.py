@@ -87,12 +87,12 @@ def read_source(name: str, web: str) -> str:
 
 
 def bundle_module(entry: str, web: str) -> str:
-    """Returns one classic script that does what a module and all that it imports do. Raises NoSite if it has what no script in place may have."""
+    """Returns one classic script that does what a module and all its imports do. Raises NoSite if it has what no script inside the page may have."""
     done: dict[str, str] = {}
     add_module(entry, web, done, ())
     text = '"use strict";\n' + INDENT.sub("", COMMENT.sub("", "".join(done.values())))
     if re.search(r"</script|<!--|^\s*(?:import|export)\b", text, re.M | re.I):
-        raise NoSite(f"web/{entry}.js, or what it imports, has what no script in place may have, or an import of another form")
+        raise NoSite(f"web/{entry}.js, or what it imports, has what no script inside the page may have, or an import of another form")
     return text
 
 
@@ -118,8 +118,8 @@ def rewrite_import(statement: re.Match[str]) -> str:
     return f"const {namespace} = from_{name};\n" if namespace else f"const {{{names}}} = from_{name};\n"
 
 
-def format_in_script(value: object) -> str:
-    """Returns a value as a script has it, also in place."""
+def format_literal(value: object) -> str:
+    """Returns a value as a literal of JavaScript, with `<` escaped, so that it may also be in a `<script>` inside the page."""
     return json.dumps(value, ensure_ascii=True).replace("<", "\\u003c")
 
 
@@ -133,7 +133,7 @@ def pack_bytes(content: bytes) -> str:
 
 def make_unpacking_script(script: str) -> str:
     """Returns a script that unpacks another one and runs it: the page's own code is a third as long when it is packed."""
-    return UNPACKING.replace("PACKED", format_in_script(pack_bytes(script.encode())))
+    return UNPACKING.replace("PACKED", format_literal(pack_bytes(script.encode())))
 
 
 def make_scripts(modules: list[bytes], is_kept: bool, web: str, has_documents: bool = False) -> Files:
@@ -150,11 +150,11 @@ def make_scripts(modules: list[bytes], is_kept: bool, web: str, has_documents: b
         # In a folder the page asks itself for each module after the first; in one file they are after the page.
         "moduleFiles": ["", *names[1:]] if is_kept else [],
     }
-    first = FETCHING.replace("FILE", format_in_script(names[0])) if is_kept and names else ""
-    begin = f"globalThis.site = {format_in_script(site)};\nglobalThis.site.bytesOf = {letters.DECODER};\n"
+    first = FETCHING.replace("FILE", format_literal(names[0])) if is_kept and names else ""
+    begin = f"globalThis.site = {format_literal(site)};\nglobalThis.site.bytesOf = {letters.DECODER};\n"
     scripts_by_name = {"tables.js": begin + first, "page.js": make_unpacking_script(bundle_module("main", web))}
     for name, module in zip(names, modules):
-        scripts_by_name[name] = f"globalThis.site.modules.push({format_in_script(pack_bytes(module))});\nglobalThis.site.came?.();\n"
+        scripts_by_name[name] = f"globalThis.site.modules.push({format_literal(pack_bytes(module))});\nglobalThis.site.came?.();\n"
     return scripts_by_name
 
 
@@ -182,12 +182,12 @@ def shorten_style(text: str) -> str:
 
 
 def make_one_file(modules: list[bytes], web: str) -> str:
-    """Returns the site as one file. Raises NoSite if the style has what none in place may have."""
+    """Returns the site as one file. Raises NoSite if the style has what none inside the page may have."""
     front, back = split_page(web)
     icon = base64.b64encode(read_source("icon.svg", web).encode()).decode()
     style = read_styles(web)
     if "</style" in style:
-        raise NoSite("web/style.css has what no style in place may have")
+        raise NoSite("web/style.css has what no style inside the page may have")
     head = f'<link rel="icon" href="data:image/svg+xml;base64,{icon}">\n<style>\n{style}</style>\n'
     inner = "".join(f"<script>\n{it}</script>\n" for it in make_scripts(modules, False, web).values())
     body, end, rest = back.rpartition("</body>")
@@ -217,7 +217,7 @@ def make_folder(modules: list[bytes], web: str, has_documents: bool = True, slid
     files["index.html"] = front + head + back
     edition = hashlib.sha256(json.dumps(files).encode()).hexdigest()[:16]
     names = ["./", *sorted(files)]
-    files["offline.js"] = f"const edition = {format_in_script(edition)};\nconst files = {format_in_script(names)};\n" + read_source("offline.js", web)
+    files["offline.js"] = f"const edition = {format_literal(edition)};\nconst files = {format_literal(names)};\n" + read_source("offline.js", web)
     return files
 
 

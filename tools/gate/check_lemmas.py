@@ -34,7 +34,7 @@ ALLOWED = {
     "Rattle.lw_base.specs.Types.TokenList": "a row of tokens and a table of names are lists of texts, and are not meant for one another",
     "Rattle.lw_tso.specs.Runs.InitialWords": "where a run begins is of the shape of an outcome, and is none",
     "Rattle.lw_arena.specs.Ownership.node_val": "a node is a struct of one pointer, of each of which the walks say the same",
-    "Rattle.lw_orders.proofs.api.OpenPairs.none_in": "lw_orders depends only on std, which does not have it",
+    "Rattle.lw_orders.proofs.api.UnorderedPairs.none_in": "lw_orders depends only on std, which does not have it",
 }
 
 
@@ -196,7 +196,7 @@ class Statement:
                 self.bind_names([str(name)])
                 self.words.append("end of a binder")
             return
-        self.words.append("(" if group.opening == "(" else group.opening)
+        self.words.append(group.opening)
         self.add(group.inner)
         self.words.append(")" + group.suffix)
 

@@ -67,7 +67,7 @@ BUNDLED = {
 REFUSED = (
     ("itself", 'import { a } from "./main.js";\nexport const a = 1;\n'),
     ("another form", 'import it from "./other.js";\n'),
-    ("no script in place", 'const it = "</script>";\n'),
+    ("no script inside the page", 'const it = "</script>";\n'),
 )
 
 
