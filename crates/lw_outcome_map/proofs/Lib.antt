@@ -1,1 +1,2 @@
+pub mod SortedEntries
 pub mod api

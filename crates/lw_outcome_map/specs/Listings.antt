@@ -1,5 +1,5 @@
 -- Lists of outcomes, each with what is kept for it: a schedule that reaches it, or nothing.
-use Rattle.std.specs.Prelude.{◌≡◌, ◌⊎◌, List, [], ◌∷◌, ◌++◌, Contains}
+use Rattle.std.specs.Prelude.{◌≡◌, List}
 use Rattle.std.specs.List.{AllPairs}
 use Rattle.std.specs.Map.{keys_of, values_of}
 use Rattle.std.specs.declared.cmp.Ordering.TheVariants.{Less}
@@ -21,10 +21,6 @@ outcomes_of entries = keys_of entries
 -- The schedules of a list, without the outcomes.
 abbrev pub schedules_of : OutcomeEntries → List (List Event)
 schedules_of entries = values_of entries
-
--- An outcome is inserted without a value: it was listed, and nothing changes, or it is appended.
-abbrev pub InsertsOutcome : OutcomesWith (Unit {0}) → FinalState → OutcomesWith (Unit {0}) → Type 0
-InsertsOutcome old o new = (Contains (outcomes_of old) o × (new ≡ old)) ⊎ (new ≡ old ++ (o, tt) ∷ [])
 
 -- The outcomes are strictly ascending, so there are no duplicates.
 abbrev pub IsStrictlySorted : {Kept : Type 0} → OutcomesWith Kept → Type 0

@@ -1,12 +1,13 @@
 //! The outcomes found, without duplicates, each with what is kept for it: a schedule, or nothing.
 ghost use Rattle.std.specs.Prelude.{◌≡◌, ◌↔◌, [], ◌∷◌, ◌++◌, ◌<◌, ◌==◌, ℕ, length, OnOk, OnErr, IfOk, IsTrue, MatchOption, Contains, Some, slice_get};
-ghost use Rattle.std.specs.Prelude.{IsPermutation};
-ghost use Rattle.lw_base.specs.Outcomes.{FinalState};
-ghost use Rattle.lw_outcome_map.specs.Listings.{InsertsOutcome, OutcomeEntries, outcomes_of, schedules_of, IsStrictlySorted};
+ghost use Rattle.std.specs.Prelude.{IsPermutation, IsSorted};
+ghost use Rattle.lw_base.specs.Outcomes.{FinalState, final_state_cmp};
+ghost use Rattle.lw_outcome_map.specs.Listings.{OutcomeEntries, outcomes_of, schedules_of, IsStrictlySorted};
 
 use indexmap::IndexMap;
 use lw_base::{Event, Outcome, Sequence};
 use std::alloc::{AllocError, Allocator, Global};
+use std::cmp::Ordering;
 use std::hash::{BuildHasherDefault, FoldHasher};
 use std::marker::Model;
 
@@ -64,28 +65,30 @@ impl<A: Allocator, K: Drop> OutcomeMap<A, K> {
         ensures same { IfOk result (λ listing. IsPermutation self listing) }
         ensures sorted { IfOk result (λ listing. IsStrictlySorted listing) }
     {
-        let mut found = self.found;
-        found.sort_unstable_keys()?;
-        Ok(Listing { found })
+        let alloc = *self.found.allocator();
+        let mut entries = Vec::from_iter(alloc, self.found)?;
+        sort_by_outcome(&mut entries);
+        Ok(Listing { entries })
     }
 }
 
-impl<A: Allocator> OutcomeMap<A, ()> {
-    /// Inserts an outcome without a value, unless the map has it. If memory runs out, the map is unchanged.
-    pub fn insert(&mut self, outcome: Outcome<A>) -> Result<(), AllocError>
-        ensures inserted { OnOk result (InsertsOutcome self.old outcome self.new) }
-        ensures err { OnErr result (self.new ≡ self.old) }
-    {
-        self.found.insert(outcome, ())?;
-        Ok(())
-    }
+/// Sorts entries by their outcomes.
+fn sort_by_outcome<A: Allocator, K>(entries: &mut Vec<(Outcome<A>, K), A>)
+    ensures same { IsPermutation entries.old.items entries.new.items }
+    ensures sorted { IsSorted final_state_cmp (outcomes_of entries.new.items) }
+{
+    entries.sort_unstable_by(
+        |first, second| -> Ordering
+            ensures { result ≡ final_state_cmp first.now.0 second.now.0 }
+        { first.0.cmp(&second.0) },
+    );
 }
 
 /// The outcomes found, sorted, without duplicates, each with a value of type `K`: a schedule, unless another type is
 /// named. A contract sees the list of the pairs.
 #[derive(Drop)]
 pub struct Listing<A: Allocator = Global, K = Sequence<Event, A>> {
-    found: ValueByOutcome<A, K>,
+    entries: Vec<(Outcome<A>, K), A>,
 }
 
 /// The outcomes found, sorted, without duplicates and without schedules.
@@ -96,9 +99,9 @@ impl<A: Allocator, K> Model for Listing<A, K> {
 
     ghost Value = { OutcomesWith K };
 
-    ghost view = { λ l. l.found.entries };
+    ghost view = { λ l. l.entries.items };
 
-    ghost invariant = { λ l. IsStrictlySorted l.found.entries };
+    ghost invariant = { λ l. IsStrictlySorted l.entries.items };
 }
 
 impl<A: Allocator, K> Listing<A, K> {
@@ -108,14 +111,14 @@ impl<A: Allocator, K> Listing<A, K> {
         // Every listing is strictly sorted.
         ensures sorted { IsStrictlySorted self.now }
     {
-        self.found.len()
+        self.entries.len()
     }
 
     /// Returns whether the listing has no outcome.
     pub fn is_empty(&self) -> bool
         ensures { result ≡ (length self.now == 0) }
     {
-        self.found.is_empty()
+        self.entries.is_empty()
     }
 
     /// Returns the outcome at an index.
@@ -123,7 +126,7 @@ impl<A: Allocator, K> Listing<A, K> {
         requires { index < length self.now }
         ensures { slice_get (outcomes_of self.now) index ≡ Some result.now }
     {
-        self.found.get_index(index).unwrap().0
+        &self.entries[index].0
     }
 
     /// Returns the index of an outcome, or `None` if it is not listed.
@@ -132,7 +135,27 @@ impl<A: Allocator, K> Listing<A, K> {
             (¬ Contains (outcomes_of self.now) outcome.now)
             (λ index. slice_get (outcomes_of self.now) index ≡ Some outcome.now) }
     {
-        self.found.get_index_of(outcome)
+        self.entries
+            .binary_search_by(
+                |entry| -> Ordering
+                    ensures { result ≡ final_state_cmp entry.now.0 outcome.entry.now }
+                { entry.0.cmp(outcome) },
+            )
+            .ok()
+    }
+}
+
+impl<A: Allocator, K: Drop> Listing<A, K> {
+    /// Makes a listing of outcomes with values, in any order. Of several entries with one outcome it has one.
+    pub fn from_entries(entries: Vec<(Outcome<A>, K), A>) -> Self
+        ensures from { (entry : FinalState × K) → Contains result entry → Contains entries.items entry }
+        ensures complete { (outcome : FinalState) → Contains (outcomes_of entries.items) outcome → Contains (outcomes_of result) outcome }
+        ensures sorted { IsStrictlySorted result }
+    {
+        let mut sorted = entries;
+        sort_by_outcome(&mut sorted);
+        sorted.dedup_by(|later, first| later.0 == first.0);
+        Listing { entries: sorted }
     }
 }
 
@@ -142,7 +165,7 @@ impl<A: Allocator> Listing<A> {
         requires { index < length self.now }
         ensures { slice_get (schedules_of self.now) index ≡ Some result.now }
     {
-        self.found[index].as_slice()
+        self.entries[index].1.as_slice()
     }
 }
 

@@ -1,8 +1,8 @@
 -- Outcomes as keys of a map: `==` is an equivalence and `cmp` a total order of them, so a sorted list without duplicates is strictly
 -- ascending.
 use Rattle.std.proofs.Common.{◌≡◌, ◌≢◌, ◌↔◌, refl, sym, ap, ◌∙◌, ℕ, Bool, true, false, true≢false, ◌&&◌, ◌<◌}
-use Rattle.std.proofs.Common.{◌⊎◌, inl, inr, if◌then◌else◌, ⊎_elim, List, [], ◌∷◌, ◌++◌, nat_eq, get_or, slice_get, position, is_some}
-use Rattle.std.proofs.Common.{Contains, MatchOption, IsTrue, arith, Option, None, Some, IsPermutation}
+use Rattle.std.proofs.Common.{⊎_elim, List, [], ◌∷◌, ◌++◌, nat_eq, get_or, slice_get, is_some}
+use Rattle.std.proofs.Common.{Contains, IsTrue, arith, Option, None, Some, IsPermutation}
 use Rattle.std.proofs.Common.{IsSorted, Decides, is_eq, is_lt, nat_cmp, Ordering, Less, Equal, Greater}
 use Rattle.std.specs.List.{IsDistinct}
 use Rattle.std.specs.Cmp.{IsEquivalence, IsTotalOrder, first_so, second_so, both_tied, unsigned_ties}
@@ -13,18 +13,16 @@ use Rattle.std.specs.Ordering.{ordering_reverse}
 use Rattle.std.proofs.lemmas.Bool.{cases_lt}
 use Rattle.std.proofs.lemmas.Cmp.{tied_itself, and_equiv, on_equiv, lists_equiv, nat_list_eq_equiv}
 use Rattle.std.proofs.lemmas.Cmp.{then_total, on_total, lists_total, nat_list_cmp_total}
-use Rattle.std.proofs.lemmas.List.Quantifiers.{position-Some}
 use Rattle.std.proofs.lemmas.List.Sorted.{sorted_far, ranks_by, Contains-permutation, IsPermutation-sym}
 use Rattle.std.proofs.lemmas.List.Sorted.{IsPermutation-map}
 use Rattle.std.proofs.lemmas.Map.Made.{AllPairs-from_IsDistinct}
 use Rattle.std.proofs.lemmas.Map.Views.{Contains-keys_from_lookup, IsSome-lookup_from_Contains}
-use Rattle.std.proofs.lemmas.Option.{slice_get-get_or, slice_get_within, get_or_from_slice_get}
+use Rattle.std.proofs.lemmas.Option.{slice_get_within, get_or_from_slice_get}
 use Rattle.indexmap.specs.IndexMap.{insert_entry}
 use Rattle.indexmap.specs.Layout.{hash_map}
 use Rattle.indexmap.proofs.CallerLemmas.{insert_entry-new}
-use Rattle.lw_base.proofs.api.Members.{Contains-head, Contains-tail}
 use Rattle.lw_base.specs.Outcomes.{FinalState, final_state_cmp}
-use Rattle.lw_outcome_map.specs.Listings.{OutcomesWith, outcomes_of, InsertsOutcome, IsStrictlySorted}
+use Rattle.lw_outcome_map.specs.Listings.{OutcomesWith, outcomes_of, IsStrictlySorted}
 
 -- The test of `==` on outcomes.
 abbrev pub final_eq : FinalState → FinalState → Bool
@@ -87,16 +85,6 @@ pub lookup-iff_Contains : {Kept : Type 0} (es : OutcomesWith Kept) (o : FinalSta
 lookup-iff_Contains es o b e =
     ((λ t. Contains-if_lookup es o (sym e ∙ t)), (λ i. e ∙ IsSome-lookup_from_Contains final_eq-IsEquivalence o es i))
 
--- The result r of a search is the index of the outcome, or `None` if it is not listed.
-pub position-of_outcome : {Kept : Type 0} (es : OutcomesWith Kept) (o : FinalState) (r : Option ℕ)
-    → r ≡ position (final_eq o) (outcomes_of es)
-    → is_some r ≡ is_some (lookup (final_eq o) es)
-    → MatchOption r (Contains (outcomes_of es) o → ⊥) (λ i. slice_get (outcomes_of es) i ≡ Some o)
-position-of_outcome es o None h s = not-Contains-if_no_lookup es o (sym s)
-position-of_outcome es o (Some i) h s =
-    let p = position-Some (final_eq o) (outcomes_of es) i o (sym h) in
-    slice_get-get_or (outcomes_of es) i o p.0 ∙ ap Some (sym ((final_eq-Decides o (get_or (outcomes_of es) i o)).0 p.1))
-
 -- An option without a value is `None`.
 None-if_not_some : {X : Type 0} (o : Option X) → (is_some o ≡ true → ⊥) → o ≡ None
 None-if_not_some None h = refl
@@ -111,23 +99,6 @@ insert_entry-appends es fs o s new e =
     e
     ∙ insert_entry-new final_eq (hash_map es (tt {0}) 0) o s
     (None-if_not_some (lookup (final_eq o) es) (λ h. new (Contains-if_lookup es o h)))
-
--- Of an outcome and the first entry: whether they are the same (b) decides whether the entry stays, or the rest changes.
-InsertsOutcome-cons : (b : Bool) (e : FinalState × Unit {0}) (es new : OutcomesWith (Unit {0})) (o : FinalState)
-    → b ≡ final_eq o e.0
-    → InsertsOutcome es o new
-    → InsertsOutcome (e ∷ es) o (if b then (e.0, tt) ∷ es else e ∷ new)
-InsertsOutcome-cons true e es new o is rest =
-    inl (Contains-head e.0 o (outcomes_of es) (sym ((final_eq-Decides o e.0).0 (sym is))), refl)
-InsertsOutcome-cons false e es new o is (inl there) = inl (Contains-tail e.0 o (outcomes_of es) there.0, ap (λ l. e ∷ l) there.1)
-InsertsOutcome-cons false e es new o is (inr grown) = inr (ap (λ l. e ∷ l) grown)
-
--- Inserting an outcome without a value changes nothing if it is listed, and appends it otherwise.
-pub insert_entry-InsertsOutcome : (es : OutcomesWith (Unit {0})) (o : FinalState)
-    → InsertsOutcome es o (insert_entry final_eq es o tt)
-insert_entry-InsertsOutcome [] o = inr refl
-insert_entry-InsertsOutcome (e ∷ es) o =
-    InsertsOutcome-cons (final_eq o e.0) e es (insert_entry final_eq es o tt) o refl (insert_entry-InsertsOutcome es o)
 
 -- An outcome that is neither greater than another nor equal to it is less.
 final_state_cmp-Less : (o p : FinalState) (c : Ordering)

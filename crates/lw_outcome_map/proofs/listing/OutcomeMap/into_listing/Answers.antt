@@ -1,17 +1,24 @@
--- Of `OutcomeMap::into_listing`, which sorts the map: the listing is strictly ascending and a permutation of
--- the map. Keys are sorted, and no two compare equal, so they are strictly ascending (`IsStrictlySorted-of_distinct`).
-use Rattle.lw_outcome_map.proofs.api.Listings.{IsStrictlySorted-of_distinct}
+-- Of `OutcomeMap::into_listing`, which sorts the entries of the map: the listing is strictly ascending and a permutation of the map. No two
+-- keys of a map compare equal, so sorted keys are strictly ascending (`IsStrictlySorted-of_permutation`).
+use Rattle.std.proofs.Common.{◌∙◌, ◌≡◌}
+use Rattle.lw_outcome_map.proofs.SortedEntries.{IsStrictlySorted-of_permutation, rest-of_drained}
+use Rattle.lw_outcome_map.proofs.listing.OutcomeMap.into_listing.Given as given
 use Rattle.lw_outcome_map.proofs.listing.OutcomeMap.into_listing.Goals as goal
+
+-- What is sorted are the entries of the map.
+entries-of_map : (g : given.Over) (c : goal.After-sort_by_outcome g)
+    → c.in_ok-entries.entries.items ≡ c.self.inside.found.entries
+entries-of_map g c =
+    let ran = c.in_ok-entries.ensures.ran in
+    ran.4.0 ∙ rest-of_drained _ _ ran.0 ran.1 ran.2.2 ran.3 ∙ ran.2.0
 
 pub invariant_of-result : goal.invariant_of-result
 invariant_of-result g c =
-    IsStrictlySorted-of_distinct c.sort_unstable_keys.new.self.entries c.in_ok-sort_unstable_keys.ensures.sorted
-    c.sort_unstable_keys.ensures.unique
+    IsStrictlySorted-of_permutation c.self.inside.found.entries c.sort_by_outcome.new.entries.items
+    c.in_ok-entries.ensures.ran.2.4 (rw (entries-of_map g c) at c.sort_by_outcome.ensures.same) c.sort_by_outcome.ensures.sorted
 
 pub returns-clause-sorted : goal.returns-clause-sorted
-returns-clause-sorted g c =
-    IsStrictlySorted-of_distinct c.sort_unstable_keys.new.self.entries c.in_ok-sort_unstable_keys.ensures.sorted
-    c.sort_unstable_keys.ensures.unique
+returns-clause-sorted g c = invariant_of-result g c
 
 pub returns-clause-same : goal.returns-clause-same
-returns-clause-same g c = rw (← c.self.view_is) c.sort_unstable_keys.ensures.reordered.0
+returns-clause-same g c = rw (← c.self.view_is) (rw (entries-of_map g c) at c.sort_by_outcome.ensures.same)

@@ -1,0 +1,179 @@
+-- Entries sorted by their outcomes. For `find`, which searches them, and for `from_entries`, which leaves one entry of those with the same
+-- outcome.
+use Rattle.std.proofs.Common.{◌≡◌, sym, ap, ◌∙◌, subst, arith, ℕ, Bool, true≢false, ◌+◌, ◌<◌, get_or, slice_get}
+use Rattle.std.proofs.Common.{List, [], ◌∷◌, length, All, Contains, MatchOption, Option, Some, Result, Ok, Err, IsPermutation, IsSorted}
+use Rattle.std.proofs.Common.{is_eq, is_lt, Ordering, Less, Equal, Greater, ⊎_elim}
+use Rattle.std.proofs.lemmas.Bool.{cases_lt}
+use Rattle.std.proofs.lemmas.Cmp.{on_equiv, on_total, tied_itself}
+use Rattle.std.proofs.lemmas.List.{get_or-map}
+use Rattle.std.proofs.lemmas.List.Elements.{All-from_recursion, Contains-get_or}
+use Rattle.std.proofs.lemmas.List.Kept.{AllPairs-cons, Any-dedup, IsStrictlySortedBy-dedup}
+use Rattle.std.proofs.lemmas.List.Sorted.{searchable_from_sorted, IsPermutation-map}
+use Rattle.std.proofs.lemmas.Option.{slice_get-get_or}
+use Rattle.std.specs.Cmp.{IsTotalOrder}
+use Rattle.std.specs.Iterator.{DrainsIf}
+use Rattle.std.specs.Iterator.Runs.{YieldsInOrder}
+use Rattle.std.specs.List.{HoldsAt, IsDistinct, dedup}
+use Rattle.std.specs.List.Sorted.{IsStrictlySortedBy, IsBinarySearchResult, IsSearchInRange, IsPartitionPoint}
+use Rattle.std.specs.Ordering.{ordering_reverse}
+use Rattle.std.specs.Result.{result_ok}
+use Rattle.std.proofs.lemmas.Map.Entries.{length-keys_of}
+use Rattle.indexmap.proofs.CallerLemmas.{Drains-YieldsInOrder}
+use Rattle.indexmap.proofs.MapLemmas.{distinct_permutation}
+use Rattle.lw_base.specs.Outcomes.{FinalState, final_state_cmp}
+use Rattle.lw_outcome_map.specs.Listings.{OutcomesWith, outcomes_of, IsStrictlySorted}
+use Rattle.lw_outcome_map.proofs.api.Listings.{final_eq, final_eq-Decides, final_eq-IsEquivalence, final_eq-is_cmp_equal, final_state_cmp-IsTotalOrder, IsStrictlySorted-of_distinct}
+
+-- What an iterator that gives its items in order gave until its end is all that it had left.
+pub rest-of_drained : {S A : Type 0} (steps : S → Option A → S → Type 0) (rest : S → List A) (s : S) (xs : List A)
+    → YieldsInOrder steps rest
+    → DrainsIf steps (Unit {0}) s xs
+    → xs ≡ rest s
+rest-of_drained steps rest s xs in_order drained =
+    let end = drained.2 tt in
+    Drains-YieldsInOrder steps rest s xs in_order (end.0, (drained.0, drained.1, end.1))
+
+-- No two of the results of a comparison are the same.
+less-not_equal : Less ≡ Equal → ⊥
+less-not_equal e = absurd (true≢false (ap is_lt e))
+
+greater-not_equal : Greater ≡ Equal → ⊥
+greater-not_equal e = absurd (true≢false (sym (ap is_eq e)))
+
+-- Outcomes that compare as equal are equal.
+eq-of_equal : (o p : FinalState) → final_state_cmp o p ≡ Equal → o ≡ p
+eq-of_equal o p equal = (final_eq-Decides o p).0 (final_eq-is_cmp_equal o p ∙ ap is_eq equal)
+
+module _ {Kept : Type 0} where
+  -- The order of entries by their outcomes.
+  abbrev entry_cmp : FinalState × Kept → FinalState × Kept → Ordering
+  entry_cmp e f = final_state_cmp e.0 f.0
+
+  -- Tests whether two entries have the same outcome.
+  abbrev pub have_same_outcome : FinalState × Kept → FinalState × Kept → Bool
+  have_same_outcome e f = final_eq e.0 f.0
+
+  -- The outcome at an index is that of the entry there.
+  outcomes_of-at : (es : OutcomesWith Kept) (k : ℕ) (d : FinalState × Kept) (o : FinalState)
+      → k < length es
+      → get_or (outcomes_of es) k o ≡ (get_or es k d).0
+  outcomes_of-at es k d o within = get_or-map (λ e. e.0) es k d o within
+
+  -- What holds of the outcome of each entry holds of each outcome.
+  All-outcomes_of : (P : FinalState → Type 0) (es : OutcomesWith Kept) → All (λ e. P e.0) es → All P (outcomes_of es)
+  All-outcomes_of P [] all k o lt = absurd (omega (arith, lt))
+  All-outcomes_of P (e ∷ es) all k o lt =
+      let within : k < length (e ∷ es) = omega (arith, lt, length-keys_of (e ∷ es)) in
+      subst P (sym (outcomes_of-at (e ∷ es) k e o within)) (all k e within)
+
+  -- A listed outcome is that of an entry.
+  entry_of : (es : OutcomesWith Kept) (o : FinalState)
+      → Contains (outcomes_of es) o
+      → (e : FinalState × Kept) × Contains es e × (e.0 ≡ o)
+  entry_of [] o h = absurd (omega (arith, h.1))
+  entry_of (e ∷ es) o h =
+      let within : h.0 < length (e ∷ es) = omega (arith, h.1, length-keys_of (e ∷ es)) in (
+        get_or (e ∷ es) h.0 e,
+        Contains-get_or (e ∷ es) h.0 e within,
+        sym (outcomes_of-at (e ∷ es) h.0 e o within) ∙ h.2,
+      )
+
+  -- The outcome of an entry is listed.
+  Contains-outcomes_of : (es : OutcomesWith Kept) (e : FinalState × Kept) → Contains es e → Contains (outcomes_of es) e.0
+  Contains-outcomes_of es e h =
+      (h.0, omega (arith, h.1, length-keys_of es), outcomes_of-at es h.0 e e.0 h.1 ∙ ap (λ (f : FinalState × Kept). f.0) h.2)
+
+  -- ---- One entry for each outcome.
+
+  -- The order of entries by their outcomes is total.
+  entry_cmp-IsTotalOrder : IsTotalOrder entry_cmp
+  entry_cmp-IsTotalOrder = on_total (λ (e : FinalState × Kept). e.0) final_state_cmp-IsTotalOrder
+
+  -- If the outcomes are sorted, the entries are sorted by their outcomes.
+  IsSorted-entries : (es : OutcomesWith Kept) → IsSorted final_state_cmp (outcomes_of es) → IsSorted entry_cmp es
+  IsSorted-entries es up k d low within =
+      sym (λ i. is_lt (final_state_cmp (outcomes_of-at es (k + 1) d d.0 within i) (outcomes_of-at es k d d.0 (omega (arith, within)) i)))
+      ∙ up k d.0 low (omega (arith, within, length-keys_of es))
+
+  -- Entries whose outcomes are ascending step by step are strictly sorted.
+  IsStrictlySorted-of_steps : (es : OutcomesWith Kept) → IsStrictlySortedBy entry_cmp es → IsStrictlySorted es
+  unfolding IsStrictlySortedBy
+  IsStrictlySorted-of_steps [] h = λ i j d lt within. absurd (omega (arith, within))
+  IsStrictlySorted-of_steps (e ∷ es) h =
+      AllPairs-cons (λ o p. final_state_cmp o p ≡ Less) e.0 (outcomes_of es)
+      (All-outcomes_of (λ o. final_state_cmp e.0 o ≡ Less) es (All-from_recursion (λ f. entry_cmp e f ≡ Less) es h.0))
+      (IsStrictlySorted-of_steps es h.1)
+
+  -- Sorted entries of which only the first with each outcome remains are strictly sorted.
+  pub IsStrictlySorted-dedup : (es : OutcomesWith Kept)
+      → IsSorted final_state_cmp (outcomes_of es)
+      → IsStrictlySorted (dedup have_same_outcome es)
+  IsStrictlySorted-dedup es up =
+      IsStrictlySorted-of_steps (dedup have_same_outcome es)
+      (IsStrictlySortedBy-dedup entry_cmp-IsTotalOrder (λ e f. final_eq-is_cmp_equal e.0 f.0) es (IsSorted-entries es up))
+
+  -- Each outcome remains.
+  pub Contains-outcomes_of_dedup : (es : OutcomesWith Kept) (o : FinalState)
+      → Contains (outcomes_of es) o
+      → Contains (outcomes_of (dedup have_same_outcome es)) o
+  Contains-outcomes_of_dedup es o h =
+      let e = entry_of es o h in
+      let rest = Any-dedup (on_equiv (λ (f : FinalState × Kept). f.0) final_eq-IsEquivalence) es e.0 e.1 in
+      subst (Contains (outcomes_of (dedup have_same_outcome es)))
+      (sym ((final_eq-Decides (e.0).0 (rest.1).0).0 rest.4) ∙ e.2)
+      (Contains-outcomes_of (dedup have_same_outcome es) rest.1 (rest.0, rest.2, rest.3))
+
+  -- A sorted permutation of entries whose outcomes are distinct is strictly sorted.
+  pub IsStrictlySorted-of_permutation : (es fs : OutcomesWith Kept)
+      → IsDistinct final_eq (outcomes_of es)
+      → IsPermutation es fs
+      → IsSorted final_state_cmp (outcomes_of fs)
+      → IsStrictlySorted fs
+  IsStrictlySorted-of_permutation es fs distinct same up =
+      IsStrictlySorted-of_distinct fs up
+      (distinct_permutation final_eq-IsEquivalence (outcomes_of es) (outcomes_of fs) (IsPermutation-map (λ e. e.0) es fs same) distinct)
+
+  -- ---- The search for an outcome.
+
+  -- In a strictly sorted list no outcome is less than the one before it.
+  IsSorted-of_strictly_sorted : (es : OutcomesWith Kept) → IsStrictlySorted es → IsSorted entry_cmp es
+  IsSorted-of_strictly_sorted es sorted k d low within =
+      IsSorted-entries es (λ j o below inside.
+      let less = sorted j (j + 1) o (omega arith) inside in
+      ap is_lt (final_state_cmp-IsTotalOrder.antisymm (get_or (outcomes_of es) (j + 1) o) (get_or (outcomes_of es) j o))
+      ∙ ap (λ c. is_lt (ordering_reverse c)) less) k d low within
+
+  -- The outcome of an entry that compares as equal to an outcome is at the entry's index.
+  slice_get-of_equal : (es : OutcomesWith Kept) (o : FinalState) (k : ℕ)
+      → k < length es
+      → HoldsAt (λ e. final_state_cmp e.0 o ≡ Equal) es k
+      → slice_get (outcomes_of es) k ≡ Some o
+  slice_get-of_equal [] o k within equal = absurd (omega (arith, within))
+  slice_get-of_equal (e ∷ es) o k within equal =
+      slice_get-get_or (outcomes_of (e ∷ es)) k o (omega (arith, within, length-keys_of (e ∷ es)))
+      ∙ ap Some (outcomes_of-at (e ∷ es) k e o within ∙ eq-of_equal (get_or (e ∷ es) k e).0 o (equal e))
+
+  -- If each entry before an index has a smaller outcome, and each other one a greater outcome, the outcome is not listed.
+  not-Contains-if_partitioned : (es : OutcomesWith Kept) (o : FinalState) (i : ℕ)
+      → IsPartitionPoint (λ e. final_state_cmp e.0 o ≡ Less) (λ e. final_state_cmp e.0 o ≡ Greater) es i
+      → Contains (outcomes_of es) o
+      → ⊥
+  not-Contains-if_partitioned [] o i split h = absurd (omega (arith, h.1))
+  not-Contains-if_partitioned (e ∷ es) o i split h =
+      let within : h.0 < length (e ∷ es) = omega (arith, h.1, length-keys_of (e ∷ es)) in
+      let found : (get_or (e ∷ es) h.0 e).0 ≡ o = sym (outcomes_of-at (e ∷ es) h.0 e o within) ∙ h.2 in
+      let equal : final_state_cmp (get_or (e ∷ es) h.0 e).0 o ≡ Equal =
+      ap (λ p. final_state_cmp p o) found ∙ tied_itself final_state_cmp-IsTotalOrder o in
+      ⊎_elim (λ before. less-not_equal (sym (split.0 h.0 e (omega arith) before) ∙ equal))
+      (λ after. greater-not_equal (sym (split.1 h.0 e after within) ∙ equal)) (cases_lt h.0 i)
+
+  -- The result r of a binary search by outcome is the index of the outcome, or `None` if it is not listed.
+  pub search-finds_outcome : (es : OutcomesWith Kept) (o : FinalState) (r : Result ℕ ℕ)
+      → IsStrictlySorted es
+      → IsSearchInRange r (length es)
+      → IsBinarySearchResult (λ e. final_state_cmp e.0 o) es r
+      → MatchOption (result_ok r) (Contains (outcomes_of es) o → ⊥) (λ i. slice_get (outcomes_of es) i ≡ Some o)
+  search-finds_outcome es o (Ok i) sorted within found = slice_get-of_equal es o i within found
+  search-finds_outcome es o (Err i) sorted within found =
+      not-Contains-if_partitioned es o i
+      (found (searchable_from_sorted final_state_cmp-IsTotalOrder (λ e. e.0) es o (IsSorted-of_strictly_sorted es sorted)))
