@@ -90,7 +90,7 @@ fn project_outcomes<A: Allocator + Copy, K>(
     requires outcomes { All (HasOutcomeShape head.now.threads (length head.now.locs)) (outcomes_of listing.now) }
     ensures { IfOk result (λ states. AreStatesOfFirst (head_of head.now) (outcomes_of listing.now) (length listing.now) states.items) }
 {
-    let mut states = Vec::new(alloc);
+    let mut states = Vec::with_capacity(alloc, listing.len())?;
     for entry in 0..listing.len() {
         states.push(state_of(alloc, head, names, listing.outcome(entry), entry)?)?;
     }
