@@ -4,14 +4,13 @@ use Rattle.lw_search.proofs.Common.{not, true≢false, Register, zero, same_Some
 use Rattle.lw_search.proofs.Common.{get_or_from_slice_get, ObservesState, take, final_word, map, Bool, List}
 use Rattle.lw_search.proofs.Common.{if◌then◌else◌, ◌++◌, ◌∷◌, [], ℕ, slice_get, Some, ◌⊎◌, true, inl, ap, sym}
 use Rattle.lw_search.proofs.Common.{◌∙◌, false, slice_get-append_cases, inr, OutcomesWith, FinalState}
-use Rattle.lw_search.proofs.Common.{InsertsOutcome, Contains, outcomes_of, subst, map-append, Contains-push}
+use Rattle.lw_search.proofs.Common.{get_or, Contains-get_or, All-contains, Contains, outcomes_of, subst, map-append, Contains-push}
 use Rattle.lw_search.proofs.Common.{Contains-append_left, All, All-push, Seen, Instr, Components, Visited}
 use Rattle.lw_search.proofs.Common.{ObservedWords, State, Represents, length, IsTrue, is_final, final_words}
 use Rattle.lw_search.proofs.Common.{machine_outcome, flat_memory, InsertsWords, InsertsObserved, suc, arith}
 use Rattle.lw_search.proofs.Common.{LeadsTo, IsOfSomeRun, SearchInvariant, ◌<◌, slice_get_within}
 use Rattle.lw_search.proofs.Common.{slice_get-in_range, AreObserved, ContainsWordsOf, All-nil, ◌+◌, cases_lt}
-use Rattle.lw_search.proofs.Common.{◌≤◌, IsPermutation, CollectsAll, HaveSameWords}
-use Rattle.lw_search.proofs.Common.{Contains-permuted_outcomes, All-permutation, ◌≡◌}
+use Rattle.lw_search.proofs.Common.{◌≤◌, CollectsAll, HaveSameWords, ◌≡◌}
 use Rattle.lw_search.proofs.Collected.{found-reachable}
 
 -- ---- the words of a state
@@ -64,32 +63,29 @@ pub words-unchanged : {X : Type 0} (found is_new : Bool) (ks new : List X) (k : 
 words-unchanged true is_new ks new k says known e = e
 words-unchanged false is_new ks new k says known e = absurd (true≢false (sym says ∙ known))
 
--- After an insertion the outcome is among the others, which are kept.
-pub Contains-inserted_outcome : (old new : OutcomesWith (Unit {0})) (o : FinalState)
-    → InsertsOutcome old o new
+-- After an entry is appended, its outcome is listed.
+pub Contains-appended_outcome : (old new : OutcomesWith (Unit {0})) (o : FinalState)
+    → new ≡ old ++ (o, tt) ∷ []
     → Contains (outcomes_of new) o
-Contains-inserted_outcome old new o (inl there) = subst (λ es. Contains (outcomes_of es) o) (sym there.1) there.0
-Contains-inserted_outcome old new o (inr grown) =
+Contains-appended_outcome old new o grown =
     subst (λ ks. Contains ks o) (sym (ap outcomes_of grown ∙ map-append _ old ((o, tt) ∷ []))) (Contains-push (outcomes_of old) o)
 
--- An insertion preserves the outcomes that are listed.
+-- Appending an entry preserves the outcomes that are listed.
 pub outcomes-kept : (old new : OutcomesWith (Unit {0})) (o p : FinalState)
-    → InsertsOutcome old o new
+    → new ≡ old ++ (o, tt) ∷ []
     → Contains (outcomes_of old) p
     → Contains (outcomes_of new) p
-outcomes-kept old new o p (inl there) has = subst (λ es. Contains (outcomes_of es) p) (sym there.1) has
-outcomes-kept old new o p (inr grown) has =
+outcomes-kept old new o p grown has =
     subst (λ ks. Contains ks p) (sym (ap outcomes_of grown ∙ map-append _ old ((o, tt) ∷ [])))
     (Contains-append_left (outcomes_of old) (o ∷ []) p has)
 
 -- What holds of the old entries and of the new one holds of all.
-pub All-inserted_entries : (P : FinalState × Unit {0} → Type 0) (old new : OutcomesWith (Unit {0})) (o : FinalState)
-    → InsertsOutcome old o new
+pub All-appended_entry : (P : FinalState × Unit {0} → Type 0) (old new : OutcomesWith (Unit {0})) (o : FinalState)
+    → new ≡ old ++ (o, tt) ∷ []
     → All P old
     → P (o, tt)
     → All P new
-All-inserted_entries P old new o (inl there) all one = subst (λ es. All P es) (sym there.1) all
-All-inserted_entries P old new o (inr grown) all one = subst (λ es. All P es) (sym grown) (All-push P old (o, tt) all one)
+All-appended_entry P old new o grown all one = subst (λ es. All P es) (sym grown) (All-push P old (o, tt) all one)
 
 -- ---- one state
 
@@ -162,11 +158,11 @@ module _ (names : List Seen) (program : List (List Instr)) (tables : Components)
         let s = state_at start found closed invariant in
         let ran = found-reachable program start tables visited found closed invariant (suc at) at s.0 (omega arith) s.3 in
         let to : LeadsTo IsOfSomeRun program start (o, tt) = (ran.0, tt, (s.0, ran.1, final s.0 s.1 s.2, is s.0 s.1 s.2)) in
-        All-inserted_entries (LeadsTo IsOfSomeRun program start) old.outcomes new.outcomes o inserts.outcomes all to;
+        All-appended_entry (LeadsTo IsOfSomeRun program start) old.outcomes new.outcomes o inserts.outcomes all to;
   }
     where
       added : Contains (outcomes_of new.outcomes) o
-      added = Contains-inserted_outcome old.outcomes new.outcomes o inserts.outcomes
+      added = Contains-appended_outcome old.outcomes new.outcomes o inserts.outcomes
 
       state_at : (start : State) (found : List State) (closed : ℕ)
           (invariant : SearchInvariant program start tables visited found closed)
@@ -218,18 +214,20 @@ module _ (names : List Seen) (program : List (List Instr)) (tables : Components)
     lead = λ start found closed invariant. here.lead start found closed invariant (first.lead start found closed invariant);
   }
 
-  -- The outcomes that are observed of all states, in any order, are collected.
+  -- The outcomes that are observed of all states are collected, in any order, and each at least once.
   pub observed-collected : (n : ℕ) (observed : ObservedWords) (entries : OutcomesWith (Unit {0}))
       → ObservesFirst n observed
       → length visited.keys ≤ n
-      → IsPermutation observed.outcomes entries
+      → ((e : FinalState × Unit {0}) → Contains entries e → Contains observed.outcomes e)
+      → ((o : FinalState) → Contains (outcomes_of observed.outcomes) o → Contains (outcomes_of entries) o)
       → CollectsAll (HaveSameWords names) IsOfSomeRun program tables visited entries
-  observed-collected n observed entries first few same = record {
+  observed-collected n observed entries first few from complete = record {
     covered = λ start found closed i s invariant at final.
         let lt : i < n = (let h = slice_get_within found i s at in omega (arith, h, few, invariant.key_count)) in
         let p = first.covered start found closed i s invariant lt at final in
-        (p.0, (Contains-permuted_outcomes observed.outcomes entries p.0 same).0 p.1, p.2);
-    lead = λ start found closed invariant.
-        All-permutation (LeadsTo IsOfSomeRun program start) observed.outcomes entries same
-        (first.lead start found closed invariant);
+        (p.0, complete p.0 p.1, p.2);
+    lead = λ start found closed invariant k d lt.
+        let among = from (get_or entries k d) (Contains-get_or entries k d lt) in
+        All-contains (LeadsTo IsOfSomeRun program start) observed.outcomes (get_or entries k d)
+        (first.lead start found closed invariant) among;
   }

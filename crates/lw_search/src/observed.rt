@@ -15,9 +15,9 @@ use crate::states::StateKey;
 use crate::tables::Tables;
 use crate::thread_state::word_at;
 use indexmap::IndexSet;
-use lw_base::{Cpu, Loc, Reg, Seen, Sequence, Word};
+use lw_base::{Cpu, Loc, Outcome, Reg, Seen, Sequence, Word};
 use lw_litmus::Program;
-use lw_outcome_map::{OutcomeList, OutcomeMap};
+use lw_outcome_map::{Listing, OutcomeList};
 use std::alloc::{AllocError, Allocator};
 use std::hash::{BuildHasherDefault, FoldHasher};
 use std::marker::Model;
@@ -88,7 +88,7 @@ fn words_of<A: Allocator>(
 #[derive(Drop)]
 struct ObservedStates<A: Allocator> {
     words: IndexSet<Sequence<Word, A>, BuildHasherDefault<FoldHasher>, A>,
-    outcomes: OutcomeMap<A, ()>,
+    outcomes: Vec<(Outcome<A>, ()), A>,
 }
 
 impl<A: Allocator> Model for ObservedStates<A> {
@@ -96,7 +96,7 @@ impl<A: Allocator> Model for ObservedStates<A> {
 
     ghost Value = { ObservedWords };
 
-    ghost view = { λ s. record { words = s.words.keys; outcomes = s.outcomes } };
+    ghost view = { λ s. record { words = s.words.keys; outcomes = s.outcomes.items } };
 }
 
 impl<A: Allocator + Copy> ObservedStates<A> {
@@ -106,7 +106,7 @@ impl<A: Allocator + Copy> ObservedStates<A> {
     {
         ObservedStates {
             words: IndexSet::new(alloc),
-            outcomes: OutcomeMap::new(alloc),
+            outcomes: Vec::new(alloc),
         }
     }
 
@@ -139,7 +139,8 @@ impl<A: Allocator + Copy> ObservedStates<A> {
             return Ok(());
         }
         let outcome = outcome_of(alloc, search.program, &search.tables, &key)?;
-        self.outcomes.insert(outcome)
+        self.outcomes.push((outcome, ()))?;
+        Ok(())
     }
 }
 
@@ -156,5 +157,5 @@ pub(crate) fn collect_observed<A: Allocator + Copy>(
     for at in 0..search.states.len() {
         found.observe(alloc, search, at, names)?;
     }
-    found.outcomes.into_listing()
+    Ok(Listing::from_entries(found.outcomes))
 }

@@ -1,11 +1,11 @@
 -- The final states that a report shows, while a search's states are looked at one after another. Used only within the crate.
-use Rattle.std.specs.Prelude.{◌≡◌, ◌⊎◌, ℕ, Bool, false, List, Some, slice_get, IsTrue, All, Contains}
+use Rattle.std.specs.Prelude.{◌≡◌, ◌⊎◌, ◌++◌, ◌∷◌, [], ℕ, Bool, false, List, Some, slice_get, IsTrue, All, Contains}
 use Rattle.lw_base.specs.FinalWords.{final_words, ContainsWordsOf}
 use Rattle.lw_base.specs.Outcomes.{FinalState}
 use Rattle.lw_base.specs.declared.head.Seen.{Seen}
 use Rattle.lw_litmus.specs.declared.instr.Instr.{Instr}
 use Rattle.lw_memory.specs.Flat.{flat_memory}
-use Rattle.lw_outcome_map.specs.Listings.{OutcomesWith, outcomes_of, InsertsOutcome}
+use Rattle.lw_outcome_map.specs.Listings.{OutcomesWith, outcomes_of}
 use Rattle.lw_tso.specs.Runs.{is_final, machine_outcome}
 use Rattle.lw_search.specs.inner.StateKeys.{State, Components, Visited}
 use Rattle.lw_search.specs.inner.Invariant.{SearchInvariant, LeadsTo, IsOfSomeRun}
@@ -31,9 +31,9 @@ pub record InsertsWords (old : ObservedWords) (words : List ℕ) (is_new : Bool)
   pub words_are : (i : ℕ) (others : List ℕ) → slice_get new.words i ≡ Some others → (slice_get old.words i ≡ Some others) ⊎ (others ≡ words)
   pub known : is_new ≡ false → HasWords old words
 
--- An outcome was inserted, unless the set has it, and so were its words.
+-- An outcome was appended, and its words were inserted.
 pub record InsertsObserved (old : ObservedWords) (words : List ℕ) (o : FinalState) (new : ObservedWords) : Type 0 where
-  pub outcomes : InsertsOutcome old.outcomes o new.outcomes
+  pub outcomes : new.outcomes ≡ old.outcomes ++ (o, tt) ∷ []
   pub words_are : (i : ℕ) (others : List ℕ) → slice_get new.words i ≡ Some others → (slice_get old.words i ≡ Some others) ⊎ (others ≡ words)
 
 module _ (names : List Seen) (program : List (List Instr)) (tables : Components) (visited : Visited) where

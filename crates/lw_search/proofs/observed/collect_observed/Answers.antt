@@ -1,5 +1,5 @@
--- `collect_observed` looks at the states in order, and sorts the outcomes that it keeps. At the end all states were looked at.
-use Rattle.lw_search.proofs.Common.{◌≤◌, arith, length, IfOk-weaker}
+-- `collect_observed` looks at the states in order, and makes a listing of the outcomes that it keeps. At the end all states were looked at.
+use Rattle.lw_search.proofs.Common.{◌≤◌, arith, length}
 use Rattle.lw_search.proofs.ObservedOutcomes.{observes_first-none, observes_first-more, observed-collected}
 use Rattle.lw_search.proofs.observed.collect_observed.Goals as goal
 
@@ -18,7 +18,6 @@ pub returns-clause-collected : goal.returns-clause-collected
 returns-clause-collected g c =
     let search = c.args.search.now in
     let all : length search.states.keys ≤ c.loop-at.at = omega (arith, c.len-at-end.ensures, c.loop-at-test.false) in
-    IfOk-weaker c.into_listing.result _ _ (λ l same.
     observed-collected c.args.names.now search.program.now.threads search.tables search.states c.loop-at.at
-    (record { words = c.found-2.inside.words.keys; outcomes = c.found-2.inside.outcomes }) l
-    (rw (← c.found-2.view_is) at c.loop-at.invariant) all same) c.into_listing.ensures.same
+    (record { words = c.found-2.inside.words.keys; outcomes = c.found-2.inside.outcomes.items }) c.from_entries.result
+    (rw (← c.found-2.view_is) at c.loop-at.invariant) all c.from_entries.ensures.from c.from_entries.ensures.complete

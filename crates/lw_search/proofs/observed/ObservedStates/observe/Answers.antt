@@ -1,7 +1,7 @@
 -- `observe` looks at one state of a search. A state that is not final changes nothing, and one whose words are known adds no outcome; another
--- one adds its outcome and its words.
-use Rattle.lw_search.proofs.Common.{InsertsObserved, InsertsOutcome, ObservedWords, subst, sym, ap, ◌∙◌}
-use Rattle.lw_search.proofs.Common.{slice_get, on_ok_weaker}
+-- one appends its outcome, and adds its words.
+use Rattle.lw_search.proofs.Common.{InsertsObserved, ObservedWords, sym, ap, ◌∙◌, ◌++◌, ◌∷◌, []}
+use Rattle.lw_search.proofs.Common.{slice_get}
 use Rattle.lw_search.proofs.ObservedOutcomes.{observes-not_final, observes-known, observes-new}
 use Rattle.lw_search.proofs.observed.ObservedStates.observe.Goals as goal
 
@@ -21,17 +21,16 @@ returns-then-not-is_new g c =
 pub returns : goal.returns
 returns g c =
     let search = c.args.search.now in
-    let inserts : InsertsOutcome c.self.inside.outcomes c.in_ok-outcome.outcome c.insert.new.self
-    → InsertsObserved c.args.self.now c.in_ok-words.words c.in_ok-outcome.outcome
-    (record { words = c.self.inside.words.keys; outcomes = c.insert.new.self }) = λ adds. record {
+    let inserts : InsertsObserved c.args.self.now c.in_ok-words.words c.in_ok-outcome.outcome
+    (record { words = c.self.inside.words.keys; outcomes = c.push.new.self.items }) = record {
       outcomes =
-          subst (λ es. InsertsOutcome es c.in_ok-outcome.outcome c.insert.new.self)
-          (ap (λ (v : ObservedWords). v.outcomes) c.self.view_is ∙ c.in_ok-is_new.ensures.outcomes) adds;
+          c.in_ok-push.ensures.items
+          ∙ ap (λ es. es ++ (c.in_ok-outcome.outcome, tt) ∷ [])
+          (ap (λ (v : ObservedWords). v.outcomes) c.self.view_is ∙ c.in_ok-is_new.ensures.outcomes);
       words_are = λ i others at.
           c.in_ok-is_new.ensures.words_are i others (ap (λ (v : ObservedWords). slice_get v.words i) (sym c.self.view_is) ∙ at);
     } in
-    on_ok_weaker c.insert.result (λ adds.
     observes-new c.args.names.now search.program.now.threads search.tables search.states c.args.at c.key-key.result
     c.in_ok-words.words c.in_ok-outcome.outcome c.args.self.now
-    (record { words = c.self.inside.words.keys; outcomes = c.insert.new.self }) c.key-key.ensures c.in_ok-words.ensures
-    c.in_ok-outcome.ensures (c.is_final.ensures.yes c.if-not-is_final.false) (inserts adds)) c.insert.ensures.inserted
+    (record { words = c.self.inside.words.keys; outcomes = c.push.new.self.items }) c.key-key.ensures c.in_ok-words.ensures
+    c.in_ok-outcome.ensures (c.is_final.ensures.yes c.if-not-is_final.false) inserts
