@@ -57,45 +57,45 @@ enum lw_protocol {
     LW_MOESI = 1,
 };
 
-/* Writes the report of the test in `text` to `room`, as `lw states` prints it, and the result of the call to `told`. `text`, `room` and `told`
+/* Writes the report of the test in `text` to `room`, as `lw states` prints it, and the result of the call to `call_result`. `text`, `room` and `call_result`
    are not NULL, even if they have no bytes. They overlap neither each other nor the memory. */
 void lw_states(struct lw_memory memory, const uint8_t *text, size_t text_length, uint8_t *room, size_t room_length,
-               struct lw_told *told);
+               struct lw_told *call_result);
 
 /* Writes the test's final states, each with a schedule, as `lw schedules` prints them. */
 void lw_schedules(struct lw_memory memory, const uint8_t *text, size_t text_length, uint8_t *room, size_t room_length,
-                  struct lw_told *told);
+                  struct lw_told *call_result);
 
 /* Writes the canonical text of the test, as `lw compile` prints it. A source test is first compiled to x86. */
 void lw_compile(struct lw_memory memory, const uint8_t *text, size_t text_length, uint8_t *room, size_t room_length,
-                struct lw_told *told);
+                struct lw_told *call_result);
 
 /* Writes the page of the replay of `schedule`, as `lw replay SCHEDULE` prints it. `schedule` is not NULL, even if it has no bytes: NULL is not
    an empty schedule, and there is no replay without a schedule. Any `protocol` other than LW_MESI is MOESI. If the schedule is not UTF-8, the
    call returns the line `lw: read failed`, with status 4. The program prints this line if it cannot read its arguments or its input; only a
    call with a schedule returns it. */
 void lw_replay(struct lw_memory memory, const uint8_t *text, size_t text_length, const uint8_t *schedule, size_t schedule_length,
-               uint32_t protocol, uint8_t *room, size_t room_length, struct lw_told *told);
+               uint32_t protocol, uint8_t *room, size_t room_length, struct lw_told *call_result);
 
 /* Writes the pages of `lw replay` for all prefixes of the schedule, the shortest first, each followed by an empty line: what the machine does,
    event by event. The arguments and the faults are those of lw_replay, but the status of an answer is 0. */
 void lw_film(struct lw_memory memory, const uint8_t *text, size_t text_length, const uint8_t *schedule, size_t schedule_length,
-             uint32_t protocol, uint8_t *room, size_t room_length, struct lw_told *told);
+             uint32_t protocol, uint8_t *room, size_t room_length, struct lw_told *call_result);
 
 /* Writes the report of a test of any size, as `beyond --budget BUDGET states` prints it. Within the limits of lists it is that of lw_states. Past
    them it is made by a search. If the search finds more than `budget` states of the machine, the call returns the line `beyond: budget BUDGET`,
    with status 3. A state takes about 60 bytes of memory, and an outcome about 400. */
 void lw_reach_states(struct lw_memory memory, const uint8_t *text, size_t text_length, size_t budget, uint8_t *room, size_t room_length,
-                     struct lw_told *told);
+                     struct lw_told *call_result);
 
 /* Writes the final states of a test of any size, each with a schedule, as `beyond --budget BUDGET schedules` prints them. */
 void lw_reach_schedules(struct lw_memory memory, const uint8_t *text, size_t text_length, size_t budget, uint8_t *room, size_t room_length,
-                        struct lw_told *told);
+                        struct lw_told *call_result);
 
 /* Writes the final states of a test of any size, as `beyond --budget BUDGET marks` prints them: a line for each, which begins with `+ ` if the
    condition's proposition is true in it, and with `- ` otherwise. */
 void lw_reach_marks(struct lw_memory memory, const uint8_t *text, size_t text_length, size_t budget, uint8_t *room, size_t room_length,
-                    struct lw_told *told);
+                    struct lw_told *call_result);
 
 #ifdef __cplusplus
 }

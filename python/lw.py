@@ -49,7 +49,7 @@ class _Memory(ctypes.Structure):
     _fields_ = [("at", ctypes.c_void_p), ("size", ctypes.c_size_t)]
 
 
-class _Told(ctypes.Structure):
+class _CallResult(ctypes.Structure):
     _fields_ = [("status", ctypes.c_uint32), ("kind", ctypes.c_uint32), ("length", ctypes.c_size_t)]
 
 
@@ -225,12 +225,12 @@ class Workbench:
         for name in (*COMMANDS, "film"):
             call = getattr(self._calls, f"lw_{name}")
             schedule = [ctypes.c_char_p, ctypes.c_size_t, ctypes.c_uint32] if name in ("replay", "film") else []
-            text_and_room = [ctypes.c_char_p, ctypes.c_size_t], [ctypes.c_void_p, ctypes.c_size_t, ctypes.POINTER(_Told)]
+            text_and_room = [ctypes.c_char_p, ctypes.c_size_t], [ctypes.c_void_p, ctypes.c_size_t, ctypes.POINTER(_CallResult)]
             call.argtypes = [_Memory, *text_and_room[0], *schedule, *text_and_room[1]]
             call.restype = None
         for name in OUTPUTS:
             call = getattr(self._calls, f"lw_reach_{name}")
-            call.argtypes = [_Memory, ctypes.c_char_p, ctypes.c_size_t, ctypes.c_size_t, ctypes.c_void_p, ctypes.c_size_t, ctypes.POINTER(_Told)]
+            call.argtypes = [_Memory, ctypes.c_char_p, ctypes.c_size_t, ctypes.c_size_t, ctypes.c_void_p, ctypes.c_size_t, ctypes.POINTER(_CallResult)]
             call.restype = None
 
     def run(self, command, text, schedule=None, protocol=None):
@@ -244,10 +244,10 @@ class Workbench:
         if more:
             given += [more[0], len(more[0]), more[1]]
         with self._lock:
-            told, made = self._call(getattr(self._calls, f"lw_{name}"), given)
-        if told.kind == FAULT:
-            raise Fault(made.decode(), told.status, text, more[0] if more else b"")
-        return told.status, made
+            result, made = self._call(getattr(self._calls, f"lw_{name}"), given)
+        if result.kind == FAULT:
+            raise Fault(made.decode(), result.status, text, more[0] if more else b"")
+        return result.status, made
 
     def reach(self, output, text, budget=DEFAULT_BUDGET):
         """Returns the bytes of `beyond --budget BUDGET OUTPUT`: states, schedules or marks of a test of any size. A fault is raised; its kind is
@@ -258,19 +258,19 @@ class Workbench:
             raise ValueError(f"a budget has to be a number from 0 to {LARGEST_BUDGET}, and not {budget!r}")
         text = _bytes_of(text)
         with self._lock:
-            told, made = self._call(getattr(self._calls, f"lw_reach_{output}"), [self._memory, text, len(text), budget])
-        if told.kind == FAULT:
-            raise Fault(made.decode(), told.status, text)
+            result, made = self._call(getattr(self._calls, f"lw_reach_{output}"), [self._memory, text, len(text), budget])
+        if result.kind == FAULT:
+            raise Fault(made.decode(), result.status, text)
         return made
 
     def _call(self, call, given):
         """Makes a call, with as much room as it needs. Returns its result and its bytes."""
-        told = _Told()
+        result = _CallResult()
         while True:
-            call(*given, self._room, len(self._room), ctypes.byref(told))
-            if told.kind != ROOM_TOO_SMALL:
-                return told, self._room[: told.length]
-            self._room = ctypes.create_string_buffer(told.length)
+            call(*given, self._room, len(self._room), ctypes.byref(result))
+            if result.kind != ROOM_TOO_SMALL:
+                return result, self._room[: result.length]
+            self._room = ctypes.create_string_buffer(result.length)
 
     def states(self, text):
         """Returns the report of a test."""

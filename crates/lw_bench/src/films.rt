@@ -62,7 +62,7 @@ fn film_of<A: Allocator + Copy>(
     protocol: Protocol,
 ) -> Result<Text<A>, BenchFault>
     ensures found { IfOk result (IsFilm protocol (litmus_test_of test.now) schedule.now) }
-    ensures told { IfErr result (λ f. (f ≡ BenchFault.Memory) ⊎ ReplayFaultIsTrue schedule.now (litmus_test_of test.now) f) }
+    ensures fault { IfErr result (λ f. (f ≡ BenchFault.Memory) ⊎ ReplayFaultIsTrue schedule.now (litmus_test_of test.now) f) }
     ensures device { IfErr result IsNotDeviceFault }
 {
     let events = read_schedule(alloc, schedule, &test.head().locs)?;
@@ -100,7 +100,7 @@ pub fn film<A: Allocator + Copy>(
     protocol: Protocol,
 ) -> Result<Text<A>, BenchFault>
     ensures made { IfOk result (IsOutputOf (λ test film. IsFilm protocol test schedule.now film) text.now) }
-    ensures told { IfErr result (RunFaultIsTrue (ReplayFaultIsTrue schedule.now) text.now) }
+    ensures fault { IfErr result (RunFaultIsTrue (ReplayFaultIsTrue schedule.now) text.now) }
     ensures device { IfErr result IsNotDeviceFault }
 {
     let (film, _) = render_text(alloc, &FilmRenderer { schedule, protocol }, text)?;

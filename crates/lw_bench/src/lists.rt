@@ -56,7 +56,7 @@ pub(crate) fn report_of<A: Allocator + Copy>(
     test: &LitmusTest<A>,
 ) -> Result<Text<A>, BenchFault>
     ensures found { IfOk result (IsStatesReport (litmus_test_of test.now)) }
-    ensures told { IfErr result (λ f. (f ≡ BenchFault.Memory) ⊎ ListFaultIsTrue (litmus_test_of test.now) f) }
+    ensures fault { IfErr result (λ f. (f ≡ BenchFault.Memory) ⊎ ListFaultIsTrue (litmus_test_of test.now) f) }
     ensures device { IfErr result IsNotDeviceFault }
 {
     let listing = list_outcomes(alloc, test)?;
@@ -89,7 +89,7 @@ pub(crate) fn schedules_of<A: Allocator + Copy>(
     test: &LitmusTest<A>,
 ) -> Result<Text<A>, BenchFault>
     ensures found { IfOk result (IsScheduleReport (litmus_test_of test.now)) }
-    ensures told { IfErr result (λ f. (f ≡ BenchFault.Memory) ⊎ ListFaultIsTrue (litmus_test_of test.now) f) }
+    ensures fault { IfErr result (λ f. (f ≡ BenchFault.Memory) ⊎ ListFaultIsTrue (litmus_test_of test.now) f) }
     ensures device { IfErr result IsNotDeviceFault }
 {
     let listing = list_test(alloc, test)?;

@@ -75,7 +75,7 @@ pub fn a_text_has_one_fault()
 /// Reads the test of the bytes.
 pub fn read_test<A: Allocator + Copy>(alloc: A, text: &[u8]) -> Result<LitmusTest<A>, BenchFault>
     ensures found { IfOk result (λ test. HasTest text.now (litmus_test_of test)) }
-    ensures told { IfErr result (ReadFaultIsTrue text.now) }
+    ensures fault { IfErr result (ReadFaultIsTrue text.now) }
     ensures device { IfErr result IsNotDeviceFault }
 {
     let frame = read_frame(alloc, text)?;

@@ -37,7 +37,7 @@ pub(crate) trait Renderer<A: Allocator + Copy> {
     /// replay.
     fn render(&self, alloc: A, test: &LitmusTest<A>) -> Result<(Text<A>, Self::Answer), BenchFault>
         ensures found { IfOk result (λ x. is_made self.now x.1 (litmus_test_of test.now) x.0) }
-        ensures told { IfErr result (λ f. (f ≡ Fault.Memory) ⊎ tells self.now (litmus_test_of test.now) f) }
+        ensures fault { IfErr result (λ f. (f ≡ Fault.Memory) ⊎ tells self.now (litmus_test_of test.now) f) }
         ensures device { IfErr result IsNotDeviceFault };
 }
 
@@ -90,7 +90,7 @@ pub(crate) fn render_text<O: Renderer<A>, A: Allocator + Copy>(
     text: &[u8],
 ) -> Result<(Text<A>, O::Answer), BenchFault>
     ensures found { IfOk result (λ x. IsOutputOf (O.is_made output.now x.1) text.now x.0) }
-    ensures told { IfErr result (RunFaultIsTrue (O.tells output.now) text.now) }
+    ensures fault { IfErr result (RunFaultIsTrue (O.tells output.now) text.now) }
     ensures device { IfErr result IsNotDeviceFault }
 {
     let test = read_test(alloc, text)?;
@@ -111,7 +111,7 @@ pub fn answer<A: Allocator + Copy>(
     // on that test.
     ensures made { IfOk result (λ x. IsOutputOf (λ test made. IsTaskOutput task.entry test made x.1) text.now x.0) }
     // What a fault says is true: of the text, of a cell, or of what the task requires of the test.
-    ensures told { IfErr result (RunFaultIsTrue (TaskFaultIsTrue task.entry) text.now) }
+    ensures fault { IfErr result (RunFaultIsTrue (TaskFaultIsTrue task.entry) text.now) }
     // For every test of the bytes, its outcomes are those that its x86 program reaches on the machine,
     ensures machine { IsReachedOnMachine text.now }
     // and over caches of each protocol.

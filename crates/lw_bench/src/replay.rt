@@ -102,7 +102,7 @@ pub(crate) fn page_of<A: Allocator + Copy>(
     protocol: Protocol,
 ) -> Result<(Text<A>, End), BenchFault>
     ensures found { IfOk result (λ x. IsReplayPage protocol (litmus_test_of test.now) schedule.now x.0 x.1) }
-    ensures told { IfErr result (λ f. (f ≡ BenchFault.Memory) ⊎ ReplayFaultIsTrue schedule.now (litmus_test_of test.now) f) }
+    ensures fault { IfErr result (λ f. (f ≡ BenchFault.Memory) ⊎ ReplayFaultIsTrue schedule.now (litmus_test_of test.now) f) }
     ensures device { IfErr result IsNotDeviceFault }
 {
     let events = read_schedule(alloc, schedule, &test.head().locs)?;

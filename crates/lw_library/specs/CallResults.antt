@@ -14,25 +14,25 @@ use Rattle.lw_bench.specs.FaultTruth.{RunFaultIsTrue, IsNotDeviceFault}
 use Rattle.lw_library.specs.declared.call_result.CallResult.{CallResult}
 
 -- The bytes are at the start of the caller's buffer, and the rest of the buffer is unchanged.
-pub record IsWritten (bytes : Bytes) (told : CallResult) (before after : Bytes) : Type 0 where
-  pub counted : told.length ≡ length bytes
-  pub fits : told.length ≤ length before
-  pub after_is : after ≡ bytes ++ drop told.length before
+pub record IsWritten (bytes : Bytes) (call_result : CallResult) (before after : Bytes) : Type 0 where
+  pub counted : call_result.length ≡ length bytes
+  pub fits : call_result.length ≤ length before
+  pub after_is : after ≡ bytes ++ drop call_result.length before
 
 -- The buffer is too small for the bytes: their number is returned, and the buffer is unchanged.
-pub record IsTooSmall (bytes : Bytes) (told : CallResult) (before after : Bytes) : Type 0 where
-  pub counted : told.length ≡ length bytes
-  pub too_small : length before < told.length
+pub record IsTooSmall (bytes : Bytes) (call_result : CallResult) (before after : Bytes) : Type 0 where
+  pub counted : call_result.length ≡ length bytes
+  pub too_small : length before < call_result.length
   pub unchanged : after ≡ before
 
 -- These bytes are returned with this kind, or kind 2 is returned, since they do not fit.
 abbrev pub ReturnsBytes : ℕ → Bytes → CallResult → Bytes → Bytes → Type 0
-ReturnsBytes kind bytes told before after =
-    ((told.kind ≡ kind) × IsWritten bytes told before after) ⊎ ((told.kind ≡ 2) × IsTooSmall bytes told before after)
+ReturnsBytes kind bytes call_result before after =
+    ((call_result.kind ≡ kind) × IsWritten bytes call_result before after) ⊎ ((call_result.kind ≡ 2) × IsTooSmall bytes call_result before after)
 
 -- The line of this fault is returned, with kind 1 and the fault's exit status.
 abbrev pub ReturnsFaultLine : BenchFault → CallResult → Bytes → Bytes → Type 0
-ReturnsFaultLine fault told before after = (told.status ≡ status fault) × ReturnsBytes 1 (fault_text fault) told before after
+ReturnsFaultLine fault call_result before after = (call_result.status ≡ status fault) × ReturnsBytes 1 (fault_text fault) call_result before after
 
 -- The protocol of a caller's number: MESI for 0, and MOESI for any other number.
 abbrev pub replay_protocol : ℕ → Protocol
@@ -48,13 +48,13 @@ abbrev pub IsFilmed : Bytes → Protocol → LitmusTest → Bytes → ℕ → Ty
 IsFilmed schedule protocol test made done = IsFilm protocol test schedule made × (done ≡ 0)
 
 -- The result of a call: kind 0 with an answer, kind 1 with a fault's line, or kind 2 if the one or the other does not fit.
-pub record TellsOneOf (IsAnswer IsFault : ℕ → Bytes → Type 0) (told : CallResult) (before after : Bytes) : Type 0 where
-  pub kinds : told.kind ≤ 2
-  pub answer : told.kind ≡ 0 → (made : Bytes) × IsAnswer told.status made × IsWritten made told before after
-  pub fault : told.kind ≡ 1 → (line : Bytes) × IsFault told.status line × IsWritten line told before after
+pub record ReturnsAnswerOrFault (IsAnswer IsFault : ℕ → Bytes → Type 0) (call_result : CallResult) (before after : Bytes) : Type 0 where
+  pub kinds : call_result.kind ≤ 2
+  pub answer : call_result.kind ≡ 0 → (made : Bytes) × IsAnswer call_result.status made × IsWritten made call_result before after
+  pub fault : call_result.kind ≡ 1 → (line : Bytes) × IsFault call_result.status line × IsWritten line call_result before after
   pub small :
-      told.kind ≡ 2
-      → (bytes : Bytes) × (IsAnswer told.status bytes ⊎ IsFault told.status bytes) × IsTooSmall bytes told before after
+      call_result.kind ≡ 2
+      → (bytes : Bytes) × (IsAnswer call_result.status bytes ⊎ IsFault call_result.status bytes) × IsTooSmall bytes call_result before after
 
 module _ (IsMade : LitmusTest → Bytes → ℕ → Type 0) (Tells : LitmusTest → BenchFault → Type 0) (text : Bytes) where
   -- The bytes are the output of the task on the test of the text, with this exit status.
@@ -71,4 +71,4 @@ module _ (IsMade : LitmusTest → Bytes → ℕ → Type 0) (Tells : LitmusTest 
 
   -- The result of a call: the output of the task, or a fault.
   abbrev pub IsCallResult : CallResult → Bytes → Bytes → Type 0
-  IsCallResult = TellsOneOf IsAnswer IsFault
+  IsCallResult = ReturnsAnswerOrFault IsAnswer IsFault

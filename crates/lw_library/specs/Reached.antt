@@ -7,12 +7,12 @@ use Rattle.lw_beyond.specs.Requests.{IsMadeFor, RefusesText, IsNoDevice}
 use Rattle.lw_beyond.specs.declared.fault.BeyondFault.{BeyondFault}
 use Rattle.lw_beyond.specs.declared.lists.Output.{Output}
 use Rattle.lw_beyond.specs.declared.lists.Request.{Request}
-use Rattle.lw_library.specs.CallResults.{ReturnsBytes, TellsOneOf}
+use Rattle.lw_library.specs.CallResults.{ReturnsBytes, ReturnsAnswerOrFault}
 use Rattle.lw_library.specs.declared.call_result.CallResult.{CallResult}
 
 -- The line of this fault is returned, with kind 1 and the fault's exit status.
-abbrev pub TellsFault : BeyondFault → CallResult → Bytes → Bytes → Type 0
-TellsFault fault told before after = (told.status ≡ fault_status fault) × ReturnsBytes 1 (fault_text fault) told before after
+abbrev pub ReturnsFault : BeyondFault → CallResult → Bytes → Bytes → Type 0
+ReturnsFault fault call_result before after = (call_result.status ≡ fault_status fault) × ReturnsBytes 1 (fault_text fault) call_result before after
 
 module _ (request : Request) (text : Bytes) where
   -- The bytes are the output on the test of the text, with the exit status 0.
@@ -28,8 +28,8 @@ module _ (request : Request) (text : Bytes) where
     pub status_is : done ≡ fault_status fault
 
   -- The result of the call: the output, or a fault.
-  abbrev pub IsReachTold : CallResult → Bytes → Bytes → Type 0
-  IsReachTold = TellsOneOf IsReached IsRefused
+  abbrev pub IsReachResult : CallResult → Bytes → Bytes → Type 0
+  IsReachResult = ReturnsAnswerOrFault IsReached IsRefused
 
 -- The request for an output within a budget: by orders within the limits of lists, and by a search past them.
 abbrev pub request_of : Output → ℕ → Request

@@ -32,7 +32,7 @@ pub(crate) fn write_result(kind: u32, status: u8, bytes: &[u8], room: &mut [u8])
     ensures bytes { ReturnsBytes kind bytes.now result room.old room.new }
     ensures status { result.status ≡ status }
 {
-    let told = CallResult {
+    let call_result = CallResult {
         status: u32::from(status),
         kind,
         length: bytes.len(),
@@ -40,11 +40,11 @@ pub(crate) fn write_result(kind: u32, status: u8, bytes: &[u8], room: &mut [u8])
     if room.len() < bytes.len() {
         return CallResult {
             kind: TOO_SMALL,
-            ..told
+            ..call_result
         };
     }
     room[..bytes.len()].copy_from_slice(bytes);
-    told
+    call_result
 }
 
 /// Writes the line of a fault to the start of `room`. If memory runs out for the line, writes that of `Memory` instead.

@@ -12,32 +12,32 @@ use crate::call_result::{ANSWER, CallResult, write_fault, write_result};
 use lw_arena::{Arena, Memory};
 use lw_bench::{BenchFault, Protocol, Task, answer};
 
-/// Writes the report of the test in `text` to the start of `room`, as `lw states` prints it, and the result of the call to `told`.
+/// Writes the report of the test in `text` to the start of `room`, as `lw states` prints it, and the result of the call to `call_result`.
 #[unsafe(no_mangle)]
-pub extern "C" fn lw_states(memory: Memory, text: &[u8], room: &mut [u8], told: &mut CallResult)
-    ensures told { IsCallResult (IsTaskOutput task.States) (TaskFaultIsTrue task.States) text.now told.new room.old room.new }
+pub extern "C" fn lw_states(memory: Memory, text: &[u8], room: &mut [u8], call_result: &mut CallResult)
+    ensures call_result { IsCallResult (IsTaskOutput task.States) (TaskFaultIsTrue task.States) text.now call_result.new room.old room.new }
     ensures machine { IsReachedOnMachine text.now }
     ensures caches { IsReachedOverCaches text.now }
 {
-    *told = run(memory, Task::States, text, room);
+    *call_result = run(memory, Task::States, text, room);
 }
 
 /// Writes the test's final states, each with a schedule, to the start of `room`, as `lw schedules` prints them.
 #[unsafe(no_mangle)]
-pub extern "C" fn lw_schedules(memory: Memory, text: &[u8], room: &mut [u8], told: &mut CallResult)
-    ensures told { IsCallResult (IsTaskOutput task.Schedules) (TaskFaultIsTrue task.Schedules) text.now told.new room.old room.new }
+pub extern "C" fn lw_schedules(memory: Memory, text: &[u8], room: &mut [u8], call_result: &mut CallResult)
+    ensures call_result { IsCallResult (IsTaskOutput task.Schedules) (TaskFaultIsTrue task.Schedules) text.now call_result.new room.old room.new }
     ensures machine { IsReachedOnMachine text.now }
     ensures caches { IsReachedOverCaches text.now }
 {
-    *told = run(memory, Task::Schedules, text, room);
+    *call_result = run(memory, Task::Schedules, text, room);
 }
 
 /// Writes the canonical text of the test to the start of `room`, as `lw compile` prints it. A source test is first compiled to x86.
 #[unsafe(no_mangle)]
-pub extern "C" fn lw_compile(memory: Memory, text: &[u8], room: &mut [u8], told: &mut CallResult)
-    ensures told { IsCallResult (IsTaskOutput task.Compile) (TaskFaultIsTrue task.Compile) text.now told.new room.old room.new }
+pub extern "C" fn lw_compile(memory: Memory, text: &[u8], room: &mut [u8], call_result: &mut CallResult)
+    ensures call_result { IsCallResult (IsTaskOutput task.Compile) (TaskFaultIsTrue task.Compile) text.now call_result.new room.old room.new }
 {
-    *told = run(memory, Task::Compile, text, room);
+    *call_result = run(memory, Task::Compile, text, room);
 }
 
 /// Writes the page of the replay of `schedule` to the start of `room`, as `lw replay` prints it. An x86 test runs over MESI caches if
@@ -50,15 +50,15 @@ pub extern "C" fn lw_replay(
     schedule: &[u8],
     protocol: u32,
     room: &mut [u8],
-    told: &mut CallResult,
+    call_result: &mut CallResult,
 )
-    ensures told { IsUtf8 schedule.now
-        → IsCallResult (IsReplayed schedule.now (replay_protocol protocol)) (ReplayFaultIsTrue schedule.now) text.now told.new room.old room.new }
+    ensures call_result { IsUtf8 schedule.now
+        → IsCallResult (IsReplayed schedule.now (replay_protocol protocol)) (ReplayFaultIsTrue schedule.now) text.now call_result.new room.old room.new }
     ensures no_utf8 { ¬ IsUtf8 schedule.now
-        → ReturnsFaultLine fault.Read told.new room.old room.new ⊎ ReturnsFaultLine fault.Memory told.new room.old room.new }
+        → ReturnsFaultLine fault.Read call_result.new room.old room.new ⊎ ReturnsFaultLine fault.Memory call_result.new room.old room.new }
 {
     let protocol = protocol_of(protocol);
-    *told = match std::str::from_utf8(schedule) {
+    *call_result = match std::str::from_utf8(schedule) {
         Ok(schedule) => run(memory, Task::Replay(schedule, protocol), text, room),
         Err(_) => write_fault(&Arena::new(memory), &BenchFault::Read, room),
     };
@@ -77,7 +77,7 @@ pub(crate) fn protocol_of(number: u32) -> Protocol
 
 /// Runs a task with an allocator over `memory`, and writes its output or a fault's line to the start of `room`.
 fn run(memory: Memory, task: Task<'_>, text: &[u8], room: &mut [u8]) -> CallResult
-    ensures told { IsCallResult (IsTaskOutput task.entry) (TaskFaultIsTrue task.entry) text.now result room.old room.new }
+    ensures call_result { IsCallResult (IsTaskOutput task.entry) (TaskFaultIsTrue task.entry) text.now result room.old room.new }
     ensures machine { IsReachedOnMachine text.now }
     ensures caches { IsReachedOverCaches text.now }
 {

@@ -19,15 +19,15 @@ pub extern "C" fn lw_film(
     schedule: &[u8],
     protocol: u32,
     room: &mut [u8],
-    told: &mut CallResult,
+    call_result: &mut CallResult,
 )
-    ensures told { IsUtf8 schedule.now
-        → IsCallResult (IsFilmed schedule.now (replay_protocol protocol)) (ReplayFaultIsTrue schedule.now) text.now told.new room.old room.new }
+    ensures call_result { IsUtf8 schedule.now
+        → IsCallResult (IsFilmed schedule.now (replay_protocol protocol)) (ReplayFaultIsTrue schedule.now) text.now call_result.new room.old room.new }
     ensures no_utf8 { ¬ IsUtf8 schedule.now
-        → ReturnsFaultLine fault.Read told.new room.old room.new ⊎ ReturnsFaultLine fault.Memory told.new room.old room.new }
+        → ReturnsFaultLine fault.Read call_result.new room.old room.new ⊎ ReturnsFaultLine fault.Memory call_result.new room.old room.new }
 {
     let protocol = protocol_of(protocol);
-    *told = match std::str::from_utf8(schedule) {
+    *call_result = match std::str::from_utf8(schedule) {
         Ok(schedule) => run_film(memory, schedule, protocol, text, room),
         Err(_) => write_fault(&Arena::new(memory), &BenchFault::Read, room),
     };

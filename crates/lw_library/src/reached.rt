@@ -4,7 +4,7 @@ ghost use Rattle.lw_bench.specs.declared.fault.BenchFault.TheVariants as bench;
 ghost use Rattle.lw_beyond.specs.declared.fault.BeyondFault.TheVariants as beyond;
 ghost use Rattle.lw_bench.specs.Lists.{IsReachedOnMachine, IsReachedOverCaches};
 ghost use Rattle.lw_beyond.specs.declared.lists.Output.TheVariants as output;
-ghost use Rattle.lw_library.specs.Reached.{request_of, IsReachTold, TellsFault};
+ghost use Rattle.lw_library.specs.Reached.{request_of, IsReachResult, ReturnsFault};
 
 use crate::call_result::{ANSWER, CallResult, FAULT, write_result};
 use lw_arena::{Arena, Memory};
@@ -18,13 +18,13 @@ pub extern "C" fn lw_reach_states(
     text: &[u8],
     budget: usize,
     room: &mut [u8],
-    told: &mut CallResult,
+    call_result: &mut CallResult,
 )
-    ensures told { IsReachTold (request_of output.States budget) text.now told.new room.old room.new }
+    ensures call_result { IsReachResult (request_of output.States budget) text.now call_result.new room.old room.new }
     ensures machine { IsReachedOnMachine text.now }
     ensures caches { IsReachedOverCaches text.now }
 {
-    *told = run_request(memory, &request_of(Output::States, budget), text, room);
+    *call_result = run_request(memory, &request_of(Output::States, budget), text, room);
 }
 
 /// Writes the final states of a test of any size, each with a schedule, to the start of `room`, as `beyond --budget BUDGET schedules`
@@ -35,13 +35,13 @@ pub extern "C" fn lw_reach_schedules(
     text: &[u8],
     budget: usize,
     room: &mut [u8],
-    told: &mut CallResult,
+    call_result: &mut CallResult,
 )
-    ensures told { IsReachTold (request_of output.Schedules budget) text.now told.new room.old room.new }
+    ensures call_result { IsReachResult (request_of output.Schedules budget) text.now call_result.new room.old room.new }
     ensures machine { IsReachedOnMachine text.now }
     ensures caches { IsReachedOverCaches text.now }
 {
-    *told = run_request(memory, &request_of(Output::Schedules, budget), text, room);
+    *call_result = run_request(memory, &request_of(Output::Schedules, budget), text, room);
 }
 
 /// Writes the final states of a test of any size, each marked by the truth of the proposition in it, to the start of `room`, as
@@ -52,13 +52,13 @@ pub extern "C" fn lw_reach_marks(
     text: &[u8],
     budget: usize,
     room: &mut [u8],
-    told: &mut CallResult,
+    call_result: &mut CallResult,
 )
-    ensures told { IsReachTold (request_of output.Marks budget) text.now told.new room.old room.new }
+    ensures call_result { IsReachResult (request_of output.Marks budget) text.now call_result.new room.old room.new }
     ensures machine { IsReachedOnMachine text.now }
     ensures caches { IsReachedOverCaches text.now }
 {
-    *told = run_request(memory, &request_of(Output::Marks, budget), text, room);
+    *call_result = run_request(memory, &request_of(Output::Marks, budget), text, room);
 }
 
 /// Returns the request for an output within a budget.
@@ -74,7 +74,7 @@ fn request_of(output: Output, budget: usize) -> Request
 
 /// Answers a request with an allocator over `memory`, and writes the output or a fault's line to the start of `room`.
 fn run_request(memory: Memory, request: &Request, text: &[u8], room: &mut [u8]) -> CallResult
-    ensures told { IsReachTold request.now text.now result room.old room.new }
+    ensures call_result { IsReachResult request.now text.now result room.old room.new }
     ensures machine { IsReachedOnMachine text.now }
     ensures caches { IsReachedOverCaches text.now }
 {
@@ -87,7 +87,7 @@ fn run_request(memory: Memory, request: &Request, text: &[u8], room: &mut [u8]) 
 
 /// Writes the line of a fault to the start of `room`. If memory runs out for the line, writes that of `Memory` instead.
 fn refuse_request(arena: &Arena, fault: &BeyondFault, room: &mut [u8]) -> CallResult
-    ensures { TellsFault fault.now result room.old room.new ⊎ TellsFault (beyond.Bench bench.Memory) result room.old room.new }
+    ensures { ReturnsFault fault.now result room.old room.new ⊎ ReturnsFault (beyond.Bench bench.Memory) result room.old room.new }
 {
     match fault_line(arena, fault) {
         Ok(line) => write_result(FAULT, status_of(fault), line.as_bytes(), room),

@@ -7,8 +7,8 @@ use Rattle.lw_bench.proofs.FilmSteps.{IsFilm-IsFilmOf}
 use Rattle.lw_bench.proofs.FaultTruths.{holds-schedule_run_fault}
 use Rattle.lw_bench.proofs.films.film_of.Goals as goal
 
-pub returns-in_err-events-clause-told : goal.returns-in_err-events-clause-told
-returns-in_err-events-clause-told g c =
+pub returns-in_err-events-clause-fault : goal.returns-in_err-events-clause-fault
+returns-in_err-events-clause-fault g c =
     let test = litmus_test_of c.args.test.now in
     let table = ap (λ (h : TestHead). h.locs) c.head.ensures.head in
     Err-clause_propagated _ _ c.from_residual.ensures.1

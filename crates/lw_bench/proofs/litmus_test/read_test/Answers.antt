@@ -8,8 +8,8 @@ use Rattle.lw_bench.proofs.FaultTruths.{holds-text_run_fault, holds-cell_run_fau
 use Rattle.lw_bench.proofs.FaultTruths.{cell_no_device}
 use Rattle.lw_bench.proofs.litmus_test.read_test.Goals as goal
 
-pub returns-in_err-frame-clause-told : goal.returns-in_err-frame-clause-told
-returns-in_err-frame-clause-told g c =
+pub returns-in_err-frame-clause-fault : goal.returns-in_err-frame-clause-fault
+returns-in_err-frame-clause-fault g c =
     let f = c.in_err-frame in
     Err-clause_propagated _ _ c.from_residual.ensures.1
     (holds-text_run_fault (ReadFaultIsTrue c.args.text.now) tt _ (λ known. record {
@@ -26,8 +26,8 @@ returns-in_err-frame-clause-told g c =
 pub returns-in_err-frame-clause-device : goal.returns-in_err-frame-clause-device
 returns-in_err-frame-clause-device g c = Err-clause_propagated _ _ c.from_residual.ensures.1 (text_no_device _)
 
-pub returns-in_err-read_cells-clause-told : goal.returns-in_err-read_cells-clause-told
-returns-in_err-read_cells-clause-told g c =
+pub returns-in_err-read_cells-clause-fault : goal.returns-in_err-read_cells-clause-fault
+returns-in_err-read_cells-clause-fault g c =
     Err-clause_propagated _ _ c.from_residual-in_err-read_cells.ensures.1
     (holds-cell_run_fault (ReadFaultIsTrue c.args.text.now) tt _ (λ known. record {
       frame = frame_of c.in_ok-frame.frame;

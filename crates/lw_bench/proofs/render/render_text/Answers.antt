@@ -5,8 +5,8 @@ use Rattle.lw_bench.proofs.Common.{inl, IfOk-weaker, IfErr-weaker, Err-clause_pr
 use Rattle.lw_bench.proofs.FaultTruths.{RunFaultIsTrue-of_test}
 use Rattle.lw_bench.proofs.render.render_text.Goals as goal
 
-pub returns-in_err-test-clause-told : goal.returns-in_err-test-clause-told
-returns-in_err-test-clause-told g c = Err-clause_propagated _ _ c.from_residual.ensures.1 (inl c.in_err-test.ensures.told)
+pub returns-in_err-test-clause-fault : goal.returns-in_err-test-clause-fault
+returns-in_err-test-clause-fault g c = Err-clause_propagated _ _ c.from_residual.ensures.1 (inl c.in_err-test.ensures.fault)
 
 pub returns-in_err-test-clause-device : goal.returns-in_err-test-clause-device
 returns-in_err-test-clause-device g c = Err-clause_propagated _ _ c.from_residual.ensures.1 c.in_err-test.ensures.device
@@ -17,8 +17,8 @@ returns-clause-found g c =
     (λ x made. record { test = litmus_test_of c.in_ok-test.test; has_test = c.in_ok-test.ensures.found; is_made = made })
     c.render-made.ensures.found
 
-pub returns-clause-told : goal.returns-clause-told
-returns-clause-told g c =
+pub returns-clause-fault : goal.returns-clause-fault
+returns-clause-fault g c =
     IfErr-weaker c.render-made.result _ _
     (λ f told. RunFaultIsTrue-of_test (g.O.Renderer.tells c.args.output.now) c.args.text.now _ f c.in_ok-test.ensures.found told)
-    c.render-made.ensures.told
+    c.render-made.ensures.fault

@@ -9,8 +9,8 @@ use Rattle.lw_bench.proofs.FaultTruths.{holds-schedule_run_fault, schedule_no_de
 use Rattle.lw_bench.proofs.FaultTruths.{IsNotDeviceFault-of_memory}
 use Rattle.lw_bench.proofs.replay.page_of.Goals as goal
 
-pub returns-in_err-events-clause-told : goal.returns-in_err-events-clause-told
-returns-in_err-events-clause-told g c =
+pub returns-in_err-events-clause-fault : goal.returns-in_err-events-clause-fault
+returns-in_err-events-clause-fault g c =
     let test = litmus_test_of c.args.test.now in
     let table = ap (λ (h : TestHead). h.locs) c.head.ensures.head in
     Err-clause_propagated _ _ c.from_residual.ensures.1
@@ -31,8 +31,8 @@ returns-clause-found g c =
     IsReplay-IsPageOf c.args.protocol test c.args.schedule.now x.0 x.1 table c.in_ok-events.ensures.found c.as_slice.ensures
     tells) c.page_of_events-page.ensures.found
 
-pub returns-clause-told : goal.returns-clause-told
-returns-clause-told g c = IfErr-weaker _ _ _ (λ f is. inl is) c.page_of_events-page.ensures.fault
+pub returns-clause-fault : goal.returns-clause-fault
+returns-clause-fault g c = IfErr-weaker _ _ _ (λ f is. inl is) c.page_of_events-page.ensures.fault
 
 pub returns-clause-device : goal.returns-clause-device
 returns-clause-device g c = IfErr-weaker _ _ _ IsNotDeviceFault-of_memory c.page_of_events-page.ensures.fault

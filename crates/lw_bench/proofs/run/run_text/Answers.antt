@@ -18,7 +18,7 @@ pub returns-in_err-made : goal.returns-in_err-made
 returns-in_err-made g c =
     let p = err_from_is_err_and c.from_residual-in_err-made.result c.from_residual-in_err-made.ensures.1 in
     let known = c.what_is_known_is_reached_on_the_machine.ensures in
-    let told = rw c.as_slice.ensures.value at c.in_err-made.ensures.told in
+    let told = rw c.as_slice.ensures.value at c.in_err-made.ensures.fault in
     rw (p.1, p.2)
     (IsRun-no_output (devices g.R.ByteReader.remaining g.R.ByteReader.failed)
     (devices g.W.ByteWriter.contents g.W.ByteWriter.failed) (g.O.Renderer.tells c.args.output.now) _ _ _

@@ -1,5 +1,5 @@
 -- `run_film` promises a result that tells the film or the line of a true fault. The film is what `film`
--- returned (`IsCallResult-answer`), with status 0. If memory runs out for a fault's line, the line of `Memory` is told
+-- returned (`IsCallResult-answer`), with status 0. If memory runs out for a fault's line, the line of `Memory` is returned
 -- (`IsCallResult-fault_line_or_Memory`).
 use Rattle.std.proofs.Common.{ℕ, sym, subst, ◌∙◌}
 use Rattle.lw_base.specs.Types.{Bytes}
@@ -25,4 +25,4 @@ returns-in-Ok c =
 pub returns-in-Err : goal.returns-in-Err
 returns-in-Err c =
     IsCallResult-fault_line_or_Memory (IsFilmed c.args.schedule.now c.args.protocol) (ReplayFaultIsTrue c.args.schedule.now)
-    c.args.text.now c.write_fault.result _ _ c.in-Err.fault c.in-Err.ensures.told c.in-Err.ensures.device c.write_fault.ensures
+    c.args.text.now c.write_fault.result _ _ c.in-Err.fault c.in-Err.ensures.fault c.in-Err.ensures.device c.write_fault.ensures
