@@ -28,7 +28,7 @@ from shared.home import HOME
 WIDTH = 110
 HEAD = "-- What proofs cite of std, of lower crates and of this crate's definitions, passed on from one place. Declares nothing.\n"
 STD = "Rattle.std.proofs.Common"
-PASSES = re.compile(r"^(?:unfoldable )?pub use ([\w.+'-]+)\.\{([^}]*)\}", re.M)
+PASSES = re.compile(r"^pub use ([\w.+'-]+)\.\{([^}]*)\}", re.M)
 # Crates whose proofs name too little for a file of their own, or on which no other proofs depend.
 WITHOUT = ("lw", "lw_test_reader", "lw_tso_caches", "lw_source", "lw_outcome_map", "lw_arena", "lw_library")
 
@@ -91,19 +91,8 @@ class Crates:
 
 
 def find_unfolded_names(text: str) -> set[str]:
-    """Returns the names that a proof unfolds."""
+    """Returns the names that a proof unfolds: their definitions are opaque, except where `unfolding NAME` precedes."""
     return {word for line in re.findall(r"^\s*unfolding (.*)$", text, re.M) for word in line.split()}
-
-
-def find_unfoldable_definitions(crates: Crates) -> set[tuple[str, str]]:
-    """Returns definitions that are unfolded by name, which no other module can export."""
-    unfoldable_definitions = set()
-    for crate in crates.order:
-        for folder, _, names in os.walk(f"{HOME}/crates/{crate}/specs"):
-            for name in names:
-                module = "Rattle." + os.path.relpath(f"{folder}/{name}", f"{HOME}/crates")[: -len(".antt")].replace("/", ".")
-                unfoldable_definitions |= {(module, it) for it in re.findall(r"^\s*unfoldable pub ([^\s:]+)", read_text(f"{folder}/{name}"), re.M)}
-    return unfoldable_definitions
 
 
 def find_passing_crate(module: str) -> str | None:
@@ -131,7 +120,7 @@ class Names:
         """Finds what each crate's proofs import, and takes for each name the module that most of them import it from. Goes from the highest
         crate down, since what a Common takes from a lower crate's, that one must export. `in_std` has the names of std's Common.
         """
-        self.crates, self.in_std, self.opened = crates, in_std, find_unfoldable_definitions(crates)
+        self.crates, self.in_std = crates, in_std
         imports = {it: self.count_imports(it) for it in crates.order}
         # For each crate the names that its Common exports, each with its module.
         self.passed: dict[str, dict[str, str]] = {}
@@ -166,7 +155,7 @@ class Names:
             for module, name in self.list_imports(text):
                 module = self.find_module(module, name)
                 is_own = module.startswith(f"Rattle.{crate}.proofs")
-                if " as " not in name and name not in unfolded and not is_own and (module, name) not in self.opened:
+                if " as " not in name and name not in unfolded and not is_own:
                     counts[module, name] += 1
         return counts
 
