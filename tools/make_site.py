@@ -16,11 +16,14 @@ asks for a module as soon as it has the tables, and for the second only if the b
 from __future__ import annotations
 
 import base64
+import collections
 import gzip
 import hashlib
+import itertools
 import json
 import os
 import re
+import string
 import sys
 from typing import Dict
 
@@ -42,6 +45,8 @@ STYLE_BLANK = re.compile(r"\s*([{}])\s*|(;)\s*\n\s*")
 STYLE_STRING = re.compile(r'("[^"]*")')
 # The value of an attribute in a selector, which needs no quotes if it is a name.
 STYLE_NAME = re.compile(r'="([A-Za-z][\w-]*)"\]')
+# A property of the style sheet's own.
+STYLE_PROPERTY = re.compile(r"(?<![\w-])--[a-z][\w-]*")
 STYLE_SPARE = re.compile(r"(?<=[:,]) +| *(>) *|(?<![\w.])0(?=\.\d)|;(?=\})| +(?=!important)")
 EXPORT = re.compile(r"^export ((?:async )?(?:function\*?|class|const) (\w+))", re.M)
 # The colours of the page, by light and by dark: the first rules of its style sheet.
@@ -171,7 +176,18 @@ def split_page(web: str) -> tuple[str, str]:
 
 def read_styles(web: str) -> str:
     """Returns the style sheet, without what only its writers need."""
-    return shorten_style(read_source("style.css", web))
+    scripts = "".join(read_source(name, web) for name in sorted(os.listdir(web)) if name.endswith(".js"))
+    return rename_properties(shorten_style(read_source("style.css", web)), set(STYLE_PROPERTY.findall(scripts)))
+
+
+def rename_properties(style: str, kept: set[str]) -> str:
+    """Returns a style sheet in which each property of its own has a short name, except those that scripts name."""
+    counts = collections.Counter(STYLE_PROPERTY.findall(style))
+    names = sorted(set(counts) - kept, key=lambda it: (-counts[it], it))
+    letters_of = itertools.chain.from_iterable(itertools.product(string.ascii_lowercase, repeat=count) for count in (1, 2))
+    free = (name for name in ("--" + "".join(it) for it in letters_of) if name not in kept)
+    short_by_name = dict(zip(names, free))
+    return STYLE_PROPERTY.sub(lambda it: short_by_name.get(it[0], it[0]), style)
 
 
 def shorten_style(text: str) -> str:
