@@ -16,9 +16,9 @@ const [MAX_ROWS, MAX_THREADS] = [6, 2];
 
 /** The panel that shows what a test is compiled to, with the lists of states. */
 export class Compile {
-  constructor(panel, editor, take) {
-    this.editor = editor;
-    this.take = take;
+  /** Fills the panel. It calls `take` with a text for the editor. `openSource` returns a button for the source form of an x86 test, or null. */
+  constructor(panel, editor, take, openSource) {
+    Object.assign(this, { editor, take, openSource });
     this.place = el("div", {});
     this.film = new Film(editor);
     panel.append(this.place, this.film.place);
@@ -62,13 +62,19 @@ export class Compile {
 
   /** Returns the words on the shown texts. */
   wordsOn(answer) {
-    const isSource = answer.language === "SRC";
     const number = answer.fences.length;
-    const none = isSource ? "No fence is needed." : "The test has no fence.";
-    const fences = number === 0 ? none : number === 1 ? "There is one fence." : `There are ${number} fences.`;
-    const source = number ? "The source test, what it is compiled to, and that without its fences." : "The source test, and what it is compiled to.";
-    const texts = isSource ? source : number ? "The test, and the same without its fences." : "";
-    return el("p", { role: "status" }, texts, " ", fences, " ", isSource ? sentence(mappedNames(answer.compiled)) : "");
+    if (answer.language === "X86") return this.wordsOnX86(number);
+    const fences = number === 0 ? "No fence is needed." : number === 1 ? "There is one fence." : `There are ${number} fences.`;
+    const texts = number ? "The source test, what it is compiled to, and that without its fences." : "The source test, and what it is compiled to.";
+    return el("p", { role: "status" }, texts, " ", fences, " ", sentence(mappedNames(answer.compiled)));
+  }
+
+  /** Returns the words on an x86 test with a number of fences: nothing is compiled, and what there is instead. */
+  wordsOnX86(number) {
+    const shown = number ? "here it is with its fences and without them" : "here it is as it is, since it has no MFENCE to leave out";
+    const source = this.openSource();
+    const other = source ? [" Its source form is compiled: ", source, "."] : "";
+    return el("p", { role: "status" }, `This test is x86 already, so nothing is compiled: ${shown}.`, other);
   }
 
   /** Returns the code of each text: of the source, of what it is compiled to, and of that without its fences. */

@@ -1,5 +1,7 @@
-// Writes the condition of a test in words: what the threads read, and the words of registers and memory at the end. Only a conjunction whose
-// registers get their words from reads is put into words. Not proved.
+// Writes the condition of a test in words: what the threads read, and the words of registers and memory at the end; of a condition with `\/` each
+// alternative. A condition with more than `MAX_ATOMS` atoms is not put into words. Not proved.
+//
+// An `Atom` is a site, a word, and whether the condition denies that the site has the word.
 
 import { holds, siteKey, siteName } from "./propositions.js";
 import { wordsOf } from "./replays.js";
@@ -24,15 +26,19 @@ function testOf(text) {
 }
 
 /**
- * Returns the atoms of a conjunction, or null if it is none.
+ * Returns the alternatives of a proposition, each as its atoms; null if it has too many, or has true or false in it.
  * @param {Proposition} proposition
- * @returns {{site: Site, word: number}[] | null}
+ * @param {boolean} [isDenied]
+ * @returns {Atom[][] | null}
  */
-function atomsOf({ kind, parts, site, word }) {
-  if (kind === "Eq") return [{ site, word }];
-  if (kind !== "And") return null;
-  const atoms = parts.map(atomsOf);
-  return atoms.includes(null) ? null : atoms.flat();
+function alternativesOf({ kind, parts, site, word }, isDenied = false) {
+  if (kind === "Eq") return [[{ site, word, isDenied }]];
+  if (kind === "Not") return alternativesOf(parts[0], !isDenied);
+  const [first, second] = parts.map((it) => alternativesOf(it, isDenied));
+  if (!first || !second) return null;
+  const isChoice = (kind === "Or") !== isDenied;
+  const alternatives = isChoice ? [...first, ...second] : first.flatMap((it) => second.map((other) => [...it, ...other]));
+  return alternatives.flat().length > MAX_ATOMS ? null : alternatives;
 }
 
 /**
@@ -52,17 +58,41 @@ function readInto(test, { thread, register }) {
  * Describes one thread: its reads in the order of its code, and the words that it ends with.
  * @param {Test} test
  * @param {number} thread
- * @param {{site: Site, word: number}[]} atoms
+ * @param {Atom[]} atoms
  * @returns {string}
  */
 function wordsOfThread(test, thread, atoms) {
-  const observations = atoms.map(({ site, word }) => ({ site, word, read: readInto(test, site) }));
+  const observations = atoms.map((it) => ({ ...it, read: readInto(test, it.site) }));
   const reads = observations.filter((it) => it.read).sort((first, second) => first.read.position - second.read.position);
-  const others = observations.filter((it) => !it.read).map(({ site, word }) => `\`${siteName(test, site).slice(2)}=${word}\``);
+  const others = observations.filter((it) => !it.read).map((it) => codeOf(siteName(test, it.site).slice(2), it));
   const parts = [];
-  if (reads.length) parts.push(`reads ${reads.map(({ read, word }) => `\`${test.locations[read.location]}=${word}\``).join(", then ")}`);
+  if (reads.length) parts.push(`reads ${reads.map((it) => codeOf(test.locations[it.read.location], it)).join(", then ")}`);
   if (others.length) parts.push(`ends with ${others.join(" and ")}`);
   return `P${thread} ${parts.join(" and ")}`;
+}
+
+/**
+ * Returns an atom as code, by the name of its site or of what is read.
+ * @param {string} name
+ * @param {Atom} atom
+ * @returns {string}
+ */
+function codeOf(name, { word, isDenied }) {
+  return `\`${name}${isDenied ? "≠" : "="}${word}\``;
+}
+
+/**
+ * Returns one alternative of a condition in words.
+ * @param {Test} test
+ * @param {Atom[]} atoms
+ * @returns {string}
+ */
+function wordsOfAlternative(test, atoms) {
+  const threads = test.threads.map((_, thread) => atoms.filter(({ site }) => site.thread === thread));
+  const phrases = threads.flatMap((atomsOfThread, thread) => (atomsOfThread.length ? [wordsOfThread(test, thread, atomsOfThread)] : []));
+  const words = atoms.filter(({ site }) => site.location !== undefined).map((it) => codeOf(siteName(test, it.site), it));
+  if (words.length) phrases.push(`memory ends with ${words.join(" and ")}`);
+  return phrases.join(phrases.length > 2 ? "; " : " and ");
 }
 
 /**
@@ -72,13 +102,8 @@ function wordsOfThread(test, thread, atoms) {
  */
 export function conditionWords(text) {
   const test = testOf(text);
-  const atoms = test && atomsOf(test.proposition);
-  if (!atoms || atoms.length > MAX_ATOMS) return null;
-  const threads = test.threads.map((_, thread) => atoms.filter(({ site }) => site.thread === thread));
-  const phrases = threads.flatMap((atomsOfThread, thread) => (atomsOfThread.length ? [wordsOfThread(test, thread, atomsOfThread)] : []));
-  const words = atoms.filter(({ site }) => site.location !== undefined).map(({ site, word }) => `\`${siteName(test, site)}=${word}\``);
-  if (words.length) phrases.push(`memory ends with ${words.join(" and ")}`);
-  return [...phrases.slice(0, -1), phrases.at(-1)].join(phrases.length > 2 ? "; " : " and ");
+  const alternatives = test && alternativesOf(test.proposition);
+  return alternatives && alternatives.map((it) => wordsOfAlternative(test, it)).join(", or ");
 }
 
 /**

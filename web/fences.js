@@ -22,8 +22,10 @@ export class Fences {
     this.more = el("div", { class: "more-fences" });
     this.film = new Film(editor);
     this.everything = el("input", { type: "checkbox", id: "everything", change: () => this.ask() });
-    const choice = el("label", {}, this.everything, " Compare all registers and locations, not only those of the question");
-    panel.append(this.place, this.more, el("p", { class: "row" }, choice), this.film.place);
+    const words = " Compare all registers and locations, not only those of the question";
+    this.choice = el("p", { class: "row" }, el("label", {}, this.everything, words));
+    this.hint = el("p", { class: "small by-click" }, BY_CLICK);
+    panel.append(this.place, this.more, this.choice, this.hint, this.film.place);
   }
 
   /** Removes what is shown. */
@@ -31,6 +33,7 @@ export class Fences {
     this.askedOf = null;
     this.place.replaceChildren();
     this.more.replaceChildren();
+    this.hint.hidden = true;
     this.film.clear();
   }
 
@@ -55,6 +58,8 @@ export class Fences {
     this.place.replaceChildren();
     if (!answer.table) return this.fail(answer);
     this.isSearched = search;
+    this.choice.hidden = !answer.table.rows.length;
+    this.hint.hidden = answer.language === "SRC";
     this.place.append(...this.parts(answer));
     if (!answer.table.answered_by.includes("plain")) this.offerMore(answer);
   }
@@ -113,17 +118,19 @@ export class Fences {
     const rows = table.rows.map((it, index) => this.rowOf(names[index], it, texts[index]));
     const shown = el("table", {}, el("thead", {}, head), el("tbody", {}, rows));
     const isSource = answer.language === "SRC";
+    const verdict = el("p", { class: "verdict", role: "status" }, el("strong", {}, verdictOf(answer, names)));
     const isPlain = table.answered_by.includes("plain");
     const byPage = "lw refuses some lists by their count of orders; these come from the page's own interpreter ";
     const lists = isPlain ? [byPage, plainMark(), "."] : [`All lists come from lw${this.isSearched ? ", by a search" : ""}.`];
+    const search = isPlain ? this.offer() : "";
+    if (!table.rows.length) return [verdict, isPlain ? el("p", { class: "small" }, ...lists) : "", search];
     return [
       el("p", {}, `Which fences of ${isSource ? "the compiled program" : "the test"} are needed, `, by,
         isSource ? [" ", sentence(mappedNames(JSON.stringify([condition, table])))] : ""),
-      table.rows.length ? el("div", { class: "wide" }, shown) : "",
-      el("p", { class: "verdict", role: "status" }, el("strong", {}, verdictOf(answer, names))),
-      el("p", { class: "small" }, table.rows.length ? ["The page's own code takes the fences out of the text, which is ", plainMark(), ". "] : "", ...lists),
-      isSource ? "" : el("p", { class: "small by-click" }, BY_CLICK),
-      isPlain ? this.offer() : "",
+      el("div", { class: "wide" }, shown),
+      verdict,
+      el("p", { class: "small" }, "The page's own code takes the fences out of the text, which is ", plainMark(), ". ", ...lists),
+      search,
     ];
   }
 
@@ -162,7 +169,7 @@ function verdictOf({ table, language }, names) {
   const program = language === "SRC" ? "the compiled program" : "the test";
   const holding = ` the condition holds in ${positive || "none"} of `;
   const isOne = rows.length === 1;
-  if (!rows.length) return [`The program has no MFENCE:${holding}${statesOf(states)}.`];
+  if (!rows.length) return [`${program[0].toUpperCase()}${program.slice(1)} has no MFENCE to leave out:${holding}${statesOf(states)}.`];
   if (!enough.length) {
     const [fences, all] = isOne ? ["The fence changes", "it and without it"] : ["The fences change", "all of them and with none"];
     return [`${fences} nothing: with ${all} ${program} ends in the same ${statesOf(states)}, and${holding}${states === 1 ? "it." : "them."}`];

@@ -155,6 +155,21 @@ export function wait(text, place, notice, show, isUntilAnswered = false) {
 }
 
 /**
+ * Returns the question on a text, in words if the page has some, and below it the condition as the test has it.
+ * @param {string} text
+ * @param {{report: Report, words: object}} answer
+ * @returns {Element[]}
+ */
+export function questionParts(text, { report, words }) {
+  const tints = tintsOf(text);
+  const inWords = conditionWords(text);
+  const formula = el("code", {}, codeNodes(propositionOf(report), tints, null));
+  const sign = el("span", { class: "sign", "aria-hidden": "true" }, "?");
+  const asked = el("span", {}, el("strong", {}, `${words.question}:`), " ", inWords ? tintedSentence(inWords, tints) : formula, "?");
+  return [el("p", { class: "verdict" }, sign, asked), el("p", { class: "asked" }, testName(text), inWords ? formula : "")];
+}
+
+/**
  * Asks in a place what the reader expects of a text, given the answer that has its list; `id` makes the ids of the choices.
  * @param {string} text
  * @param {Element} place
@@ -162,21 +177,16 @@ export function wait(text, place, notice, show, isUntilAnswered = false) {
  * @param {function(string): string} id
  * @param {function(): void} show
  */
-export function question(text, place, { report, words }, id, show) {
+export function question(text, place, answer, id, show) {
   const settleAs = (guess) => () => {
     settle(text, guess);
     if (document.activeElement === document.body) place.focus();
   };
   const choice = (title, guess, name) => button(title, settleAs(guess), { id: id(name) });
   const yes = choice("Yes", true, "yes");
-  const asked = el("p", { class: "verdict" }, el("span", { class: "sign", "aria-hidden": "true" }, "?"), el("strong", {}, words.question));
-  const tints = tintsOf(text);
-  const inWords = conditionWords(text);
-  const formula = el("code", {}, codeNodes(propositionOf(report), tints, null));
-  const condition = el("p", { class: "asked" }, testName(text), inWords ? [tintedSentence(`${inWords}. `, tints), formula] : formula);
   const choices = el("p", { class: "row" }, yes, choice("No", false, "no"), choice("Just show it", null, "just-show"));
   place.tabIndex = -1;
-  wait(text, place, el("div", { class: "predict" }, asked, condition, choices), show);
+  wait(text, place, el("div", { class: "predict" }, questionParts(text, answer), choices), show);
   yes.focus();
 }
 

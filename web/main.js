@@ -5,7 +5,7 @@ import * as address from "./address.js";
 import { forget } from "./ask.js";
 import { Beside } from "./beside.js";
 import { Compile } from "./compile.js";
-import { byId, el } from "./dom.js";
+import { button, byId, el } from "./dom.js";
 import { Editor } from "./editor.js";
 import { Examples } from "./examples.js";
 import { textWithFences, textWithoutFence } from "./fence_edit.js";
@@ -34,6 +34,8 @@ import { hasModule } from "./ways.js";
 import { Why } from "./why.js";
 
 const FIRST = "SB-x86";
+// Why the answer on the opening view surprises.
+const SURPRISE = "No interleaving of the four instructions gives this: each load would have to come before the other thread's store.";
 // After how many milliseconds without a letter what is written is run, and how long what runs by itself may take.
 const TYPING = 600;
 const MAX_MILLISECONDS = 10000;
@@ -54,10 +56,11 @@ const states = new States(byId("outcome"), editor, () => updateOffers(), {
   next: byId("next"),
   onVeil: keepBack,
   ownOf: (text) => examples.scheduleOf(text),
+  noteOf: () => (address.read().example || address.read().text ? "" : el("p", { class: "small note" }, SURPRISE)),
   onFence: changeFence,
 });
 const panels = {
-  compile: new Compile(byId("compile"), editor, (text) => take(text, { text })),
+  compile: new Compile(byId("compile"), editor, (text) => take(text, { text }), openSource),
   fences: new Fences(byId("fences"), editor, (text) => take(text, { text })),
 };
 const tabs = new Tabs(followTab);
@@ -289,6 +292,16 @@ function surprise() {
   const name = randomTest([...examples.tests.values()], examples.name);
   guess.forgetGuess(examples.textOf(name));
   choose(name);
+}
+
+/** Returns a button that opens the source form of an x86 example, compiled; null if there is none. */
+function openSource() {
+  const name = examples.name.replace(/-x86$/, "");
+  const open = async () => {
+    await choose(name);
+    tabs.choose("compile");
+  };
+  return name !== examples.name && examples.tests.has(name) ? button(name, open, { class: "link" }) : null;
 }
 
 /** Opens a file of a test. */

@@ -8,7 +8,7 @@ import { button, el, plainMark, sentence } from "./dom.js";
 import * as guess from "./guess.js";
 import { missingState } from "./missing.js";
 import { largeType } from "./preferences.js";
-import { asPrinted, leftOut, propositionOf, saveReport } from "./reports.js";
+import { asPrinted, leftOut, saveReport } from "./reports.js";
 import { Run } from "./run.js";
 import { countPrediction } from "./score.js";
 import { isTooLong, searchOffer } from "./search.js";
@@ -48,12 +48,12 @@ export class States {
    * `why` is called with a missing state, `onWatch` with one whose run the reader wants to see, `onDraw` when another run is shown, `onStep` when
    * it is at another step, `onFence` if a fence is put into the test or taken out, and `onVeil` with whether the verdict is kept back. Runs are
    * shown in `runPanel`, and their graph in `graphPlace`. `firstStep` is the step at which the first run is shown: "telling", or a number. `ownOf`
-   * returns the schedule that a text has of its own, or null. `next` is shown below the run.
+   * returns the schedule that a text has of its own, or null, and `noteOf` a note below the verdict. `next` is shown below the run.
    */
   constructor(panel, editor, onReveal = () => null, more = {}) {
     const { why = null, runPanel = panel, graphPlace = null, firstStep = "telling", next = null, ...others } = more;
-    const { onVeil = () => null, ownOf = () => null, onWatch = null, ...called } = others;
-    Object.assign(this, { editor, onReveal, onVeil, ownOf, firstStep, why, onWatch });
+    const { onVeil = () => null, ownOf = () => null, noteOf = () => "", onWatch = null, ...called } = others;
+    Object.assign(this, { editor, onReveal, onVeil, ownOf, noteOf, firstStep, why, onWatch });
     Object.assign(this, { report: null, isByHand: false, isSearched: false, isVeiled: false, found: new Set(), answered: null });
     this.verdict = el("div", { role: "status", tabindex: "-1", class: "verdicts" });
     this.list = el("div", { class: "list-place" });
@@ -171,18 +171,12 @@ export class States {
 
   /** Says what the reader looks for by hand, and nothing of the answer. */
   showQuestion() {
-    const { report, words } = this;
     const { text } = this.editor;
-    const tints = tintsOf(text);
-    const inWords = conditionWords(text);
     const note = guess.guessOn(text) === null ? "" : "Your guess is kept. ";
+    const [question, asked] = guess.questionParts(text, this);
+    asked.append(" ", el("span", { class: "by" }, `${note}${VEILED} `), button("Show the answer", () => this.unveil(), { class: "unveil" }));
     this.verdict.className = "verdicts veiled";
-    this.verdict.replaceChildren(
-      el("p", { class: "verdict" }, el("span", { class: "sign", "aria-hidden": "true" }, "?"),
-        el("span", {}, el("strong", {}, words.question), " ", inWords && el("span", { class: "in-words" }, tintedSentence(`${inWords}.`, tints)))),
-      el("p", { class: "asked" }, testName(text), el("code", {}, codeNodes(propositionOf(report), tints, null)), " ",
-        el("span", { class: "by" }, `${note}${VEILED} `), button("Show the answer", () => this.unveil(), { class: "unveil" })),
-    );
+    this.verdict.replaceChildren(question, asked);
   }
 
   /** Keeps the verdict back: the reader looks for the states. */
@@ -217,6 +211,7 @@ export class States {
         el("span", { class: "count-words" }, ` ${countWords(report)}`), " ",
         el("span", { class: "by", title: way }, el("span", { class: "long-by" }, "The list is "), `${by}.`),
         report.is_proved ? "" : [" ", el("span", { class: "by" }, "Its ticks are "), plainMark(), "."]),
+      this.noteOf(),
     );
   }
 

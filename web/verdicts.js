@@ -1,10 +1,10 @@
 // Writes the page's words on a report: by the test's language, its quantifier and the verdict.
 
-// The question on the condition itself, for the runs of a language, whatever the test claims of it.
+// The beginning of the question on the condition itself, for the runs of a language, whatever the test claims of it.
 const QUESTIONS = {
-  Allowed: (run) => `Can a run${run} end this way?`,
-  Forbidden: (run) => `Can a run${run} end this way?`,
-  Required: (run) => `Does every run${run} end this way?`,
+  Allowed: (run) => `Can a run${run} end this way`,
+  Forbidden: (run) => `Can a run${run} end this way`,
+  Required: (run) => `Does every run${run} end this way`,
 };
 const RUNS = { SRC: " by interleaving, in which the threads take turns,", X86: " on x86-TSO" };
 const BOUNDS = {

@@ -715,11 +715,17 @@ function compareTyped(page, program, tally) {
 const BY_TURNS = "by interleaving, in which the threads take turns,";
 // Of examples the question, whether the answer is yes, the state that shows it, and the verdict: its kind, its word and its sentence.
 const VERDICTS = [
-  ["SB", `Can a run ${BY_TURNS} end this way?`, false, null, "no", "Forbidden.",
+  ["SB", `Can a run ${BY_TURNS} end this way`, false, null, "no", "Forbidden.",
     "There is no run by interleaving in which P0 reads `y=0` and P1 reads `x=0`."],
-  ["SB-x86", "Can a run on x86-TSO end this way?", true, 0, "can", "Allowed.", "There is a run in which P0 reads `y=0` and P1 reads `x=0`."],
-  ["MP-x86", "Can a run on x86-TSO end this way?", false, null, "no", "Forbidden.", "There is no run in which P1 reads `y=1`, then `x=0`."],
-  ["Counter", `Does every run ${BY_TURNS} end this way?`, true, null, "yes", "Always.", "In every run by interleaving memory ends with `x=2`."],
+  ["SB-x86", "Can a run on x86-TSO end this way", true, 0, "can", "Allowed.", "There is a run in which P0 reads `y=0` and P1 reads `x=0`."],
+  ["MP-x86", "Can a run on x86-TSO end this way", false, null, "no", "Forbidden.", "There is no run in which P1 reads `y=1`, then `x=0`."],
+  ["Counter", `Does every run ${BY_TURNS} end this way`, true, null, "yes", "Always.", "In every run by interleaving memory ends with `x=2`."],
+  ["CoRW", `Can a run ${BY_TURNS} end this way`, false, null, "no", "Forbidden.",
+    "There is no run by interleaving in which P0 reads `x=1`, or P0 reads `x=2` and memory ends with `x=2`."],
+  ["ByteLock", `Can a run ${BY_TURNS} end this way`, false, null, "no", "Forbidden.",
+    "There is no run by interleaving in which P0 ends with `r2=1` and P1 ends with `r2=1`, or P0 ends with `r2=1` and P2 ends with `r2=1`."],
+  ["TryLock", `Can a run ${BY_TURNS} end this way`, false, null, "no", "Forbidden.",
+    "There is no run by interleaving in which P0 ends with `r0=0`; P1 ends with `r0=0`; memory ends with `n≠2`."],
 ];
 const COUNTS = [
   [0, 3, "The condition holds in none of 3 final states."], [1, 4, "The condition holds in 1 of 4 final states."],

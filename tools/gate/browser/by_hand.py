@@ -79,11 +79,11 @@ class Clicks(PageCase):
         """
         user = self.user
         begin(user, "#example=SB-x86&view=hand")
-        self.assertSays("Can a run on x86-TSO end this way? P0 reads y=0 and P1 reads x=0.", "#outcome .verdict")
+        self.assertSays("Can a run on x86-TSO end this way: P0 reads y=0 and P1 reads x=0?", "#outcome .verdict")
         self.assertEqual(([], []), (user.all("#about p"), user.all(".number-of-step")))
         user.carry_out("P0", "P0", "D0", "P1", "P1", "D1")
         self.assertSays("Found 1 of 4 states. Start again", "#outcome .found")
-        self.assertSays("Can a run on x86-TSO end this way?", "#outcome .verdict")
+        self.assertSays("Can a run on x86-TSO end this way:", "#outcome .verdict")
         user.click(".unveil")
         self.assertSays("Allowed.", "#outcome .verdict")
         user.open_listed("#example=CoRR-x86&view=hand")
@@ -110,7 +110,7 @@ class Clicks(PageCase):
         self.assertSays("Found 0 of 4 states.", "#outcome .found")
         self.assertSays("Allowed.", "#outcome .verdict")
         user.run_text(user.value().replace("EAX=0)", "EAX=1)"))
-        self.assertSays("Can a run on x86-TSO end this way?", "#outcome .verdict")
+        self.assertSays("Can a run on x86-TSO end this way:", "#outcome .verdict")
 
     def test_refused(self) -> None:
         """An event that is refused does nothing, and says why in a sentence: by a click and by a key."""

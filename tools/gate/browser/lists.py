@@ -43,11 +43,23 @@ class FirstView(PageCase):
         self.assertSays("The condition holds in 1 of 4 final states.", "#outcome .asked")
         self.assertEqual(["x 1 ↓", "y 1 ↓"], user.texts("#watching .entry"))
 
+    def test_surprise(self) -> None:
+        """Only the opening view says why its state surprises; a link to the test itself does not, nor the view for a projector."""
+        user = self.user
+        user.open_listed()
+        self.assertSays("No interleaving of the four instructions gives this", "#outcome .note")
+        user.click("#present")
+        self.assertSoon([], lambda: user.all("#outcome .note"))
+        user.press(user.keys.ESCAPE)
+        user.open_listed("#example=SB-x86")
+        self.assertSays("Allowed.", "#outcome .verdict")
+        self.assertEqual([], user.all("#outcome .note"))
+
     def test_in_sight_together(self) -> None:
         """Code, buffers, memory, verdict and list are in sight together at 1280 by 720."""
         self.user.resize(1280, 720)
         self.user.open_listed()
-        for css in ("#text", "#outcome .verdict", "table.strip", "#watching .code li", "#watching .buffer", "#watching .memory"):
+        for css in ("#text", "#outcome .verdict", "#outcome .note", "table.strip", "#watching .code li", "#watching .buffer", "#watching .memory"):
             self.assertTrue(self.user.run(IN_SIGHT, css), css)
 
     def test_says_what_it_is(self) -> None:

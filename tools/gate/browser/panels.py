@@ -132,6 +132,19 @@ class Compiling(PageCase):
         self.assertEqual(["Source", "x86, no fence needed"], user.texts("#compile caption"))
         self.assertSoon(["By interleaving: 3 states", "Compiled: 3 states"], lambda: user.texts("#compile h3"))
 
+    def test_x86(self) -> None:
+        """Of an x86 test the panel says that nothing is compiled, and leads to its source form, if there is one."""
+        user = self.user
+        user.open_listed("#example=SB-x86&view=compile")
+        words = "This test is x86 already, so nothing is compiled: here it is as it is, since it has no MFENCE to leave out."
+        self.assertSays(f"{words} Its source form is compiled: SB.", "#compile p")
+        user.click("#compile p .link")
+        self.assertSoon(["Source", "x86, with its fences", "x86, without fences not proved"], lambda: user.texts("#compile caption"))
+        self.assertSoon("true", lambda: user.find("#tab-compile").get_attribute("aria-selected"))
+        user.open_listed("#example=R%2Bmfence-x86&view=compile")
+        self.assertSays("This test is x86 already, so nothing is compiled: here it is with its fences and without them.", "#compile p")
+        self.assertEqual([], user.all("#compile p .link"))
+
     def test_source_run(self) -> None:
         """A state of the source is watched as a source run."""
         user = self.user
@@ -203,7 +216,8 @@ class Fences(PageCase):
         """The words on fences that are needed, that are not, and that do not make a test right."""
         user = self.user
         for example, verdict in (
-            ("SB-x86", "The program has no MFENCE: the condition holds in 1 of 4 states."),
+            ("SB-x86", "The test has no MFENCE to leave out: the condition holds in 1 of 4 states."),
+            ("MP", "The compiled program has no MFENCE to leave out: the condition holds in none of 3 states."),
             ("SB+mfence-x86", "The fence changes nothing: with it and without it the test ends in the same 4 states, and "
              "the condition holds in 1 of them."),
             ("R+mfence-x86", "The fence is needed: without it the test ends in more states. With it the condition holds in none of 3 states."),
@@ -220,6 +234,8 @@ class Fences(PageCase):
         user = self.user
         user.open_listed("#example=SB-x86&view=fences")
         before = user.value()
+        user.find(".find-fences")
+        self.assertEqual(([], []), (user.all("#fences table"), user.all("#everything")))
         user.click(".find-fences")
         self.assertSays("The fewest fences that forbid it:", "#fences .next-step")
         sentence = "An MFENCE in P0 before MOV EAX,[y] and in P1 before MOV EAX,[x]: it holds in none of 3 states. Try it"
@@ -228,7 +244,7 @@ class Fences(PageCase):
         self.assertSays("Forbidden.", "#outcome .verdict")
         self.assertEqual(before.replace(" MOV EAX", " MFENCE      | MFENCE      ;\n MOV EAX", 1), user.value())
         user.open_listed("#example=MP-x86&view=fences")
-        self.assertSays("The program has no MFENCE", "#fences .verdict")
+        self.assertSays("The test has no MFENCE to leave out", "#fences .verdict")
         self.assertEqual([], user.all("#fences .find-fences"))
 
     def test_search(self) -> None:

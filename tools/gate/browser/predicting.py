@@ -4,7 +4,7 @@ from __future__ import annotations
 from gate.browser.page_case import PageCase
 from gate.browser.user import User, read
 
-QUESTION = "Can a run on x86-TSO end this way? P0 reads y=0 and P1 reads x=0. (0:EAX=0 /\\ 1:EAX=0)"
+QUESTION = "Can a run on x86-TSO end this way: P0 reads y=0 and P1 reads x=0? (0:EAX=0 /\\ 1:EAX=0)"
 
 
 def open_anew(user: User, link: str) -> None:
@@ -16,7 +16,7 @@ def open_anew(user: User, link: str) -> None:
 
 def read_question(user: User, place: str) -> str:
     """Returns the question that is asked in a place."""
-    return f"{user.text(f'{place} .predict strong')} {user.text(f'{place} .predict .asked')}"
+    return f"{user.text(f'{place} .predict .verdict > span:last-child')} {user.text(f'{place} .predict .asked')}".strip()
 
 
 class Guess(PageCase):
@@ -62,7 +62,7 @@ class Guess(PageCase):
         user.click("#no")
         self.assertTrue(bool(user.find("#compile table")))
         user.click("#tab-fences")
-        self.assertSays("The program has no MFENCE", "#fences .verdict")
+        self.assertSays("The test has no MFENCE to leave out", "#fences .verdict")
 
     def test_reason(self) -> None:
         """After a wrong guess the page names the state that shows it, with a link to its run, or to why no run ends in it; after a right one none."""
@@ -94,16 +94,26 @@ class Guess(PageCase):
         self.assertEqual([], user.all("#yes"))
 
     def test_questions(self) -> None:
-        """Questions about outcomes that must not be have no `not`; and the guess on one that is possible although it must not be."""
+        """A question is in words, or has the condition itself if that is too long, and never a quantifier or a `not`, also about outcomes that must
+        not be; the guess on one that is possible although it must not be is right.
+        """
         user = self.user
         open_anew(user, "#example=MP-x86&predict=1&state=0%3AEAX%3D0%3B")
-        self.assertEqual("Can a run on x86-TSO end this way? P1 reads y=1, then x=0. (1:EAX=1 /\\ 1:EBX=0)", read_question(user, "#outcome"))
+        self.assertEqual("Can a run on x86-TSO end this way: P1 reads y=1, then x=0? (1:EAX=1 /\\ 1:EBX=0)", read_question(user, "#outcome"))
         user.click("#no")
         self.assertSays("✓ As you said.", "#outcome .said")
         open_anew(user, "#example=Hyman&predict=1")
         user.click("#yes")
         self.assertSays("✓ As you said.", "#outcome .said")
         self.assertSays("The condition holds in 1 of 3 final states.", "#outcome .asked")
+        by_turns = "by interleaving, in which the threads take turns, end this way:"
+        for name, question in (
+            ("TryLock", f"Can a run {by_turns} P0 ends with r0=0; P1 ends with r0=0; memory ends with n≠2? (0:r0=0 /\\ 1:r0=0 /\\ ~n=2)"),
+            ("Counter", f"Does every run {by_turns} memory ends with x=2? (x=2)"),
+            ("Seqlock-x86", "Can a run on x86-TSO end this way: (1:EAX=0 /\\ 1:EDX=0"),
+        ):
+            open_anew(user, f"#example={name}&predict=1")
+            self.assertTrue(read_question(user, "#outcome").startswith(question), read_question(user, "#outcome"))
 
 
 class Kept(PageCase):
@@ -162,7 +172,7 @@ class Kept(PageCase):
             self.assertEqual([], user.all(f"#{view} table, #{view} .verdict, #{view} input[type=text]"))
         user.click(".unveil")
         self.assertSays("✓ As you said.", "#outcome .said")
-        self.assertSays("The program has no MFENCE", "#fences .verdict")
+        self.assertSays("The test has no MFENCE to leave out", "#fences .verdict")
         user.click("#tab-why")
         self.assertSays("A run ends in this state", "#why .why-head")
 
