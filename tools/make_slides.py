@@ -4,7 +4,8 @@
     python3 tools/make_slides.py OUT.html
 
 PageDown, Space, Enter, the arrows to the right and down, a click and a tap lead on; PageUp and the other arrows lead back; Home and End to
-the ends. N shows notes for the teacher. The number after `#` in the address is that of the slide. Printed, each slide is a page.
+the ends. Two small buttons lead back and on, with the number of the slide between them. N shows notes for the teacher. The number after `#` in
+the address is that of the slide. Printed, each slide is a page.
 
 What the slides show of tests comes from the program (`./lw states` and `./lw replay`), which has to be built: so it needs Linux. The pictures are
 those of tools/picture.py and tools/graph.py. The same sources give the same bytes.
@@ -25,7 +26,7 @@ TITLE = "lw: an introduction"
 POLICY = "default-src 'none'; style-src 'unsafe-inline'; script-src 'unsafe-inline'"
 STYLE = """
 html, body { margin: 0; background: #fff; color: #111 }
-.slide { box-sizing: border-box; width: 100vw; height: 100vh; padding: 3vh 4vw; display: flex; flex-direction: column; gap: 2vh;
+.slide { box-sizing: border-box; width: 100vw; height: 100vh; padding: 3vh 4vw max(6.5vh, 2.4rem); display: flex; flex-direction: column; gap: 2vh;
   justify-content: space-between; overflow: hidden; position: relative; font: min(2.4vw, 4.2vh)/1.35 "Segoe UI", "DejaVu Sans", sans-serif }
 .slide h2 { margin: 0; font-size: 1.5em }
 .slide p { margin: 0 }
@@ -37,17 +38,28 @@ html, body { margin: 0; background: #fff; color: #111 }
 .slide footer { position: absolute; right: 2vw; bottom: 1vh; font-size: .6em; color: #555 }
 .running .slide { display: none }
 .running .slide.shown { display: flex }
+.controls { display: none; position: fixed; right: 1.2vw; bottom: 1vh; align-items: center; gap: .4em; color: #444;
+  font: max(13px, min(1.4vw, 2.4vh))/1 "Segoe UI", "DejaVu Sans", sans-serif }
+.running .controls { display: flex }
+.running .slide footer { display: none }
+.controls button { font: inherit; color: inherit; background: #fff; border: 1px solid #888; border-radius: .3em; width: 2em; height: 1.9em; cursor: pointer }
+.controls button:hover { background: #e8ecf4 }
+.controls button:focus-visible { outline: 3px solid #1849a9 }
+.controls [aria-disabled="true"] { color: #767676; border-color: #ccc; cursor: default }
 /* On a phone that is held upright a slide is as high as it has to be, in type that can be read. */
 @media screen and (max-width: 40rem) and (orientation: portrait) {
   .running .slide, .slide { width: 100%; height: auto; min-height: 100vh; overflow: visible; justify-content: flex-start; gap: 1rem;
-    padding: 1rem 1rem 2.5rem; font-size: 1.0625rem }
+    padding: 1rem 1rem 4.5rem; font-size: 1.0625rem }
   .slide h2 { font-size: 1.3em }
   .slide pre { font-size: .9375em; overflow-x: auto }
   .slide figure { flex: none }
   .slide svg { height: auto }
   .slide footer { right: 1rem; font-size: .8em }
+  .controls { right: 0; bottom: 0; padding: .4rem 1rem; font-size: 1.25rem; background: #fff; border-radius: .3em }
 }
 @media print {
+  .running .controls { display: none }
+  .running .slide footer { display: block }
   .running .slide, .slide { display: flex; width: 297mm; height: 209mm; padding: 10mm 14mm; font-size: 17pt; break-after: page }
   .slide:last-of-type { break-after: auto }
 }
@@ -55,11 +67,15 @@ html, body { margin: 0; background: #fff; color: #111 }
 """
 SCRIPT = """
 const slides = [...document.querySelectorAll(".slide")];
+const [back, on] = document.querySelectorAll(".controls button");
 let at = 0;
 
 function show(number) {
   at = Math.min(Math.max(number, 0), slides.length - 1);
   slides.forEach((it, index) => it.classList.toggle("shown", index === at));
+  document.querySelector(".controls output").textContent = `${at + 1} of ${slides.length}`;
+  back.setAttribute("aria-disabled", String(at === 0));
+  on.setAttribute("aria-disabled", String(at === slides.length - 1));
   scrollTo(0, 0);
   history.replaceState(null, "", `#${at + 1}`);
 }
@@ -73,28 +89,35 @@ const KEYS = {
 addEventListener("keydown", (event) => {
   if (event.ctrlKey || event.altKey || event.metaKey) return;
   if (event.key === "n" || event.key === "N") document.body.classList.toggle("noted");
-  if (!KEYS[event.key]) return;
+  if (!KEYS[event.key] || event.target.closest("button") && [" ", "Enter"].includes(event.key)) return;
   event.preventDefault();
   show(event.key === " " && event.shiftKey ? at - 1 : KEYS[event.key]());
 });
-addEventListener("click", () => String(getSelection()) || show(at + 1));
+back.addEventListener("click", () => show(at - 1));
+on.addEventListener("click", () => show(at + 1));
+addEventListener("click", ({ target }) => target.closest(".controls") || String(getSelection()) || show(at + 1));
 addEventListener("hashchange", () => show((parseInt(location.hash.slice(1), 10) || 1) - 1));
 document.body.classList.add("running");
 show((parseInt(location.hash.slice(1), 10) || 1) - 1);
 """
+
+CONTROLS = (
+    '<nav class="controls" aria-label="Slides"><button type="button" aria-label="Previous slide" title="Previous slide (←)">‹</button> '
+    '<output></output> <button type="button" aria-label="Next slide" title="Next slide (→)">›</button></nav>\n'
+)
 
 
 def make_page() -> str:
     """Returns the slides as one page."""
     all_slides = slides.render_slides()
     body = "".join(
-        f'<section class="slide">\n<h2>{escape(title, quote=False)}</h2>\n{html}<footer>{number} / {len(all_slides)}</footer>\n</section>\n'
+        f'<section class="slide">\n<h2>{escape(title, quote=False)}</h2>\n{html}<footer>{number} of {len(all_slides)}</footer>\n</section>\n'
         for number, (title, html) in enumerate(all_slides, 1)
     )
     return (
         f'<!doctype html>\n<html lang="en">\n<head>\n<meta charset="utf-8">\n'
         f'<meta name="viewport" content="width=device-width, initial-scale=1">\n<meta http-equiv="Content-Security-Policy" content="{POLICY}">\n'
-        f"<title>{TITLE}</title>\n<style>{slides.STYLE_OF_PICTURES}{STYLE}</style>\n</head>\n<body>\n{body}<script>{SCRIPT}</script>\n</body>\n</html>\n"
+        f"<title>{TITLE}</title>\n<style>{slides.STYLE_OF_PICTURES}{STYLE}</style>\n</head>\n<body>\n{body}{CONTROLS}<script>{SCRIPT}</script>\n</body>\n</html>\n"
     )
 
 

@@ -7,8 +7,8 @@
   machine has the registers, the store buffers and the words of its replay. An execution's loads have the words that the replay ends with.
 - The slides are in the order of the timetable. Before the tasks none shows a test of tasks 2 to 4, except the text of A1 and A2 and the
   list of A1 by turns, and no picture shows cache lines. Slide and sheet ask the same.
-- In Chromium, if it is there with its driver and python3-selenium: keys and clicks lead from slide to slide, a key shows notes, and each is a
-  page of paper.
+- In Chromium, if it is there with its driver and python3-selenium: keys, clicks and two buttons lead from slide to slide, the buttons cover
+  nothing, a key shows notes, and each is a page of paper.
 
 tools/check_documents.py calls all this; the program has to be built.
 """
@@ -42,6 +42,23 @@ OUTWARD = re.compile(r"https?:|\bsrc=|\bhref=|@import|url\((?!#)|(?<!:)//\w")
 BEFORE = {("code", "A1"), ("code", "A2"), ("states", "A1-turns"), ("state", "A1-turns"), ("state", "Slip")}
 # The question of the sheet and of the slide in task 1.
 SAID = "Say why, whatever you answer."
+# The numbers of the slides that are shown, and the words between the buttons.
+SHOWN = """
+const shown = [...document.querySelectorAll('.slide')].flatMap((it, index) => (it.offsetHeight ? [index + 1] : []));
+return [shown, document.querySelector('.controls output').innerText];
+"""
+# The slides whose words or pictures the buttons cover, each by its number.
+COVERED = """
+const box = document.querySelector(".controls").getBoundingClientRect();
+const isCovered = (it) => {
+  const { right, bottom } = it.getBoundingClientRect();
+  return right > box.left && bottom > box.top;
+};
+return [...document.querySelectorAll(".slide")].flatMap((slide, index) => {
+  show(index);
+  return [...slide.querySelectorAll("p, pre, figure")].some(isCovered) ? [index + 1] : [];
+});
+"""
 # A page of a printed document.
 PAGE = re.compile(rb"/Type\s*/Page\b")
 
@@ -60,7 +77,7 @@ def check_page(page: str) -> Iterator[Comparison]:
     """Checks the page as a whole."""
     titles = re.findall(r'<section class="slide">\n<h2>(.*?)</h2>', page)
     yield "there are twelve slides, each with its own title", (COUNT, COUNT), (len(titles), len(set(titles)))
-    yield "the slides are numbered", [f"{index} / {COUNT}" for index in range(1, COUNT + 1)], re.findall(r"<footer>(.*?)</footer>", page)
+    yield "the slides are numbered", [f"{index} of {COUNT}" for index in range(1, COUNT + 1)], re.findall(r"<footer>(.*?)</footer>", page)
     yield "the page loads nothing and names no other site", [], OUTWARD.findall(page)
     yield "the same bytes again", True, page == make_slides.make_page()
     prediction, by_hand = titles.index("Predict") + 1, titles.index("Now by hand") + 1
@@ -171,10 +188,21 @@ def check_browser(folder: str) -> Iterator[Comparison]:
         moves += [(Keys.ARROW_UP, 2), (Keys.ENTER, 3), (Keys.END, COUNT), (Keys.PAGE_DOWN, COUNT), (Keys.HOME, 1), (Keys.PAGE_UP, 1)]
         for key, number in moves:
             driver.find_element("tag name", "body").send_keys(key)
-            shown = driver.execute_script("return [...document.querySelectorAll('.slide')].filter((it) => it.offsetHeight).map((it) => it.querySelector('footer').innerText)")
-            yield f"a key leads to slide {number}", ([f"{number} / {COUNT}"], f"#{number}"), (shown, driver.current_url[-len(f"#{number}") :])
+            shown = driver.execute_script(SHOWN)
+            yield f"a key leads to slide {number}", ([number], f"{number} of {COUNT}", f"#{number}"), (*shown, driver.current_url[-len(f"#{number}") :])
         driver.find_element("tag name", "body").click()
         yield "a click leads on", "#2", driver.current_url[-2:]
+        back, on = driver.find_elements("css selector", ".controls button")
+        yield "the buttons have names", ["Previous slide", "Next slide"], [it.accessible_name for it in (back, on)]
+        for button, number in ((on, 3), (back, 2), (back, 1), (back, 1), (on, 2)):
+            button.click()
+            yield f"a button leads to slide {number}", f"#{number}", driver.current_url[-2:]
+        for button, key, number in ((on, Keys.ENTER, 3), (on, Keys.SPACE, 4), (back, Keys.ENTER, 3), (back, Keys.SPACE, 2)):
+            button.send_keys(key)
+            yield f"a key on a button leads to slide {number}", f"#{number}", driver.current_url[-2:]
+        yield "nothing of a slide is below the buttons", [], driver.execute_script(COVERED)
+        driver.find_element("tag name", "body").send_keys(Keys.HOME)
+        yield "on the first slide no button leads back", ["true", "false"], [it.get_attribute("aria-disabled") for it in (back, on)]
         notes = lambda: driver.execute_script("return [...document.querySelectorAll('aside')].filter((it) => it.offsetHeight).length")
         before = notes()
         driver.find_element("tag name", "body").send_keys("n")
