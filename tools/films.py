@@ -7,7 +7,7 @@ from __future__ import annotations
 
 import subprocess
 import sys
-from typing import TypedDict
+from typing import Callable, List, TypedDict
 
 sys.dont_write_bytecode = True
 from shared.home import PROGRAM
@@ -48,6 +48,9 @@ class Refused(Exception):
     """The program refuses a text or a schedule: its line, its status, the text and the schedule."""
 
 
+# Returns the output of the program, or of another, for arguments and the bytes of a text.
+Asker = Callable[[List[str], bytes], str]
+
 # The program.
 
 
@@ -74,9 +77,9 @@ def ask_program(arguments: list[str], text: bytes) -> str:
     return ran.stdout.decode()
 
 
-def replay_schedule(text: bytes, schedule: str, protocol: str) -> State:
-    """Returns the state that a schedule reaches."""
-    return read_state(ask_program(["replay", schedule, "--protocol", protocol], text))
+def replay_schedule(text: bytes, schedule: str, protocol: str, ask: Asker | None = None) -> State:
+    """Returns the state that a schedule reaches, by the program, or by `ask` in its place."""
+    return read_state((ask or ask_program)(["replay", schedule, "--protocol", protocol], text))
 
 
 def read_language(text: bytes) -> str:
@@ -122,25 +125,27 @@ def format_cell(tokens: list[tuple[str, str]]) -> str:
     return spelled[: -len(" :")] + ":" if tokens[-1][1] == ":" else spelled
 
 
-def list_cells(text: bytes) -> list[Cells]:
+def list_cells(text: bytes, ask: Asker | None = None) -> list[Cells]:
     """Returns, for each thread, the code to show: that of the canonical text for an x86 test."""
     if read_language(text) == "X86":
-        return list_x86_cells(ask_program(["compile"], text))
+        return list_x86_cells((ask or ask_program)(["compile"], text))
     return list_source_cells(plain.read_test(text.decode()))
 
 
-def make_film(text: bytes, schedule: str, protocol: str) -> Film:
-    """Returns the film of a schedule. Raises NoFilm if the schedule has too many events, and Refused if the program refuses text or schedule."""
+def make_film(text: bytes, schedule: str, protocol: str, ask: Asker | None = None) -> Film:
+    """Returns the film of a schedule, by the program, or by `ask` in its place. Raises NoFilm if the schedule has too many events, and Refused if the
+    program refuses text or schedule.
+    """
     events = schedule.split()
     refused: RefusedEvent | None = None
     if len(events) > MAX_STEPS:
         raise NoFilm(f"the schedule has {len(events)} events; a film has at most {MAX_STEPS}")
-    end = replay_schedule(text, " ".join(events), protocol)["end"]
+    end = replay_schedule(text, " ".join(events), protocol, ask)["end"]
     if end["kind"] == "Stopped":
         refused = {"event": events[end["at"]], "at": end["at"], "number": end["number"], "cause": end["cause"]}
         events = events[: end["at"]]
-    states = [replay_schedule(text, " ".join(events[:number]), protocol) for number in range(len(events) + 1)]
-    cells = list_cells(text)
+    states = [replay_schedule(text, " ".join(events[:number]), protocol, ask) for number in range(len(events) + 1)]
+    cells = list_cells(text, ask)
     effects = [describe_event(event, cells, *states[index : index + 2]) for index, event in enumerate(events)]
     return {
         "language": read_language(text), "text": text.decode(), "cells": cells,

@@ -34,12 +34,17 @@ from unittest import mock
 
 import make_site
 import make_slides
-from gate import check_library, check_page, firefox
+import plain
+from gate import check_library, check_page, check_slides, firefox
 from gate.browser import graphs, lists, page_case, reading, subjects
 from gate.browser.page_case import PageCase
 from gate.browser.user import Start, User, browsers, is_there
 from gate.cases import Comparison
-from page import commands, documents, letters, origin, web_files
+from lab import markdown
+from lab.tests import read_file
+from page import answers, commands, documents, letters, origin, web_files
+from page.condition_words import describe_verdict
+from replay_state import read_state
 from shared import command
 from shared.home import HOME, close_check
 from shared.matches import require_match
@@ -173,6 +178,66 @@ def check_documents() -> Iterator[Comparison]:
     tutorial = texts["tutorial.html"]
     commands = re.findall(r'^(?:<pre[^>]*>)?<span class="command">\$ \./lw (?:states|replay|compile)\b[^|\n]*&lt; examples/', tutorial, re.M)
     yield "each command of the tutorial has a link", True, 40 < len(commands) <= tutorial.count('">▸ ')
+    unfolded = re.sub(r'<details class="shell">.*?</details>', "", tutorial, flags=re.S)
+    yield "no command of the tutorial is outside of a fold", [], re.findall(r'class="command">(.*?)</span>', unfolded)
+    yield "no paragraph for a shell is outside of a fold", [], re.findall(r"<p><em>In a shell.*", unfolded)
+
+
+# Prints the condition of each text in words, with the verdict, by the modules of web/ in a folder.
+WORDS = """
+import { readFileSync } from "node:fs";
+
+const load = (name) => import(`file://${process.argv[2]}/${name}.js`);
+const [{ conditionWords }, { headlineOf }] = [await load("condition_words"), await load("verdicts")];
+const cases = JSON.parse(readFileSync(0, "utf8"));
+console.log(JSON.stringify(cases.map(([text, language, report]) => headlineOf(language, report, conditionWords(text)))));
+"""
+
+
+def check_answers() -> Iterator[Comparison]:
+    """Checks that a walk shows of each command what the command prints: the states of a report, and the words of a replay."""
+    reports = replays = 0
+    for kind, lines in markdown.split_blocks(read_file("docs/TUTORIAL.md")):
+        for shell_command, output in answers.split_runs(lines) if kind == "fence" else ():
+            views = list(commands.list_views(shell_command))
+            if output[0].startswith("Test ") and output[1].startswith("States ") and output[-1].startswith("Observation "):
+                reports += 1
+                test = plain.read_test(answers.read_text(views[0]))
+                listed = answers.list_states(test)
+                states = [" ".join(f"{name}={word};" for name, word in zip(listed.names, words)) for words, _ in listed.rows]
+                yield f"the states of {shell_command}", [it for it in output if it.endswith(";")], states
+                positive = sum(holds for _, holds in listed.rows)
+                yield f"the ticks of {shell_command}", f"Positive: {positive} Negative: {len(states) - positive}", output[-3]
+            elif output[0].startswith("Test ") and len(output) > 5 and "replay" in shell_command and "head" not in shell_command:
+                replays += 1
+                state = read_state("".join(f"{it}\n" for it in output if not it.startswith("[status")))
+                shown = answers.draw_runs([(shell_command, output)], documents.make_page_link)
+                yield from check_slides.compare_state(f"the picture of {shell_command}", shown.partition("<svg")[2], {"content": state["memory"], **state})
+    yield "reports and replays of the tutorial are compared", (True, True), (reports > 8, replays > 4)
+
+
+def check_condition_words() -> Iterator[Comparison]:
+    """Checks that the page and the documents say the same of each example, in words, whatever its verdict is."""
+    if not NODE:
+        return
+    tests = [it for family in web_files.list_families() for it in family["tests"]]
+    cases = [(test, positive) for test in tests for positive in (0, 1, 3)]
+    reports = [(test["text"], plain.read_test(test["text"]), positive) for test, positive in cases]
+    kinds = {"exists": "Allowed", "~exists": "Forbidden", "forall": "Required"}
+    is_ok = lambda test, positive: {"exists": positive > 0, "~exists": positive == 0, "forall": positive == 3}[test.quantifier]
+    asked = [
+        (text, test.language, {"asked": kinds[test.quantifier], "verdict": "Ok" if is_ok(test, positive) else "No"}) for text, test, positive in reports
+    ]
+    with tempfile.TemporaryDirectory(prefix="lw-web-") as folder:
+        shutil.copytree(f"{HOME}/web", f"{folder}/web")
+        make_site.write_file(f"{folder}/web/package.json", '{ "type": "module" }\n')
+        make_site.write_file(f"{folder}/words.mjs", WORDS)
+        ran = subprocess.run([NODE, f"{folder}/words.mjs", f"{folder}/web"], input=json.dumps(asked), capture_output=True, text=True, check=False)
+    yield "the conditions of all examples are put into words", "", ran.stderr
+    printed = json.loads(ran.stdout or "[]")
+    yield "the number of these conditions", len(cases), len(printed)
+    for (test, positive), (_, read, _), words in zip(cases, reports, printed):
+        yield f"the verdict on {test['name']} in words, if {positive} of 3 states have the condition", words, list(describe_verdict(read, positive, 3))
 
 
 def check_commands() -> Iterator[Comparison]:
@@ -414,7 +479,9 @@ def skipped() -> str | None:
 
 def comparisons() -> Iterator[Comparison]:
     """Yields all comparisons: what is compared, what is expected, and what was found."""
-    for check in (check_bundles, check_files, check_documents, check_commands, check_origin, check_packed, check_words):
+    for check in (
+        check_bundles, check_files, check_documents, check_answers, check_condition_words, check_commands, check_origin, check_packed, check_words,
+    ):
         yield from ((f"the site: {subject}", expected, actual) for subject, expected, actual in check())
     yield from check_by_node()
     yield from check_by_browser()

@@ -1,7 +1,8 @@
 """The documents that a made site carries beside the page: those of docs/, with links to each other, to the tests that they show, and back.
 
 A test that a document shows has a link that opens it on the page. So have the commands that ask about a test (commands.py): a reader of a site
-needs no program. A document of docs/ that the site does not carry is named, without a link.
+needs no program. In a document that is a walk, what the page shows comes first (answers.py), and the command with what it prints is folded; so is
+each paragraph that begins with `SHELL`. A document of docs/ that the site does not carry is named, without a link.
 """
 from __future__ import annotations
 
@@ -12,6 +13,7 @@ from urllib.parse import urlencode
 
 from lab import markdown, sheets
 from lab.tests import make_tests, read_file
+from page import answers
 from page.commands import EXAMPLE, is_example, list_views
 from page.origin import describe_origin, read_origin
 
@@ -48,16 +50,24 @@ SHAPES = "families.html"
 # The documents that are printed on few pages, in small type.
 CARDS = ("card.html", "terms.html", SHAPES)
 SHEET, SLIDES = "sheet.html", "slides.html"
+# The documents in which commands are folded, and how a paragraph begins that is only for those who run them.
+WALKS = ("tutorial.html", "solutions.html")
+SHELL = "*In a shell:* "
+FOLD = '<details class="shell"><summary>In a shell</summary>\n'
+UNFOLD = "</details>\n"
 STYLE, SCRIPT = "reading.css", "reading.js"
 # The site's words on the links above commands, at the start of a document, and on the commands themselves, at its end.
 OPEN_NOTE = "You need nothing installed: a link with ▸ does on this site's page what the command below it does, with the same test or run."
 COMMAND_NOTE = "The commands themselves are for readers who have lw's repository."
+# The site's words at the start of a walk.
+WALK_NOTE = (
+    "You need nothing installed. A link with ▸ opens on lw's page what is shown below it. <em>In a shell</em> unfolds the command that prints the same, "
+    "for readers who have lw's repository."
+)
 # The tags of links, of which none may be within another.
 WITHIN = re.compile(r"</?a\b[^>]*>")
 NAMED = re.compile(r"(?:docs/)?\b([A-Z][A-Z-]+\.md)\b")
 FIRST_LINE = re.compile(r"(?:SRC|X86) \S+")
-# The styles of a picture for a dark system. Here the picture is on white, whatever the reader has chosen.
-BY_DARK = re.compile(r"@media \(prefers-color-scheme: dark\) \{(?:[^{}]*\{[^{}]*\})*\s*\}")
 QUESTION = re.compile(r"(?:~?exists|forall)\b")
 # A command in a listing, as HTML: it looks different from its output.
 COMMAND = re.compile(r"(?:(?<=>)|^)\$ [^\n<]*", re.M)
@@ -89,17 +99,19 @@ class SiteRenderer(markdown.Renderer):
     A name of one letter may be another thing (`R` is a load, too), so it leads to an example only in the table of shapes.
     """
 
-    def __init__(self, tests: dict[str, str], shortest: int) -> None:
+    def __init__(self, tests: dict[str, str], shortest: int, is_walk: bool = False) -> None:
         """Makes a renderer of a document. `tests` are those of the lab; names of examples with fewer than `shortest` letters are no links.
         """
         super().__init__()
-        self.tests, self.shortest = tests, shortest
+        self.tests, self.shortest, self.is_walk = tests, shortest, is_walk
+        # The pictures that are drawn already in place of commands.
+        self.drawn = ""
         self.files = {it.source: file for file, it in DOCUMENTS.items()}
         self.headings: list[str] = []
 
     def render_body(self, text: str) -> str:
         """Returns a text as HTML, in which items that follow each other are a list."""
-        html = super().render_body(text)
+        html = super().render_body(text).replace(UNFOLD + FOLD, "")
         html = re.sub(r"(?:<li>.*</li>\n)+", lambda it: f"<ul>\n{it[0]}</ul>\n", html)
         return re.sub(r'(?:<li value="\d+">.*</li>\n)+', lambda it: f"<ol>\n{it[0]}</ol>\n", html)
 
@@ -112,6 +124,8 @@ class SiteRenderer(markdown.Renderer):
             number, _, rest = markdown.join_lines(lines).partition(" ")
             value = "" if number == "-" else f' value="{number[:-1]}"'
             return f"<li{value}>{self.render_inline(rest)}</li>\n"
+        if kind == "paragraph" and self.is_walk and lines[0].startswith(SHELL):
+            return FOLD + super().render_block(kind, [lines[0][len(SHELL) :], *lines[1:]]) + UNFOLD
         html = super().render_block(kind, lines)
         is_on_commands = kind == "paragraph" and lines[0].startswith("`python3 tools/")
         return html.replace("<p>", '<p class="on-commands">', 1) if is_on_commands else html
@@ -123,17 +137,35 @@ class SiteRenderer(markdown.Renderer):
         return f'<h{level} id="{make_anchor(words)}">{self.render_inline(words)}</h{level}>\n'
 
     def render_listing(self, lines: list[str]) -> str:
-        """Returns lines in a fixed pitch, with links that open on the page what they show: above commands, and below a test."""
+        """Returns lines in a fixed pitch, with links that open on the page what they show: above commands, and below a test. In a walk commands are
+        folded below what the page shows.
+        """
+        if self.is_walk and lines and lines[0].startswith("$ "):
+            return self.render_commands(lines)
         views = [it for line in lines if line.startswith("$ ") for it in list_views(line[len("$ ") :])]
         above = make_links([make_page_link(escape(f"▸ {it.words}"), **it.fields) for it in views])
         below = make_links([make_page_link("▸ open this test", predict="1", text="\n".join(lines) + "\n")] if is_test(lines) else [])
+        return above + self.render_lines(lines) + below
+
+    def render_lines(self, lines: list[str]) -> str:
+        """Returns lines in a fixed pitch, in which commands are marked."""
         listing = super().render_listing(lines).replace("<pre>", '<pre tabindex="0">')
-        return above + COMMAND.sub(r'<span class="command">\g<0></span>', listing) + below
+        return COMMAND.sub(r'<span class="command">\g<0></span>', listing)
+
+    def render_commands(self, lines: list[str]) -> str:
+        """Returns what the page shows of the commands of a listing, and folded the commands with what they print."""
+        runs = answers.split_runs(lines)
+        shown = answers.draw_runs(runs, make_page_link)
+        self.drawn += shown
+        if not shown:
+            views = [it for command, _ in runs for it in list_views(command)]
+            return make_links([make_page_link(escape(f"▸ {it.words}"), **it.fields) for it in views]) + self.render_lines(lines)
+        return shown + FOLD + self.render_lines(lines) + UNFOLD
 
     def render_picture(self, words: str, path: str) -> str:
-        """Returns a picture of docs/ with its caption."""
-        drawn = BY_DARK.sub("", read_file(f"docs/{path}"))
-        return f'<figure class="picture">\n{drawn}<figcaption>{self.render_inline(words)}</figcaption></figure>\n'
+        """Returns a picture of docs/ with its caption; nothing if it is drawn already."""
+        drawn = answers.make_figure(read_file(f"docs/{path}"))
+        return "" if drawn in self.drawn else f"<figure>\n{drawn}<figcaption>{self.render_inline(words)}</figcaption></figure>\n"
 
     def render_table(self, lines: list[str]) -> str:
         """Returns a table that a narrow screen can scroll."""
@@ -214,9 +246,11 @@ def make_hand_out_steps(has_slides: bool) -> str:
 def make_page(file: str, tests: dict[str, str], policy: str, has_slides: bool) -> str:
     """Returns a document of a site as a page."""
     heading, _, text = read_file(f"docs/{DOCUMENTS[file].source}.md").partition("\n")
-    title, renderer = heading.lstrip("# "), SiteRenderer(tests, 1 if file == SHAPES else 2)
+    is_walk = file in WALKS
+    title, renderer = heading.lstrip("# "), SiteRenderer(tests, 1 if file == SHAPES else 2, is_walk)
     body = renderer.render_body(text)
-    open_note, command_note = (f'<p class="note">{it}</p>\n' if '<p class="open">' in body else "" for it in (OPEN_NOTE, COMMAND_NOTE))
+    notes = (WALK_NOTE if is_walk else OPEN_NOTE, "" if is_walk else COMMAND_NOTE)
+    open_note, command_note = (f'<p class="note">{it}</p>\n' if it and '<p class="open">' in body else "" for it in notes)
     kind = ' class="card"' if file in CARDS else ""
     sheet = make_hand_out_steps(has_slides) if file == "lab.html" else ""
     return (
