@@ -20,9 +20,9 @@ sys.dont_write_bytecode = True
 import films
 import given
 from lab import codes, quiz
-from make_site import format_literal
 from shapes.edges import NoCycle
 from shared import command, start
+from shared.literal import format_literal
 
 NOT_PROVED = "make_quiz: the verdicts are those of tools/plain.py: there is no program of these sources (./lw builds it)"
 TEMPLATE = os.path.join(os.path.dirname(os.path.abspath(quiz.__file__)), "quiz.html")

@@ -6,8 +6,8 @@
 
 The page is that of web/, over the proved workbench as a WebAssembly module: those that tools/build_wasm.py has made, or each FILE. Of several a
 browser uses the first that it takes. There is no server: the module runs in a worker of the page. All examples are in it. A folder also has the
-documents of tools/page/documents.py, whose links open on the page what they show, and the lab's slides if the program is built. Nothing is loaded
-from elsewhere.
+documents of tools/page/documents.py, whose links open on the page what they show, the lab's quiz, and its slides if the program is built. Nothing is
+loaded from elsewhere.
 
 A page that was opened as a file may load neither JSON nor modules of JavaScript. So those of web/ are joined to one classic script each for
 the page and its worker, and tables and modules come in scripts too, all packed as gzip in letters. In a folder the page
@@ -28,9 +28,12 @@ import sys
 from typing import Dict
 
 sys.dont_write_bytecode = True
+import make_quiz
 import make_slides
+from lab import quiz
 from page import documents, letters, origin, web_files
 from shared import command, start
+from shared.literal import format_literal
 
 WEB = f"{web_files.HOME}/web"
 IMPORT = re.compile(r'^import (?:\* as (\w+)|\{([^}]*)\}) from "\./(\w+)\.js";\n', re.M)
@@ -70,6 +73,8 @@ document.head.append(script);
 });
 globalThis.site.coming.catch(() => null);
 """
+# The quiz of a site: the number of its tests, and the seed.
+QUIZ = (10, "1")
 # The rule for a page of files: it may send nothing by a network.
 POLICY = "connect-src 'none'; object-src 'none'; frame-src 'none'; base-uri 'none'; form-action 'none'"
 
@@ -121,11 +126,6 @@ def rewrite_import(statement: re.Match[str]) -> str:
     """Returns the replacement of an import."""
     namespace, names, name = statement.groups()
     return f"const {namespace} = from_{name};\n" if namespace else f"const {{{names}}} = from_{name};\n"
-
-
-def format_literal(value: object) -> str:
-    """Returns a value as a literal of JavaScript, with `<` escaped, so that it may also be in a `<script>` inside the page."""
-    return json.dumps(value, ensure_ascii=True).replace("<", "\\u003c")
 
 
 # The files.
@@ -211,14 +211,15 @@ def make_one_file(modules: list[bytes], web: str) -> str:
 
 
 def make_documents(web: str, slides: str | None) -> Files:
-    """Returns the documents of a site, with their style and their script, and the slides if there are some: for each file its text. Raises NoSite if
-    web/style.css has another form.
+    """Returns the documents of a site, with their style and their script, the quiz, and the slides if there are some: for each file its text. Raises
+    NoSite if web/style.css has another form.
     """
     match = COLOURS.search(read_source("style.css", web))
     if match is None:
         raise NoSite("web/style.css does not begin with the colours by light and by dark")
     style = shorten_style(match[0] + read_source(documents.STYLE, web))
-    return {**documents.make_pages(POLICY, slides), documents.STYLE: style, documents.SCRIPT: read_source(documents.SCRIPT, web)}
+    questions = make_quiz.make_page(*QUIZ, quiz.make_report_by_plain)
+    return {**documents.make_pages(POLICY, questions, slides), documents.STYLE: style, documents.SCRIPT: read_source(documents.SCRIPT, web)}
 
 
 def make_folder(modules: list[bytes], web: str, has_documents: bool = True, slides: str | None = None) -> Files:

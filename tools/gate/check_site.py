@@ -146,7 +146,7 @@ def check_files() -> Iterator[Comparison]:
         names = sorted(os.listdir(f"{folder}/site"))
         page = ["icon.svg", "index.html", "offline.js", "page.js", "style.css", "tables.js", "workbench1.js"]
         slides = [documents.SLIDES] if make_slides.make_page_if_built() else []
-        expected = sorted([*page, *documents.DOCUMENTS, documents.SHEET, *slides, documents.STYLE, documents.SCRIPT])
+        expected = sorted([*page, *documents.DOCUMENTS, documents.SHEET, documents.QUIZ, *slides, documents.STYLE, documents.SCRIPT])
         yield "the files of a site", expected, names
         for name in ("one.html", *(f"site/{it}" for it in names)):
             with open(f"{folder}/{name}", encoding="utf-8") as stream:
@@ -175,6 +175,11 @@ def check_documents() -> Iterator[Comparison]:
         yield f"{file} opens examples that are there", [], [it["example"] for it in views if it.get("example", "SB") not in names]
         words = re.sub(r"<pre.*?</pre>|<code>.*?</code>|<svg.*?</svg>", "", texts[file], flags=re.S)
         yield f"{file} has no marks of Markdown", [], re.findall(r".*(?:\*\*|`|\]\().*", words)
+    preparation = texts["lab.html"].partition('<h3 id="prepare-it-in-ten-minutes">')[2].partition("<h4")[0]
+    needed = {documents.SHEET, documents.QUIZ, "card.html", "terms.html", documents.SHAPES, "tutorial.html", "solutions.html"}
+    needed |= {documents.SLIDES} & set(texts)
+    yield "a site has all to prepare the lab", needed, {it for it in re.findall(r'href="([^"#]*)"', preparation) if it in texts and it != "index.html"}
+    yield "the preparation names no command", [], re.findall(r"python3|tools/\w+", preparation)
     tutorial = texts["tutorial.html"]
     commands = re.findall(r'^(?:<pre[^>]*>)?<span class="command">\$ \./lw (?:states|replay|compile)\b[^|\n]*&lt; examples/', tutorial, re.M)
     yield "each command of the tutorial has a link", True, 40 < len(commands) <= tutorial.count('">▸ ')
@@ -212,7 +217,7 @@ def check_answers() -> Iterator[Comparison]:
                 replays += 1
                 state = read_state("".join(f"{it}\n" for it in output if not it.startswith("[status")))
                 shown = answers.draw_runs([(shell_command, output)], documents.make_page_link)
-                yield from check_slides.compare_state(f"the picture of {shell_command}", shown.partition("<svg")[2], {"content": state["memory"], **state})
+                yield from check_slides.compare_state(f"the picture of {shell_command}", shown.partition("<svg")[2], state)
     yield "reports and replays of the tutorial are compared", (True, True), (reports > 8, replays > 4)
 
 

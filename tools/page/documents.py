@@ -49,9 +49,11 @@ LAST_LISTED = "theorems.html"
 SHAPES = "families.html"
 # The documents that are printed on few pages, in small type.
 CARDS = ("card.html", "terms.html", SHAPES)
-SHEET, SLIDES = "sheet.html", "slides.html"
+SHEET, SLIDES, QUIZ = "sheet.html", "slides.html", "quiz.html"
+# The heading of the lab below which a site says how to prepare the lab with what is on it, and the Markdown's own words there.
+PREPARATION = re.compile(r'(<h3 id="prepare-it-in-ten-minutes">.*?</h3>\n)<p>.*?</p>\n', re.S)
 # The documents in which commands are folded, and how a paragraph begins that is only for those who run them.
-WALKS = ("tutorial.html", "solutions.html")
+WALKS = ("tutorial.html", "solutions.html", "lab.html")
 SHELL = "*In a shell:* "
 FOLD = '<details class="shell"><summary>In a shell</summary>\n'
 UNFOLD = "</details>\n"
@@ -153,12 +155,14 @@ class SiteRenderer(markdown.Renderer):
         return COMMAND.sub(r'<span class="command">\g<0></span>', listing)
 
     def render_commands(self, lines: list[str]) -> str:
-        """Returns what the page shows of the commands of a listing, and folded the commands with what they print."""
+        """Returns what the page shows of the commands of a listing, and folded the commands with what they print; not folded if the page shows in
+        another way only what they ask about.
+        """
         runs = answers.split_runs(lines)
         shown = answers.draw_runs(runs, make_page_link)
         self.drawn += shown
-        if not shown:
-            views = [it for command, _ in runs for it in list_views(command)]
+        views = [it for command, _ in runs for it in list_views(command)]
+        if views and not shown:
             return make_links([make_page_link(escape(f"▸ {it.words}"), **it.fields) for it in views]) + self.render_lines(lines)
         return shown + FOLD + self.render_lines(lines) + UNFOLD
 
@@ -230,17 +234,29 @@ def make_next_link(file: str) -> str:
     return f'<p class="next">Next: <a href="{after}">{DOCUMENTS[after].title}</a>, {DOCUMENTS[after].about}. Or <a href="index.html" target="lw">run a test</a>.</p>\n' + f'<p class="origin">{escape(describe_origin(read_origin()))}</p>\n'
 
 
-def make_hand_out_steps(has_slides: bool) -> str:
-    """Returns what a teacher does with only the site, in steps, and what needs the repository."""
-    sheet = f'Print <a href="{SHEET}">the sheet for students</a>, or send its link: it opens the tests here.'
-    slides = f'Show <a href="{SLIDES}">the slides</a>; N shows notes for the teacher.'
-    compared = f'Solve one test with the class: {make_page_link("SB beside the same test with fences", example="SB-x86", beside="SB+mfences-x86")}.'
-    steps = [sheet, *([slides] if has_slides else []), compared]
-    items = "".join(f"<li>{it}</li>\n" for it in steps)
-    repository = "With lw's repository the steps below make a copy of this site without the answers, a quiz and homework" + (
-        "." if has_slides else ", and the slides: this site was made without the built program, which they need."
+def make_preparation(has_slides: bool) -> str:
+    """Returns how a teacher prepares the lab with what is on the site, in steps."""
+    link = lambda file, words: f'<a href="{file}" target="hand-out">{words}</a>'
+    slides = (
+        f"{link(SLIDES, 'The slides')} are in the timetable below. The arrows, a click or the two buttons lead through them; N shows notes for you."
+        if has_slides else "The slides are missing: this site was made without the built program, which they need. The repository makes them."
     )
-    return f'<div class="note">\n<p>With this site alone:</p>\n<ol>\n{items}</ol>\n<p>{repository}</p>\n</div>\n'
+    compared = make_page_link("the test SB beside the same test with fences", example="SB-x86", beside="SB+mfences-x86")
+    steps = [
+        f"<strong>Try it</strong> in a browser of the room: open {link(SHEET, 'the sheet')}, click <em>open</em> beside the test A1, and then <em>Just show "
+        "it</em>. The page shows a verdict and the machine. If it says that the browser does not take the module, use a newer browser.",
+        f"<strong>Print</strong> {link(SHEET, 'the sheet')} for each student, from the browser. The first page is task 1; hand out the rest after it, "
+        "since its questions show what is possible. Cut a dozen slips of paper for each group: they are the entries of store buffers.",
+        f"<strong>Give out</strong> the link to {link(SHEET, 'the sheet')}: each test on it opens here, and asks for a prediction first. Nothing that a "
+        f"student does is sent anywhere. {link('card.html', 'A card')} has the syntax.",
+        f"<strong>Show.</strong> {slides} At the end, show {compared}: the state that only the first has is marked.",
+        f"<strong>Afterwards.</strong> {link(QUIZ, 'A quiz')} of ten tests is for the end or for home: it says what was right, and why. "
+        f"{link('terms.html', 'The terms')} and {link(SHAPES, 'the classic shapes')} are pages to hand out, and {link('tutorial.html', 'the tutorial')} is "
+        "for those who want to read on.",
+    ]
+    items = "".join(f"<li>{it}</li>\n" for it in steps)
+    answers_note = f"This site has {link('solutions.html', 'the solutions')}, too. If your class shall not find them, make the folder below."
+    return f'<div class="note">\n<p>All that you need is on this site:</p>\n<ol>\n{items}</ol>\n<p>{answers_note}</p>\n</div>\n'
 
 
 def make_page(file: str, tests: dict[str, str], policy: str, has_slides: bool) -> str:
@@ -252,26 +268,29 @@ def make_page(file: str, tests: dict[str, str], policy: str, has_slides: bool) -
     notes = (WALK_NOTE if is_walk else OPEN_NOTE, "" if is_walk else COMMAND_NOTE)
     open_note, command_note = (f'<p class="note">{it}</p>\n' if it and '<p class="open">' in body else "" for it in notes)
     kind = ' class="card"' if file in CARDS else ""
-    sheet = make_hand_out_steps(has_slides) if file == "lab.html" else ""
+    if file == "lab.html":
+        body = PREPARATION.sub(lambda it: it[1] + make_preparation(has_slides), body, count=1)
     return (
         f'<!doctype html>\n<html lang="en">\n<head>\n<meta charset="utf-8">\n<meta name="viewport" content="width=device-width, initial-scale=1">\n'
         f'<title>{escape(title)}</title>\n<meta http-equiv="Content-Security-Policy" content="{policy}">\n<link rel="icon" href="icon.svg">\n'
         f'<link rel="stylesheet" href="{STYLE}">\n<script src="{SCRIPT}"></script>\n</head>\n<body{kind}>\n{make_navigation(file)}'
-        f'<main id="document" tabindex="-1">\n<h1>{escape(title)}</h1>\n{open_note}{sheet}{make_contents(renderer.headings, renderer)}{body}{command_note}{make_next_link(file)}</main>\n</body>\n</html>\n'
+        f'<main id="document" tabindex="-1">\n<h1>{escape(title)}</h1>\n{open_note}{make_contents(renderer.headings, renderer)}{body}{command_note}{make_next_link(file)}</main>\n</body>\n</html>\n'
     )
 
 
 def list_documents() -> list[list[str]]:
     """Returns each document with what it is, as the page lists them, and the sheet of the lab after the lab."""
     documents = [[file, f"{it.title}: {it.about}"] for file, it in DOCUMENTS.items()]
-    documents.insert(list(DOCUMENTS).index("lab.html") + 1, [SHEET, "Sheet for students: the lab's items, to print"])
+    after_lab = list(DOCUMENTS).index("lab.html") + 1
+    documents[after_lab:after_lab] = [[SHEET, "Sheet for students: the lab's items, to print"], [QUIZ, "Quiz: ten tests, with reasons"]]
     return documents
 
 
-def make_pages(policy: str, slides: str | None = None) -> dict[str, str]:
-    """Returns the documents of a site, the sheet of the lab, and its slides if there are some: for each file its text."""
+def make_pages(policy: str, quiz: str, slides: str | None = None) -> dict[str, str]:
+    """Returns the documents of a site, the sheet of the lab, its quiz, and its slides if there are some: for each file its text."""
     lab = read_file("docs/LAB.md")
     tests = make_tests(lab)
     pages = {file: make_page(file, tests, policy, slides is not None) for file in DOCUMENTS}
     pages[SHEET] = sheets.make_sheet(lab, tests, "index.html", is_of_site=True)
+    pages[QUIZ] = quiz
     return pages if slides is None else {**pages, SLIDES: slides}
