@@ -4,8 +4,8 @@
     python3 tools/make_quiz.py OUT.html [--tests N] [--seed S]
 
 For each of N tests (10) it asks whether the test can end this way by interleaving, when threads take turns on one memory, and whether it can on
-x86-TSO. At the end it shows which answers were right, and a code to hand in; tools/read_codes.py reads the codes. The seed has up to eight small
-letters and digits; the same seed makes the same bytes.
+x86-TSO. At the end it shows which answers were right, and a code to hand in; tools/read_codes.py reads the codes, and so does the file itself, for
+the teacher. The seed has up to eight small letters and digits; the same seed makes the same bytes.
 
 The answers are hidden in the file, but not well: a determined student can read them. The verdicts are those of the program's reports (./lw
 states). Without a program of these sources they are those of tools/plain.py, and a line says so. Python 3.8 is enough, on any system.

@@ -41,6 +41,10 @@ SCRIPT = re.compile(r'<script id="codes">(.*?)</script>', re.S)
 STUDENT = "ana 17"
 HEADING = ["Line", "Student", "Right", "Wrong"]
 NODE = shutil.which("node")
+# Why a code is refused, by the command and by the page, and by the page only.
+SUM_IS_WRONG = "the check sum is wrong: the code is mistyped, or a part of it is missing"
+NO_CODE = "the check sum is right, and yet this is no code of a quiz"
+OTHER_QUIZ = "the code is of another quiz"
 
 
 def read_data(page: str) -> quiz.Data:
@@ -161,6 +165,17 @@ def check_node(page: str, code: str, rights: list[int]) -> Iterator[Comparison]:
         handed_in = codes.HandedIn(data["mark"], data["seed"], name, answers)
         yield f"the page's code of {name}", codes.make_code(handed_in), ran.stdout.decode().strip()
         yield f"the code of {name} is read", handed_in, codes.read_code(ran.stdout.decode().strip())
+    handed_in = codes.HandedIn(data["mark"], data["seed"], STUDENT, answers)
+    lines = [codes.make_code(handed_in._replace(student=name)) for name in (STUDENT, "ä é", "李明", "z" * codes.MAX_LETTERS)]
+    others = [
+        (" -".join(lines[0].lower()), ROW), (lines[0][:-1], [SUM_IS_WRONG]), ("", ["a code is longer"]), ("a*b", ["no code has *"]),
+        (codes.make_code(handed_in._replace(seed="2")), [OTHER_QUIZ]), (codes.make_code(handed_in._replace(mark=handed_in.mark ^ 1)), [OTHER_QUIZ]),
+        (codes.make_code(handed_in._replace(answers=answers[1:])), [OTHER_QUIZ]), ("0" + lines[0], [NO_CODE]),
+    ]
+    script = f"console.log(JSON.stringify({json.dumps([*lines, *(line for line, _ in others)])}.map(rowOf)));"
+    ran = subprocess.run([NODE, "-"], input=(require_match(SCRIPT.search(page))[1] + script).encode(), capture_output=True, timeout=60, check=False)
+    rows = [[codes.read_code(line).student, *ROW[1:]] for line in lines]
+    yield "the page reads codes as the command does", [*rows, *(list(row) for _, row in others)], json.loads(ran.stdout or b"0") or ran.stderr.decode()
 
 
 def can_read(code: str) -> bool:
@@ -184,17 +199,15 @@ def list_mistyped(code: str) -> Iterator[str]:
 def check_bad_codes(code: str, handed_in: codes.HandedIn, folder: str) -> Iterator[Comparison]:
     """Checks that each kind of bad code is refused with its place and its cause, and that good ones beside them are read."""
     yield "no mistyped code is read", [], [it for it in list_mistyped(code) if can_read(it)]
-    sum_of = "the check sum is wrong: the code is mistyped, or a part of it is missing"
-    no_code = "the check sum is right, and yet this is no code of a quiz"
     kinds = [
         (code[:6] + "*" + code[6:], 7, "no code has '*'"),
         (code[:3] + "u" + code[4:], 4, "no code has 'u'"),
         (code[:4], 1, "a code is longer"),
-        ("  " + code[:-1], 3, sum_of),
-        (code + code, 1, sum_of),
-        (codes.format_number(7) + codes.format_number(7, codes.LENGTH_OF_SUM), 1, no_code),
-        ("0" + code, 1, no_code),
-        (codes.make_code(handed_in._replace(student="")), 1, no_code),
+        ("  " + code[:-1], 3, SUM_IS_WRONG),
+        (code + code, 1, SUM_IS_WRONG),
+        (codes.format_number(7) + codes.format_number(7, codes.LENGTH_OF_SUM), 1, NO_CODE),
+        ("0" + code, 1, NO_CODE),
+        (codes.make_code(handed_in._replace(student="")), 1, NO_CODE),
         (codes.make_code(handed_in._replace(seed="2")), 1, "the code is of the quiz with the seed 2, not 1"),
         (codes.make_code(handed_in._replace(answers=handed_in.answers[1:])), 1, f"the code is of a quiz with {TESTS - 1} tests, not {TESTS}"),
         (codes.make_code(handed_in._replace(mark=handed_in.mark ^ 1)), 1, "the code is of other tests with this seed"),
@@ -240,6 +253,11 @@ def check_browser(page: str, folder: str) -> Iterator[Comparison]:
         yield "the page shows what was right", (2 * TESTS - 4, 4), (marks.count("✓"), sum(it.startswith("✗") for it in marks))
         whys = user.run("return [...document.querySelectorAll('fieldset .why')].map((it) => [it.open, it.querySelectorAll('li').length > 1])")
         yield "each question shows why, unfolded where the answer was wrong", [[not it.startswith("✓"), True] for it in marks], whys
+        code = user.text("#code")
+        user.click("#teacher summary")
+        user.find("#handed-in").send_keys(f"{code}\n\nabc")
+        user.click("#read")
+        yield "the page reads the codes", [f"1 {' '.join(ROW)}", "3 a code is longer"], user.texts("#table tr")[1:]
         yield "nothing can be changed any more", 0, user.run("return document.querySelectorAll('input:not([disabled])').length")
         yield "the page reports no fault", [], [it for it in user.driver.get_log("browser") if it["level"] == "SEVERE"]
     finally:

@@ -250,7 +250,8 @@ def make_preparation(has_slides: bool) -> str:
         f"<strong>Give out</strong> the link to {link(SHEET, 'the sheet')}: each test on it opens here, and asks for a prediction first. Nothing that a "
         f"student does is sent anywhere. {link('card.html', 'A card')} has the syntax.",
         f"<strong>Show.</strong> {slides} At the end, show {compared}: the state that only the first has is marked.",
-        f"<strong>Afterwards.</strong> {link(QUIZ, 'A quiz')} of ten tests is for the end or for home: it says what was right, and why. "
+        f"<strong>Afterwards.</strong> {link(QUIZ, 'A quiz')} of ten tests is for the end or for home: it says what was right, and why, and reads the "
+        "codes that students hand in. "
         f"{link('terms.html', 'The terms')} and {link(SHAPES, 'the classic shapes')} are pages to hand out, and {link('tutorial.html', 'the tutorial')} is "
         "for those who want to read on.",
     ]
