@@ -71,7 +71,7 @@ export class Compile {
 
   /** Returns the words on an x86 test with a number of fences: nothing is compiled, and what there is instead. */
   wordsOnX86(number) {
-    const shown = number ? "here it is with its fences and without them" : "here it is as it is, since it has no MFENCE to leave out";
+    const shown = number ? "here it is with its fences and without them" : "here are its code and its list";
     const source = this.openSource();
     const other = source ? [" Its source form is compiled: ", source, "."] : "";
     return el("p", { role: "status" }, `This test is x86 already, so nothing is compiled: ${shown}.`, other);

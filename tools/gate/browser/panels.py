@@ -136,7 +136,7 @@ class Compiling(PageCase):
         """Of an x86 test the panel says that nothing is compiled, and leads to its source form, if there is one."""
         user = self.user
         user.open_listed("#example=SB-x86&view=compile")
-        words = "This test is x86 already, so nothing is compiled: here it is as it is, since it has no MFENCE to leave out."
+        words = "This test is x86 already, so nothing is compiled: here are its code and its list."
         self.assertSays(f"{words} Its source form is compiled: SB.", "#compile p")
         user.click("#compile p .link")
         self.assertSoon(["Source", "x86, with its fences", "x86, without fences not proved"], lambda: user.texts("#compile caption"))
