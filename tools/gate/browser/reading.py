@@ -61,6 +61,18 @@ class Reading(PageCase):
         user.click("#just-show")
         self.assertSays("Forbidden", "#outcome .verdict")
 
+    def test_walk(self) -> None:
+        """The tutorial shows lists, code and pictures in place of commands, and unfolds a command by keys."""
+        user = self.user
+        self.read("tutorial.html")
+        shown = "return [...document.querySelectorAll('.command')].filter((it) => it.checkVisibility()).map((it) => it.textContent)"
+        self.assertEqual([], user.run(shown))
+        user.find(".answer .picture svg")
+        user.find(".answer table.code .fence")
+        self.assertEqual(["state 1 2 3 never", "0:r0 0 1 1 0", "1:r0 1 0 1 0"], user.texts(".answer table.states tr")[:3])
+        user.find(".answer + .shell summary").send_keys(user.keys.ENTER)
+        self.assertSoon(["$ ./lw states < examples/SB.litmus"], lambda: user.run(shown))
+
     def test_run_of_a_document(self) -> None:
         """A replay of a document opens as a run, with the same last step."""
         self.read("tutorial.html")
