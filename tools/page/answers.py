@@ -19,6 +19,7 @@ import plain
 from interpreter.tests import NoTest, Test
 from page.commands import View, list_views
 from page.condition_words import describe_verdict
+from replay_state import read_state
 from shared.home import HOME
 from shared.matches import require_match
 
@@ -145,6 +146,29 @@ def draw_schedules(test: Test, output: list[str], link: LinkMaker) -> str:
     pairs = [(line, after.strip()) for line, after in zip(output, output[1:]) if line.endswith(";") and after.startswith(" ")]
     row = lambda line, it: f"<tr><td><code>{line}</code></td><td>{link(f'▸ {it}', text=text, view='hand', schedule=it)}</td></tr>\n"
     return '<div class="wide" tabindex="0">\n<table>\n<tr><th>State</th><th>A run to it</th></tr>\n' + "".join(row(*it) for it in pairs) + "</table>\n</div>\n"
+
+
+def find_end(view: View) -> str | None:
+    """Returns the state in which a run ends, as a report's line; None if the run is not at its end."""
+    text = read_text(view)
+    state = read_state(ask_plain(["replay", view.fields["schedule"]], text.encode()))
+    if state["end"]["kind"] != "Final":
+        return None
+    words = {name: word for name, word in state["content"]}
+    words.update((f"{index}:{name}", word) for index, thread in enumerate(state["threads"]) for name, word in thread["registers"])
+    test = plain.read_test(text)
+    return " ".join(f"{name}={words[name]};" for name in (plain.format_site(test, it) for it in plain.list_observed_sites(test)))
+
+
+def draw_ends(views: list[View], link: LinkMaker) -> str:
+    """Returns a table of several runs, each with a link and the state in which it ends; nothing if one is not at its end."""
+    ends = [find_end(it) for it in views]
+    if None in ends:
+        return ""
+    rows = "".join(
+        f"<tr><td>{link('▸ ' + view.fields['schedule'], **view.fields)}</td><td><code>{end}</code></td></tr>\n" for view, end in zip(views, ends)
+    )
+    return f'<div class="wide" tabindex="0">\n<table>\n<tr><th>Run</th><th>It ends in</th></tr>\n{rows}</table>\n</div>\n'
 
 
 # Code.
@@ -286,6 +310,9 @@ def draw_runs(runs: list[Run], link: LinkMaker) -> str:
         lines = [it for it in output if not re.fullmatch(r"\[status \d+\]", it)]
         if len(of_command) > 1 and len(of_command) == len(lines) and all(map(OBSERVATION.fullmatch, lines)):
             drawn.append(draw_verdicts(list(zip(of_command, lines)), link))
+            continue
+        if len(of_command) > 1 and all(it.fields.get("view") == "hand" for it in of_command) and (shown := draw_ends(of_command, link)):
+            drawn.append(shown)
             continue
         if len(of_command) != 1:
             return ""
