@@ -7,9 +7,8 @@ program; so a site is the same whether or not the program is built.
 from __future__ import annotations
 
 import re
-from collections.abc import Callable
 from html import escape
-from typing import List, NamedTuple, Tuple
+from typing import Callable, List, NamedTuple, Tuple
 
 import executions
 import films
