@@ -7,6 +7,8 @@ const SPARE = 0.35;
 const PHONE = "(max-width: 40rem)";
 const COLUMNS = 2;
 const MIN_LINES = 3;
+// More lines than a code has.
+const MAX_LINES = 1000;
 // The empty space below a machine, in pixels.
 const MARGIN = 14;
 
@@ -18,12 +20,30 @@ export function showNext(machine) {
   for (const code of machine.querySelectorAll(".code")) {
     const next = code.querySelector(".next, .reached");
     code.style.paddingBottom = "";
-    const isWhole = code.scrollHeight <= code.clientHeight + SPARE * code.firstElementChild.offsetHeight;
+    const isWhole = missingLines(code) === 0;
     code.classList.toggle("whole", isWhole);
     if (isWhole) code.scrollTop = 0;
     else if (next) scrollTo(code, next);
     showLinesInSight(code);
   }
+}
+
+/** Returns how many lines of a code have no room in its box. */
+function missingLines(code) {
+  const line = code.firstElementChild.offsetHeight;
+  return Math.max(0, Math.ceil((code.scrollHeight - code.clientHeight) / line - SPARE));
+}
+
+/**
+ * Returns how much of the codes of a machine is cut: the largest number of lines that have no room, and far more if a line is too long.
+ * @param {Element} machine
+ * @returns {number}
+ */
+export function cutOf(machine) {
+  const codes = [...machine.querySelectorAll(".code")];
+  for (const code of codes) code.style.paddingBottom = "";
+  const isTooLong = codes.some((it) => it.scrollWidth > it.clientWidth + 1);
+  return Math.max(0, ...codes.map(missingLines)) + (isTooLong ? MAX_LINES : 0);
 }
 
 /**
@@ -63,13 +83,23 @@ export function fitCodes(machine) {
 }
 
 /**
+ * Returns whether a machine is in a column that is scrolled by itself, so that its code has the room which the column leaves.
+ * @param {Element} machine
+ * @returns {boolean}
+ */
+export function isScrolled(machine) {
+  const column = machine.closest("#answers");
+  return column !== null && getComputedStyle(column).overflowY === "auto";
+}
+
+/**
  * Returns how much of a machine is out of sight at first in a column that is scrolled, in pixels.
  * @param {Element} machine
  * @returns {number}
  */
 export function hiddenHeight(machine) {
+  if (!isScrolled(machine)) return 0;
   const column = machine.closest("#answers");
-  if (!column || getComputedStyle(column).overflowY !== "auto") return 0;
   const [threads, memory] = [".threads", ".memory"].map((css) => machine.querySelector(css));
   const bottom = threads.getBoundingClientRect().bottom + parseFloat(getComputedStyle(machine).rowGap) + memory.offsetHeight;
   return Math.max(0, bottom - column.getBoundingClientRect().bottom + column.scrollTop);
@@ -85,9 +115,10 @@ export function spareHeight(machine) {
   const hidden = hiddenHeight(machine);
   if (!hidden) return 0;
   const spares = [...machine.querySelectorAll(".thread")].map((thread) => {
-    const [code, waits, below] = [".code", ".waits", ".below"].map((css) => thread.querySelector(css));
-    const least = Math.min(code.children.length, MIN_LINES) * code.firstElementChild.offsetHeight;
-    return below.getBoundingClientRect().top - code.getBoundingClientRect().top - waits.offsetHeight - least;
+    const [code, waits, registers, buffer] = [".code", ".waits", ".registers", ".buffer"].map((css) => thread.querySelector(css));
+    const least = Math.min(code.children.length, MIN_LINES) * code.firstElementChild.offsetHeight + waits.offsetHeight;
+    const below = (it) => (it ? it.getBoundingClientRect().top - code.getBoundingClientRect().top : Infinity);
+    return Math.min(below(registers) - least, below(buffer) - (machine.classList.contains("beside") ? 0 : least));
   });
   return Math.max(0, Math.min(hidden + 1, ...spares));
 }

@@ -55,7 +55,7 @@ export function hasLongStores(cells) {
  * @param {Shown} shown
  * @returns {boolean}
  */
-export function isTight({ cells, slots }) {
+function isTight({ cells, slots }) {
   return cells.length > ROOMY.threads || slots.some((it) => it > ROOMY.slots);
 }
 
@@ -74,7 +74,7 @@ function isLowForType() {
  * @param {Shown} shown
  * @returns {boolean}
  */
-export function isDense(shown) {
+function isDense(shown) {
   const { cells, state, used } = shown;
   if (isLowForType() && !isRoomy(shown)) return true;
   const registers = state.threads.map((it, thread) => it.registers.filter(([name]) => used[thread].has(name)).length);
@@ -86,7 +86,7 @@ export function isDense(shown) {
  * @param {Shown} shown
  * @returns {boolean}
  */
-export function isTall({ slots }) {
+function isTall({ slots }) {
   return slots.some((it) => it >= MAX_SLOTS);
 }
 
@@ -100,7 +100,7 @@ function isListAbove() {
  * @param {Shown} shown
  * @returns {boolean}
  */
-export function isRoomy(shown) {
+function isRoomy(shown) {
   const isHigh = innerHeight >= HIGH || !(hasCaches(shown) || isListAbove() || (largeType.isOn && shown.slots.some((it) => it > 1)));
   return isHigh && !isTight(shown) && shown.cells.every((it) => it.length <= ROOMY.lines);
 }
@@ -110,8 +110,17 @@ export function isRoomy(shown) {
  * @param {Shown} shown
  * @returns {boolean}
  */
-export function isFew({ cells, slots }) {
+function isFew({ cells, slots }) {
   return cells.every((it) => it.length <= FEW.lines) && slots.every((it) => it <= FEW.slots);
+}
+
+/**
+ * Returns the classes that say in which size a machine is drawn, each with whether it applies.
+ * @param {Shown} shown
+ * @returns {Object<string, boolean>}
+ */
+export function kindsOf(shown) {
+  return { tight: isTight(shown), roomy: isRoomy(shown), few: isFew(shown), dense: isDense(shown), tall: isTall(shown) };
 }
 
 /**

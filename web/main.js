@@ -370,7 +370,7 @@ async function showWhere() {
 /** Starts the page. */
 async function begin() {
   byId("why").append(why.place);
-  placeParts(present);
+  placeParts(present, () => states.run.view.refit());
   lightNames(editor);
   listenToTools();
   listenToChoices();

@@ -7,10 +7,11 @@ const NARROW = "(max-width: 69.99rem)";
 
 /**
  * Places the parts: in one column the verdict and the machine come first, and the text is folded. The graph is beside the machine if it has room, and
- * otherwise below it.
+ * otherwise below it. `fit` is called when the room for the machine has changed.
  * @param {Present} present
+ * @param {function(): void} fit
  */
-export function placeParts(present) {
+export function placeParts(present, fit) {
   const narrow = matchMedia(NARROW);
   const graph = byId("graph-place");
   const placeGraph = () => {
@@ -29,15 +30,19 @@ export function placeParts(present) {
   graph.addEventListener("drawn", () => {
     placeGraph();
     present.fit();
+    fit();
   });
-  const measured = new ResizeObserver(setRoom);
+  const measured = new ResizeObserver(() => {
+    setRoom();
+    fit();
+  });
   for (const name of ["answers", "outcome"]) measured.observe(byId(name));
   present.onChange(placeGraph);
   place();
 }
 
 /** Sets how high the machine may be so that it is in sight, with the graph below it. */
-function setRoom() {
+export function setRoom() {
   const [answers, watching] = ["answers", "watching"].map((name) => byId(name));
   if (watching.hidden) return;
   const above = watching.getBoundingClientRect().top - answers.getBoundingClientRect().top + answers.scrollTop;

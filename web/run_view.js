@@ -1,11 +1,12 @@
 // Shows a run: the row that plays it, the sentence on its step, the machine, and the graph of its events.
 
-import { hiddenHeight, spareHeight } from "./code_window.js";
+import { cutOf, hiddenHeight, isScrolled, spareHeight } from "./code_window.js";
 import { button, byId, el, plainMark } from "./dom.js";
 import { graphOf } from "./execution_graph.js";
 import { leastHeight, usedRegisters } from "./machine_size.js";
 import { isStill } from "./motion.js";
 import { Player } from "./player.js";
+import { setRoom } from "./placing.js";
 import { caches } from "./preferences.js";
 import { registerNumber } from "./replays.js";
 import { RunMenu } from "./run_menu.js";
@@ -24,6 +25,12 @@ const LISTED = [
 // The part of a graph that has to be in sight if it counts as seen, or the part of the window that it fills; and how often that is checked.
 const SEEN = 0.9;
 const LOOKS = 20;
+// How a machine may be drawn, by its classes, the best first: as large as the window allows; if its code has no room then, with the store buffer beside
+// the code, in smaller type, with low lines and entries; and if a part of it is out of sight even so, below a condition that is cut to one line.
+const WAYS = ["", "beside", "small", "beside small", "small low", "beside small low", "small low cramped", "beside small low cramped"];
+const KINDS = WAYS.at(-1).split(" ");
+// More lines than any code has, for a machine that is out of sight in part.
+const OUT_OF_SIGHT = 10000;
 const LOCKED = "First say what you expect: then the machine runs.";
 const OF_COMPILED = "This is the compiled run: ";
 const NO_GRAPH = "Only a run of an x86 program has a graph. ";
@@ -121,7 +128,7 @@ export class RunView {
     this.stage.draw(shown);
     this.player.show(run.events, run.step, { isOpen: run.isByHand, places: placesOf(run) });
     this.showStep();
-    if (!direction) this.fit(leastHeight(shown));
+    if (!direction) this.fit();
   }
 
   /** Says how high the threads' boxes are at least, in letters of the page's size. */
@@ -129,20 +136,39 @@ export class RunView {
     for (const it of [this.place, this.place.parentElement]) it?.style.setProperty("--least", String(height));
   }
 
+  /** Fits the machine into its room: draws it in the first way in which it is in sight with all of its code, or else with the most of it. */
+  fit() {
+    const least = leastHeight(this.stage.shown);
+    let [best, fewest] = ["", Infinity];
+    for (const way of isScrolled(this.stage.place) ? WAYS : [""]) {
+      if (!fewest || (fewest < OUT_OF_SIGHT && way.includes("cramped"))) break;
+      const cut = this.drawIn(way, least);
+      if (cut < fewest) [best, fewest] = [way, cut];
+    }
+    if (fewest) this.drawIn(best, least);
+    this.stage.fit();
+  }
+
+  /** Fits the machine again if a part of it is cut, after the room for it has changed. */
+  refit() {
+    const { place, shown } = this.stage;
+    if (this.run.isOpen && shown && (cutOf(place) || isOutOfSight(place))) this.fit();
+  }
+
   /**
-   * Fits the machine into its room: if it would be out of sight otherwise, its boxes become lower by what they have to spare; and if that is too little,
-   * what is in them becomes lower, too.
+   * Draws the machine in a way. If it would be out of sight, its boxes become lower by what they have to spare. Returns how much of it is cut: lines of
+   * code, and far more if a part of the machine is out of sight.
    */
-  fit(least) {
+  drawIn(way, least) {
     const { place } = this.stage;
     const letter = parseFloat(getComputedStyle(document.documentElement).fontSize);
-    for (const isCramped of [false, true]) {
-      place.classList.toggle("cramped", isCramped);
-      this.spare += spareHeight(place) / letter;
-      this.setLeast(least - this.spare);
-      if (hiddenHeight(place) < 2) break;
-    }
-    this.stage.fit();
+    for (const kind of KINDS) place.classList.toggle(kind, way.includes(kind));
+    this.stage.size();
+    setRoom();
+    this.setLeast(least);
+    this.spare = spareHeight(place) / letter;
+    this.setLeast(least - this.spare);
+    return cutOf(place) + (isOutOfSight(place) ? OUT_OF_SIGHT : 0);
   }
 
   /** Says what the step has done. */
@@ -197,6 +223,11 @@ export class RunView {
     const { films, schedule } = run.listed;
     return graphOf(editor, films.x86.text, schedule, this.graph, tints, lead(OF_COMPILED, "watch it", "x86"));
   }
+}
+
+/** Returns whether a part of a machine is out of sight. */
+function isOutOfSight(machine) {
+  return hiddenHeight(machine) >= 2;
 }
 
 /** Returns whether an element is in sight, given what its observer reports: nearly all of it, or as much as the window has room for. */

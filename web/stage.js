@@ -6,7 +6,7 @@ import { fitCodes, showNext, watchCodes } from "./code_window.js";
 import { el } from "./dom.js";
 import { fenceButton, goToFence } from "./fence_buttons.js";
 import { flightsOf } from "./flights.js";
-import { MAX_SLOTS, hasLongStores, isDense, isFew, isRoomy, isStacked, isTall, isTight } from "./machine_size.js";
+import { MAX_SLOTS, hasLongStores, isStacked, kindsOf } from "./machine_size.js";
 import { fly, glow, isStill, placesIn, settle } from "./motion.js";
 import { caches } from "./preferences.js";
 import { codeNodes, threadClass } from "./tint.js";
@@ -40,17 +40,19 @@ export class Stage {
     this.shown = shown;
     const threads = shown.state.threads.map((it, thread) => this.threadOf(it, thread));
     this.place.style.setProperty("--threads", String(threads.length));
-    this.place.classList.toggle("tight", isTight(shown));
-    this.place.classList.toggle("roomy", isRoomy(shown));
-    this.place.classList.toggle("few", isFew(shown));
-    this.place.classList.toggle("dense", isDense(shown));
-    this.place.classList.toggle("tall", isTall(shown));
+    this.size();
     this.place.replaceChildren(el("div", { class: "threads" }, threads), this.memory());
     this.mark();
     showNext(this.place);
     if (focused) (this.find(`[data-event="${CSS.escape(focused)}"]`) ?? this.find("[data-event]"))?.focus();
     if (fence) this.find(`[data-fence="${fence}"]`)?.focus({ preventScroll: true });
     if (shown.direction && before && !isStill()) this.move(was, shown.direction > 0 ? shown : before, shown.direction);
+  }
+
+  /** Chooses the size in which the machine is drawn; one that is `small` is not drawn large, whatever the window. */
+  size() {
+    const isSmall = this.place.classList.contains("small");
+    for (const [kind, is] of Object.entries(kindsOf(this.shown))) this.place.classList.toggle(kind, is && !(kind === "roomy" && isSmall));
   }
 
   /** Fits the code into the room that there is, once all that is above the machine is shown. */

@@ -12,6 +12,8 @@ IN_SIGHT = """
 const isIn = ({ top, left, bottom, right }) => top >= 0 && left >= 0 && bottom <= innerHeight + 1 && right <= innerWidth + 1;
 return [...document.querySelectorAll(arguments[0])].every((it) => isIn(it.getBoundingClientRect()));
 """
+# Whether code of at most five lines is shown in part only.
+SHORT_CUT = "return [...document.querySelectorAll('#watching .code:not(.whole)')].some((it) => it.children.length <= 6)"
 MIN_EXAMPLES = 166
 # 64 times 64 states: each of two threads sees each of six stores, or does not. The question names all registers, and asks about two.
 NAMES = "abcdef"
@@ -94,12 +96,12 @@ class AllExamples(PageCase):
     """The examples, one after another."""
 
     def test_in_sight(self) -> None:
-        """For nearly all examples text, verdict, list, code, buffers and memory are in sight together at 1280 by 720."""
+        """For nearly all examples text, verdict, list, code, buffers and memory are in sight together at 1280 by 720, and no short code is cut."""
         user = self.user
         user.resize(1280, 720)
         user.open_listed()
         names = [name for name, _ in examples()]
-        counts = []
+        counts, cut = [], []
         for name in names:
             user.run("location.hash = arguments[0]", f"#example={quote(name)}")
             user.wait(lambda: user.text("#example-name") == name, name)
@@ -107,7 +109,10 @@ class AllExamples(PageCase):
             user.wait(lambda: not user.run("return document.querySelector('.asking')"), name)
             if user.run(IN_SIGHT, "#text, #outcome .verdict, #outcome .states-place, #watching .thread, #watching .memory"):
                 counts.append(name)
+            if user.run(SHORT_CUT):
+                cut.append(name)
         self.assertTrue(len(names) >= MIN_EXAMPLES, len(names))
+        self.assertEqual([], cut)
         self.assertTrue(len(counts) >= 0.9 * len(names), sorted(set(names) - set(counts)))
 
 

@@ -3,6 +3,7 @@ from __future__ import annotations
 
 from gate.browser.lists import IN_SIGHT
 from gate.browser.page_case import PageCase
+from gate.browser.predicting import open_anew
 
 SIZES = ((1280, 720), (1920, 1080), (1024, 640), (390, 844), (360, 640))
 # Tests with two threads and long code, with three threads, and with four.
@@ -187,6 +188,38 @@ class InSight(PageCase):
                 self.assertFalse(user.run(cut), (name, user.step()))
                 user.click("#forward")
         self.assertEqual([], [it for it in user.texts("#watching .lines-in-sight") if it])
+
+    def test_short_code(self) -> None:
+        """Code of three lines is shown as a whole at 1280 by 720, also below the answer to a prediction; the store buffer goes beside it then."""
+        user = self.user
+        for link, is_asked in (("amd3-x86", False), ("R-x86&predict=1", True), ("n6-x86&predict=1", True), ("SB%2Bjoin-x86", False)):
+            user.resize(1280, 720)
+            open_anew(user, f"#example={link}")
+            if is_asked:
+                user.click("#no")
+                user.find("#outcome .said")
+            self.assertSoon(2, lambda: len(user.all("#watching .code.whole")))
+            self.assertEqual([], [it for it in user.texts("#watching .lines-in-sight") if it], link)
+            self.assertEqual([], user.run(UNSEEN), link)
+        user.open_listed("#example=amd3-x86")
+        code, buffer = (user.run(f"return document.querySelector('#watching {css}').getBoundingClientRect()") for css in (".code", ".buffer"))
+        self.assertTrue(buffer["top"] < code["bottom"] and buffer["left"] >= code["right"])
+
+    def test_text(self) -> None:
+        """No line of a text is cut at 1280 by 720, also of one with long lines."""
+        user = self.user
+        cut = "const it = document.getElementById('text'); return [it.scrollWidth - it.clientWidth, it.scrollHeight - it.clientHeight]"
+        for name in ("SB-x86", "IRIW%2Bxchgs-x86", "MP%2Bswap", "4.SB-x86", "ProducerQueue-x86"):
+            self.open_at(name, 1280, 720)
+            self.assertEqual([0, 0], user.run(cut), name)
+
+    def test_resized(self) -> None:
+        """Code that has no room any more in a lower window is fitted anew."""
+        user = self.user
+        self.open_at("SB%2Bmfences-x86", 1280, 900)
+        user.resize(1280, 640)
+        self.assertSoon(2, lambda: len(user.all("#watching .code.whole")))
+        self.assertSoon([], lambda: user.run(UNSEEN))
 
     def test_long_code(self) -> None:
         """Long code says which lines are shown, and the next one is among them at each step."""
