@@ -29,8 +29,9 @@ export class Beside {
       onDraw();
       this.fitLater();
     };
-    this.first = new Side("first", "The first test", { onChoose: choose, onReveal, onDraw: fitted, onStep });
-    this.second = new Side("second", "The second test", { onChoose: (value) => this.choose(value), onReveal, onDraw: fitted, onStep });
+    const called = { onReveal, onDraw: fitted, onStep, ownOf: (text) => examples.scheduleOf(text) };
+    this.first = new Side("first", "The first test", { onChoose: choose, ...called });
+    this.second = new Side("second", "The second test", { onChoose: (value) => this.choose(value), ...called });
     this.sides = [this.first, this.second];
     this.lockstep = new Lockstep(this.sides.map((it) => it.states.run), () => this.giveKeys(null));
     this.notices = el("div", {});

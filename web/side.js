@@ -53,16 +53,16 @@ class Sheet {
 export class Side {
   /**
    * Makes an empty side. `onChoose` is called with what is chosen in the list of tests, `onReveal` when the states are shown and when they are gone,
-   * `onDraw` when another run is shown, `onStep` when a run is at another step.
+   * `onDraw` when another run is shown, `onStep` when a run is at another step. `ownOf` returns the schedule that a text has of its own, or null.
    */
-  constructor(name, label, { onChoose, onReveal, onDraw, onStep }) {
+  constructor(name, label, { onChoose, onReveal, ...called }) {
     this.sheet = new Sheet(name);
     const [titled, listed] = [this.sheet.id("title"), this.sheet.id("example")];
     this.title = el("h2", { id: titled });
     this.select = el("select", { id: listed, change: () => onChoose(this.select.value) });
     const head = el("div", { class: "head row" }, this.title, el("label", { for: listed, class: "hidden" }, label), this.select);
     this.place = el("section", { class: "side", "aria-labelledby": titled }, head, this.sheet.place);
-    this.states = new States(this.place, this.sheet, onReveal, { onDraw, onStep, firstStep: 0 });
+    this.states = new States(this.place, this.sheet, onReveal, { ...called, firstStep: 0 });
   }
 
   /** Shows a test, and which of the options it is. If it was shown before, everything shown of it stays. */

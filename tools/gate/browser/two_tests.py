@@ -124,6 +124,21 @@ class Films(PageCase):
         self.assertEqual(BOTH, user.link())
         self.assertEqual(([], [[], []]), (user.run(UNNAMED), user.run(IDS)))
 
+    def test_same_run(self) -> None:
+        """Each test opens on the run on which it opens alone: the one of its comment, or the one to the state that shows the verdict."""
+        user = self.user
+        schedules = "return [...document.querySelectorAll('.side .events')].map((it) => [...it.querySelectorAll('.event')].map((one) => one.textContent).join(' '))"
+        mine = "X86 Mine\n{}\n P0          | P1          ;\n MOV [x],$1  | MOV EAX,[x] ;\nexists (1:EAX=1)\n"
+        links = ("example=SB-x86", "example=SB%2Bmfences-x86", f"text={quote(mine)}")
+        alone = []
+        for link in links:
+            user.open_listed(f"#{link}")
+            alone.append(user.schedule())
+        self.assertEqual(["P0 P0 P1 P1 D0 D1", "P0 D0 P0 P0 P1 D1 P1 P1"], alone[:2])
+        for first, other in ((0, 1), (2, 0)):
+            user.open(f"#{links[first]}&beside={links[other].partition('=')[2]}")
+            self.assertSoon([alone[first], alone[other]], lambda: user.run(schedules))
+
     def test_projector(self) -> None:
         """On a projector all of both is in sight, also of four threads."""
         user = self.user
