@@ -41,6 +41,7 @@ export function countPrediction(text, isRight) {
 export function showScore() {
   const right = [...results.values()].filter(Boolean).length;
   byId("score").textContent = results.size ? `${right} of ${results.size} right` : "";
+  byId("score").className = right === 0 ? "none" : right === results.size ? "all" : "";
 }
 
 /**

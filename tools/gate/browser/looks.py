@@ -267,6 +267,16 @@ class Theme(PageCase):
             self.assertEqual((theme, ground), (user.value("#theme"), user.run(self.GROUND)))
         user.choose("#theme", "system")
         self.assertEqual(by_system, user.run(self.GROUND))
+        options = user.run("return [...document.querySelectorAll('#theme option')].map((it) => it.textContent)")
+        self.assertEqual(["◐ As the system", "○ Light", "● Dark"], options)
+
+    def test_no_grip(self) -> None:
+        """No part of the page has a grip in its corner."""
+        user = self.user
+        user.resize(1280, 720)
+        user.open_listed()
+        grips = "return [...document.querySelectorAll('*')].filter((it) => getComputedStyle(it).resize !== 'none').map((it) => it.id || it.tagName)"
+        self.assertEqual([], user.run(grips))
 
 
 def present(user: User) -> None:

@@ -230,6 +230,23 @@ class Score(PageCase):
         self.assertSays("Forbidden.", "#outcome .verdict")
         self.assertEqual("1 of 1 right", user.text("#score"))
 
+    def test_colour(self) -> None:
+        """The score has the colour of a right answer only if all predictions were right, and that of a wrong one if none was."""
+        user = self.user
+        colour = lambda css: user.run("return getComputedStyle(document.querySelector(arguments[0])).color", css)
+        open_anew(user, "#example=SB-x86&predict=1")
+        user.click("#no")
+        self.assertSoon("0 of 1 right", lambda: user.text("#score"))
+        self.assertEqual(colour("#outcome .said.wrong"), colour("#score"))
+        user.open("#example=MP-x86&predict=1")
+        user.click("#no")
+        self.assertSoon("1 of 2 right", lambda: user.text("#score"))
+        self.assertEqual(colour("header"), colour("#score"))
+        open_anew(user, "#example=SB-x86&predict=1")
+        user.click("#yes")
+        self.assertSoon("1 of 1 right", lambda: user.text("#score"))
+        self.assertEqual(colour("#outcome .said.right"), colour("#score"))
+
     def test_gallery(self) -> None:
         """The list of examples has the button, too."""
         user = self.user
