@@ -1,4 +1,4 @@
-// Finds a state that a list lacks, to ask about.
+// Finds a state that a list lacks, to ask about, and the state of the list that comes closest to it.
 
 import { wordsOf } from "./replays.js";
 
@@ -40,4 +40,26 @@ export function missingState(report, { isAsked, words } = { isAsked: () => true,
     return null;
   };
   return find([], columnsOf(report, words));
+}
+
+/**
+ * Returns in how many words two states differ, by their lines.
+ * @param {string} line
+ * @param {string} other
+ * @returns {number}
+ */
+export function differing(line, other) {
+  const words = wordsOf(other);
+  return wordsOf(line).filter(([, word], at) => word !== words[at][1]).length;
+}
+
+/**
+ * Returns the first of the states of a list that differ in the fewest words from a missing one; undefined if none is missing.
+ * @param {{line: string}[]} states
+ * @param {string | null} missing
+ * @returns {{line: string} | undefined}
+ */
+export function closest(states, missing) {
+  if (missing === null) return undefined;
+  return states.reduce((best, it) => (differing(it.line, missing) < differing(best.line, missing) ? it : best));
 }

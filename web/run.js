@@ -10,7 +10,7 @@ import { caches, largeType } from "./preferences.js";
 import { eventsIn } from "./replays.js";
 import { PROTOCOLS, RunView } from "./run_view.js";
 import { tintsOf } from "./tint.js";
-import { showError } from "./errors.js";
+import { refusalOf, showError } from "./errors.js";
 
 const PROGRAMS = ["test", "compiled", "bare"];
 // How long a step is shown before it is asked what can be done there, and how many answers are kept.
@@ -72,16 +72,17 @@ export class Run {
    * Shows the run that is listed to a state; of a source test that of the source, unless `run` is "x86" or it is not known. `step` is a number or
    * "telling"; `of` says of which text the run is, if it is not that in the editor; `search` says that the list was made by a search. `own` is a
    * schedule that the test has of its own, or null: that run is shown if it ends in the state, or if `state` is null, and otherwise the run that is
-   * listed to the state, or to `otherwise`.
+   * listed to the state, or to `otherwise`. `opening` returns what is said of the run at first, given its state and whether it is the test's own, or null.
    */
   async show(state, { step = 0, run = null, protocol = this.protocol, text = this.editor.text, of = [], play = false, ...how } = {}) {
-    const { search = false, own = null, otherwise = null } = how;
+    const { search = false, own = null, otherwise = null, opening = null } = how;
     const ticket = this.prepare(protocol, false);
     const fields = { text, state, own, otherwise, protocol: this.protocol, search };
     const answer = await ask(this.editor, "film", fields, { place: this.isOpen ? null : this.place });
     if (!answer || ticket !== this.ticket) return;
     if (!answer.films) return this.fail(answer);
     Object.assign(this, { listed: answer, of, asked: text, goal: answer.state, isSearched: search, own });
+    this.opening = opening?.(answer.state, answer.isOwn) ?? null;
     this.openListed(run === "x86" || !answer.films.source ? "x86" : "source");
     await this.go(step);
     if (play && !isStill()) this.view.player.play();
@@ -221,7 +222,7 @@ export class Run {
       this.frames[step] = { ...answer, put: answer.put ?? this.putAt(step, answer.effect) };
     }
     const direction = this.step === null || Math.abs(step - this.step) !== 1 ? 0 : step - this.step;
-    Object.assign(this, { step, ending: null, isOpening: wanted === "telling" && step > 0 });
+    Object.assign(this, { step, ending: null, isOpening: wanted === "telling" });
     this.view.draw(direction);
     this.onStep();
     this.putAddress();
@@ -304,7 +305,7 @@ export class Run {
     const answer = await this.movesAt(this.step);
     const move = answer?.moves?.find((it) => it.event === event);
     if (!move || !this.isOpen) return;
-    if (move.refused) return this.view.refuse(event, move.refused);
+    if (move.refused) return this.view.refuse(refusalOf(event, move.refused));
     this.view.player.touch();
     if (this.events[this.step] !== event) {
       this.events = [...this.events.slice(0, this.step), event];

@@ -41,7 +41,12 @@ export class RunView {
   constructor(run, graphPlace) {
     Object.assign(this, { run, hasGraph: graphPlace !== null, isGraphAside: graphPlace !== null });
     const id = (name) => run.editor.id(name);
-    this.stage = new Stage((event) => run.take(event), (event, refused) => this.refuse(event, refused), (...fence) => run.onFence(...fence));
+    this.stage = new Stage({
+      act: (event) => run.take(event),
+      refuse: (event, refused) => this.refuse(refusalOf(event, refused)),
+      explain: (words) => run.isByHand && (run.isLocked ? this.showLocked() : this.refuse(words)),
+      fence: (...fence) => run.onFence(...fence),
+    });
     this.graph = graphPlace ?? el("div", { class: "graph-place", role: "status" });
     this.graphSwitch = button("Graph", () => this.chooseGraph(), {
       class: "draw-execution", "aria-pressed": "false", id: id("graph-switch"), title: "The run as a graph of events",
@@ -178,10 +183,10 @@ export class RunView {
     this.words.replaceChildren(...stepWords(this.run));
   }
 
-  /** Says why an event can't be carried out. */
-  refuse(event, refused) {
+  /** Says why what is clicked can't be carried out. */
+  refuse(why) {
     this.words.className = "step refusal";
-    this.words.replaceChildren(...tintedSentence(refusalOf(event, refused), this.run.tints));
+    this.words.replaceChildren(...tintedSentence(why, this.run.tints));
   }
 
   /** Says that the reader has to predict first. */

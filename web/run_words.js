@@ -42,13 +42,14 @@ export function stepWords(run) {
   const number = numberWords(run);
   const step = number && el("span", { class: "number-of-step" }, number, " ");
   const done = effect ? tintedSentence(`${run.names(doneWords(effect), effect.thread)}.`, run.tints) : [beginWords(run)];
-  return [step, ...done, ...endWords(run), run.isOpening ? openingWords(run.frame.state) : null].filter(Boolean);
+  return [step, ...done, ...endWords(run), run.isOpening ? openingWords(run) : null].filter(Boolean);
 }
 
-/** Returns why a run opens at a step in its middle. */
-function openingWords({ threads }) {
-  const count = threads.reduce((sum, it) => sum + (it.buffer?.length ?? 0), 0);
-  return el("span", { class: "opening" }, ` This step is shown first: ${count === 1 ? "a store waits" : `${count} stores wait`}.`);
+/** Returns which run is shown first, or why it opens at a step in its middle; null if it opens at its start. */
+function openingWords({ opening, step, frame }) {
+  const count = frame.state.threads.reduce((sum, it) => sum + (it.buffer?.length ?? 0), 0);
+  const words = opening ?? (step ? `This step is shown first: ${count === 1 ? "a store waits" : `${count} stores wait`}.` : null);
+  return words && el("span", { class: "opening" }, ` ${words}`);
 }
 
 /** Returns the number of the step; of a run by hand its length only if events follow, and nothing before the first event. */
@@ -82,4 +83,30 @@ function endWords({ frame, isByHand, ending, goal, isLinked, editor, truthOf }) 
   const holds = (line && truthOf(line)) ?? ending?.holds ?? null;
   const verdict = holds === null ? ["."] : [holds ? ". The condition holds." : ". The condition does not hold."];
   return [" ", el("strong", {}, "The run has ended"), ...state, ...verdict];
+}
+
+/**
+ * Returns why an instruction or a label of a thread, which is not its next one, can't be carried out. `next` is the cell of the next instruction,
+ * if there is one, and `buffer` the store buffer; a source test has none.
+ * @param {string} thread
+ * @param {string} text
+ * @param {Cell | undefined} next
+ * @param {[string, number][] | undefined} buffer
+ * @returns {string}
+ */
+export function notNext(thread, text, next, buffer) {
+  if (text.endsWith(":")) return `\`${text}\` is a label, to which jumps go: there is nothing to carry out.`;
+  const why = next && !next.text.endsWith(":") ? `its next ${buffer ? "instruction" : "statement"} is \`${next.text}\`` : "it is at its end";
+  return `P${thread} can't carry out \`${text}\` now: ${why}.`;
+}
+
+/**
+ * Returns why an entry of a store buffer that is not the oldest can't leave it.
+ * @param {string} thread
+ * @param {[string, number]} entry
+ * @param {[string, number]} oldest
+ * @returns {string}
+ */
+export function notOldest(thread, entry, oldest) {
+  return `P${thread}'s \`${entry.join("=")}\` can't leave the store buffer now: the buffer is a queue, and \`${oldest.join("=")}\` goes first.`;
 }

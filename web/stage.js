@@ -9,6 +9,7 @@ import { flightsOf } from "./flights.js";
 import { MAX_SLOTS, hasLongStores, isStacked, kindsOf } from "./machine_size.js";
 import { fly, glow, isStill, placesIn, settle } from "./motion.js";
 import { caches } from "./preferences.js";
+import { notNext, notOldest } from "./run_words.js";
 import { codeNodes, threadClass } from "./tint.js";
 
 // Causes that need no words: no event is left.
@@ -19,12 +20,13 @@ const LETTERS = { M: "modified", O: "owned", E: "exclusive", S: "shared", I: "in
 /** The machine. */
 export class Stage {
   /**
-   * Makes an empty machine. It calls `act` with the event that is clicked, `refuse` with an event that can't be carried out, and why, and `fence`
-   * with a thread, the number of its instruction before which a fence is put, or of the fence that is taken out, and whether it is put.
+   * Makes an empty machine. It calls `act` with the event that is clicked, `refuse` with an event that can't be carried out, and why, `explain` with
+   * why an instruction or an entry that is clicked is no event now, and `fence` with a thread, the number of its instruction before which a fence is
+   * put, or of the fence that is taken out, and whether it is put.
    */
-  constructor(act, refuse, fence) {
-    Object.assign(this, { act, refuse, fence, moves: new Map() });
-    this.place = el("div", { class: "machine", keydown: (event) => goToFence(event) });
+  constructor({ act, refuse, explain, fence }) {
+    Object.assign(this, { act, refuse, explain, fence, moves: new Map() });
+    this.place = el("div", { class: "machine", keydown: (event) => goToFence(event), click: (event) => this.clickOther(event.target) });
     watchCodes(this.place);
   }
 
@@ -102,6 +104,17 @@ export class Stage {
       else this.act(event);
     };
     return el("button", { type: "button", "data-event": event, "aria-label": label, click: clicked, ...attributes }, ...inner);
+  }
+
+  /** Says why an instruction or an entry that is no button can't be carried out now, after a click that selects no text. */
+  clickOther(target) {
+    const thing = target.closest("span[data-key]");
+    if (!thing || !getSelection().isCollapsed) return;
+    const [kind, thread, at] = thing.dataset.key.split(":");
+    const { state, cells, drained } = this.shown;
+    const { at: place, buffer } = state.threads[thread];
+    const entry = buffer?.[at - drained[thread]];
+    this.explain(kind === "b" ? notOldest(thread, entry, buffer[0]) : notNext(thread, thing.textContent, cells[thread].findLast((it) => it.at === place), buffer));
   }
 
   // A thread.

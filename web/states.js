@@ -6,7 +6,7 @@ import { conditionWords, questionOf } from "./condition_words.js";
 import { keyOf } from "./differences.js";
 import { button, el, plainMark, sentence } from "./dom.js";
 import * as guess from "./guess.js";
-import { missingState } from "./missing.js";
+import { closest, differing, missingState } from "./missing.js";
 import { largeType } from "./preferences.js";
 import { asPrinted, leftOut, saveReport } from "./reports.js";
 import { Run } from "./run.js";
@@ -139,10 +139,11 @@ export class States {
     // States that were found of another text do not count for this one.
     if (this.foundIn !== this.editor.text) Object.assign(this, { foundIn: this.editor.text, found: new Set() });
     Object.assign(this, { report, language, words, isVeiled: this.isKeptBack(this.isByHand || link?.view === "hand") });
+    this.missing = missingState(report, questionOf(this.editor.text));
     this.showVerdict();
     this.showNotes();
     this.here.offer(this.isByHand ? null : this.editor.text);
-    this.strip.show(report, tintsOf(this.editor.text), missingState(report, questionOf(this.editor.text)));
+    this.strip.show(report, tintsOf(this.editor.text), this.missing);
     this.onReveal();
     if (this.isByHand) return this.beginByHand(link?.view === "hand" ? link : {});
     if (link?.view === "hand" && link.schedule !== undefined) return this.run.begin(link);
@@ -217,7 +218,7 @@ export class States {
 
   /** Returns in a sentence which state shows the answer, with its run, or which is missing, with why; nothing if no single state shows it. */
   reason() {
-    const missing = this.why && this.asked === null ? missingState(this.report, questionOf(this.editor.text)) : null;
+    const missing = this.why && this.asked === null ? this.missing : null;
     const linked = (words, line, text, act) => {
       const link = el("span", { class: "unbroken" }, "(", button(text, () => act(line), { class: "link" }), ").");
       return [words, el("code", {}, line.replace(/;$/, "")), " ", link];
@@ -226,10 +227,18 @@ export class States {
     return this.asked !== null && this.onWatch ? linked("A run ends in ", this.asked, "watch it", this.onWatch) : [];
   }
 
-  /** Returns the state whose run shows what the verdict says, or else the first; undefined if there is none. */
+  /** Returns the state whose run shows what the verdict says, or else that which comes closest, or the first; undefined if there is none. */
   get telling() {
     const { states } = this.report;
-    return states.find((it) => it.index === this.words.telling) ?? states[0];
+    return states.find((it) => it.index === this.words.telling) ?? closest(states, this.missing) ?? states[0];
+  }
+
+  /** Returns which run is shown first, to the state of a line, if no run ends as the test asks; or null. `isOwn` says that the test has it of its own. */
+  openingWords(line, isOwn) {
+    const { report, missing } = this;
+    if (report?.positive !== 0 || report.asked === "Required") return null;
+    const isClosest = missing !== null && differing(line, missing) === differing(closest(report.states, missing).line, missing);
+    return `No run ends as the test asks; ${isClosest ? "this one comes closest" : `this is the ${isOwn ? "test's own run" : "first of the list"}`}.`;
   }
 
   /** Returns the line of a state that the condition asks about, or null if no run ends in one or states are not marked. */
@@ -251,7 +260,8 @@ export class States {
     const otherwise = this.telling?.line ?? null;
     if (!state && !otherwise) return this.run.clear();
     if (state || own === null) this.strip.select(state ?? otherwise);
-    await this.run.show(own === null ? (state ?? otherwise) : state, { own, otherwise, search: this.isSearched, ...how });
+    const opening = state ? null : (...run) => this.openingWords(...run);
+    await this.run.show(own === null ? (state ?? otherwise) : state, { own, otherwise, opening, search: this.isSearched, ...how });
     if (this.run.isOpen && !this.run.isByHand && this.report) this.strip.select(this.run.goal);
     return null;
   }

@@ -127,6 +127,29 @@ class Clicks(PageCase):
         user.run("document.body.dispatchEvent(new KeyboardEvent('keydown', { code: 'Digit0', bubbles: true }))")
         self.assertStep(why)
 
+    def test_not_next(self) -> None:
+        """A click on an instruction that is not the next one, or on an entry that is not the oldest, says why it does nothing; but not in Watch."""
+        user = self.user
+        begin(user, "#example=n6-x86&view=hand")
+        user.click("#watching .thread:nth-child(1) .code li:nth-child(3) .line")
+        self.assertStep("P0 can't carry out MOV EBX,[y] now: its next instruction is MOV [x],$1.")
+        self.assertEqual("step refusal", user.find("#watching .step").get_attribute("class"))
+        user.carry_out("P1", "P1")
+        user.click("#watching .thread:nth-child(2) span.entry")
+        self.assertStep("P1's x=2 can't leave the store buffer now: the buffer is a queue, and y=2 goes first.")
+        user.click("#watching .thread:nth-child(2) .code li:nth-child(1) .line")
+        self.assertStep("P1 can't carry out MOV [y],$2 now: it is at its end.")
+        self.assertEqual("P1 P1", user.schedule())
+        user.click("#watching [data-event=D1]")
+        self.assertStep("P1's y=2 leaves its store buffer for memory.")
+        begin(user, "#example=SB&view=hand")
+        user.click("#watching .thread:nth-child(2) .code li:nth-child(2) .line")
+        self.assertStep("P1 can't carry out r0 := x now: its next statement is y := 1.")
+        user.open_listed("#example=SB-x86")
+        before = user.step()
+        user.click("#watching .code .behind .line")
+        self.assertEqual(before, user.step())
+
     def test_keys(self) -> None:
         """Digits carry out the next instruction of a thread, and with Shift its oldest entry drains."""
         user = self.user
