@@ -55,20 +55,33 @@ function readInto(test, { thread, register }) {
 }
 
 /**
- * Describes one thread: its reads in the order of its code, and the words that it ends with.
+ * Says what one thread does: its reads in the order of its code, and the words that it ends with.
  * @param {Test} test
- * @param {number} thread
  * @param {Atom[]} atoms
  * @returns {string}
  */
-function wordsOfThread(test, thread, atoms) {
+function wordsOfThread(test, atoms) {
   const observations = atoms.map((it) => ({ ...it, read: readInto(test, it.site) }));
   const reads = observations.filter((it) => it.read).sort((first, second) => first.read.position - second.read.position);
   const others = observations.filter((it) => !it.read).map((it) => codeOf(siteName(test, it.site).slice(2), it));
   const parts = [];
   if (reads.length) parts.push(`reads ${reads.map((it) => codeOf(test.locations[it.read.location], it)).join(", then ")}`);
   if (others.length) parts.push(`ends with ${others.join(" and ")}`);
-  return `P${thread} ${parts.join(" and ")}`;
+  return parts.join(" and ");
+}
+
+/**
+ * Returns a phrase for each thread, and one for all threads that end with the same words.
+ * @param {[number, string][]} said The threads, each with what it does.
+ * @returns {string[]}
+ */
+function phrasesOf(said) {
+  return said.flatMap(([thread, words]) => {
+    const same = said.filter(([, other]) => other === words && words.startsWith("ends")).map(([it]) => `P${it}`);
+    if (same.length < 2) return [`P${thread} ${words}`];
+    const all = `${same.slice(0, -1).join(", ")} and ${same.at(-1)} ${same.length > 2 ? "all" : "both"}`;
+    return same[0] === `P${thread}` ? [`${all} ${words.replace("ends", "end")}`] : [];
+  });
 }
 
 /**
@@ -89,7 +102,7 @@ function codeOf(name, { word, isDenied }) {
  */
 function wordsOfAlternative(test, atoms) {
   const threads = test.threads.map((_, thread) => atoms.filter(({ site }) => site.thread === thread));
-  const phrases = threads.flatMap((atomsOfThread, thread) => (atomsOfThread.length ? [wordsOfThread(test, thread, atomsOfThread)] : []));
+  const phrases = phrasesOf(threads.flatMap((atomsOfThread, thread) => (atomsOfThread.length ? [[thread, wordsOfThread(test, atomsOfThread)]] : [])));
   const words = atoms.filter(({ site }) => site.location !== undefined).map((it) => codeOf(siteName(test, it.site), it));
   if (words.length) phrases.push(`memory ends with ${words.join(" and ")}`);
   return phrases.join(phrases.length > 2 ? "; " : " and ");

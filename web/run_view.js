@@ -126,12 +126,13 @@ export class RunView {
   /** Shows the step that the run is at; `direction` is 1 if it is one step forward, -1 if it is one back, and 0 for a jump. */
   draw(direction) {
     const { run } = this;
-    const shown = { ...shownOf(run), direction };
+    const places = placesOf(run);
+    const shown = { ...shownOf(run, places), direction };
     if (!direction) this.spare = 0;
     this.setLeast(leastHeight(shown) - this.spare);
     this.stage.forgetMoves();
     this.stage.draw(shown);
-    this.player.show(run.events, run.step, { isOpen: run.isByHand, places: placesOf(run) });
+    this.player.show(run.events, run.step, { isOpen: run.isByHand, places });
     this.showStep();
     if (!direction) this.fit();
   }
@@ -254,15 +255,20 @@ function placesOf({ events, frames, cells }) {
   });
 }
 
-/** Returns the data of the machine's drawing: the registers that are used in the whole run, how many entries have left each buffer, and more. */
-function shownOf(run) {
+/**
+ * Returns the data of the machine's drawing: the registers that are used in the whole run, how many entries have left each buffer, and more. `places` has
+ * the places of the run's events.
+ */
+function shownOf(run, places) {
   const { cells, frame, frames, tints, slots, step, events, isByHand } = run;
   const known = isByHand ? [frame.state, frame.before] : frames.flatMap((it) => [it.state, it.before]);
   const used = cells.map((_, thread) => usedRegisters(cells, known, thread));
   const drained = cells.map((_, thread) => events.slice(0, step).filter((it) => it === `D${thread}`).length);
   // A compiled program's registers have the numbers of the source's.
   const inSource = run.isSource && run.isX86 ? (name) => `r${registerNumber(name)}` : null;
+  const done = events.slice(0, step).map((event, index) => event[0] === "P" && (places[index] ?? event[1]));
+  const isSkipped = (thread, at) => !done.includes(String(thread)) && !done.includes(`${thread}:${at}`);
   const isPut = (thread, name) => !frame.put || frame.put[thread].includes(name);
   const hasFences = run.isX86 && !run.isSource && !run.isLocked && run.isOfEditor;
-  return { ...frame, cells, tints, slots, used, drained, inSource, isPut, hasFences, event: step ? events[step - 1] : null };
+  return { ...frame, cells, tints, slots, used, drained, inSource, isPut, isSkipped, hasFences, event: step ? events[step - 1] : null };
 }

@@ -33,7 +33,8 @@ export class Stage {
   /**
    * Draws a state. `shown` has the `cells`, the `state` and that `before` it, the `event` between them with its `effect`, which registers
    * are `used`, the `tints`, how many entries have left each buffer (`drained`), and `direction`: 1 for a step forward, -1 back, 0 for a jump.
-   * `isPut` says of a thread and the name of a register whether an event has put a word into it, and `hasFences` whether fences can be put.
+   * `isPut` says of a thread and the name of a register whether an event has put a word into it, `isSkipped` of a thread and the index of an earlier
+   * instruction whether a jump has passed over it, and `hasFences` whether fences can be put.
    */
   draw(shown) {
     const { event: focused = null, fence = null } = this.place.contains(document.activeElement) ? document.activeElement.dataset : {};
@@ -148,17 +149,21 @@ export class Stage {
 
   /** Returns a line of code; the next instruction is a button. */
   lineOf(cell, state, thread, fence = null) {
-    const { tints, effect, event, before } = this.shown;
+    const { tints, effect, event, before, cells, isSkipped } = this.shown;
     const isLabel = cell.text.endsWith(":");
     const isNext = cell.at === state.at && !isLabel;
+    // The label of the end has been reached with the end.
+    const isBehind = cell.at < state.at || (cell.at === state.at && cell === cells[thread].at(-1));
+    const skipped = isBehind && !isLabel && isSkipped(thread, cell.at);
     const isDone = event?.[0] === "P" && effect?.thread === thread && cell.at === before.threads[thread].at && !isLabel;
-    const kinds = [isNext ? "next" : cell.at < state.at && "behind", isDone && "done"];
+    const kinds = [isNext ? "next" : isBehind && "behind", isDone && "done", skipped && "skipped"];
     const key = `${thread}:${cell.at}`;
     const attributes = { class: "line", "data-key": `c:${key}${isLabel ? "l" : ""}`, "data-at": isLabel ? null : key };
     const text = codeNodes(cell.text, tints, thread);
     const label = `P${thread}: carry out ${cell.text}`;
     const line = isNext ? this.buttonOf(`P${thread}`, label, attributes, text) : el("span", attributes, text);
-    return el("li", { class: kinds.filter(Boolean).join(" "), "aria-current": isNext ? "step" : null }, line, fence);
+    const marks = { "aria-current": isNext ? "step" : null, title: skipped ? "A jump has passed over it." : null };
+    return el("li", { class: kinds.filter(Boolean).join(" "), ...marks }, line, said(skipped && "skipped"), fence);
   }
 
   /** Returns the registers of a thread that are shown, with their words. */

@@ -13,7 +13,8 @@ import { siteNode, tintsOf } from "./tint.js";
 import { showError } from "./errors.js";
 import { headingOf } from "./tokens.js";
 
-const CIRCLE = "Each arrow means “comes before”. The bold ones form a cycle, so no run can end this way.";
+const ARROWS = "Each arrow means “comes before”. ";
+const CIRCLE = "The bold ones form a cycle, so no run can end this way.";
 const RULE = "Program order counts here, but not";
 const RULE_OF_RUN = "By interleaving the bold arrows forbid this state. x86-TSO does not keep program order";
 const EXCEPTION =
@@ -134,6 +135,14 @@ export class Why {
     this.bringIntoSight();
   }
 
+  /** Returns why the cycles that are drawn forbid a state; of several, how many there are. */
+  cyclesWords(lines, drawn) {
+    const number = countCycles(lines);
+    if (number < 2 || this.askedOf === "all") return CIRCLE;
+    const shown = number > drawn.length ? `, of which ${drawn.length} are drawn` : "";
+    return `Whatever way a run took to this state, it would have one of ${number} cycles${shown}. So no run can end this way.`;
+  }
+
   /** Returns the parts of an answer: the sentence, the pictures of cycles, and all in words. */
   partsOf({ lines, cycles }, isSource) {
     const drawn = cycles.map(({ graph, words }) => el("figure", {}, shownGraph(graph, this.tints).graph, el("figcaption", {}, words)));
@@ -141,9 +150,15 @@ export class Why {
     const head = el("p", { class: "why-head" }, of, el("b", {}, lines[0]), " ", plainMark());
     const inWords = el("details", { open: !drawn.length && lines.length > 1 }, el("summary", {}, "In words"), el("pre", {}, lines.join("\n")));
     if (!drawn.length) return [head, lines.length > 1 ? inWords : ""];
-    const notes = el("div", { class: "why-notes" }, el("p", { class: "small" }, CIRCLE), legend(...drawn), ruleNote(RULE));
+    const notes = el("div", { class: "why-notes" }, el("p", { class: "small" }, ARROWS, this.cyclesWords(lines, drawn)), legend(...drawn), ruleNote(RULE));
     return [head, el("div", { class: "why-drawn" }, el("div", { class: "figures" }, drawn), notes), inWords];
   }
+}
+
+/** Returns how many cycles the lines of an answer name, and how many more they count. */
+function countCycles(lines) {
+  const more = /^ {2}and (\d+) other cycles$/.exec(lines.at(-1))?.[1] ?? 0;
+  return lines.filter((it) => /^ {2}\d+ candidate/.test(it)).length + Number(more);
 }
 
 /** Returns a note on which program order counts, which begins with a rule. */

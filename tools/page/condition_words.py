@@ -55,8 +55,8 @@ def format_atom(name: str, atom: Atom) -> str:
     return f"`{name}{'≠' if atom.is_denied else '='}{atom.word}`"
 
 
-def describe_thread(test: Test, thread: int, atoms: list[Atom]) -> str:
-    """Describes one thread: its reads in the order of its code, and the words that it ends with."""
+def describe_thread(test: Test, atoms: list[Atom]) -> str:
+    """Says what one thread does: its reads in the order of its code, and the words that it ends with."""
     reads = [(read, atom) for atom in atoms if isinstance(atom.site, RegisterSite) and (read := find_read(test, atom.site))]
     others = [atom for atom in atoms if isinstance(atom.site, RegisterSite) and not find_read(test, atom.site)]
     parts = []
@@ -65,16 +65,29 @@ def describe_thread(test: Test, thread: int, atoms: list[Atom]) -> str:
         parts.append(f"reads {', then '.join(read_words)}")
     if others:
         parts.append(f"ends with {' and '.join(format_atom(format_site(test, it.site)[2:], it) for it in others)}")
-    return f"P{thread} {' and '.join(parts)}"
+    return " and ".join(parts)
+
+
+def join_threads(said: list[tuple[int, str]]) -> list[str]:
+    """Returns a phrase for each thread, of which `said` has what it does, and one for all threads that end with the same words."""
+    phrases = []
+    for thread, words in said:
+        same = [f"P{it}" for it, other in said if other == words and words.startswith("ends")]
+        if len(same) < 2:
+            phrases.append(f"P{thread} {words}")
+        elif same[0] == f"P{thread}":
+            phrases.append(f"{', '.join(same[:-1])} and {same[-1]} {'all' if len(same) > 2 else 'both'} {words.replace('ends', 'end', 1)}")
+    return phrases
 
 
 def describe_alternative(test: Test, atoms: list[Atom]) -> str:
     """Returns one alternative of a condition in words."""
-    phrases = []
+    said = []
     for thread in range(len(test.threads)):
         atoms_of_thread = [it for it in atoms if isinstance(it.site, RegisterSite) and it.site.thread == thread]
         if atoms_of_thread:
-            phrases.append(describe_thread(test, thread, atoms_of_thread))
+            said.append((thread, describe_thread(test, atoms_of_thread)))
+    phrases = join_threads(said)
     words = [format_atom(format_site(test, it.site), it) for it in atoms if isinstance(it.site, LocationSite)]
     if words:
         phrases.append(f"memory ends with {' and '.join(words)}")

@@ -169,7 +169,7 @@ class Verdicts(PageCase):
         user = self.user
         for name, sentence in (
             ("MP-x86", "Forbidden. There is no run in which P1 reads y=1, then x=0."),
-            ("ChaseLev-x86", "Allowed. There is a run in which P0 ends with ECX=1 and P1 ends with ECX=1; the test forbids that."),
+            ("ChaseLev-x86", "Allowed. There is a run in which P0 and P1 both end with ECX=1; the test forbids that."),
             ("2%2B2W-x86", "Forbidden. There is no run in which memory ends with x=1 and y=1."),
         ):
             user.open_listed(f"#example={name}")
