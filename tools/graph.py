@@ -233,7 +233,7 @@ def draw_events(
             kind = "entry" if execution.find_instruction(event).kind == "store" else "box"
             drawing.elements.append(f'<g data-at="{format_place(event)}">')
             drawing.draw_box(x, y, *layout.box, f"{kind} marked" if event in marked else kind)
-            drawing.draw_text(x + 9, y + BASE, texts[event])
+            drawing.draw_text(x + layout.room.beside, y + BASE, texts[event])
             drawing.elements.append("</g>")
 
 

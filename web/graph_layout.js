@@ -2,8 +2,8 @@
 // neighbouring threads it goes through the gutter, past a thread in a lane after a row of boxes, and within a thread around its side.
 // tools/shared/graph_layout.py does the same, number by number.
 //
-// Threads are columns; if that would be much wider they are rows, and the picture is turned. Places are found along two axes, `across` the
-// threads and `along` program order, and turned at the end.
+// Threads are columns. Three or four are close together, so that the picture fits beside a text; if it would not, they are rows, and the picture is
+// turned, if that makes it much narrower. Places are found along two axes, `across` the threads and `along` program order, and turned at the end.
 
 import { threadOf } from "./executions.js";
 import { EDGE, LETTER, LINE } from "./pictures.js";
@@ -16,11 +16,15 @@ export const BASE = 16;
 const LANE = 11;
 // The length of an arrow from the initial word.
 const STUB = 24;
-// The room at the edge, and for each further end.
-const [OUTER, MORE] = [16, 12];
-// The room at a side with ends, between threads, between events, and after the last; and that of a picture that is turned.
-const UPRIGHT = { side: 48, gutter: 84, gap: 28, end: 14 };
-const TURNED = { side: 32, gutter: 34, gap: 42, end: 26 };
+// The room at the edge.
+const OUTER = 16;
+// The room at a side with ends, between threads, there for each further end, between events, after the last, and beside the text of an event: of a
+// picture of two threads, of one of more, and of one that is turned.
+const UPRIGHT = { side: 48, gutter: 84, more: 12, gap: 28, end: 14, beside: 9 };
+const NARROW = { side: 44, gutter: 40, more: 8, gap: 28, end: 14, beside: 6 };
+const TURNED = { side: 32, gutter: 34, more: 12, gap: 42, end: 26, beside: 9 };
+// How wide a picture of more than two threads may be that is not turned.
+const MAX_NARROW = 500;
 // How many ends have room in a gutter, and at how many it has its full width.
 const FREE_ENDS = 4;
 const MAX_ENDS = 8;
@@ -38,7 +42,7 @@ const PARTS = 24;
 const NARROWER = 0.85;
 // Where along its way the label of an edge may be, and how far beside it, in widths of the label and in pixels below: the best first.
 const PLACES = [0.24, 0.34, 0.16, 0.46, 0.58, 0.7, 0.8, 0.88, 0.1, 0.94, 0.05];
-const [ON, BESIDE] = [[[0, 0], [0, -12], [0, 12]], [[0.7, 0], [-0.7, 0]]];
+const [ON, BESIDE, FAR] = [[[0, 0], [0, -12], [0, 12]], [[0.7, 0], [-0.7, 0]], [[0, -18], [0, 18]]];
 // The label of a shorter arrow is beside it.
 const SHORT = 50;
 
@@ -58,21 +62,14 @@ export class GraphLayout {
     this.threads = execution.paths.map((_, thread) => events.filter((it) => threadOf(it) === thread));
     this.rows = new Map(this.threads.flatMap((of) => of.map((it, row) => [it, row])));
     this.most = Math.max(...this.threads.map((it) => it.length), 1);
-    this.box = [Math.max(...events.map((it) => texts.get(it).length), 4) * LETTER + 18, BOX];
+    this.letters = Math.max(...events.map((it) => texts.get(it).length), 4);
     this.ends = new Map();
     this.lanes = new Map();
     this.pairs = new Map();
     this.routes = edges.map((edge, number) => this.routeOf(edge, number));
     this.starts = initial.map((event, number) => this.startOf(event, edges.length + number));
-    this.isTurned = false;
-    this.place();
-    const upright = this.size[0];
-    this.isTurned = this.threads.length > 2;
-    if (this.isTurned) this.place();
-    if (this.isTurned && this.size[0] > NARROWER * upright) {
-      this.isTurned = false;
-      this.place();
-    }
+    this.place(UPRIGHT);
+    if (this.threads.length > 2) this.placeMany(this.size[0]);
     this.sortEnds();
     this.taken = [...events.map((it) => [...this.corner(it), ...this.box]), ...this.threads.map((_, thread) => this.titleBox(thread))];
     // For each route points along its arrow.
@@ -133,11 +130,21 @@ export class GraphLayout {
 
   // The places of the threads.
 
-  /** Places the threads, and finds the size of the picture. */
-  place() {
+  /** Places more than two threads, of which a picture with the most room is `upright` pixels wide. */
+  placeMany(upright) {
+    const lanes = Math.max(0, ...[...this.lanes.values()].map((it) => it.length));
+    this.place({ ...NARROW, gap: Math.max(NARROW.gap, 16 + LANE * lanes) });
+    if (this.size[0] <= MAX_NARROW) return;
+    this.place(TURNED);
+    if (this.size[0] > NARROWER * upright) this.place(UPRIGHT);
+  }
+
+  /** Places the threads with some room, and finds the size of the picture. */
+  place(room) {
+    this.isTurned = room === TURNED;
+    this.box = [this.letters * LETTER + 2 * room.beside, BOX];
     const [wide, deep] = this.isTurned ? [this.box[1], this.box[0]] : this.box;
-    this.room = this.isTurned ? TURNED : UPRIGHT;
-    Object.assign(this, { wide, deep, pitch: deep + this.room.gap });
+    Object.assign(this, { room, wide, deep, pitch: deep + room.gap });
     this.begin = this.isTurned ? EDGE + 3 * LETTER + OUTER : EDGE + LINE + 6;
     const counts = this.threads.map(() => 0).concat(0);
     for (const [key, ends] of this.ends) {
@@ -145,16 +152,16 @@ export class GraphLayout {
       counts[threadOf(event) + side] += ends.length;
     }
     this.lefts = [];
-    let across = counts[0] ? this.room.side : OUTER;
+    let across = counts[0] ? room.side : OUTER;
     for (const thread of this.threads.keys()) {
       this.lefts.push(across);
       const number = counts[thread + 1];
       const isLast = thread === this.threads.length - 1;
-      const gutter = this.room.gutter + MORE * Math.max(0, Math.min(number, MAX_ENDS) - FREE_ENDS);
-      across += wide + (isLast ? (number ? this.room.side : OUTER) : gutter);
+      const gutter = room.gutter + room.more * Math.max(0, Math.min(number, MAX_ENDS) - FREE_ENDS);
+      across += wide + (isLast ? (number ? room.side : OUTER) : gutter);
     }
     const behind = (this.lanes.get(this.most)?.length ?? 0) * LANE;
-    const along = this.begin + (this.most - 1) * this.pitch + deep + (behind ? behind + 14 : this.room.end);
+    const along = this.begin + (this.most - 1) * this.pitch + deep + (behind ? behind + 14 : room.end);
     this.size = this.turned([across, along]);
   }
 
@@ -289,7 +296,7 @@ export class GraphLayout {
     const points = curves.flatMap((curve) => PLACES.map((part) => onCurve(curve, part)));
     const [end] = curves.at(-1).slice(-1);
     const isShort = Math.hypot(end[0] - x, end[1] - y) < SHORT && route.way !== "next";
-    const offsets = isShort ? [...BESIDE, ...ON] : [...ON, ...BESIDE];
+    const offsets = [...(isShort ? [...BESIDE, ...ON] : [...ON, ...BESIDE]), ...FAR];
     return offsets.flatMap(([right, below]) => points.map(([left, top]) => [left + beside[0] + right * width, top + beside[1] + below]));
   }
 

@@ -187,7 +187,7 @@ function drawEvents(drawing, layout, execution, texts, inCycle) {
       const kind = execution.instruction(event).kind === "store" ? "entry" : "box";
       drawing.elements.push(`<g data-at="${placeOf(event)}">`);
       drawing.box(x, y, ...layout.box, inCycle.has(event) ? `${kind} marked` : kind);
-      drawing.text(x + 9, y + BASE, texts.get(event));
+      drawing.text(x + layout.room.beside, y + BASE, texts.get(event));
       drawing.elements.push("</g>");
     }
   }

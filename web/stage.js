@@ -153,7 +153,7 @@ export class Stage {
     const isLabel = cell.text.endsWith(":");
     const isNext = cell.at === state.at && !isLabel;
     // The label of the end has been reached with the end.
-    const isBehind = cell.at < state.at || (cell.at === state.at && cell === cells[thread].at(-1));
+    const isBehind = cell.at < state.at || (isLabel && cell.at === state.at && cell === cells[thread].at(-1));
     const skipped = isBehind && !isLabel && isSkipped(thread, cell.at);
     const isDone = event?.[0] === "P" && effect?.thread === thread && cell.at === before.threads[thread].at && !isLabel;
     const kinds = [isNext ? "next" : isBehind && "behind", isDone && "done", skipped && "skipped"];

@@ -2,8 +2,8 @@
 neighbouring threads it goes through the gutter, past a thread in a lane after a row of boxes, and within a thread around its side.
 web/graph_layout.js does the same, number by number.
 
-Threads are columns; if that would be much wider they are rows, and the picture is turned. Places are found along two axes, `across` the
-threads and `along` program order, and turned at the end.
+Threads are columns. Three or four are close together, so that the picture fits beside a text; if it would not, they are rows, and the picture is
+turned, if that makes it much narrower. Places are found along two axes, `across` the threads and `along` program order, and turned at the end.
 """
 from __future__ import annotations
 
@@ -17,7 +17,7 @@ BOX = 24  # the height of an event's box
 BASE = 16  # from the top of a box to the base of its text
 LANE = 11  # from one lane to the next, if there is room
 STUB = 24  # the length of an arrow from the initial word
-OUTER, MORE = 16, 12  # at the edge, and for each end more
+OUTER = 16  # at the edge
 FREE_ENDS = 4  # the number of ends that find room in a gutter
 MAX_ENDS = 8
 LABEL = 16  # the height of a label
@@ -26,22 +26,28 @@ HEAD = 5  # how far the head of an arrow reaches from its end
 CLEAR = 1  # from a label to an arrow of another edge
 PARTS = 24  # the number of parts of a curve, whose ends are checked
 NARROWER = 0.85  # a picture is turned if that makes it narrower by this factor
+MAX_NARROW = 500  # how wide a picture of more than two threads may be that is not turned
 # The places of an edge's label along its way, and its distances beside it, in widths of the label and in pixels below: the best first.
 PLACES = (0.24, 0.34, 0.16, 0.46, 0.58, 0.7, 0.8, 0.88, 0.1, 0.94, 0.05)
-ON, BESIDE = ((0, 0), (0, -12), (0, 12)), ((0.7, 0), (-0.7, 0))
+ON, BESIDE, FAR = ((0, 0), (0, -12), (0, 12)), ((0.7, 0), (-0.7, 0)), ((0, -18), (0, 18))
 SHORT = 50  # the label of an arrow that is shorter is beside it
 
 
 class Room(NamedTuple):
-    """The free space at a side with ends, between threads, between the events of one, and after the last event."""
+    """The free space at a side with ends, between threads, there for each further end, between the events of a thread, after the last event,
+    and beside the text of an event.
+    """
 
     side: int
     gutter: int
+    more: int
     gap: int
     end: int
+    beside: int
 
 
-UPRIGHT, TURNED = Room(48, 84, 28, 14), Room(32, 34, 42, 26)
+# Of a picture of two threads, of one of more, and of one that is turned.
+UPRIGHT, NARROW, TURNED = Room(48, 84, 12, 28, 14, 9), Room(44, 40, 8, 28, 14, 6), Room(32, 34, 12, 42, 26, 9)
 
 
 # A place in the picture, or one along its two axes.
@@ -103,27 +109,21 @@ class GraphLayout:
     """A layout: `texts` are those of the events, `edges` what is drawn, `initial` the reads of the initial word."""
 
     def __init__(self, execution: Execution, texts: dict[Event, str], edges: Sequence[Edge], initial: Sequence[Event]) -> None:
-        """Lays the picture of an execution out: upright, or turned if that is much narrower."""
+        """Lays the picture of an execution out: upright, or if it has many threads and is wide, turned if that is much narrower."""
         events = execution.list_events()
         self.threads = [[it for it in events if it.thread == thread] for thread in range(len(execution.paths))]
         self.rows = {event: row for thread in self.threads for row, event in enumerate(thread)}
         self.max_events = max([len(it) for it in self.threads] + [1])
-        self.box = max([len(texts[it]) for it in events] + [4]) * LETTER + 18, BOX
+        self.letters = max([len(texts[it]) for it in events] + [4])
         # The ends of routes at each side of an event: the route, and 0 for its source or 1 for its target.
         self.ends: dict[tuple[Event, int], list[tuple[Route, int]]] = {}
         self.lanes: dict[int, list[Route]] = {}  # by the row that they follow
         self.pairs: dict[tuple[Event, ...], int] = {}  # of two events, the number of earlier edges around a side between them
         self.routes = [self.make_route(edge, number) for number, edge in enumerate(edges)]
         self.starts = [self.make_start_route(event, len(edges) + number) for number, event in enumerate(initial)]
-        self.is_turned = False
-        self.place_threads()
-        upright = self.size[0]
-        self.is_turned = len(self.threads) > 2
-        if self.is_turned:
-            self.place_threads()
-        if self.is_turned and self.size[0] > NARROWER * upright:
-            self.is_turned = False
-            self.place_threads()
+        self.place_threads(UPRIGHT)
+        if len(self.threads) > 2:
+            self.place_many_threads(self.size[0])
         self.sort_ends()
         self.taken = [(*self.find_corner(it), *self.box) for it in events] + [self.make_title_box(thread) for thread in range(len(self.threads))]
         # For each route points along its arrow.
@@ -169,9 +169,19 @@ class GraphLayout:
 
     # The places of the threads.
 
-    def place_threads(self) -> None:
-        """Places the threads, and finds the size of the picture."""
-        self.room = TURNED if self.is_turned else UPRIGHT
+    def place_many_threads(self, upright: float) -> None:
+        """Places more than two threads, of which a picture with the most room is `upright` pixels wide."""
+        max_lanes = max([0, *map(len, self.lanes.values())])
+        self.place_threads(NARROW._replace(gap=max(NARROW.gap, 16 + LANE * max_lanes)))
+        if self.size[0] > MAX_NARROW:
+            self.place_threads(TURNED)
+            if self.size[0] > NARROWER * upright:
+                self.place_threads(UPRIGHT)
+
+    def place_threads(self, room: Room) -> None:
+        """Places the threads with some room, and finds the size of the picture."""
+        self.room, self.is_turned = room, room is TURNED
+        self.box = self.letters * LETTER + 2 * room.beside, BOX
         self.wide, self.deep = (self.box[1], self.box[0]) if self.is_turned else self.box
         self.pitch = self.deep + self.room.gap
         self.begin = EDGE + 3 * LETTER + OUTER if self.is_turned else EDGE + LINE + 6
@@ -183,7 +193,7 @@ class GraphLayout:
         for thread in range(len(self.threads)):
             self.lefts.append(across)
             number = counts[thread + 1]
-            gutter = self.room.gutter + MORE * max(0, min(number, MAX_ENDS) - FREE_ENDS)
+            gutter = self.room.gutter + self.room.more * max(0, min(number, MAX_ENDS) - FREE_ENDS)
             last = self.room.side if number else OUTER
             across += self.wide + (last if thread == len(self.threads) - 1 else gutter)
         lanes_after = len(self.lanes.get(self.max_events, ())) * LANE
@@ -305,7 +315,7 @@ class GraphLayout:
         right, down = (0, 0) if route.way != "next" else (0, -LABEL / 2 - HEAD) if self.is_turned else (width / 2 + HEAD, 0)
         points = [find_curve_point(curve, part) for curve in curves for part in PLACES]
         is_short = math.dist(curves[0][0], curves[-1][-1]) < SHORT and route.way != "next"
-        offsets = BESIDE + ON if is_short else ON + BESIDE
+        offsets = (BESIDE + ON if is_short else ON + BESIDE) + FAR
         return [(left + right + beside * width, top + down + below) for beside, below in offsets for left, top in points]
 
     def list_start_label_spots(self, route: Route, x: float, y: float, width: float) -> list[Point]:

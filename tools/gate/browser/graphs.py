@@ -89,6 +89,18 @@ class Readable(PageCase):
             user.click("#graph-switch")
             self.assertSoon(True, lambda: user.run(IN_SIGHT, GRAPH))
 
+    def test_columns(self) -> None:
+        """Each of three or four threads has its column, beside the text, in letters that can be read."""
+        user = self.user
+        tops = "return [...document.querySelectorAll('#test svg.graph text.title')].map((it) => it.getAttribute('y'))"
+        for width, height in ((1280, 720), (1920, 1080)):
+            for name, number in (("IRIW-x86", 4), ("4.SB-x86", 4), ("3.SB%2Bmfences-x86", 3), ("n7-x86", 3)):
+                user.resize(width, height)
+                user.open_listed(f"#example={name}")
+                user.find("#test > #graph-place svg.graph")
+                self.assertEqual((number, 1), (len(user.run(tops)), len(set(user.run(tops)))), (name, width))
+                self.assertTrue(user.run(MIN_LETTERS) >= 12, (name, width))
+
     def test_labels(self) -> None:
         """No label lies over an event, a thread's name or another label, and at most one over an arrow of another edge."""
         user = self.user
