@@ -2,8 +2,8 @@
 // neighbouring threads it goes through the gutter, past a thread in a lane after a row of boxes, and within a thread around its side.
 // tools/shared/graph_layout.py does the same, number by number.
 //
-// Threads are columns. Three or four are close together, so that the picture fits beside a text; if it would not, they are rows, and the picture is
-// turned, if that makes it much narrower. Places are found along two axes, `across` the threads and `along` program order, and turned at the end.
+// Threads are columns, close together if the picture would be wide otherwise, so that it fits beside a text. If three or four do not fit there, they are
+// rows, and the picture is turned, if that makes it much narrower. Places are found along two axes, `across` the threads and `along` program order, and turned at the end.
 
 import { threadOf } from "./executions.js";
 import { EDGE, LETTER, LINE } from "./pictures.js";
@@ -19,12 +19,14 @@ const STUB = 24;
 // The room at the edge.
 const OUTER = 16;
 // The room at a side with ends, between threads, there for each further end, between events, after the last, and beside the text of an event: of a
-// picture of two threads, of one of more, and of one that is turned.
+// picture with the most room, of one whose threads are close together, and of one that is turned.
 const UPRIGHT = { side: 48, gutter: 84, more: 12, gap: 28, end: 14, beside: 9 };
 const NARROW = { side: 44, gutter: 40, more: 8, gap: 28, end: 14, beside: 6 };
 const TURNED = { side: 32, gutter: 34, more: 12, gap: 42, end: 26, beside: 9 };
-// How wide a picture of more than two threads may be that is not turned.
-const MAX_NARROW = 500;
+// The room between two threads that are close together.
+const WIDE_GUTTER = 60;
+// How wide a picture of two threads may be that has the most room, and one of more threads that is not turned.
+const [MAX_UPRIGHT, MAX_NARROW] = [390, 500];
 // How many ends have room in a gutter, and at how many it has its full width.
 const FREE_ENDS = 4;
 const MAX_ENDS = 8;
@@ -69,7 +71,7 @@ export class GraphLayout {
     this.routes = edges.map((edge, number) => this.routeOf(edge, number));
     this.starts = initial.map((event, number) => this.startOf(event, edges.length + number));
     this.place(UPRIGHT);
-    if (this.threads.length > 2) this.placeMany(this.size[0]);
+    if (this.threads.length > 2 || this.size[0] > MAX_UPRIGHT) this.placeClosely(this.size[0]);
     this.sortEnds();
     this.taken = [...events.map((it) => [...this.corner(it), ...this.box]), ...this.threads.map((_, thread) => this.titleBox(thread))];
     // For each route points along its arrow.
@@ -130,13 +132,14 @@ export class GraphLayout {
 
   // The places of the threads.
 
-  /** Places more than two threads, of which a picture with the most room is `upright` pixels wide. */
-  placeMany(upright) {
+  /** Places threads close together, or turned; a picture with the most room is `upright` pixels wide. */
+  placeClosely(upright) {
     const lanes = Math.max(0, ...[...this.lanes.values()].map((it) => it.length));
-    this.place({ ...NARROW, gap: Math.max(NARROW.gap, 16 + LANE * lanes) });
+    const gutter = this.threads.length < 3 ? WIDE_GUTTER : NARROW.gutter;
+    this.place({ ...NARROW, gutter, gap: Math.max(NARROW.gap, 16 + LANE * lanes) });
     if (this.size[0] <= MAX_NARROW) return;
     this.place(TURNED);
-    if (this.size[0] > NARROWER * upright) this.place(UPRIGHT);
+    if (this.threads.length < 3 || this.size[0] > NARROWER * upright) this.place(UPRIGHT);
   }
 
   /** Places the threads with some room, and finds the size of the picture. */

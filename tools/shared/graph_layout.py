@@ -2,8 +2,8 @@
 neighbouring threads it goes through the gutter, past a thread in a lane after a row of boxes, and within a thread around its side.
 web/graph_layout.js does the same, number by number.
 
-Threads are columns. Three or four are close together, so that the picture fits beside a text; if it would not, they are rows, and the picture is
-turned, if that makes it much narrower. Places are found along two axes, `across` the threads and `along` program order, and turned at the end.
+Threads are columns, close together if the picture would be wide otherwise, so that it fits beside a text. If three or four do not fit there, they are
+rows, and the picture is turned, if that makes it much narrower. Places are found along two axes, `across` the threads and `along` program order, and turned at the end.
 """
 from __future__ import annotations
 
@@ -26,7 +26,9 @@ HEAD = 5  # how far the head of an arrow reaches from its end
 CLEAR = 1  # from a label to an arrow of another edge
 PARTS = 24  # the number of parts of a curve, whose ends are checked
 NARROWER = 0.85  # a picture is turned if that makes it narrower by this factor
-MAX_NARROW = 500  # how wide a picture of more than two threads may be that is not turned
+WIDE_GUTTER = 60  # between two threads that are close together
+MAX_UPRIGHT = 390  # how wide a picture of two threads may be that has the most room
+MAX_NARROW = 500  # how wide a picture of more threads may be that is not turned
 # The places of an edge's label along its way, and its distances beside it, in widths of the label and in pixels below: the best first.
 PLACES = (0.24, 0.34, 0.16, 0.46, 0.58, 0.7, 0.8, 0.88, 0.1, 0.94, 0.05)
 ON, BESIDE, FAR = ((0, 0), (0, -12), (0, 12)), ((0.7, 0), (-0.7, 0)), ((0, -18), (0, 18))
@@ -46,7 +48,7 @@ class Room(NamedTuple):
     beside: int
 
 
-# Of a picture of two threads, of one of more, and of one that is turned.
+# Of a picture with the most room, of one whose threads are close together, and of one that is turned.
 UPRIGHT, NARROW, TURNED = Room(48, 84, 12, 28, 14, 9), Room(44, 40, 8, 28, 14, 6), Room(32, 34, 12, 42, 26, 9)
 
 
@@ -122,8 +124,8 @@ class GraphLayout:
         self.routes = [self.make_route(edge, number) for number, edge in enumerate(edges)]
         self.starts = [self.make_start_route(event, len(edges) + number) for number, event in enumerate(initial)]
         self.place_threads(UPRIGHT)
-        if len(self.threads) > 2:
-            self.place_many_threads(self.size[0])
+        if len(self.threads) > 2 or self.size[0] > MAX_UPRIGHT:
+            self.place_threads_closely(self.size[0])
         self.sort_ends()
         self.taken = [(*self.find_corner(it), *self.box) for it in events] + [self.make_title_box(thread) for thread in range(len(self.threads))]
         # For each route points along its arrow.
@@ -169,13 +171,14 @@ class GraphLayout:
 
     # The places of the threads.
 
-    def place_many_threads(self, upright: float) -> None:
-        """Places more than two threads, of which a picture with the most room is `upright` pixels wide."""
+    def place_threads_closely(self, upright: float) -> None:
+        """Places threads close together, or turned; a picture with the most room is `upright` pixels wide."""
         max_lanes = max([0, *map(len, self.lanes.values())])
-        self.place_threads(NARROW._replace(gap=max(NARROW.gap, 16 + LANE * max_lanes)))
+        gutter = WIDE_GUTTER if len(self.threads) < 3 else NARROW.gutter
+        self.place_threads(NARROW._replace(gutter=gutter, gap=max(NARROW.gap, 16 + LANE * max_lanes)))
         if self.size[0] > MAX_NARROW:
             self.place_threads(TURNED)
-            if self.size[0] > NARROWER * upright:
+            if len(self.threads) < 3 or self.size[0] > NARROWER * upright:
                 self.place_threads(UPRIGHT)
 
     def place_threads(self, room: Room) -> None:

@@ -73,7 +73,7 @@ class Readable(PageCase):
                 self.assertTrue(user.run(MIN_LETTERS) >= 12, (name, width))
 
     def test_in_sight(self) -> None:
-        """At 1280 by 720 a graph is in sight together with its sentence and its legend; one below the machine is brought there by its button."""
+        """At 1280 by 720 a graph is in sight together with its sentence and its legend; one out of sight is brought there by its button."""
         user = self.user
         user.resize(1280, 720)
         # A reader who has written a test has one more button.
@@ -84,7 +84,7 @@ class Readable(PageCase):
             self.assertSoon(True, lambda: user.run(IN_SIGHT, GRAPH))
         for name in ("ChaseLev-x86", "Bakery-x86"):
             user.open_listed(f"#example={name}")
-            user.find("#answers > #graph-place svg.graph")
+            user.find("#graph-place svg.graph")
             self.assertSoon("false", lambda: user.find("#graph-switch").get_attribute("aria-pressed"))
             user.click("#graph-switch")
             self.assertSoon(True, lambda: user.run(IN_SIGHT, GRAPH))

@@ -57,6 +57,17 @@ return [...document.querySelectorAll(".machine :is(.register, .entry, .slot, .wo
 """
 
 
+# The elements that are cut at the right edge of the window, or by a box that is not scrolled; and the page if it is wider than the window.
+CUT = """
+const isScrolled = (it) => it && it !== document.body && (/auto|scroll/.test(getComputedStyle(it).overflowX) || isScrolled(it.parentElement));
+const isCut = (it) => it.getBoundingClientRect().right > innerWidth + 1
+  || (getComputedStyle(it).overflowX === "hidden" && it.scrollWidth > it.clientWidth + 1);
+const all = [...document.querySelectorAll("body *:not(option, .hidden, svg *)")].filter((it) => it.checkVisibility() && !isScrolled(it) && isCut(it));
+const page = document.scrollingElement;
+return [...page.scrollWidth > innerWidth ? ["page"] : [], ...all.map((it) => `${it.tagName} ${it.id} ${it.className}`)];
+"""
+
+
 class InSight(PageCase):
     """Parts that are in sight together."""
 
@@ -290,6 +301,14 @@ class Phone(PageCase):
         self.assertSoon(1, lambda: user.run(script, "[aria-pressed=true]"))
         user.run("document.querySelectorAll('#outcome thead .watch')[0].click()")
         self.assertSoon(1, lambda: user.run(script, "[aria-pressed=true]"))
+
+    def test_not_wider(self) -> None:
+        """No tab is wider than the window, and nothing is cut at its right edge, unless it is scrolled there."""
+        user = self.user
+        for link in ("SB-x86", "Peterson-x86&view=hand", "Peterson&view=why", "IRIW-x86&view=why", "Peterson&view=compile", "Peterson&view=fences", "IRIW-x86"):
+            user.open_listed(f"#example={link}")
+            user.wait(lambda: not user.all(".asking"), link)
+            self.assertSoon([], lambda: user.run(CUT))
 
     def test_sideways(self) -> None:
         """On a phone that is held sideways memory covers nothing of the machine."""
