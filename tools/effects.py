@@ -164,7 +164,7 @@ def describe_fence(step: Step) -> Effect:
 
 
 def describe_jump(step: Step, label: str) -> Effect:
-    """Returns a jump to an instruction, whose number is in its label."""
+    """Returns the effect of a jump. The number in its label is the position of its target."""
     return {"words": f"{step.name} jumps to `{label}`" if step.thread_after["at"] == int(label[1:]) else f"{step.name} does not jump"}
 
 

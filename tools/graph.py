@@ -327,7 +327,7 @@ def list_forbidden_states(
 
 
 def sort_forbidden_states(broken: dict[Words, dict[WayKey, Way]]) -> list[tuple[Words, list[Way]]]:
-    """Returns the states that are forbidden, in their order, each with its ways, the shortest first."""
+    """Returns the states that are forbidden, sorted by their words (unknown ones first), each with the ways in which it is, the shortest first."""
     shorter = lambda it: (len(it.events), -it.times)
     ordered = sorted(broken.items(), key=lambda it: [-1 if word is None else word for word in it[0]])
     return [(words, sorted(ways.values(), key=shorter)) for words, ways in ordered]

@@ -84,7 +84,7 @@ def make_settings(arguments: argparse.Namespace, against: Subject | None) -> Set
 
 
 def run_and_print(laboratory: Laboratory, arguments: argparse.Namespace, settings: Settings, file: str, text: str) -> int:
-    """Runs one test, and prints what was seen. Returns the exit status."""
+    """Runs the test of a file, or the tests of its program, and prints what was seen. Returns the exit status."""
     try:
         result = programs.run_file(laboratory, file, text, settings, arguments.program_cc, arguments.tries)
     except NotRun as why:

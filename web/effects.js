@@ -96,7 +96,7 @@ class Step {
     return new Map(state.content).get(location);
   }
 
-  /** Returns the cache that has the word of a location: the own one if it holds the line, or else that of the owner, if there is one. */
+  /** Returns the property `cache`: the cache that has the word of a location, its own if that holds the line, otherwise the owner's. Empty if none has. */
   cache(location) {
     const letters = this.before.threads.map(({ lines }) => new Map(lines).get(location) ?? "I");
     const owner = letters.findIndex((it) => it === "M" || it === "O");
@@ -214,7 +214,7 @@ function compare(step, register, value) {
   return { words: `${step.name} compares \`${register}=${one}\` with ${other}: they ${result}` };
 }
 
-/** Says what a jump does to an instruction, whose number is in its label. */
+/** Returns the effect of a jump. The number in its label is the position of its target. */
 function jump(step, label) {
   const jumps = step.threadAfter.at === Number(label.slice(1));
   return { words: jumps ? `${step.name} jumps to \`${label}\`` : `${step.name} does not jump` };
@@ -228,7 +228,7 @@ function conditionalJump(step, register, sign, number, label) {
   return { words: `${step.name} ${jumps ? `goes to \`${label}\`` : "does not jump"}, since \`${register}=${word}\`` };
 }
 
-/** Reads a location and writes a word to it, with nothing between. */
+/** Returns the effect of a step that reads a location into a register and writes a word to it, with nothing between; or null. */
 function exchange(step, register, location, word) {
   const old = step.memory(location);
   if (!step.leaves(register, old) || step.memory(location, step.after) !== word) return null;
@@ -241,7 +241,7 @@ function fetchAdd(step, register, location, value) {
   return exchange(step, register, location, (step.memory(location) + step.value(value)) % WORD);
 }
 
-/** Says what a drain does: the oldest entry of a store buffer leaves it. */
+/** Returns the effect of a drain: the oldest entry of a store buffer leaves it. */
 function drain(thread, before, after) {
   const [location, word] = before.threads[thread].buffer[0];
   const isThere = new Map(after.content).get(location) === word;

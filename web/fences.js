@@ -89,7 +89,7 @@ export class Fences {
     const rows = sets.map(({ places, text, states }) => {
       const placeWords = places.map((it) => it.replace(/^(P\d) at \d+, before (.*)$/, "in $1 before `$2`")).join(" and ");
       const result = isForall ? `it holds in all ${statesOf(states)}` : `it holds in none of ${statesOf(states)}`;
-      const tryIt = () => this.take(textWithFences(this.editor.text, places.map(placeIn)) ?? text);
+      const tryIt = () => this.take(textWithFences(this.editor.text, places.map(parsePlace)) ?? text);
       return el("li", {}, `An MFENCE `, sentence(placeWords), `: ${result}. `, button("Try it", tryIt, { class: "take" }));
     });
     const others = more ? [el("p", { class: "small" }, `And ${more} other sets of as many fences.`)] : [];
@@ -143,8 +143,8 @@ export class Fences {
   }
 }
 
-/** Returns a place for a fence, a thread and the number of an instruction, by its words. */
-function placeIn(words) {
+/** Returns the place of a fence, a thread and an index in its code, that words such as `P0 at 1, before ..` name. */
+function parsePlace(words) {
   const [, thread, at] = /^P(\d) at (\d+)/.exec(words);
   return [Number(thread), Number(at)];
 }

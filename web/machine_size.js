@@ -96,7 +96,8 @@ function isListAbove() {
 }
 
 /**
- * Returns whether the machine is small and the window is high enough to draw it large.
+ * Returns whether the machine is drawn large: it is small, and the window is high enough or nothing else needs its height (caches, a list above the
+ * machine, or large type with several slots).
  * @param {Shown} shown
  * @returns {boolean}
  */

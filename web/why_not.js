@@ -77,11 +77,11 @@ function sayWhy(test, { words, ways }) {
 }
 
 /**
- * Returns the forbidden states in their order, each with the ways in which it is forbidden, the shortest first.
+ * Returns the forbidden states, sorted by their words (unknown ones first), each with the ways in which it is forbidden, the shortest first.
  * @param {{words: number[], ways: Map<string, Way>}[]} forbidden
  * @returns {{words: number[], ways: Way[]}[]}
  */
-function inOrder(forbidden) {
+function sortForbidden(forbidden) {
   const key = ({ words }) => words.map((word) => word ?? -1);
   const compareWords = (a, b) => {
     const index = key(a).findIndex((word, number) => word !== key(b)[number]);
@@ -113,7 +113,7 @@ export function whyNot(test, state) {
   if (!byAxioms.forbidden.length) {
     return { lines: [wanted ? `No thread reads or writes such values: no candidate execution ends in ${state}` : NONE_FORBIDDEN], cycles: [] };
   }
-  const states = inOrder(byAxioms.forbidden);
+  const states = sortForbidden(byAxioms.forbidden);
   const shownWays = states.flatMap(({ ways }) => ways.slice(0, MAX_DRAWN)).slice(0, MAX_DRAWN);
   const cycles = shownWays.map(({ execution, violation, cycle, axiom }) => {
     return { graph: graphOf(execution, `${test.name}: ${cycle}`, violation), words: `${axiom}: ${cycle}` };

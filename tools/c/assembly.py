@@ -307,14 +307,14 @@ class Reader:
         repeated = [it for it in self.prefixes if it.startswith("rep")]
         if repeated and not mnemonic.startswith(("ret", "nop")):  # REP NOP is PAUSE
             raise Refused(f"'{repeated[0]} {mnemonic}' is not followed")
-        leads = mnemonic[0] == "j" or mnemonic.startswith("call")
-        operands_read = self.parse_target(operands) if leads else map(parse_operand, split_operands(operands))
+        is_jump_or_call = mnemonic[0] == "j" or mnemonic.startswith("call")
+        operands_read = self.parse_target(operands) if is_jump_or_call else map(parse_operand, split_operands(operands))
         self.assembly.code.append(Instruction(text, mnemonic, tuple(operands_read), "lock" in self.prefixes, self.line))
         self.prefixes = []
 
     @staticmethod
     def parse_target(text: str) -> list[Operand]:
-        """Returns the target of a jump or a call. Raises Refused if the target is found by a table of addresses."""
+        """Returns the target of a jump or a call, as a list of one operand. Raises Refused if the target is found by the table of addresses (GOT)."""
         if text.startswith("*"):
             return [parse_operand(text)]
         if "@" in text and not text.endswith("@PLT"):
