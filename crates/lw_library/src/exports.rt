@@ -14,7 +14,12 @@ use lw_bench::{BenchFault, Protocol, Task, answer};
 
 /// Writes the report of the test in `text` to the start of `room`, as `lw states` prints it, and the result of the call to `call_result`.
 #[unsafe(no_mangle)]
-pub extern "C" fn lw_states(memory: Memory, text: &[u8], room: &mut [u8], call_result: &mut CallResult)
+pub extern "C" fn lw_states(
+    memory: Memory,
+    text: &[u8],
+    room: &mut [u8],
+    call_result: &mut CallResult,
+)
     ensures call_result { IsCallResult (IsTaskOutput task.States) (TaskFaultIsTrue task.States) text.now call_result.new room.old room.new }
     ensures machine { IsReachedOnMachine text.now }
     ensures caches { IsReachedOverCaches text.now }
@@ -24,7 +29,12 @@ pub extern "C" fn lw_states(memory: Memory, text: &[u8], room: &mut [u8], call_r
 
 /// Writes the test's final states, each with a schedule, to the start of `room`, as `lw schedules` prints them.
 #[unsafe(no_mangle)]
-pub extern "C" fn lw_schedules(memory: Memory, text: &[u8], room: &mut [u8], call_result: &mut CallResult)
+pub extern "C" fn lw_schedules(
+    memory: Memory,
+    text: &[u8],
+    room: &mut [u8],
+    call_result: &mut CallResult,
+)
     ensures call_result { IsCallResult (IsTaskOutput task.Schedules) (TaskFaultIsTrue task.Schedules) text.now call_result.new room.old room.new }
     ensures machine { IsReachedOnMachine text.now }
     ensures caches { IsReachedOverCaches text.now }
@@ -34,7 +44,12 @@ pub extern "C" fn lw_schedules(memory: Memory, text: &[u8], room: &mut [u8], cal
 
 /// Writes the canonical text of the test to the start of `room`, as `lw compile` prints it. A source test is first compiled to x86.
 #[unsafe(no_mangle)]
-pub extern "C" fn lw_compile(memory: Memory, text: &[u8], room: &mut [u8], call_result: &mut CallResult)
+pub extern "C" fn lw_compile(
+    memory: Memory,
+    text: &[u8],
+    room: &mut [u8],
+    call_result: &mut CallResult,
+)
     ensures call_result { IsCallResult (IsTaskOutput task.Compile) (TaskFaultIsTrue task.Compile) text.now call_result.new room.old room.new }
 {
     *call_result = run(memory, Task::Compile, text, room);
