@@ -370,7 +370,7 @@ async function showWhere() {
 /** Starts the page. */
 async function begin() {
   byId("why").append(why.place);
-  placeParts(present, () => states.run.view.refit());
+  placeParts(present, (isAnyway) => states.run.view.refit(isAnyway));
   lightNames(editor);
   listenToTools();
   listenToChoices();

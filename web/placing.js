@@ -7,9 +7,10 @@ const NARROW = "(max-width: 69.99rem)";
 
 /**
  * Places the parts: in one column the verdict and the machine come first, and the text is folded. The graph is beside the machine if it has room, and
- * otherwise below it. `fit` is called when the room for the machine has changed.
+ * otherwise below it. `fit` is called when the room for the machine has changed, with `true` on a projector
+ * and after it.
  * @param {Present} present
- * @param {function(): void} fit
+ * @param {function(boolean): void} fit
  */
 export function placeParts(present, fit) {
   const narrow = matchMedia(NARROW);
@@ -37,7 +38,10 @@ export function placeParts(present, fit) {
     fit();
   });
   for (const name of ["answers", "outcome"]) measured.observe(byId(name));
-  present.onChange(placeGraph);
+  present.onChange(() => {
+    placeGraph();
+    fit(true);
+  });
   place();
 }
 

@@ -155,10 +155,10 @@ export class RunView {
     this.stage.fit();
   }
 
-  /** Fits the machine again if a part of it is cut, after the room for it has changed. */
-  refit() {
+  /** Fits the machine again after the room for it has changed: if a part of it is cut, or in any case. */
+  refit(isAnyway = false) {
     const { place, shown } = this.stage;
-    if (this.run.isOpen && shown && (cutOf(place) || isOutOfSight(place))) this.fit();
+    if (this.run.isOpen && shown && (isAnyway || cutOf(place) || isOutOfSight(place))) this.fit();
   }
 
   /**
