@@ -41,6 +41,9 @@ IMPORT = re.compile(r'^import (?:\* as (\w+)|\{([^}]*)\}) from "\./(\w+)\.js";\n
 COMMENT = re.compile(r"^[ \t]*(?://[^\n]*|/\*\*.*?\*/)\n", re.M | re.S)
 # What a site is made without, so that less has to be loaded: blanks at the start of lines, lines without letters, and comments of styles.
 INDENT = re.compile(r"^\s+", re.M)
+# And the blanks around punctuation, in lines whose only strings are between double quotes, and that are in no template.
+SCRIPT_STRING = re.compile(r'("(?:[^"\\]|\\.)*")')
+SCRIPT_BLANK = re.compile(r" ?([=*<>?:&|{}(),;]+) ?")
 STYLE_COMMENT = re.compile(r"/\*.*?\*/\n?", re.S)
 # The blanks and line ends of a style that mean nothing: around braces, and after a line's last semicolon.
 STYLE_BLANK = re.compile(r"\s*([{}])\s*|(;)\s*\n\s*")
@@ -51,6 +54,12 @@ STYLE_NAME = re.compile(r'="([A-Za-z][\w-]*)"\]')
 # A property of the style sheet's own.
 STYLE_PROPERTY = re.compile(r"(?<![\w-])--[a-z][\w-]*")
 STYLE_SPARE = re.compile(r"(?<=[:,]) +| *(>) *|(?<![\w.])0(?=\.\d)|;(?=\})| +(?=!important)")
+# The properties that only style sheets name, each with a shorter name.
+PROPERTIES = {
+    "strong-edge": "s", "faint": "f", "paper": "p", "main": "m", "main-ink": "n", "ink": "i", "edge": "e", "mono": "o", "sans": "a", "ground": "g",
+    "first-word": "w", "soft": "q", "wrong": "r", "sunk": "u", "focus": "b", "shadow": "d", "notice": "h", "notice-edge": "j", "comment": "k", "mark": "l",
+}
+STYLE_PROPERTY = re.compile(rf"--({'|'.join(PROPERTIES)})(?![\w-])")
 EXPORT = re.compile(r"^export ((?:async )?(?:function\*?|class|const) (\w+))", re.M)
 # The colours of the page, by light and by dark: the first rules of its style sheet.
 COLOURS = re.compile(r":root \{.*?\n\}\n:root\[data-theme=\"light\"\].*?\n:root\[data-theme=\"dark\"\].*?\n", re.S)
@@ -100,10 +109,23 @@ def bundle_module(entry: str, web: str) -> str:
     """Returns one classic script that does what a module and all its imports do. Raises NoSite if it has what no script inside the page may have."""
     done: dict[str, str] = {}
     add_module(entry, web, done, ())
-    text = '"use strict";\n' + INDENT.sub("", COMMENT.sub("", "".join(done.values())))
+    text = INDENT.sub("", COMMENT.sub("", "".join(done.values())))
     if re.search(r"</script|<!--|^\s*(?:import|export)\b", text, re.M | re.I):
         raise NoSite(f"web/{entry}.js, or what it imports, has what no script inside the page may have, or an import of another form")
-    return text
+    return '"use strict";\n' + shorten_script(text)
+
+
+def shorten_script(text: str) -> str:
+    """Returns a script that does the same with fewer blanks and line ends. A line with a slash may have a regular expression, and is left as it is."""
+    lines, is_in_template = [], False
+    for line in text.splitlines(keepends=True):
+        if not is_in_template and not re.search("['`/]", line):
+            parts = SCRIPT_STRING.split(line)
+            line = "".join(SCRIPT_BLANK.sub(r"\1", part) if index % 2 == 0 else part for index, part in enumerate(parts))
+            line = line.rstrip("\n") if line.endswith((";\n", "{\n", ",\n")) else line
+        lines.append(line)
+        is_in_template ^= line.count("`") % 2 == 1
+    return "".join(lines)
 
 
 def add_module(name: str, web: str, done: dict[str, str], importers: tuple[str, ...]) -> None:
@@ -193,6 +215,7 @@ def rename_properties(style: str, kept: set[str]) -> str:
 def shorten_style(text: str) -> str:
     """Returns a style sheet that says the same with fewer bytes: browsers wait for all of it before they show anything."""
     shorter = STYLE_BLANK.sub(r"\1\2", INDENT.sub("", STYLE_COMMENT.sub("", text)))
+    shorter = STYLE_PROPERTY.sub(lambda it: f"--{PROPERTIES[it[1]]}", shorter)
     parts = STYLE_STRING.split(STYLE_NAME.sub(r"=\1]", shorter))
     return "".join(STYLE_SPARE.sub(lambda it: it[1] or "", part).replace("; ", ";") if index % 2 == 0 else part for index, part in enumerate(parts))
 
