@@ -238,7 +238,7 @@ export class States {
     const { report, missing } = this;
     if (report?.positive !== 0 || report.asked === "Required") return null;
     const isClosest = missing !== null && differing(line, missing) === differing(closest(report.states, missing).line, missing);
-    return `No run ends as the test asks; ${isClosest ? "this one comes closest" : `this is the ${isOwn ? "test's own run" : "first of the list"}`}.`;
+    return `No run ends as asked; ${isClosest ? "this one comes closest" : `this is the ${isOwn ? "test's own run" : "first of the list"}`}.`;
   }
 
   /** Returns the line of a state that the condition asks about, or null if no run ends in one or states are not marked. */

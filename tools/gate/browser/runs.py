@@ -163,13 +163,13 @@ class Starts(PageCase):
         user = self.user
         for name, words in (("SB%2Bmfences-x86", "this one comes closest"), ("MP-x86", "this is the test's own run"), ("SB", "this one comes closest")):
             user.open_listed(f"#example={name}")
-            self.assertStep(f"No run ends as the test asks; {words}.")
+            self.assertStep(f"No run ends as asked; {words}.")
             user.press(user.keys.ARROW_RIGHT)
-            self.assertSoon(False, lambda: "as the test asks" in user.step())
+            self.assertSoon(False, lambda: "as asked" in user.step())
         user.click("table.strip .watch")
-        self.assertSoon(False, lambda: "as the test asks" in user.step())
+        self.assertSoon(False, lambda: "as asked" in user.step())
         user.open_listed("#example=SB-x86")
-        self.assertFalse("as the test asks" in user.step())
+        self.assertFalse("as asked" in user.step())
 
     def test_closest(self) -> None:
         """A test of one's own that no run answers opens on the run to the state that differs least from the one that is asked about."""
@@ -177,7 +177,7 @@ class Starts(PageCase):
         user.open_listed()
         rows = " P0         | P1          ;\n MOV [x],$1 | MOV EAX,[y] ;\n MOV [y],$1 | MOV EBX,[x] ;\n            | MOV ECX,[y] ;\n"
         user.run_text(f"X86 Mine\n{{}}\n{rows}~exists (1:EAX=1 /\\ 1:EBX=0 /\\ 1:ECX=1)\n")
-        self.assertStep("No run ends as the test asks; this one comes closest.")
+        self.assertStep("No run ends as asked; this one comes closest.")
         self.assertSoon("1:EAX=0; 1:EBX=0; 1:ECX=1;", lambda: user.find("table.strip th.chosen .watch").get_attribute("data-line"))
 
     def test_play(self) -> None:
