@@ -154,6 +154,9 @@ class Verdicts(PageCase):
         user.open_listed("#example=MP-x86")
         user.click("table.strip .never .watch")
         self.assertSays("x86-TSO forbids 1:EAX=1; 1:EBX=0;", "#why .why-head")
+        self.assertSays("The bold ones form a cycle, so no run can end this way.", "#why .why-notes")
+        user.open_listed("#example=Peterson%2Bmfences-x86&view=why")
+        self.assertSays("it would have one of 6 cycles, of which 3 are drawn. So no run can end this way.", "#why .why-notes")
 
     def test_missing_is_asked_about(self) -> None:
         """A state that is missing is shown only if the condition asks about it."""
@@ -171,6 +174,7 @@ class Verdicts(PageCase):
             ("MP-x86", "Forbidden. There is no run in which P1 reads y=1, then x=0."),
             ("ChaseLev-x86", "Allowed. There is a run in which P0 and P1 both end with ECX=1; the test forbids that."),
             ("2%2B2W-x86", "Forbidden. There is no run in which memory ends with x=1 and y=1."),
+            ("Peterson", "Forbidden. There is no run by interleaving in which P0 and P1 both end with r2=1."),
         ):
             user.open_listed(f"#example={name}")
             self.assertEqual(sentence, verdict(user))

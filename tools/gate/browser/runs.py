@@ -180,6 +180,22 @@ class Starts(PageCase):
         self.assertStep("No run ends as asked; this one comes closest.")
         self.assertSoon("1:EAX=0; 1:EBX=0; 1:ECX=1;", lambda: user.find("table.strip th.chosen .watch").get_attribute("data-line"))
 
+    def test_skipped(self) -> None:
+        """Lines that a jump has passed over are marked, and no others; the label of the end is reached with the end."""
+        user = self.user
+        skipped = lambda: user.run("return [...document.querySelectorAll('#watching .code .skipped .line')].map((it) => it.textContent)")
+        user.open_listed("#example=Peterson-x86")
+        self.assertEqual(["MOV EBX,[turn]", "CMP EBX,$1", "JE OUT"], skipped())
+        behind = user.run("return [...document.querySelectorAll('#watching .thread:first-child .behind .line')].map((it) => it.textContent)")
+        self.assertEqual("OUT:", behind[-1])
+        user.open_listed("#example=SB-x86")
+        user.press(user.keys.END)
+        self.assertStep("The run has ended")
+        self.assertEqual([], skipped())
+        user.open_listed("#example=Peterson-x86&view=hand")
+        user.carry_out(*["P1"] * 6)
+        self.assertSoon(["MOV EBX,[turn]", "CMP EBX,$0", "JE OUT"], skipped)
+
     def test_play(self) -> None:
         """Play begins at the start the first time, and later where the reader is."""
         user = self.user
