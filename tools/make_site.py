@@ -54,12 +54,6 @@ STYLE_NAME = re.compile(r'="([A-Za-z][\w-]*)"\]')
 # A property of the style sheet's own.
 STYLE_PROPERTY = re.compile(r"(?<![\w-])--[a-z][\w-]*")
 STYLE_SPARE = re.compile(r"(?<=[:,]) +| *(>) *|(?<![\w.])0(?=\.\d)|;(?=\})| +(?=!important)")
-# The properties that only style sheets name, each with a shorter name.
-PROPERTIES = {
-    "strong-edge": "s", "faint": "f", "paper": "p", "main": "m", "main-ink": "n", "ink": "i", "edge": "e", "mono": "o", "sans": "a", "ground": "g",
-    "first-word": "w", "soft": "q", "wrong": "r", "sunk": "u", "focus": "b", "shadow": "d", "notice": "h", "notice-edge": "j", "comment": "k", "mark": "l",
-}
-STYLE_PROPERTY = re.compile(rf"--({'|'.join(PROPERTIES)})(?![\w-])")
 EXPORT = re.compile(r"^export ((?:async )?(?:function\*?|class|const) (\w+))", re.M)
 # The colours of the page, by light and by dark: the first rules of its style sheet.
 COLOURS = re.compile(r":root \{.*?\n\}\n:root\[data-theme=\"light\"\].*?\n:root\[data-theme=\"dark\"\].*?\n", re.S)
@@ -215,7 +209,6 @@ def rename_properties(style: str, kept: set[str]) -> str:
 def shorten_style(text: str) -> str:
     """Returns a style sheet that says the same with fewer bytes: browsers wait for all of it before they show anything."""
     shorter = STYLE_BLANK.sub(r"\1\2", INDENT.sub("", STYLE_COMMENT.sub("", text)))
-    shorter = STYLE_PROPERTY.sub(lambda it: f"--{PROPERTIES[it[1]]}", shorter)
     parts = STYLE_STRING.split(STYLE_NAME.sub(r"=\1]", shorter))
     return "".join(STYLE_SPARE.sub(lambda it: it[1] or "", part).replace("; ", ";") if index % 2 == 0 else part for index, part in enumerate(parts))
 
