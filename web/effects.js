@@ -52,10 +52,10 @@ export function effectOf(event, cells, before, after) {
  * @returns {Effect}
  */
 function effectOfThread(event, thread, cells, before, after) {
-  if (event[0] === "D") return drain(thread, before, after);
+  if (event[0] === "D") return describeDrain(thread, before, after);
   if (event[0] === "E") return { words: `P${thread}'s cache gives up its line of \`${event.slice(3)}\`` };
   const cell = cells[thread].find((it) => it.at === before.threads[thread].at && !it.text.endsWith(":"))?.text ?? "";
-  return statement(new Step(thread, before, after), cell.replace(/^(?:\w+: *)+/, "")) ?? { words: `P${thread} carries out \`${cell}\`` };
+  return describeStatement(new Step(thread, before, after), cell.replace(/^(?:\w+: *)+/, "")) ?? { words: `P${thread} carries out \`${cell}\`` };
 }
 
 /** A step of a thread: the words that it finds and leaves. */
@@ -119,22 +119,22 @@ class Step {
 
 // The forms of instructions and statements, each with what it does.
 const FORMS = [
-  [/^MOV \[(\w+)\],(\S+)$/, store],
-  [/^MOV (\w+),\[(\w+)\]$/, load],
-  [/^MOV (\w+),(\S+)$/, (step, register, value) => put(step, register, step.value(value))],
-  [/^ADD (\w+),(\S+)$/, add],
-  [/^CMP (\w+),(\S+)$/, compare],
+  [/^MOV \[(\w+)\],(\S+)$/, describeStore],
+  [/^MOV (\w+),\[(\w+)\]$/, describeLoad],
+  [/^MOV (\w+),(\S+)$/, (step, register, value) => describeWordAssignment(step, register, step.value(value))],
+  [/^ADD (\w+),(\S+)$/, describeAdd],
+  [/^CMP (\w+),(\S+)$/, describeCompare],
   [/^MFENCE$/, (step) => ({ words: `${step.name} passes its fence, since its store buffer is empty` })],
-  [/^J\w+ (L\d+)$/, jump],
-  [/^XCHG \[(\w+)\],(\w+)$/, (step, location, register) => exchange(step, register, location, step.value(register))],
-  [/^LOCK XADD \[(\w+)\],(\w+)$/, (step, location, register) => fetchAdd(step, register, location, register)],
-  [/^(r\d) := swap (\w+) (\w+)$/, (step, register, location, value) => exchange(step, register, location, step.value(value))],
-  [/^(r\d) := fetchadd (\w+) (\w+)$/, fetchAdd],
-  [/^(r\d) := (r\d) \+ (\w+)$/, (step, register, left, value) => put(step, register, (step.value(left) + step.value(value)) % WORD)],
-  [/^(r\d) := (\d\w*|r\d)$/, (step, register, value) => put(step, register, step.value(value))],
-  [/^(r\d) := (\w+)$/, load],
-  [/^(\w+) := (\w+)$/, store],
-  [/^if (r\d) (!?=) (\w+) goto (\w+)$/, conditionalJump],
+  [/^J\w+ (L\d+)$/, describeJump],
+  [/^XCHG \[(\w+)\],(\w+)$/, (step, location, register) => describeWordExchange(step, register, location, step.value(register))],
+  [/^LOCK XADD \[(\w+)\],(\w+)$/, (step, location, register) => describeFetchAndAdd(step, register, location, register)],
+  [/^(r\d) := swap (\w+) (\w+)$/, (step, register, location, value) => describeWordExchange(step, register, location, step.value(value))],
+  [/^(r\d) := fetchadd (\w+) (\w+)$/, describeFetchAndAdd],
+  [/^(r\d) := (r\d) \+ (\w+)$/, (step, register, left, value) => describeWordAssignment(step, register, (step.value(left) + step.value(value)) % WORD)],
+  [/^(r\d) := (\d\w*|r\d)$/, (step, register, value) => describeWordAssignment(step, register, step.value(value))],
+  [/^(r\d) := (\w+)$/, describeLoad],
+  [/^(\w+) := (\w+)$/, describeStore],
+  [/^if (r\d) (!?=) (\w+) goto (\w+)$/, describeConditionalJump],
   [/^goto (\w+)$/, (step, label) => ({ words: `${step.name} goes to \`${label}\`` })],
 ];
 
@@ -144,7 +144,7 @@ const FORMS = [
  * @param {string} text
  * @returns {Effect | null}
  */
-function statement(step, text) {
+function describeStatement(step, text) {
   for (const [form, effect] of FORMS) {
     const parts = form.exec(text);
     if (parts) return effect(step, ...parts.slice(1));
@@ -159,7 +159,7 @@ function statement(step, text) {
  * @param {string} value
  * @returns {Effect | null}
  */
-function store(step, location, value) {
+function describeStore(step, location, value) {
   const word = step.value(value);
   const [name, stored] = step.threadAfter.buffer ? (step.threadAfter.buffer.at(-1) ?? []) : [location, step.memory(location, step.after)];
   if (name !== location || stored !== word) return null;
@@ -174,7 +174,7 @@ function store(step, location, value) {
  * @param {string} location
  * @returns {Effect | null}
  */
-function load(step, register, location) {
+function describeLoad(step, register, location) {
   const entry = step.newest(location);
   const word = entry < 0 ? step.memory(location) : step.threadBefore.buffer[entry][1];
   if (!step.leaves(register, word)) return null;
@@ -184,7 +184,7 @@ function load(step, register, location) {
 }
 
 /** Returns the effect of a step that sets a register, or null. */
-function put(step, register, word) {
+function describeWordAssignment(step, register, word) {
   return step.leaves(register, word) ? { words: `${step.name} sets \`${register}=${word}\``, register } : null;
 }
 
@@ -195,7 +195,7 @@ function put(step, register, word) {
  * @param {string} value
  * @returns {Effect | null}
  */
-function add(step, register, value) {
+function describeAdd(step, register, value) {
   const word = (step.value(register) + step.value(value)) % WORD;
   if (!step.leaves(register, word)) return null;
   return { words: `${step.name} adds ${step.value(value)}, which makes \`${register}=${word}\``, register };
@@ -208,20 +208,20 @@ function add(step, register, value) {
  * @param {string} value
  * @returns {Effect}
  */
-function compare(step, register, value) {
+function describeCompare(step, register, value) {
   const [one, other] = [step.value(register), step.value(value)];
   const result = one === other ? "are equal" : "differ";
   return { words: `${step.name} compares \`${register}=${one}\` with ${other}: they ${result}` };
 }
 
 /** Returns the effect of a jump. The number in its label is the position of its target. */
-function jump(step, label) {
+function describeJump(step, label) {
   const jumps = step.threadAfter.at === Number(label.slice(1));
   return { words: jumps ? `${step.name} jumps to \`${label}\`` : `${step.name} does not jump` };
 }
 
 /** Returns the effect of `if r = n goto L`, or of one with `!=`; or null. */
-function conditionalJump(step, register, sign, number, label) {
+function describeConditionalJump(step, register, sign, number, label) {
   const word = step.value(register);
   const jumps = (word === Number(number)) === (sign === "=");
   if (!jumps && step.threadAfter.at !== step.threadBefore.at + 1) return null;
@@ -229,7 +229,7 @@ function conditionalJump(step, register, sign, number, label) {
 }
 
 /** Returns the effect of a step that reads a location into a register and writes a word to it, with nothing between; or null. */
-function exchange(step, register, location, word) {
+function describeWordExchange(step, register, location, word) {
   const old = step.memory(location);
   if (!step.leaves(register, old) || step.memory(location, step.after) !== word) return null;
   const read = `${step.name} reads \`${location}=${old}\` from memory into \`${register}\``;
@@ -237,12 +237,12 @@ function exchange(step, register, location, word) {
 }
 
 /** Returns the effect of a step that adds a value to a location and reads the old word into a register, or null. */
-function fetchAdd(step, register, location, value) {
-  return exchange(step, register, location, (step.memory(location) + step.value(value)) % WORD);
+function describeFetchAndAdd(step, register, location, value) {
+  return describeWordExchange(step, register, location, (step.memory(location) + step.value(value)) % WORD);
 }
 
 /** Returns the effect of a drain: the oldest entry of a store buffer leaves it. */
-function drain(thread, before, after) {
+function describeDrain(thread, before, after) {
   const [location, word] = before.threads[thread].buffer[0];
   const isThere = new Map(after.content).get(location) === word;
   return { words: `P${thread}'s \`${location}=${word}\` leaves its store buffer${isThere ? " for memory" : ""}`, cache: thread };
