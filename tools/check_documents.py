@@ -64,11 +64,12 @@ on.
 - The web page, by a plain client, and in a browser if there is one (tools/gate/check_page.py); what its code answers, and the page in a browser
   without a server (tools/gate/check_site.py).
 
-Commands run in parallel, and the checks of the web page follow them. Differences are printed in the order of the list above.
+Commands run in parallel, then most checks of single tools, and then, one after another, those that need the processors for themselves.
 """
 from __future__ import annotations
 
 import glob
+import multiprocessing
 import os
 import re
 import select
@@ -76,8 +77,9 @@ import subprocess
 import sys
 import tempfile
 import time
-from collections.abc import Iterable, Iterator, Sequence
-from concurrent.futures import ThreadPoolExecutor
+from collections.abc import Callable, Iterable, Iterator, Sequence
+from concurrent.futures import ProcessPoolExecutor, ThreadPoolExecutor
+from functools import partial
 from random import Random
 from typing import Any, Tuple
 
@@ -709,30 +711,35 @@ def list_program_checks() -> Iterator[Check]:
         yield check_refused_memory, program, test, *words
 
 
+def list_tool_checks() -> list[Callable[[], Iterator[Comparison]]]:
+    """Returns the checks of single tools for which it matters neither how long things take nor what runs beside them."""
+    tested = (test_plain, test_commands, test_editor, test_replay_state, test_python, test_types, test_herd, test_assume, test_original,
+              test_from_c, test_shapes, test_answers, test_machine_parts)
+    return [*(partial(cases.comparisons, it) for it in tested), check_graph.comparisons, check_slides.comparisons]
+
+
+def run_tool_check(index: int) -> list[Comparison]:
+    """Returns the comparisons of a check of `list_tool_checks`."""
+    return list(list_tool_checks()[index]())
+
+
+def run_tool_checks() -> Iterator[Comparison]:
+    """Runs the checks of single tools in processes of their own, as many at once as there are processors, and yields their comparisons."""
+    count = len(list_tool_checks())
+    with ProcessPoolExecutor(len(os.sched_getaffinity(0)), multiprocessing.get_context("fork")) as pool:
+        for compared in pool.map(run_tool_check, range(count)):
+            yield from compared
+
+
 def list_last_checks() -> Iterator[Iterator[Comparison]]:
     """Yields the checks for which it matters how long things take: they run one after another, when all others have ended."""
-    yield cases.comparisons(test_plain)
-    yield cases.comparisons(test_commands)
     yield cases.comparisons(test_completion)
-    yield cases.comparisons(test_editor)
-    yield cases.comparisons(test_replay_state)
     yield cases.comparisons(test_build)
-    yield cases.comparisons(test_python)
-    yield cases.comparisons(test_types)
-    yield check_graph.comparisons()
-    yield cases.comparisons(test_herd)
-    yield cases.comparisons(test_assume)
-    yield cases.comparisons(test_original)
-    yield cases.comparisons(test_from_c)
-    yield cases.comparisons(test_shapes)
     yield check_lab.comparisons()
-    yield check_slides.comparisons()
     yield check_quiz.comparisons()
     yield check_many.comparisons()
     yield cases.comparisons(test_run_all)
-    yield cases.comparisons(test_answers)
     yield cases.comparisons(test_fences)
-    yield cases.comparisons(test_machine_parts)
     yield cases.comparisons(test_on_machine)
     yield cases.comparisons(test_seen_here)
     yield check_page.check_by_client()
@@ -748,8 +755,10 @@ def comparisons(is_quick: bool) -> Iterator[Comparison]:
     with ThreadPoolExecutor(len(os.sched_getaffinity(0))) as pool:
         for compared in pool.map(lambda check: list(check[0](*check[1:])), list_checks()):
             yield from compared
-    for last in () if is_quick else list_last_checks():
-        yield from last
+    if not is_quick:
+        yield from run_tool_checks()
+        for last in list_last_checks():
+            yield from last
 
 
 def list_skipped() -> Iterable[str]:
