@@ -15,8 +15,8 @@ def open_anew(user: User, link: str) -> None:
 
 
 def read_question(user: User, place: str) -> str:
-    """Returns the question that is asked in a place."""
-    return f"{user.text(f'{place} .predict .verdict > span:last-child')} {user.text(f'{place} .predict .asked')}".strip()
+    """Returns the question that is asked in a place, with the condition below it, if the question is in other words."""
+    return " ".join([user.text(f"{place} .predict .verdict > span:last-child"), *user.texts(f"{place} .predict .asked")]).strip()
 
 
 class Guess(PageCase):
