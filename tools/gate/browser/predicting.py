@@ -108,7 +108,7 @@ class Guess(PageCase):
         self.assertSays("The condition holds in 1 of 3 final states.", "#outcome .asked")
         by_turns = "by interleaving, in which the threads take turns, end this way:"
         for name, question in (
-            ("TryLock", f"Can a run {by_turns} P0 ends with r0=0; P1 ends with r0=0; memory ends with n≠2? (0:r0=0 /\\ 1:r0=0 /\\ ~n=2)"),
+            ("TryLock", f"Can a run {by_turns} P0 and P1 both end with r0=0 and memory ends with n≠2? (0:r0=0 /\\ 1:r0=0 /\\ ~n=2)"),
             ("Counter", f"Does every run {by_turns} memory ends with x=2? (x=2)"),
             ("Seqlock-x86", "Can a run on x86-TSO end this way: (1:EAX=0 /\\ 1:EDX=0"),
         ):
