@@ -726,9 +726,9 @@ const VERDICTS = [
   ["CoRW", `Can a run ${BY_TURNS} end this way`, false, null, "no", "Forbidden.",
     "There is no run by interleaving in which P0 reads `x=1`, or P0 reads `x=2` and memory ends with `x=2`."],
   ["ByteLock", `Can a run ${BY_TURNS} end this way`, false, null, "no", "Forbidden.",
-    "There is no run by interleaving in which P0 ends with `r2=1` and P1 ends with `r2=1`, or P0 ends with `r2=1` and P2 ends with `r2=1`."],
+    "There is no run by interleaving in which P0 and P1 both end with `r2=1`, or P0 and P2 both end with `r2=1`."],
   ["TryLock", `Can a run ${BY_TURNS} end this way`, false, null, "no", "Forbidden.",
-    "There is no run by interleaving in which P0 ends with `r0=0`; P1 ends with `r0=0`; memory ends with `n≠2`."],
+    "There is no run by interleaving in which P0 and P1 both end with `r0=0` and memory ends with `n≠2`."],
 ];
 const COUNTS = [
   [0, 3, "The condition holds in none of 3 final states."], [1, 4, "The condition holds in 1 of 4 final states."],
