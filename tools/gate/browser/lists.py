@@ -179,7 +179,7 @@ class Verdicts(PageCase):
             user.open_listed(f"#example={name}")
             self.assertEqual(sentence, verdict(user))
         user.run_text("SRC Or\n{}\n P0 | P1 ;\n x := 1 | r0 := x ;\nforall (1:r0=0 \\/ 1:r0=1)\n")
-        self.assertSoon("Always. In every run by interleaving the condition holds.", lambda: verdict(user))
+        self.assertSoon("Always. In every run by interleaving P1 reads x=0, or P1 reads x=1.", lambda: verdict(user))
 
     def test_choice_is_watched(self) -> None:
         """A column is chosen by a click anywhere in it, and its run is watched."""
