@@ -168,7 +168,7 @@ class Verdicts(PageCase):
         self.assertEqual(["1", "0", "1", "0"], words)
 
     def test_sentences(self) -> None:
-        """The verdict is a sentence: what threads read, what they end with, and what memory has; of what is no conjunction, the condition."""
+        """The verdict is a sentence: what threads read, what they end with, and what memory has; or alternatives of these."""
         user = self.user
         for name, sentence in (
             ("MP-x86", "Forbidden. There is no run in which P1 reads y=1, then x=0."),
