@@ -41,9 +41,6 @@ IMPORT = re.compile(r'^import (?:\* as (\w+)|\{([^}]*)\}) from "\./(\w+)\.js";\n
 COMMENT = re.compile(r"^[ \t]*(?://[^\n]*|/\*\*.*?\*/)\n", re.M | re.S)
 # What a site is made without, so that less has to be loaded: blanks at the start of lines, lines without letters, and comments of styles.
 INDENT = re.compile(r"^\s+", re.M)
-# And the blanks around punctuation, in lines whose only strings are between double quotes, and that are in no template.
-SCRIPT_STRING = re.compile(r'("(?:[^"\\]|\\.)*")')
-SCRIPT_BLANK = re.compile(r" ?([=*<>?:&|{}(),;]+) ?")
 STYLE_COMMENT = re.compile(r"/\*.*?\*/\n?", re.S)
 # The blanks and line ends of a style that mean nothing: around braces, and after a line's last semicolon.
 STYLE_BLANK = re.compile(r"\s*([{}])\s*|(;)\s*\n\s*")
@@ -103,23 +100,10 @@ def bundle_module(entry: str, web: str) -> str:
     """Returns one classic script that does what a module and all its imports do. Raises NoSite if it has what no script inside the page may have."""
     done: dict[str, str] = {}
     add_module(entry, web, done, ())
-    text = INDENT.sub("", COMMENT.sub("", "".join(done.values())))
+    text = '"use strict";\n' + INDENT.sub("", COMMENT.sub("", "".join(done.values())))
     if re.search(r"</script|<!--|^\s*(?:import|export)\b", text, re.M | re.I):
         raise NoSite(f"web/{entry}.js, or what it imports, has what no script inside the page may have, or an import of another form")
-    return '"use strict";\n' + shorten_script(text)
-
-
-def shorten_script(text: str) -> str:
-    """Returns a script that does the same with fewer blanks and line ends. A line with a slash may have a regular expression, and is left as it is."""
-    lines, is_in_template = [], False
-    for line in text.splitlines(keepends=True):
-        if not is_in_template and not re.search("['`/]", line):
-            parts = SCRIPT_STRING.split(line)
-            line = "".join(SCRIPT_BLANK.sub(r"\1", part) if index % 2 == 0 else part for index, part in enumerate(parts))
-            line = line.rstrip("\n") if line.endswith((";\n", "{\n", ",\n")) else line
-        lines.append(line)
-        is_in_template ^= line.count("`") % 2 == 1
-    return "".join(lines)
+    return text
 
 
 def add_module(name: str, web: str, done: dict[str, str], importers: tuple[str, ...]) -> None:

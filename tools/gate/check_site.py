@@ -119,7 +119,7 @@ def check_bundles() -> Iterator[Comparison]:
         for name, text in BUNDLED.items():
             make_site.write_file(f"{web}/{name}", text)
         text = make_site.bundle_module("main", web)
-        yield "a bundle has each module once", 1, text.count("const one=1;")
+        yield "a bundle has each module once", 1, text.count("const one = 1;")
         yield "a bundle has no import and no export", [], re.findall(r"^(?:import|export)\b", text, re.M)
         yield "a bundle has no comment", 0, text.count("One.")
         if NODE:
