@@ -123,7 +123,7 @@ export class Fences {
     const byPage = "lw refuses some lists by their count of orders; these come from the page's own interpreter ";
     const lists = isPlain ? [byPage, plainMark(), "."] : [`All lists come from lw${this.isSearched ? ", by a search" : ""}.`];
     const search = isPlain ? this.offer() : "";
-    if (!table.rows.length) return [verdict, isPlain ? el("p", { class: "small" }, ...lists) : "", search];
+    if (!table.rows.length) return [verdict, isPlain || this.isSearched ? el("p", { class: "small" }, ...lists) : "", search];
     return [
       el("p", {}, `Which fences of ${isSource ? "the compiled program" : "the test"} are needed, `, by,
         isSource ? [" ", sentence(mappedNames(JSON.stringify([condition, table])))] : ""),
