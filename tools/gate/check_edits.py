@@ -17,7 +17,8 @@ import sys
 from shared import command, start
 from shared.home import HOME
 
-MAX_MESSAGE_LETTERS = 200
+# The most wrong bodies of all crates: the gate tries each one, which takes from six seconds to more than a minute.
+MAX_BODIES = 200
 
 
 def list_edits() -> list[str]:
@@ -81,9 +82,9 @@ def main() -> int:
         if fault:
             failed += 1
             print(f"{edit}: {fault}")
-    if len(list_edits()) > MAX_MESSAGE_LETTERS:
+    if len(list_edits()) > MAX_BODIES:
         failed += 1
-        print(f"there are {len(list_edits())} wrong bodies, of which {MAX_MESSAGE_LETTERS} are to be enough")
+        print(f"there are {len(list_edits())} wrong bodies, of which {MAX_BODIES} are to be enough")
     print(f"{len(list_edits()) - failed} passed, {failed} failed")
     return 1 if failed else 0
 
