@@ -355,7 +355,7 @@ def explain_states(test: plain.Test, state: str) -> WhyNot:
     if state_words is not None and tuple(state_words[site] for site in plain.list_observed_sites(test)) in allowed:
         return WhyNot(["x86-TSO allows this state: `lw schedules` lists it with a schedule."], 1, [])
     if not broken:
-        no_state = f"No thread reads or writes such values: no candidate execution ends in {state}"
+        no_state = f"No candidate execution ends in {state} No choice of paths and reads gives these values together."
         return WhyNot([no_state if state_words else NONE_FORBIDDEN], 0, [])
     states = sort_forbidden_states(broken)
     drawn = [it for _, ways in states for it in ways[:MAX_DRAWN_CYCLES]][:MAX_DRAWN_CYCLES]

@@ -16,7 +16,7 @@ const ARROWS = [
   ["rf", { rf: "reads from", rfi: "reads its own store", init: "reads the initial value" }],
   ["fr", { fr: "read before that write" }],
 ];
-const WITH_CYCLE = "The bold arrows are a cycle: no interleaving ends this way. ";
+const WITH_CYCLE = "The bold arrows are a cycle: this run is no interleaving. ";
 const WITHOUT_CYCLE = "No cycle: interleaving can end this way, too. ";
 // The number of graphs that were shown so far.
 let shownGraphs = 0;

@@ -14,7 +14,7 @@ export class RunMenu {
     this.said = el("span", { role: "status" });
     this.wrong = el("div", { role: "status", class: "small" });
     const enter = (event) => event.key === "Enter" && this.follow();
-    this.written = el("input", { type: "text", size: "22", id: id("written"), placeholder: "P0 P0 P1 P1 D0 D1", keydown: enter });
+    this.written = el("input", { type: "text", size: "22", id: id("written"), placeholder: "P0 D0 P1", keydown: enter });
     this.listed = button("Watch the run that lw lists", () => this.run.chooseListed(), { class: "listed-run" });
     this.place = el("details", { class: "menu" }, el("summary", { "aria-label": "More on this run" }, "⋯"), el("div", { class: "sheet-menu" },
       this.listed,

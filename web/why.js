@@ -15,8 +15,10 @@ import { headingOf } from "./tokens.js";
 
 const ARROWS = "Each arrow means “comes before”. ";
 const CIRCLE = "The bold ones form a cycle, so no run can end this way.";
+// How the first line of an answer on a forbidden state begins. Words that no candidate has are `?` there, so the page names the state that was asked about.
+const FORBIDS = "x86-TSO forbids ";
 const RULE = "Program order counts here, but not";
-const RULE_OF_RUN = "By interleaving the bold arrows forbid this state. x86-TSO does not keep program order";
+const RULE_OF_RUN = "By interleaving the bold arrows forbid this run. x86-TSO does not keep program order";
 const EXCEPTION =
   " from a store to a later load: that load may read while the store waits in its buffer. It counts again if an `MFENCE` or a locked instruction " +
   "is between them.";
@@ -147,7 +149,8 @@ export class Why {
   partsOf({ lines, cycles }, isSource) {
     const drawn = cycles.map(({ graph, words }) => el("figure", {}, shownGraph(graph, this.tints).graph, el("figcaption", {}, words)));
     const of = isSource ? "Of the compiled program, with the source's names: " : "";
-    const head = el("p", { class: "why-head" }, of, el("b", {}, lines[0]), " ", plainMark());
+    const isForbidden = lines[0].startsWith(FORBIDS) && this.askedOf !== "all";
+    const head = el("p", { class: "why-head" }, of, el("b", {}, isForbidden ? FORBIDS + this.askedOf : lines[0]), " ", plainMark());
     const inWords = el("details", { open: !drawn.length && lines.length > 1 }, el("summary", {}, "In words"), el("pre", {}, lines.join("\n")));
     if (!drawn.length) return [head, lines.length > 1 ? inWords : ""];
     const notes = el("div", { class: "why-notes" }, el("p", { class: "small" }, ARROWS, this.cyclesWords(lines, drawn)), legend(...drawn), ruleNote(RULE));

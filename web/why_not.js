@@ -111,7 +111,7 @@ export function whyNot(test, state) {
     return { lines: ["x86-TSO allows this state: `lw schedules` lists it with a schedule."], cycles: [] };
   }
   if (!byAxioms.forbidden.length) {
-    return { lines: [wanted ? `No thread reads or writes such values: no candidate execution ends in ${state}` : NONE_FORBIDDEN], cycles: [] };
+    return { lines: [wanted ? `No candidate execution ends in ${state} No choice of paths and reads gives these values together.` : NONE_FORBIDDEN], cycles: [] };
   }
   const states = sortForbidden(byAxioms.forbidden);
   const shownWays = states.flatMap(({ ways }) => ways.slice(0, MAX_DRAWN)).slice(0, MAX_DRAWN);

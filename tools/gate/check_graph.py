@@ -253,7 +253,7 @@ def check_tool() -> Iterator[Comparison]:
     front = "x86-TSO forbids 0:r0=0; 1:r0=0;\n"
     yield "why SB does not end so, in its own names", (0, True), (ran.returncode, ran.stdout.startswith(front))
     ran = run("--why-not", "0:r0=7; 1:r0=0;", SOURCE)
-    expected = "No thread reads or writes such values: no candidate execution ends in 0:r0=7; 1:r0=0;\n"
+    expected = "No candidate execution ends in 0:r0=7; 1:r0=0; No choice of paths and reads gives these values together.\n"
     yield "a state of words that no thread has", (0, expected), (ran.returncode, ran.stdout)
     ran = run("--why-not", "0:r0=0;", SOURCE)
     yield "a source test shows its own names", True, "the test shows 0:r0=..; 1:r0=..;" in ran.stderr

@@ -51,7 +51,7 @@ class WhyNot(PageCase):
         user.click("#tab-why")
         self.assertSays(f"A run ends in this state: {MISSED}", "#why .why-head")
         self.assertEqual(4, len(user.wait(lambda: user.all("#why svg path.marked"))))
-        rule = "By interleaving the bold arrows forbid this state. x86-TSO does not keep program order from a store to a later load"
+        rule = "By interleaving the bold arrows forbid this run. x86-TSO does not keep program order from a store to a later load"
         self.assertSays(rule, "#why .rule")
         user.click("#tab-states")
         user.click("table.strip tbody tr:first-child td[data-column='2']")
@@ -105,7 +105,7 @@ class WhyNot(PageCase):
             field.clear()
             field.send_keys("7")
         user.click(".why-not")
-        self.assertSays("No thread reads or writes such values: no candidate execution ends in 1:EAX=7; 1:EBX=7;", "#why .why-head")
+        self.assertSays("No candidate execution ends in 1:EAX=7; 1:EBX=7; No choice of paths and reads gives these values together.", "#why .why-head")
         self.assertEqual([], user.all("#why figure"))
 
 
