@@ -26,7 +26,7 @@ pub const MAX_ROWS: usize = 64;
 /// The maximum number of atoms and connectives of a test's condition.
 pub const MAX_NODES: usize = 256;
 
-/// States, for readers, that each constant is the number that the definitions name.
+/// States that each constant is the number that the definitions name.
 pub fn the_constants_are_the_limits()
     ensures threads { MAX_THREADS ≡ most_threads }
     ensures locations { MAX_LOCATIONS ≡ most_locations }

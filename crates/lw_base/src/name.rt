@@ -50,7 +50,7 @@ pub fn is_name(text: &str) -> bool
 }
 
 /// Returns whether the text can name a location or a label: it is a name and not reserved.
-pub fn is_location(text: &str) -> bool
+pub fn is_location_name(text: &str) -> bool
     ensures { IsTrue result ↔ IsLocationName text.now }
 {
     is_name(text) && !is_reserved(text)

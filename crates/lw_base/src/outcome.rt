@@ -28,7 +28,7 @@ impl<A: Allocator> Model for Outcome<A> {
     ghost inverse = { λ f. record { regs = f.regs; words = f.words } };
 }
 
-/// States, for readers, that outcomes are compared by their registers, and by their words if the registers are equal.
+/// States that outcomes are compared by their registers, and by their words if the registers are equal.
 pub fn registers_come_first<A: Allocator>()
     ensures { (left right : FinalState) → ⟦<Outcome<A> as Ord>⟧.cmp left right ≡ final_state_cmp left right }
 {}

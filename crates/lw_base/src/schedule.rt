@@ -170,13 +170,13 @@ fn write_cpu<A: Allocator>(out: &mut String<A>, letter: char, cpu: Cpu) -> Resul
     out.push(cpu.digit())
 }
 
-/// States, for readers, that `read_schedule` reads back the events that `write_schedule` writes.
+/// States that `read_schedule` reads back the events that `write_schedule` writes.
 pub fn a_written_schedule_is_read_back()
     ensures { (names : NameTable) (events : List Event) → IsNameTable names → AllByRecursion (IsEvent names) events
         → IsSchedule names (schedule_text names events) events }
 {}
 
-/// States, for readers, that a text is a schedule of at most one list of events.
+/// States that a text is a schedule of at most one list of events.
 pub fn a_text_has_one_schedule()
     ensures { (names : NameTable) → IsNameTable names → (text : Bytes) (events others : List Event)
         → IsSchedule names text events → IsSchedule names text others → events ≡ others }

@@ -7,20 +7,20 @@ ghost use Rattle.lw_interleaving.specs.Steps.{FollowsFlow, thread_position, next
 ghost use Rattle.lw_litmus.specs.Conflicts.{operations_conflict};
 ghost use Rattle.lw_litmus.specs.Sources.{source_language};
 
-/// States, for readers, that adjacent steps of two threads commute if their statements do not conflict: the state
+/// States that adjacent steps of two threads commute if their statements do not conflict: the state
 /// after both is the same.
 pub fn independent_steps_commute()
     ensures { (program : List (List Stmt)) (t u : ℕ) (s : State) → t ≢ u
         → operations_conflict source_language (next_statement program s t) (next_statement program s u) ≡ false → StepsCommute program t u s }
 {}
 
-/// States, for readers, that a step takes its thread to a successor of its position in the control flow.
+/// States that a step takes its thread to a successor of its position in the control flow.
 pub fn a_step_follows_the_flow()
     ensures { (program : List (List Stmt)) (t : ℕ) (s next : State)
         → source_step program t s ≡ Ok next → FollowsFlow program t s next }
 {}
 
-/// States, for readers, that a step does not change another thread's position.
+/// States that a step does not change another thread's position.
 pub fn a_step_changes_one_thread()
     ensures { (program : List (List Stmt)) (t u : ℕ) (s next : State) → t ≢ u
         → source_step program t s ≡ Ok next → thread_position next u ≡ thread_position s u }

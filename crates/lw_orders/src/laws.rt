@@ -7,7 +7,7 @@ ghost use Rattle.lw_orders.specs.Orientations.{unordered_conflicts, is_ordered, 
 ghost use Rattle.lw_orders.specs.Sequence.{indices, orders};
 ghost use Rattle.lw_orders.specs.Swaps.{AreConnected, IsSwapInvariant};
 
-/// States, for readers, that two trace-equivalent linear extensions are connected by swaps of adjacent items that
+/// States that two trace-equivalent linear extensions are connected by swaps of adjacent items that
 /// neither conflict nor are preserved, through linear extensions only.
 pub fn trace_equivalent_orders_are_connected()
     ensures { (t : Constraints) → IsWellFormed t
@@ -15,7 +15,7 @@ pub fn trace_equivalent_orders_are_connected()
         → AreConnected t xs ys }
 {}
 
-/// States, for readers, that a test of orders (such as whether the run of an order ends in a given way) has the same
+/// States that a test of orders (such as whether the run of an order ends in a given way) has the same
 /// value on trace-equivalent linear extensions, if every swap of adjacent independent items preserves its value.
 pub fn trace_equivalent_orders_agree()
     ensures { (t : Constraints) → IsWellFormed t → (test : List ℕ → Bool) → IsSwapInvariant t test
@@ -23,13 +23,13 @@ pub fn trace_equivalent_orders_agree()
         → test xs ≡ test ys }
 {}
 
-/// States, for readers, that a pair is ordered if and only if a path of preserved pairs leads from its first item to
+/// States that a pair is ordered if and only if a path of preserved pairs leads from its first item to
 /// its second.
 pub fn paths_order_pairs()
     ensures { (t : Constraints) → IsWellFormed t → (p : ℕ × ℕ) → IsTrue (is_ordered t.preserved p) ↔ IsOrderedByPath t.preserved p }
 {}
 
-/// States, for readers, that the computed unordered conflicts are those that no path orders, and that the number of
+/// States that the computed unordered conflicts are those that no path orders, and that the number of
 /// their orientations is 2 to the power of their number, and no other.
 pub fn orientations_are_counted()
     ensures pairs { (t : Constraints) → IsWellFormed t → AreUnorderedConflicts t (unordered_conflicts t) }
@@ -49,7 +49,7 @@ pub fn one_order_without_unordered_conflicts()
     ensures { (t : Constraints) → IsWellFormed t → unordered_conflicts t ≡ [] → orders t ≡ indices 0 t.len ∷ [] }
 {}
 
-/// States, for readers, that an order of n items has each item at exactly one index and nothing else, and that a list
+/// States that an order of n items has each item at exactly one index and nothing else, and that a list
 /// of these items in which each is found, without duplicates, is an order of them.
 pub fn orders_are_permutations()
     ensures within { (n : ℕ) (order : List ℕ) → IsOrder n order → All (λ i. i < n) order }

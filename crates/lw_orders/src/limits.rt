@@ -11,7 +11,7 @@ pub const MAX_UNORDERED: usize = 20;
 /// The maximum number of orders: each unordered conflict has two orientations.
 pub const MAX_ORDERS: u64 = 1 << MAX_UNORDERED;
 
-/// States, for readers, that each constant is the number that the definitions name.
+/// States that each constant is the number that the definitions name.
 pub fn the_constants_are_the_limits()
     ensures items { MAX_ITEMS ≡ most_items }
     ensures unordered_conflicts { MAX_UNORDERED ≡ most_unordered }

@@ -3,7 +3,7 @@ ghost use Rattle.std.specs.Prelude.{MatchResult};
 ghost use Rattle.lw_statements.specs.inner.Reading.{LabelsTaken, LabelsRefused};
 
 use crate::token::{misfit, stands_at};
-use lw_base::{CellCause, CellFault, is_location};
+use lw_base::{CellCause, CellFault, is_location_name};
 use lw_text::Token;
 use std::alloc::Allocator;
 use std::collections::BTreeMap;
@@ -20,7 +20,7 @@ pub(crate) fn read_labels<'a, A: Allocator + Copy>(
     let mut next = 0;
     while stands_at(tokens, next + 1, ":") {
         let token = tokens[next];
-        if !is_location(token.text) {
+        if !is_location_name(token.text) {
             return Err(misfit(&token));
         }
         if labels.insert(token.text, to)?.is_some() {

@@ -27,7 +27,7 @@ use crate::statement_reader::StatementReader;
 use crate::token::{location, misfit, no_register};
 use lw_base::{
     Arch, CellCause, CellFault, Loc, LocNames, MAX_LOCATIONS, Operand, Reg, Word,
-    eq_ignore_ascii_case, is_location, reg_from_name,
+    eq_ignore_ascii_case, is_location_name, reg_from_name,
 };
 use lw_text::Token;
 use std::alloc::Allocator;
@@ -124,7 +124,7 @@ fn with_name(found: SlotBindings, token: &Token<'_>, index: usize) -> Option<Slo
     ensures { MatchOption result (IsLocationName token.now.text.now → ⊥)
         (λ all. IsLocationName token.now.text.now × (all ≡ drafts.with_name_at index found)) }
 {
-    if !is_location(token.text) {
+    if !is_location_name(token.text) {
         return None;
     }
     Some(SlotBindings {
@@ -138,7 +138,7 @@ fn with_label(found: SlotBindings, token: &Token<'_>, index: usize) -> Option<Sl
     ensures { MatchOption result (IsLocationName token.now.text.now → ⊥)
         (λ all. IsLocationName token.now.text.now × (all ≡ drafts.with_label_at index found)) }
 {
-    if !is_location(token.text) {
+    if !is_location_name(token.text) {
         return None;
     }
     Some(SlotBindings {

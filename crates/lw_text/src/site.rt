@@ -18,7 +18,7 @@ ghost use Rattle.lw_text.specs.inner.Resolved as resolved;
 
 use crate::cursor::Cursor;
 use crate::fault::{Refusal, TextCause};
-use lw_base::{Arch, Loc, LocNames, Reg, Word, is_location, is_name, reg_from_name};
+use lw_base::{Arch, Loc, LocNames, Reg, Word, is_location_name, is_name, reg_from_name};
 use std::alloc::Allocator;
 
 /// A location, by its index, or a register of a thread, which the test may not have.
@@ -192,7 +192,7 @@ fn enter<A: Allocator + Copy>(
         (λ f. f.cause ≢ Memory → (IsLocationName name.now → HasRoomForName locs.old name.now → ⊥)
         × (f.at ≡ misfit.at) × IsNoNewLocation misfit.cause locs.old name.now f.cause) }
 {
-    if !is_location(name) {
+    if !is_location_name(name) {
         return Err(no_name(name, misfit));
     }
     match locs.find_or_add(name)? {

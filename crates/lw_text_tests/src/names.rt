@@ -1,7 +1,7 @@
 //! Names, registers and the table of locations.
 ghost use Rattle.std.specs.Prelude.{◌≡◌, []};
 
-use lw_base::{Arch, LocNames, Reg, is_location, is_name, reg_from_name, reg_name};
+use lw_base::{Arch, LocNames, Reg, is_location_name, is_name, reg_from_name, reg_name};
 use std::alloc::{AllocError, Allocator};
 
 /// Names of locations, of which the last has 32 bytes.
@@ -18,7 +18,7 @@ const NO_NAMES: &str = "1x,,9,x-y,x y,x:,[x],\u{e9},a234567890123456789012345678
 /// Returns the first word for which it is wrong that it is a name, or that it is a name of a location, as stated.
 fn first_other(words: &str, is_of_a_name: bool, is_of_a_location: bool) -> Option<&str> {
     words.split(',').find(|word| {
-        is_name(word) != is_of_a_name || is_location(word) != is_of_a_location
+        is_name(word) != is_of_a_name || is_location_name(word) != is_of_a_location
     })
 }
 
@@ -35,7 +35,7 @@ fn names_of_locations(rt: HostRuntime) {
 /// Inserts the names of a text into a table, and returns their number.
 fn grow<A: Allocator + Copy>(names: &mut LocNames<A>, words: &str) -> Result<usize, AllocError> {
     for word in words.split(' ') {
-        if is_location(word) {
+        if is_location_name(word) {
             names.find_or_add(word)?;
         }
     }
@@ -56,7 +56,7 @@ fn are_named<A: Allocator>(names: &LocNames<A>, words: &str) -> bool {
 fn takes_first<A: Allocator + Copy>(names: &mut LocNames<A>) -> bool
     requires { names.old ≡ [] }
 {
-    if !is_location("x") {
+    if !is_location_name("x") {
         return false;
     }
     match names.add("x") {

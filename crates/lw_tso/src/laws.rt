@@ -23,14 +23,14 @@ ghost use Rattle.lw_tso.specs.Starts.{IsInitialMemory};
 
 use lw_memory::MemorySystem;
 
-/// States, for readers, that a program has the same outcomes over every memory system: those over flat memory.
+/// States that a program has the same outcomes over every memory system: those over flat memory.
 pub fn outcomes_are_flat<M: MemorySystem>()
     ensures { (test : X86Test) (m : M) (o : FinalState) → IsWellScopedProgram test
         → IsInitialMemory (memory_of M.content M.state M.serves) (invariant_of M.cpus M.sound) test m
         → IsMachineOutcome (memory_of M.content M.state M.serves) test m o ↔ IsMachineOutcome flat_memory test test.head.init_words o }
 {}
 
-/// States, for readers, that a list of events without evictions replays over a memory system to an outcome if and
+/// States that a list of events without evictions replays over a memory system to an outcome if and
 /// only if it does over flat memory.
 pub fn replays_are_flat<M: MemorySystem>()
     ensures { (test : X86Test) (m : M) (events : List Event) (o : FinalState) → IsWellScopedProgram test
@@ -38,7 +38,7 @@ pub fn replays_are_flat<M: MemorySystem>()
         → ReplaysTo (memory_of M.content M.state M.serves) test m events o ↔ ReplaysTo flat_memory test test.head.init_words events o }
 {}
 
-/// States, for readers, that every run of a program, over every memory system, can be extended to a final state by a
+/// States that every run of a program, over every memory system, can be extended to a final state by a
 /// few more events of each thread.
 pub fn every_run_ends<M: MemorySystem>()
     ensures { (test : X86Test) (m : M) (events : List Event) (s : MachineState M) → IsWellScopedProgram test
@@ -47,7 +47,7 @@ pub fn every_run_ends<M: MemorySystem>()
         → CanTerminate (memory_of M.content M.state M.serves) test.threads s }
 {}
 
-/// States, for readers, that the events of a replay name only the test's processors and locations, and that its
+/// States that the events of a replay name only the test's processors and locations, and that its
 /// outcome has as many threads and locations.
 pub fn replays_are_of_their_test<M: MemorySystem>()
     ensures { (test : X86Test) (m : M) (events : List Event) (o : FinalState) → IsWellScopedProgram test
@@ -83,14 +83,14 @@ pub fn flat_events_are_determined()
         → MachineTransition flat_memory program e s a after → MachineTransition flat_memory program e s b other → (a ≡ b) × (after ≡ other) }
 {}
 
-/// States, for readers, that adjacent independent events of the flat machine commute: the state after both is the
+/// States that adjacent independent events of the flat machine commute: the state after both is the
 /// same, and each step executes the same position.
 pub fn independent_events_commute()
     ensures { (program : List (List Instr)) (e f : Event) (s : MachineState (List ℕ)) → AreIndependent program e f s
         → EventsCommute program e f s }
 {}
 
-/// States, for readers, that fences only remove outcomes: every outcome of a test with MFENCEs inserted, at any
+/// States that fences only remove outcomes: every outcome of a test with MFENCEs inserted, at any
 /// indices, is an outcome of the test.
 pub fn fences_only_remove_outcomes()
     ensures { (test fenced : X86Test) (o : FinalState) → IsFencedTest test fenced

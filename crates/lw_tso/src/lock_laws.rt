@@ -9,7 +9,7 @@ ghost use Rattle.lw_litmus.specs.Tests.{X86Test};
 ghost use Rattle.lw_tso.specs.LockPhases.{OutcomeInPhases};
 ghost use Rattle.lw_tso.specs.Runs.{IsMachineOutcome};
 
-/// States, for readers, that the published machine has the outcomes of this machine. In the published machine a
+/// States that the published machine has the outcomes of this machine. In the published machine a
 /// locked instruction takes a lock, reads, writes into the store buffer and releases the lock once the buffer is
 /// empty, while other processors continue; here it is one step.
 pub fn lock_phases_change_no_outcome()

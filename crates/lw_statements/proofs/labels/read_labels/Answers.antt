@@ -31,23 +31,23 @@ loop-token-preserved g c =
     let within = next_within c.args.tokens.now c.loop-token.next _ colon in
     LabelsRead-one_more _ _ _ _ _ c.loop-token.invariant _
     (slice_get_read c.args.tokens.now _ c.loop-token.next _ refl (omega arith) c.index-tokens-next.is) colon _
-    (c.is_location.ensures.0 c.if-not-is_location.false)
+    (c.is_location_name.ensures.0 c.if-not-is_location_name.false)
     (ap is_some (sym c.in_ok-insert.ensures.old) ∙ sym c.is_some.ensures ∙ c.if-is_some.false)
     (btree_map_updates_str _ c.loop-token.labels c.insert.new.self _ c.in_ok-insert.ensures.updates)
 
-pub returns-then-not-is_location : goal.returns-then-not-is_location
-returns-then-not-is_location g c =
+pub returns-then-not-is_location_name : goal.returns-then-not-is_location_name
+returns-then-not-is_location_name g c =
     let colon = c.stands_at.ensures.0 c.loop-token-test.true in
     let within = next_within c.args.tokens.now c.loop-token.next _ colon in
     let token = slice_get_read c.args.tokens.now _ c.loop-token.next _ refl (omega arith) c.index-tokens-next.is in
     record {
       none = λ known ks fit.
-          true≢false (sym (c.is_location.ensures.1 (Labels-continue _ _ _ _ _ c.loop-token.invariant _ token colon ks _ fit.says
-          fit.stops).2)
-          ∙ c.if-not-is_location.true);
+          true≢false (sym (c.is_location_name.ensures.1 (Labels-continue _ _ _ _ _ c.loop-token.invariant _ token colon ks _
+          fit.says fit.stops).2)
+          ∙ c.if-not-is_location_name.true);
       cause = rw c.misfit.ensures.place (FaultClaim-wrong _ c.misfit.result.cause c.misfit.ensures.cause (
         IsAtLabel-of_token _ _ _ _ _ c.loop-token.invariant _ token colon,
-        (λ loc. true≢false (sym (c.is_location.ensures.1 loc) ∙ c.if-not-is_location.true)),
+        (λ loc. true≢false (sym (c.is_location_name.ensures.1 loc) ∙ c.if-not-is_location_name.true)),
         c.misfit.ensures.cause,
       ));
       place = λ len lies.
