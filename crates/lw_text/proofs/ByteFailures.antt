@@ -103,7 +103,7 @@ not-FailsInToken-at_end cause (no_number_run w r run digit never c) = cc digit
 not-FailsInToken-at_end cause (no_name_run w r run first other never c) = cc first
 not-FailsInToken-at_end cause (no_symbol some other never c) = omega (arith, some)
 
--- The first token fails uniquely.
+-- The first token fails at one place only, and for one cause.
 pub FailsInFirstToken-unique : (text r s : Bytes) (c d : TextCause)
     → FailsInFirstToken text r c
     → FailsInFirstToken text s d
@@ -170,7 +170,7 @@ blank_first : (text blanks rest : Bytes)
 blank_first text [] rest e some all = absurd (omega (arith, some))
 blank_first text (b ∷ blanks) rest e some all = ap (first_byte_is is_blank) e ∙ all.0
 
--- The test's name fails uniquely.
+-- The test's name fails at one place only, and for one cause.
 pub FailsInTestName-unique : (text r s : Bytes) (c d : TextCause)
     → FailsInTestName text r c
     → FailsInTestName text s d
@@ -219,7 +219,7 @@ not-FailsInTestName-if_parsed text r name after c (bad_name blanks word behind e
 not-both-first_byte : (p : ℕ → Bool) (text : Bytes) → first_byte_is p text ≡ true → first_byte_is p text ≡ false → ⊥
 not-both-first_byte p text holds other = false≢true (sym other ∙ holds)
 
--- A key line fails uniquely.
+-- A key line fails at one place only, and for one cause.
 FailsInKeyLine-unique : (text r s : Bytes) → FailsInKeyLine text r → FailsInKeyLine text s → r ≡ s
 FailsInKeyLine-unique text r s (no_key_byte other at) (no_key_byte off is) = at ∙ sym is
 FailsInKeyLine-unique text r s (no_key_byte other at) (no_equals_sign key spaces e some all blank after stop sign) =
@@ -240,7 +240,7 @@ not-FailsInKeyLine-if_parsed text r end (no_key_byte other at) is =
 not-FailsInKeyLine-if_parsed text r end (no_equals_sign key spaces e some all blank after stop sign) is =
     no_key_line-if_no_equals text key (spaces ++ r) spaces r e all after refl blank stop sign end is
 
--- A note fails uniquely.
+-- A note fails at one place only, and for one cause.
 FailsInNote-unique : (text r s : Bytes) → FailsInNote text r → FailsInNote text s → r ≡ s
 FailsInNote-unique text r s (open_quote inside e plain end) (open_quote within f also is) = end ∙ sym is
 FailsInNote-unique text r s (open_quote inside e plain end) (in_key_line other q) =
@@ -258,7 +258,7 @@ not-FailsInNote-if_parsed text r end (in_key_line other q) (inl is) =
     not-both-first_byte (λ b. b == 34) text (Quoted-front text end is) other
 not-FailsInNote-if_parsed text r end (in_key_line other q) (inr is) = not-FailsInKeyLine-if_parsed text r end q is
 
--- Notes fail uniquely.
+-- Notes fail at one place only, and for one cause.
 FailsInNotes-unique : (r s : Bytes) (text : Bytes) → FailsInNotes r text → FailsInNotes s text → r ≡ s
 FailsInNotes-unique r s text (open_comment_in_notes never end) (open_comment_in_notes lacks is) = end ∙ sym is
 FailsInNotes-unique r s text (open_comment_in_notes never end) (in_note {mid = mid} trivia stop other q) =
@@ -303,15 +303,14 @@ IsNoteCause-unique (b ∷ rest) c d p q = p ∙ sym q
 
 -- ---- The preamble.
 
--- The first token of a text is that of one language.
-language_of_first_token-unique : (text t after mid : Bytes) (arch : Arch)
+-- If the first token of a text is t, and is the keyword of a language, then t is this keyword.
+first_token-is_keyword : (text t after mid : Bytes) (arch : Arch)
     → IsFirstToken text t after
     → IsFirstToken text (arch_keyword arch) mid
     → arch_keyword arch ≡ t
-language_of_first_token-unique text t after mid arch is also =
-    (IsFirstToken-unique text (arch_keyword arch) mid t after also is).0
+first_token-is_keyword text t after mid arch is also = (IsFirstToken-unique text (arch_keyword arch) mid t after also is).0
 
--- The preamble fails uniquely.
+-- The preamble fails at one place only, and for one cause.
 pub FailsInPreamble-unique : (text r s : Bytes) (c d : TextCause)
     → FailsInPreamble text r c
     → FailsInPreamble text s d
@@ -340,15 +339,15 @@ FailsInPreamble-unique text r s c d (other_keyword t after is at other p) (other
     let same = IsFirstToken-unique text t after u behind is also in
     (at ∙ ap (λ x. x ++ after) same.0 ∙ ap (λ x. u ++ x) same.1 ∙ sym place, p ∙ sym q)
 FailsInPreamble-unique text r s c d (other_keyword t after is at other p) (in_test_name arch mid also q) =
-    absurd (other arch (language_of_first_token-unique text t after mid arch is also))
+    absurd (other arch (first_token-is_keyword text t after mid arch is also))
 FailsInPreamble-unique text r s c d (other_keyword t after is at other p) (in_notes arch mid name behind also names q cause) =
-    absurd (other arch (language_of_first_token-unique text t after mid arch is also))
+    absurd (other arch (first_token-is_keyword text t after mid arch is also))
 FailsInPreamble-unique text r s c d (in_test_name arch after is q) (in_keyword p) =
     absurd (not-FailsInFirstToken-if_parsed text s _ after d p is)
 FailsInPreamble-unique text r s c d (in_test_name arch after first q) (no_keyword end is p) =
     absurd (no_first_token-trivia_only text _ after end first)
 FailsInPreamble-unique text r s c d (in_test_name arch mid also q) (other_keyword t after is at other p) =
-    absurd (other arch (language_of_first_token-unique text t after mid arch is also))
+    absurd (other arch (first_token-is_keyword text t after mid arch is also))
 FailsInPreamble-unique text r s c d (in_test_name arch after is p) (in_test_name language mid also q) =
     FailsInTestName-unique after r s c d p
     (subst (λ x. FailsInTestName x s d)
@@ -362,7 +361,7 @@ FailsInPreamble-unique text r s c d (in_notes arch mid name after is names q cau
 FailsInPreamble-unique text r s c d (in_notes arch mid name after first names q cause) (no_keyword end is p) =
     absurd (no_first_token-trivia_only text _ mid end first)
 FailsInPreamble-unique text r s c d (in_notes arch mid name behind also names q cause) (other_keyword t after is at other p) =
-    absurd (other arch (language_of_first_token-unique text t after mid arch is also))
+    absurd (other arch (first_token-is_keyword text t after mid arch is also))
 FailsInPreamble-unique text r s c d (in_notes language mid name behind also names q cause) (in_test_name arch after is p) =
     absurd (not-FailsInTestName-if_parsed after s name behind d p
     (subst (λ x. ParsesTestName x name behind)
@@ -382,7 +381,7 @@ pub not-FailsInPreamble-if_parsed : (text r rest name : Bytes) (arch : Arch) (c 
 not-FailsInPreamble-if_parsed text r rest name arch c (in_keyword p) is = not-FailsInFirstToken-if_parsed text r _ is.0 c p is.2
 not-FailsInPreamble-if_parsed text r rest name arch c (no_keyword end at p) is = no_first_token-trivia_only text _ is.0 end is.2
 not-FailsInPreamble-if_parsed text r rest name arch c (other_keyword t after first at other p) is =
-    other arch (language_of_first_token-unique text t after is.0 arch first is.2)
+    other arch (first_token-is_keyword text t after is.0 arch first is.2)
 not-FailsInPreamble-if_parsed text r rest name arch c (in_test_name language after first p) is =
     not-FailsInTestName-if_parsed after r name is.1 c p
     (subst (λ x. ParsesTestName x name is.1)

@@ -48,7 +48,7 @@ module _ (arch : Arch) (threads : ℕ) where
   not-empty-IsTerminal : (ts mid : TokenList) (s : Terminal AtomSyntax) → IsTerminal arch threads ts s mid → ts ≢ []
   not-empty-IsTerminal ts mid s is e = omega (arith, IsTerminal-shorter arch threads ts mid s is, ap length e)
 
-  -- A terminal fails uniquely.
+  -- A terminal fails at one place only, and for one cause.
   FailsInTerminal-unique : (part : Bool) (names : NameTable) → FailsUniquely (FailsInTerminal arch threads part names)
   FailsInTerminal-unique true names ts r s d e p q =
       FailsInAssignment-unique arch (Some threads) names cause.Condition ts r s d e p.1 q.1
@@ -132,7 +132,7 @@ module _ (arch : Arch) (threads : ℕ) where
       (subst (λ (p : PropositionPlace). FailsInTerminal arch threads p.0 names ts rest because) is fails) begins
       (λ all. all.0 refl)
 
-  -- A proposition fails uniquely, from each place on.
+  -- A proposition fails at one place only, and for one cause, from each place on.
   FailsInProposition-unique : (r s : TokenList) (d e : TextCause) (place : PropositionPlace) (nodes : ℕ) (names : NameTable)
       (ts : TokenList)
       → FailsInProposition arch threads r d place nodes names ts
@@ -354,7 +354,7 @@ module _ (arch : Arch) (threads : ℕ) where
       Some-injective_place e = cc e
 
   module _ (names : NameTable) where
-    -- A condition fails uniquely.
+    -- A condition fails at one place only, and for one cause.
     pub FailsInCondition-unique : FailsUniquely (FailsInCondition arch threads names)
     FailsInCondition-unique ts r s d e (in_list p) (in_list q) = FailsInList-unique arch threads names ts r s d e p q
     FailsInCondition-unique ts r s d e (in_list p) (in_quantifier listed lists there room q) =

@@ -81,7 +81,7 @@ IsNoNewLocation-unique c names t cause because (inl p) (inr q) = absurd (p.0 q.0
 IsNoNewLocation-unique c names t cause because (inr p) (inl q) = absurd (q.0 p.0)
 IsNoNewLocation-unique c names t cause because (inr p) (inr q) = p.2 ∙ sym q.2
 
--- The name of a location fails uniquely, and not if there is one that has room.
+-- The name of a location fails at one place only, and for one cause, and not if there is one that has room.
 FailsInName-unique : (names : NameTable) (c : TextCause) → FailsUniquely (FailsInName names c)
 FailsInName-unique names c = FailsUniquely-at_first_token (IsNoNewLocation c names) (IsNoNewLocation-unique c names)
 
@@ -99,7 +99,7 @@ not-FailsInName-if_parsed names c ts rest l cause x fails begins is room =
     by_first_token (inl p) = p.0 is
     by_first_token (inr p) = p.1 room
 
--- A location in brackets fails uniquely, and not if it is one that has room.
+-- A location in brackets fails at one place only, and for one cause, and not if it is one that has room.
 FailsInBrackets-unique : (names : NameTable) (c : TextCause) → FailsUniquely (FailsInBrackets names c)
 FailsInBrackets-unique names c ts r s d e (in_bracketed_name p) (in_bracketed_name q) = FailsInName-unique names c ts r s d e p q
 FailsInBrackets-unique names c ts r s d e (in_bracketed_name p) (no_bracket begins is room q) =
@@ -123,7 +123,7 @@ not-FailsInBrackets-if_parsed names c ts rest l cause x (no_bracket again too ha
     not-FailsBefore-if_parsed (codes "]" ∷ []) c _ rest l cause (codes "]") p (cons-tail_unique (sym again ∙ begins))
     (λ all. all.0 refl)
 
--- A register after a thread's number fails uniquely, and not if there is one.
+-- A register after a thread's number fails at one place only, and for one cause, and not if there is one.
 FailsInRegister-unique : (arch : Arch) (c : TextCause) → FailsUniquely (FailsInRegister arch c)
 FailsInRegister-unique arch c ts r s d e (no_colon p) (no_colon q) = FailsBefore-unique (codes ":" ∷ []) c ts r s d e p q
 FailsInRegister-unique arch c ts r s d e (no_colon p) (no_register_name begins q) =
@@ -176,7 +176,7 @@ IsNumber-unique_first ts l m p q n k e f is also =
     number-unique p n k is (subst (λ w. IsNumber w k) (cons-head_eq _ _ _ _ (sym f ∙ e)) also)
 
 module _ (arch : Arch) (threads : Option ℕ) (names : NameTable) (c : TextCause) where
-  -- A site fails uniquely.
+  -- A site fails at one place only, and for one cause.
   pub FailsInSite-unique : FailsUniquely (FailsInSite arch threads names c)
   FailsInSite-unique ts r s d e (in_name plain p) (in_name too q) = FailsInName-unique names c ts r s d e p q
   FailsInSite-unique ts r s d e (in_name plain p) (in_brackets begins q) = absurd (no_bracket-Plain ts _ plain begins)
@@ -273,7 +273,7 @@ not-FailsInValue-if_parsed c ts rest mid cause n (no_number begins p) is =
     is.2
 
 module _ (arch : Arch) (threads : Option ℕ) (names : NameTable) (c : TextCause) where
-  -- A site with its word fails uniquely.
+  -- A site with its word fails at one place only, and for one cause.
   pub FailsInAssignment-unique : FailsUniquely (FailsInAssignment arch threads names c)
   FailsInAssignment-unique ts r s d e (in_site p) (in_site q) = FailsInSite-unique arch threads names c ts r s d e p q
   FailsInAssignment-unique ts r s d e (in_site p) (in_value site is there room q) =

@@ -34,8 +34,8 @@ use Rattle.lw_text.specs.declared.terminal.Atom.TheVariants as atoms
 -- ---- a terminal's syntax, with the names of a table
 
 -- The table has the names of all locations in these terminals' atoms.
-abbrev pub AllThere : NameTable → List (Terminal AtomSyntax) → Type 0
-AllThere names ss = AllByRecursion (λ x. contains_name names x ≡ true) (site_names (sites_in ss))
+abbrev pub ContainsAllNames : NameTable → List (Terminal AtomSyntax) → Type 0
+ContainsAllNames names ss = AllByRecursion (λ x. contains_name names x ≡ true) (site_names (sites_in ss))
 
 -- Inserted names are in the table.
 pub insert_names-contains_all : (names ns : NameTable) → AllByRecursion (λ x. contains_name (insert_names names ns) x ≡ true) ns
@@ -47,7 +47,7 @@ insert_names-contains_all names (n ∷ ns) = (
 
 -- Inserting names preserves the resolved form of terminals whose names are in the table.
 map_resolved-along : (names ns : NameTable) (ss : List (Terminal AtomSyntax))
-    → AllThere names ss
+    → ContainsAllNames names ss
     → map (resolved (insert_names names ns)) ss ≡ map (resolved names) ss
 map_resolved-along names ns [] h = refl
 map_resolved-along names ns (Atom (Holds (InMemory x) n) ∷ ss) h =
@@ -119,7 +119,7 @@ module _ {A : Type 0} {arch : Arch} {threads : ℕ} {first names start here : To
       → map (resolved (insert_names names ns)) read.terminals ≡ map (resolved names) read.terminals
   resolved_read_unchanged ns =
       map_resolved-along names ns read.terminals
-      (subst (λ l. AllThere l read.terminals) (sym read.names_are)
+      (subst (λ l. ContainsAllNames l read.terminals) (sym read.names_are)
       (insert_names-contains_all first (site_names (sites_in read.terminals))))
 
   -- The reader's state after further terminals.

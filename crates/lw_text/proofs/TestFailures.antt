@@ -46,7 +46,7 @@ module _ {X : Type 0} (Parses : TokenList → X → TokenList → Type 0) (site_
     → Parses ts x mid
     → HasRoomFor names (site_by x ∷ [])
     → ⊥) (apart : codes ";" ≡ close → ⊥) where
-  -- Elements fail uniquely.
+  -- Elements fail at one place only, and for one cause.
   FailsInElements-unique : (r s : TokenList) (d e : TextCause) (names : NameTable) (ts : TokenList)
       → FailsInElements Parses site_by Way close c r d names ts
       → FailsInElements Parses site_by Way close c s e names ts
@@ -147,7 +147,7 @@ not-semicolon_is_bracket : codes ";" ≡ codes "]" → ⊥
 not-semicolon_is_bracket = not-equal-if_bytes_differ (codes ";") (codes "]") refl
 
 module _ (arch : Arch) (names : NameTable) where
-  -- The initial block fails uniquely.
+  -- The initial block fails at one place only, and for one cause.
   pub FailsInBlock-unique : FailsUniquely (FailsInBlock arch names)
   FailsInBlock-unique ts r s d e (no_brace p) (no_brace q) = FailsBefore-unique (codes "{" ∷ []) Unexpected ts r s d e p q
   FailsInBlock-unique ts r s d e (no_brace p) (in_initializers begins q) =
@@ -208,7 +208,7 @@ module _ (arch : Arch) (threads : ℕ) where
   )
 
   module _ (names : NameTable) where
-    -- The list of names fails uniquely.
+    -- The list of names fails at one place only, and for one cause.
     pub FailsInList-unique : FailsUniquely (FailsInList arch threads names)
     FailsInList-unique ts r s d e (no_list_bracket {after = after} begins p) (no_list_bracket again q) =
         FailsBefore-unique (codes "[" ∷ []) Condition after r s d e p
@@ -249,7 +249,7 @@ module _ (arch : Arch) (threads : ℕ) where
 
 -- ---- The header.
 
--- The header fails uniquely, from each thread on.
+-- The header fails at one place only, and for one cause, from each thread on.
 pub FailsInHeader-unique : (r s : TokenList) (d e : TextCause) (k : ℕ) (ts : TokenList)
     → FailsInHeader r d k ts
     → FailsInHeader s e k ts
@@ -330,7 +330,7 @@ RowCells-unique : (ts r s : TokenList) (a b : Cells) → RowCells ts a r → Row
 RowCells-unique ts r s a b p q = ParsesSepBy-unique Cell (codes "|") (codes ";") Cell-exact not-bar_is_semicolon a b ts r s p q
 
 module _ (threads : ℕ) where
-  -- A row fails uniquely.
+  -- A row fails at one place only, and for one cause.
   FailsInRow-unique : FailsUniquely (FailsInRow threads)
   FailsInRow-unique ts r s d e (no_end is never) (no_end also none) = (is ∙ sym also, λ some. absurd (some is))
   FailsInRow-unique ts r s d e (no_end is never) (ragged cells line at other because) = absurd (never cells _ line)
@@ -349,7 +349,7 @@ module _ (threads : ℕ) where
   not-FailsInRow-if_parsed ts rest after cause cells (ragged more {after = behind} line ends other because) row =
       other (ap length (RowCells-unique ts behind after more cells line row.0).0 ∙ row.1)
 
-  -- The rows fail uniquely, after each number of them.
+  -- The rows fail at one place only, and for one cause, after each number of them.
   pub FailsInRows-unique : (r s : TokenList) (d e : TextCause) (k : ℕ) (ts : TokenList)
       → FailsInRows threads r d k ts
       → FailsInRows threads s e k ts
@@ -404,7 +404,7 @@ not-forall_and_tilde = not-equal-if_bytes_differ (codes "forall") (codes "~") re
 abbrev quantifier_words : List Bytes
 quantifier_words = codes "~" ∷ codes "exists" ∷ codes "forall" ∷ []
 
--- The quantifier fails uniquely.
+-- The quantifier fails at one place only, and for one cause.
 pub FailsInQuantifier-unique : FailsUniquely FailsInQuantifier
 FailsInQuantifier-unique ts r s d e (no_quantifier p) (no_quantifier q) =
     FailsBefore-unique quantifier_words Condition ts r s d e p q

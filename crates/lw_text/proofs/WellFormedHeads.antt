@@ -20,7 +20,7 @@ use Rattle.lw_text.proofs.Common.{IsSeenInRange-all_seen, IsAscending-all_seen, 
 use Rattle.lw_text.proofs.Common.{IsDuplicateFree}
 use Rattle.lw_text.proofs.api.ConditionTokens.{site_names-all, sites_in-all}
 use Rattle.lw_text.proofs.api.PropositionNodes.{proposition_nodes, resolved_single, node_count-resolved}
-use Rattle.lw_text.proofs.PropositionCases.{AllThere, insert_names-contains_all}
+use Rattle.lw_text.proofs.PropositionCases.{ContainsAllNames, insert_names-contains_all}
 use Rattle.lw_text.proofs.Whole.{header_some, table_parts}
 use Rattle.lw_text.proofs.NameTables.{words-site_by_name, listed-site_by_name}
 
@@ -107,18 +107,19 @@ IsValidTerminal threads (Atom (Holds s n)) = IsValidSite s × ThreadExists threa
 IsValidTerminal threads _ = Unit {0}
 
 -- A terminal that was read satisfies `IsValidTerminal`.
-terminal_fit : (arch : Arch) (threads : ℕ) (ts rest : List (List ℕ)) (s : Terminal AtomSyntax)
+IsValidTerminal-of_read : (arch : Arch) (threads : ℕ) (ts rest : List (List ℕ)) (s : Terminal AtomSyntax)
     → IsTerminal arch threads ts s rest
     → IsValidTerminal threads s
-terminal_fit arch threads ts rest (Atom (Holds s n)) p = (IsValidSite-of_read arch ts p.0 s p.1, p.2, p.3.2.0)
-terminal_fit arch threads ts rest _ p = tt
+IsValidTerminal-of_read arch threads ts rest (Atom (Holds s n)) p = (IsValidSite-of_read arch ts p.0 s p.1, p.2, p.3.2.0)
+IsValidTerminal-of_read arch threads ts rest _ p = tt
 
 -- All terminals of a proposition that was read satisfy `IsValidTerminal`.
-terminals_fit : (arch : Arch) (threads : ℕ) (ts : List (List ℕ)) (ss : List (Terminal AtomSyntax))
+AreValidTerminals-of_read : (arch : Arch) (threads : ℕ) (ts : List (List ℕ)) (ss : List (Terminal AtomSyntax))
     → Terminals arch threads ts ss
     → AllByRecursion (IsValidTerminal threads) ss
-terminals_fit arch threads ts [] p = tt
-terminals_fit arch threads ts (s ∷ ss) p = (terminal_fit arch _ ts p.0 s p.1, terminals_fit arch _ p.0 ss p.2)
+AreValidTerminals-of_read arch threads ts [] p = tt
+AreValidTerminals-of_read arch threads ts (s ∷ ss) p =
+    (IsValidTerminal-of_read arch _ ts p.0 s p.1, AreValidTerminals-of_read arch _ p.0 ss p.2)
 
 -- Inserting allowed names preserves that all names of a table are allowed.
 IsLocationName-insert_names : (names ns : List (List ℕ))
@@ -159,16 +160,16 @@ module _ (threads locs : ℕ) where
       let k = All-append_inv _ ss _ h in (MentionsOnly-Derives d k.0, MentionsOnly-Derives e k.1.1)
 
 -- If terminals satisfy `IsValidTerminal` and their names are in the table, their resolved forms mention only threads and locations in range.
-terminals_spoken : (threads : ℕ) (names : List (List ℕ)) (ss : List (Terminal AtomSyntax))
+MentionsOnlyIfAtom-of_valid : (threads : ℕ) (names : List (List ℕ)) (ss : List (Terminal AtomSyntax))
     → AllByRecursion (IsValidTerminal threads) ss
-    → AllThere names ss
+    → ContainsAllNames names ss
     → AllByRecursion (MentionsOnlyIfAtom threads (length names)) (map (resolved names) ss)
-terminals_spoken threads names [] f n = tt
-terminals_spoken threads names (Atom (Holds (InMemory x) w) ∷ ss) f n =
-    ((position_of_name-within names x n.0, f.0.2), terminals_spoken threads names ss f.1 n.1)
-terminals_spoken threads names (Atom (Holds (InThread t r) w) ∷ ss) f n =
-    ((f.0.1, f.0.0, f.0.2), terminals_spoken threads names ss f.1 n)
-terminals_spoken threads names (_ ∷ ss) f n = (tt, terminals_spoken threads names ss f.1 n)
+MentionsOnlyIfAtom-of_valid threads names [] f n = tt
+MentionsOnlyIfAtom-of_valid threads names (Atom (Holds (InMemory x) w) ∷ ss) f n =
+    ((position_of_name-within names x n.0, f.0.2), MentionsOnlyIfAtom-of_valid threads names ss f.1 n.1)
+MentionsOnlyIfAtom-of_valid threads names (Atom (Holds (InThread t r) w) ∷ ss) f n =
+    ((f.0.1, f.0.0, f.0.2), MentionsOnlyIfAtom-of_valid threads names ss f.1 n)
+MentionsOnlyIfAtom-of_valid threads names (_ ∷ ss) f n = (tt, MentionsOnlyIfAtom-of_valid threads names ss f.1 n)
 
 -- ---- the head
 
@@ -180,7 +181,7 @@ head_well_formed : (arch : Arch) (ts : List (List ℕ)) (name : List ℕ) (s : T
     → IsWellFormedHead (head_of_syntax arch name s p)
 head_well_formed arch ts name s p allowed parts whole =
     let c = parts.condition in
-    let fit = terminals_fit arch s.threads c.behind_quant s.terminals c.says in
+    let fit = AreValidTerminals-of_read arch s.threads c.behind_quant s.terminals c.says in
     let right =
     AllByRecursion-append IsValidSite (sites_of s.initializers ++ s.listed) (sites_in s.terminals)
     (AllByRecursion-append IsValidSite (sites_of s.initializers) s.listed
@@ -231,7 +232,7 @@ head_well_formed arch ts name s p allowed parts whole =
       );
       condition =
           MentionsOnly-Derives s.threads (length (location_table s)) whole
-          (terminals_spoken s.threads (location_table s) s.terminals fit named);
+          (MentionsOnlyIfAtom-of_valid s.threads (location_table s) s.terminals fit named);
     }
 
 -- The head of a text's frame is well-formed.
