@@ -83,8 +83,9 @@ pub use Rattle.lw_finals.proofs.api.Waiting.{own_waits, waits_after, waits_after
 pub use Rattle.lw_finals.proofs.api.Waiting.{waits_after-same_thread}
 pub use Rattle.lw_finals.proofs.api.X86Prefix.{AreWaitingStores, AreWaitingStores-next}
 pub use Rattle.lw_finals.proofs.api.X86Prefix.{AreWaitingStores-start, DrainsOldest-at_turn, IsDrainedLater}
-pub use Rattle.lw_finals.proofs.api.X86Waiting.{AllHold, AllHold-after_item, AllHold-start, BufferHolds}
-pub use Rattle.lw_finals.proofs.api.X86Waiting.{HoldsStores, ItemStep, ItemStep-of_transition}
+pub use Rattle.lw_finals.proofs.api.X86Waiting.{AllBuffersHoldStores, AllBuffersHoldStores-after_item}
+pub use Rattle.lw_finals.proofs.api.X86Waiting.{AllBuffersHoldStores-start, BufferHolds, HoldsStores}
+pub use Rattle.lw_finals.proofs.api.X86Waiting.{ItemStep, ItemStep-of_transition}
 pub use Rattle.lw_report.proofs.Common.{IsReport, is_true}
 pub use Rattle.lw_report.specs.declared.judgement.Claim.TheVariants.{Exact}
 pub use Rattle.lw_bench.proofs.Common.{HasTest, IsOutputOf, IsStatesReport, IsWellFormedTest}

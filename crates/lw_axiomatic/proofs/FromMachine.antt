@@ -22,11 +22,11 @@ use Rattle.lw_axiomatic.proofs.Common.{IsItemOnPath-of_member, IsAscendingFrom, 
 use Rattle.lw_axiomatic.proofs.Common.{IsAscendingFrom-flow_path, MachineState, Processor, initial_processor}
 use Rattle.lw_axiomatic.proofs.Common.{initial_machine_state, machine_outcome, is_final, has_terminated}
 use Rattle.lw_axiomatic.proofs.Common.{ItemsRunTo, X86ItemTransition, x86_item_system, ItemStep}
-use Rattle.lw_axiomatic.proofs.Common.{ItemStep-of_transition, AllHold-start, AreWaitingStores-start}
-use Rattle.lw_axiomatic.proofs.Common.{ThreadState, first_state, state_after, word_written, MemoryEvent}
-use Rattle.lw_axiomatic.proofs.Common.{Execution, reads, operation_is, location, operation_at, IsEvent, Reads}
-use Rattle.lw_axiomatic.proofs.Common.{Writes, ThreadExecutes, IsReadFrom, IsLast, IsCandidate, IsBefore}
-use Rattle.lw_axiomatic.proofs.Common.{IsNewest, HasConsistentTimes}
+use Rattle.lw_axiomatic.proofs.Common.{ItemStep-of_transition, AllBuffersHoldStores-start}
+use Rattle.lw_axiomatic.proofs.Common.{AreWaitingStores-start, ThreadState, first_state, state_after}
+use Rattle.lw_axiomatic.proofs.Common.{word_written, MemoryEvent, Execution, reads, operation_is, location}
+use Rattle.lw_axiomatic.proofs.Common.{operation_at, IsEvent, Reads, Writes, ThreadExecutes, IsReadFrom}
+use Rattle.lw_axiomatic.proofs.Common.{IsLast, IsCandidate, IsBefore, IsNewest, HasConsistentTimes}
 use Rattle.lw_axiomatic.proofs.EventLists.{event}
 use Rattle.lw_axiomatic.proofs.StepCases.{StepCase, thread_of, word_seen, word_for, word_for-reads}
 use Rattle.lw_axiomatic.proofs.Paths.{IsSuccessor-state_after}
@@ -430,7 +430,7 @@ module _ {test : X86Test} {paths : List (List ℕ)} (given : KeptOrder test path
     IsInv-start : IsInv 0 (λ t. []) (initial_machine_state test test.head.init_words)
     IsInv-start = record {
       waiting = AreWaitingStores-start test.threads (forward given) paths given.choice given.order;
-      hold = AllHold-start test test.head.init_words;
+      hold = AllBuffersHoldStores-start test test.head.init_words;
       words = λ t p got. subst (Written run_execution given t []) (sym (initial_buffer_empty t p got)) tt;
       memory = λ l. inl ((λ e writing lt. omega (arith, lt)), refl);
       size = given.well_scoped.head.words;

@@ -17,10 +17,10 @@ use Rattle.lw_axiomatic.proofs.Common.{IsItemOnPath-of_member, MachineState, Pro
 use Rattle.lw_axiomatic.proofs.Common.{drain_effect, EffectLeadsTo, X86ItemTransition, entry_location}
 use Rattle.lw_axiomatic.proofs.Common.{own_waits, waits_after, waits_after-same_thread}
 use Rattle.lw_axiomatic.proofs.Common.{waits_after-other_thread, ItemStep, ItemStep-of_transition}
-use Rattle.lw_axiomatic.proofs.Common.{AllHold-after_item, AllHold, BufferHolds, HoldsStores}
-use Rattle.lw_axiomatic.proofs.Common.{AreWaitingStores, DrainsOldest-at_turn, AreWaitingStores-next}
-use Rattle.lw_axiomatic.proofs.Common.{word_written, MemoryEvent, Execution, operation_is, location, IsEvent}
-use Rattle.lw_axiomatic.proofs.Common.{Writes}
+use Rattle.lw_axiomatic.proofs.Common.{AllBuffersHoldStores-after_item, AllBuffersHoldStores, BufferHolds}
+use Rattle.lw_axiomatic.proofs.Common.{HoldsStores, AreWaitingStores, DrainsOldest-at_turn}
+use Rattle.lw_axiomatic.proofs.Common.{AreWaitingStores-next, word_written, MemoryEvent, Execution}
+use Rattle.lw_axiomatic.proofs.Common.{operation_is, location, IsEvent, Writes}
 use Rattle.lw_axiomatic.proofs.EventLists.{event}
 use Rattle.lw_axiomatic.proofs.EventKinds.{locked_writes}
 use Rattle.lw_axiomatic.proofs.StepCases.{StepCase, StepCase-EffectLeadsTo, word_for, buffer_after}
@@ -188,7 +188,7 @@ module _ {test : X86Test} (x : Execution) (given : KeptOrder test x.paths) where
   -- After the first k items: which stores wait, that the buffers hold their words, and memory the last words written.
   pub record PrefixInvariant (k : ℕ) (pending : ℕ → List ℕ) (s : MachineState (List ℕ)) : Type 0 where
     pub waiting : AreWaitingStores test.threads (forward given) x.paths given.choice given.order k pending
-    pub hold : AllHold test.threads pending s
+    pub hold : AllBuffersHoldStores test.threads pending s
     pub words : (t : ℕ) (p : Processor) → slice_get s.processors t ≡ Some p → Written t (pending t) p.buffer
     pub memory : (l : ℕ) → LastBefore k l (slice_index s.memory l)
     pub size : length s.memory ≡ length test.head.locs
@@ -577,8 +577,8 @@ module _ {test : X86Test} (x : Execution) (given : KeptOrder test x.paths) where
             AreWaitingStores-next test.threads (forward given) x.paths given.choice given.order given.keeps k
             item_step.old.position now_at.index pending inv.waiting Holds-old.climbs now_at.below now_at.index_is;
         hold =
-            AllHold-after_item test.threads (forward given) (nth_item now_at.index) item_on_path.statement pending s mid item_step
-            item_on_path.at inv.hold;
+            AllBuffersHoldStores-after_item test.threads (forward given) (nth_item now_at.index) item_on_path.statement pending s
+            mid item_step item_on_path.at inv.hold;
         words = Written-of_all (drain_words f);
         memory = drain_memory f;
         size = drain_size f;
@@ -588,8 +588,8 @@ module _ {test : X86Test} (x : Execution) (given : KeptOrder test x.paths) where
             AreWaitingStores-next test.threads (forward given) x.paths given.choice given.order given.keeps k
             item_step.old.position now_at.index pending inv.waiting Holds-old.climbs now_at.below now_at.index_is;
         hold =
-            AllHold-after_item test.threads (forward given) (nth_item now_at.index) item_on_path.statement pending s mid item_step
-            item_on_path.at inv.hold;
+            AllBuffersHoldStores-after_item test.threads (forward given) (nth_item now_at.index) item_on_path.statement pending s
+            mid item_step item_on_path.at inv.hold;
         words = Written-of_all (step_words f agrees);
         memory = (step_memory f agrees).0;
         size = (step_memory f agrees).1;

@@ -19,7 +19,7 @@ use Rattle.lw_axiomatic.proofs.Common.{initial_machine_state, machine_outcome, i
 use Rattle.lw_axiomatic.proofs.Common.{EffectLeadsTo, MachineTransition-of_effect, ItemsRunTo}
 use Rattle.lw_axiomatic.proofs.Common.{X86ItemTransition, event_by, x86_item_system, X86FollowsPathsToEnd}
 use Rattle.lw_axiomatic.proofs.Common.{IsAscendingBetween-member, ItemStep, BufferHolds, HoldsStores}
-use Rattle.lw_axiomatic.proofs.Common.{AllHold-start, IsDrainedLater, DrainsOldest-at_turn}
+use Rattle.lw_axiomatic.proofs.Common.{AllBuffersHoldStores-start, IsDrainedLater, DrainsOldest-at_turn}
 use Rattle.lw_axiomatic.proofs.Common.{AreWaitingStores-start, ThreadState, first_state, state_after}
 use Rattle.lw_axiomatic.proofs.Common.{word_written, MemoryEvent, Execution, reads, operation_is, IsEvent}
 use Rattle.lw_axiomatic.proofs.Common.{Reads, Co, ThreadExecutes, IsReadFrom, IsLast, IsCandidate, IsNewest}
@@ -497,7 +497,7 @@ module _ {test : X86Test} {x : Execution} {o : FinalState} (candidate : IsCandid
     pending = λ t. [];
     inv = record {
       waiting = AreWaitingStores-start test.threads (forward given) x.paths given.choice given.order;
-      hold = AllHold-start test test.head.init_words;
+      hold = AllBuffersHoldStores-start test test.head.init_words;
       words = λ t p got. (let initial = initial_case t p got in subst (Written x given t []) (sym initial.2) tt);
       memory = λ l. inl ((λ e writing lt. omega (arith, lt)), refl);
       size = given.well_scoped.head.words;

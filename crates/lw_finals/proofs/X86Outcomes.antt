@@ -21,8 +21,8 @@ use Rattle.lw_finals.proofs.Ordered.{OfChoice-of_run}
 use Rattle.lw_finals.proofs.PathOfRun.{ExecutesItem, AreItemRuns, position-at_start, position-at_start_unique}
 use Rattle.lw_finals.proofs.api.X86Waiting.{ItemStep, ItemStep-of_transition, OperationTransition-of_item}
 use Rattle.lw_finals.proofs.api.X86Waiting.{DrainShape, DrainShape-of_effect, BufferHolds}
-use Rattle.lw_finals.proofs.api.X86Waiting.{BufferHolds-nil_no_store, HoldsStores, AllHold}
-use Rattle.lw_finals.proofs.api.X86Waiting.{AllHold-after_item, AllHold-start}
+use Rattle.lw_finals.proofs.api.X86Waiting.{BufferHolds-nil_no_store, HoldsStores, AllBuffersHoldStores}
+use Rattle.lw_finals.proofs.api.X86Waiting.{AllBuffersHoldStores-after_item, AllBuffersHoldStores-start}
 
 -- If the buffer has an oldest entry, some store waits, and the one that has waited longest made that entry.
 BufferHolds-oldest : (code : List Instr) (ws : List ℕ) (e : ℕ × ℕ) (newer : List (ℕ × ℕ))
@@ -45,7 +45,7 @@ module _ (test : X86Test) where
 
   -- In a final state each thread is past its code, and no store waits in its buffer.
   nothing_waits-if_final : (pending : ℕ → List ℕ) (s : MachineState (List ℕ))
-      → AllHold program pending s
+      → AllBuffersHoldStores program pending s
       → length s.processors ≡ length program
       → IsTrue (is_final program s)
       → (t p : ℕ)
@@ -71,7 +71,7 @@ module _ (test : X86Test) where
 
   -- These stores wait in the buffers, and each thread has a processor.
   record IsSound (pending : ℕ → List ℕ) (s : MachineState (List ℕ)) : Type 0 where
-    hold : AllHold program pending s
+    hold : AllBuffersHoldStores program pending s
     processor_count : length s.processors ≡ length program
 
   module _ (forward : (t : ℕ) → JumpsForward x86_language (thread_code program t)) where
@@ -121,7 +121,7 @@ module _ (test : X86Test) where
         store = store;
       };
       sound = record {
-        hold = AllHold-after_item program forward (item t j b) i pending s mid item_step found_at sound.hold;
+        hold = AllBuffersHoldStores-after_item program forward (item t j b) i pending s mid item_step found_at sound.hold;
         processor_count =
             ap (λ (z : MachineState (List ℕ)). length z.processors) item_step.state_is
             ∙ (length-set s.processors t item_step.new ∙ sound.processor_count);
@@ -179,7 +179,7 @@ module _ (test : X86Test) where
         (MachineTransition flat_memory program) IsSound
     AreItemRuns-x86 well_scoped = record {
       first = record {
-        hold = AllHold-start test test.head.init_words;
+        hold = AllBuffersHoldStores-start test test.head.init_words;
         processor_count = length-map test.head.init_regs initial_processor ∙ (well_scoped.head.regs ∙ sym well_scoped.as_many);
       };
       starts =

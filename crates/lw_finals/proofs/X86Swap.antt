@@ -15,7 +15,7 @@ use Rattle.lw_finals.proofs.Common.{event_by, event_of}
 use Rattle.lw_finals.proofs.api.Waiting.{DrainsOldest, IsAscendingBetween, IsAscendingBetween-member}
 use Rattle.lw_finals.proofs.api.Waiting.{own_waits, entry_location, waits_after, waits_after-same_thread}
 use Rattle.lw_finals.proofs.api.X86Waiting.{effect_by, ItemStep, OperationTransition-of_item, DrainShape}
-use Rattle.lw_finals.proofs.api.X86Waiting.{DrainShape-of_effect, BufferHolds, AllHold}
+use Rattle.lw_finals.proofs.api.X86Waiting.{DrainShape-of_effect, BufferHolds, AllBuffersHoldStores}
 use Rattle.lw_tso.specs.Independence as machine
 
 -- ---- the accesses of an item
@@ -61,7 +61,7 @@ accessed_location-of_drain code k ws (f ∷ b) q w found_at e = sym (ap (entry_l
 pub record ItemMoves (program : List (List Instr)) (pending : ℕ → List ℕ) (t j : ℕ) (b : Bool) (i : Instr)
     (s mid : MachineState (List ℕ)) : Type 0 where
   pub instr_at : slice_get (thread_code program t) j ≡ Some i
-  pub hold : AllHold program pending s
+  pub hold : AllBuffersHoldStores program pending s
   pub oldest : DrainsOldest b j (pending t)
   pub carried : ItemStep program t j b s mid
 

@@ -11,8 +11,8 @@ use Rattle.lw_finals.proofs.Common.{item_slot-store_before_drain, index_lt-if_ra
 use Rattle.lw_finals.proofs.Common.{JumpsForward-thread, event_of, X86ItemTransition, x86_item_system}
 use Rattle.lw_finals.proofs.api.Waiting.{DrainsOldest, waits_after}
 use Rattle.lw_finals.proofs.SourceTraceEquivalence.{Neighbours, OrdersEndAlike, OrdersEndAlike-if_swaps}
-use Rattle.lw_finals.proofs.api.X86Waiting.{AllHold, AllHold-after_item, AllHold-start, CarriedItem}
-use Rattle.lw_finals.proofs.api.X86Waiting.{ItemStep-of_transition}
+use Rattle.lw_finals.proofs.api.X86Waiting.{AllBuffersHoldStores, AllBuffersHoldStores-after_item}
+use Rattle.lw_finals.proofs.api.X86Waiting.{AllBuffersHoldStores-start, CarriedItem, ItemStep-of_transition}
 use Rattle.lw_finals.proofs.api.X86Prefix.{AreWaitingStores, AreWaitingStores-start, DrainsOldest-at_turn}
 use Rattle.lw_finals.proofs.api.X86Prefix.{AreWaitingStores-next}
 use Rattle.lw_finals.proofs.X86Swap.{IsUnpreservedPair, AreIndependent-unpreserved_items}
@@ -34,7 +34,7 @@ module _ (program : List (List Instr)) (forward : (u : ℕ) → JumpsForward x86
   -- The buffers hold these stores, which wait after the first k items of the order.
   pub record HoldsWaitingStores (order : List ℕ) (k : ℕ) (pending : ℕ → List ℕ) (s : MachineState (List ℕ)) : Type 0 where
     pub waiting : AreWaitingStores program forward paths choice order k pending
-    pub hold : AllHold program pending s
+    pub hold : AllBuffersHoldStores program pending s
 
   -- The item i of an order leads from s to `mid`: it is an instruction, or the drain of the store that has waited longest. Then the buffers
   -- hold the stores that wait after one more item.
@@ -69,7 +69,7 @@ module _ (program : List (List Instr)) (forward : (u : ℕ) → JumpsForward x86
             DrainsOldest-at_turn program forward paths choice order is k c.old.position i pending r.waiting climbs in_range there;
         reached = record {
           waiting = AreWaitingStores-next _ forward _ choice order is k c.old.position i pending r.waiting climbs in_range there;
-          hold = AllHold-after_item program forward (nth_item i) at_i.statement pending s mid c at_i.at r.hold;
+          hold = AllBuffersHoldStores-after_item program forward (nth_item i) at_i.statement pending s mid c at_i.at r.hold;
         };
       }
 
@@ -144,7 +144,7 @@ OrdersEndAlike-x86 test paths well_scoped choice =
         (λ u. []),
         record {
           waiting = AreWaitingStores-start test.threads forward paths choice order;
-          hold = AllHold-start test test.head.init_words;
+          hold = AllBuffersHoldStores-start test test.head.init_words;
         },
       );
       next = λ order is k i l there s mid r out. (

@@ -1,3 +1,4 @@
+-- Definitions for the code's own contracts. No public call cites them.
 pub mod Codes
 pub mod Collected
 pub mod Listed

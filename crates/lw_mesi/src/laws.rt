@@ -15,7 +15,7 @@ pub fn empty_caches_are_coherent()
     ensures content { (cpus : ℕ) (words : List ℕ) → coherent_words (empty_caches cpus words) ≡ words }
 {}
 
-/// States, for readers, that every request that is served (a load, a store, an update or an eviction) preserves
+/// States that every request that is served (a load, a store, an update or an eviction) preserves
 /// coherence, in each protocol. If there is a copy in M or E, there is no other; at most one copy is in M or O; every
 /// copy holds the coherent word, which is the same before and after an eviction or a load; and the copies are in
 /// states of the protocol.

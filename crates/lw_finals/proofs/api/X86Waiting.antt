@@ -93,7 +93,7 @@ DrainShape-of_effect p q m n d = DrainShape-of_buffer p.buffer p q m n refl d
 
 -- ---- the waiting stores
 
--- The buffer has exactly the entries of the stores at these positions, in their order.
+-- The buffer has exactly one entry for each of the stores at these positions, in their order and of their locations. Their words are not compared.
 abbrev pub BufferHolds : List Instr → List ℕ → List (ℕ × ℕ) → Type 0
 BufferHolds code [] [] = Unit {0}
 BufferHolds code (w ∷ ws) (e ∷ b) = (entry_location x86_language (slice_get code w) ≡ Some e.0) × BufferHolds code ws b
@@ -143,9 +143,9 @@ pub record HoldsStores (code : List Instr) (ws : List ℕ) (p : Processor) : Typ
   pub waits : BufferHolds code ws p.buffer
   pub climbs : IsAscendingBetween 0 ws p.position
 
--- Each processor's buffer has the entries of its thread's waiting stores.
-abbrev pub AllHold : List (List Instr) → (ℕ → List ℕ) → MachineState (List ℕ) → Type 0
-AllHold program pending s =
+-- Each processor's buffer has the entries of its thread's waiting stores, whose positions are ascending and before the processor's position.
+abbrev pub AllBuffersHoldStores : List (List Instr) → (ℕ → List ℕ) → MachineState (List ℕ) → Type 0
+AllBuffersHoldStores program pending s =
     (t : ℕ) (p : Processor) → slice_get s.processors t ≡ Some p → HoldsStores (thread_code program t) (pending t) p
 
 module _ (program : List (List Instr)) where
@@ -189,13 +189,13 @@ module _ (program : List (List Instr)) where
               (subst (IsAscendingBetween 0 ws) there h.climbs);
         }
 
-    -- Each item that is executed preserves `AllHold`.
-    pub AllHold-after_item : (a : Item) (i : Instr) (pending : ℕ → List ℕ) (s mid : MachineState (List ℕ))
+    -- Each item that is executed preserves `AllBuffersHoldStores`.
+    pub AllBuffersHoldStores-after_item : (a : Item) (i : Instr) (pending : ℕ → List ℕ) (s mid : MachineState (List ℕ))
         → CarriedItem program a s mid
         → statement_of x86_language program a ≡ Some i
-        → AllHold program pending s
-        → AllHold program (waits_after x86_language program a pending) mid
-    AllHold-after_item a i pending s mid c at h t q e =
+        → AllBuffersHoldStores program pending s
+        → AllBuffersHoldStores program (waits_after x86_language program a pending) mid
+    AllBuffersHoldStores-after_item a i pending s mid c at h t q e =
         let got : slice_get (slice_set s.processors a.thread c.new) t ≡ Some q =
         ap (λ (z : MachineState (List ℕ)). slice_get z.processors t) (sym c.state_is) ∙ e in
         elim (cases_eq a.thread t) [
@@ -236,7 +236,8 @@ module _ (program : List (List Instr)) where
             (own_waits a.is_drain (drained_location x86_language i) a.position (pending a.thread))) e own_buffer_holds))
 
 -- Initially no store waits, and all buffers are empty.
-pub AllHold-start : (test : X86Test) (words : List ℕ) → AllHold test.threads (λ t. []) (initial_machine_state test words)
-AllHold-start test words t p e =
+pub AllBuffersHoldStores-start : (test : X86Test) (words : List ℕ)
+    → AllBuffersHoldStores test.threads (λ t. []) (initial_machine_state test words)
+AllBuffersHoldStores-start test words t p e =
     let from = get-map initial_processor test.head.init_regs t p e in
     subst (HoldsStores (thread_code test.threads t) []) (sym from.2) (record { waits = tt; climbs = omega arith })

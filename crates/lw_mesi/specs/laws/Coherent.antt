@@ -65,8 +65,8 @@ put_clean w (Invalid ∷ copies) (suc t) c old new = put_clean w copies t c old 
 put_clean w _ _ c old new = refl
 
 -- Every copy has this word.
-abbrev pub AllHold : CacheLine → ℕ → Type 0
-AllHold line v = (t w : ℕ) → copy_word (copy_of line t) ≡ Some w → w ≡ v
+abbrev pub AllCopiesHold : CacheLine → ℕ → Type 0
+AllCopiesHold line v = (t w : ℕ) → copy_word (copy_of line t) ≡ Some w → w ≡ v
 
 -- No other processor has a copy.
 abbrev pub HasNoOtherCopy : CacheLine → ℕ → Type 0
