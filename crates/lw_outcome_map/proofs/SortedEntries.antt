@@ -6,7 +6,7 @@ use Rattle.std.proofs.Common.{is_eq, is_lt, Ordering, Less, Equal, Greater, ⊎_
 use Rattle.std.proofs.lemmas.Bool.{cases_lt}
 use Rattle.std.proofs.lemmas.Cmp.{on_equiv, on_total, tied_itself}
 use Rattle.std.proofs.lemmas.List.{get_or-map}
-use Rattle.std.proofs.lemmas.List.Elements.{All-from_recursion, Contains-get_or}
+use Rattle.std.proofs.lemmas.List.Elements.{All-from_recursion}
 use Rattle.std.proofs.lemmas.List.Kept.{AllPairs-cons, Any-dedup, IsStrictlySortedBy-dedup}
 use Rattle.std.proofs.lemmas.List.Sorted.{searchable_from_sorted, IsPermutation-map}
 use Rattle.std.proofs.lemmas.Option.{slice_get-get_or}
@@ -22,7 +22,7 @@ use Rattle.indexmap.proofs.CallerLemmas.{Drains-YieldsInOrder}
 use Rattle.indexmap.proofs.MapLemmas.{distinct_permutation}
 use Rattle.lw_base.specs.Outcomes.{FinalState, final_state_cmp}
 use Rattle.lw_outcome_map.specs.Listings.{OutcomesWith, outcomes_of, IsStrictlySorted}
-use Rattle.lw_outcome_map.proofs.api.Listings.{final_eq, final_eq-Decides, final_eq-IsEquivalence, final_eq-is_cmp_equal, final_state_cmp-IsTotalOrder, IsStrictlySorted-of_distinct}
+use Rattle.lw_outcome_map.proofs.api.Listings.{final_eq, final_eq-Decides, final_eq-IsEquivalence, final_eq-is_cmp_equal, final_state_cmp-IsTotalOrder, IsStrictlySorted-of_distinct, Contains-entry_of_outcome}
 
 -- What an iterator that gives its items in order gave until its end is all that it had left.
 pub rest-of_drained : {S A : Type 0} (steps : S → Option A → S → Type 0) (rest : S → List A) (s : S) (xs : List A)
@@ -30,8 +30,7 @@ pub rest-of_drained : {S A : Type 0} (steps : S → Option A → S → Type 0) (
     → DrainsIf steps (Unit {0}) s xs
     → xs ≡ rest s
 rest-of_drained steps rest s xs in_order drained =
-    let end = drained.2 tt in
-    Drains-YieldsInOrder steps rest s xs in_order (end.0, (drained.0, drained.1, end.1))
+    let end = drained.2 tt in Drains-YieldsInOrder steps rest s xs in_order (end.0, (drained.0, drained.1, end.1))
 
 -- No two of the results of a comparison are the same.
 less-not_equal : Less ≡ Equal → ⊥
@@ -66,18 +65,6 @@ module _ {Kept : Type 0} where
       let within : k < length (e ∷ es) = omega (arith, lt, length-keys_of (e ∷ es)) in
       subst P (sym (outcomes_of-at (e ∷ es) k e o within)) (all k e within)
 
-  -- A listed outcome is that of an entry.
-  entry_of : (es : OutcomesWith Kept) (o : FinalState)
-      → Contains (outcomes_of es) o
-      → (e : FinalState × Kept) × Contains es e × (e.0 ≡ o)
-  entry_of [] o h = absurd (omega (arith, h.1))
-  entry_of (e ∷ es) o h =
-      let within : h.0 < length (e ∷ es) = omega (arith, h.1, length-keys_of (e ∷ es)) in (
-        get_or (e ∷ es) h.0 e,
-        Contains-get_or (e ∷ es) h.0 e within,
-        sym (outcomes_of-at (e ∷ es) h.0 e o within) ∙ h.2,
-      )
-
   -- The outcome of an entry is listed.
   Contains-outcomes_of : (es : OutcomesWith Kept) (e : FinalState × Kept) → Contains es e → Contains (outcomes_of es) e.0
   Contains-outcomes_of es e h =
@@ -92,7 +79,8 @@ module _ {Kept : Type 0} where
   -- If the outcomes are sorted, the entries are sorted by their outcomes.
   IsSorted-entries : (es : OutcomesWith Kept) → IsSorted final_state_cmp (outcomes_of es) → IsSorted entry_cmp es
   IsSorted-entries es up k d low within =
-      sym (λ i. is_lt (final_state_cmp (outcomes_of-at es (k + 1) d d.0 within i) (outcomes_of-at es k d d.0 (omega (arith, within)) i)))
+      sym (λ i.
+      is_lt (final_state_cmp (outcomes_of-at es (k + 1) d d.0 within i) (outcomes_of-at es k d d.0 (omega (arith, within)) i)))
       ∙ up k d.0 low (omega (arith, within, length-keys_of es))
 
   -- Entries whose outcomes are ascending step by step are strictly sorted.
@@ -117,10 +105,9 @@ module _ {Kept : Type 0} where
       → Contains (outcomes_of es) o
       → Contains (outcomes_of (dedup have_same_outcome es)) o
   Contains-outcomes_of_dedup es o h =
-      let e = entry_of es o h in
+      let e = Contains-entry_of_outcome es o h in
       let rest = Any-dedup (on_equiv (λ (f : FinalState × Kept). f.0) final_eq-IsEquivalence) es e.0 e.1 in
-      subst (Contains (outcomes_of (dedup have_same_outcome es)))
-      (sym ((final_eq-Decides (e.0).0 (rest.1).0).0 rest.4) ∙ e.2)
+      subst (Contains (outcomes_of (dedup have_same_outcome es))) (sym ((final_eq-Decides (e.0).0 (rest.1).0).0 rest.4) ∙ e.2)
       (Contains-outcomes_of (dedup have_same_outcome es) rest.1 (rest.0, rest.2, rest.3))
 
   -- A sorted permutation of entries whose outcomes are distinct is strictly sorted.
@@ -131,7 +118,8 @@ module _ {Kept : Type 0} where
       → IsStrictlySorted fs
   IsStrictlySorted-of_permutation es fs distinct same up =
       IsStrictlySorted-of_distinct fs up
-      (distinct_permutation final_eq-IsEquivalence (outcomes_of es) (outcomes_of fs) (IsPermutation-map (λ e. e.0) es fs same) distinct)
+      (distinct_permutation final_eq-IsEquivalence (outcomes_of es) (outcomes_of fs) (IsPermutation-map (λ e. e.0) es fs same)
+      distinct)
 
   -- ---- The search for an outcome.
 

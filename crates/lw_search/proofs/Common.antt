@@ -11,8 +11,9 @@ pub use Rattle.std.proofs.Common.{◌≤◌, ◌⊎◌}
 pub use Rattle.std.proofs.Math.Nat.{le-max_left, le-max_right}
 pub use Rattle.std.proofs.lemmas.Bool.{and_parts, cases_eq, cases_lt}
 pub use Rattle.std.proofs.lemmas.List.{get_or_past, length-map, map-append, take_more}
-pub use Rattle.std.proofs.lemmas.List.Elements.{All-cons, All-contains, Contains-get_or, All-map, All-nil, All-push}
-pub use Rattle.std.proofs.lemmas.List.Elements.{All-weaker, Contains-append_left, Contains-push}
+pub use Rattle.std.proofs.lemmas.List.Elements.{All-cons, All-contains, All-map, All-nil, All-push}
+pub use Rattle.std.proofs.lemmas.List.Elements.{All-weaker, Contains-append_left, Contains-get_or}
+pub use Rattle.std.proofs.lemmas.List.Elements.{Contains-push}
 pub use Rattle.std.proofs.lemmas.List.Quantifiers.{position-Some}
 pub use Rattle.std.proofs.lemmas.List.Sorted.{All-permutation}
 pub use Rattle.std.proofs.lemmas.Nat.{one_shl}
@@ -63,7 +64,7 @@ pub use Rattle.lw_tso.proofs.api.Effects.{MachineTransition-of_effect, not-Effec
 pub use Rattle.lw_tso.proofs.api.Neighbours.{EventsCommute-independent, position_of-in_range}
 pub use Rattle.lw_tso.proofs.api.Operations.{Buffers, OperationTransition, OperationTransition-of_effect}
 pub use Rattle.lw_tso.proofs.api.Operations.{accessed_location-of_operation}
-pub use Rattle.lw_outcome_map.proofs.api.Listings.{Contains-permuted_outcomes}
+pub use Rattle.lw_outcome_map.proofs.api.Listings.{Contains-entry_of_outcome, Contains-permuted_outcomes}
 pub use Rattle.lw_outcome_map.specs.Listings.{OutcomeEntries, OutcomesWith, outcomes_of}
 pub use Rattle.lw_tso_caches.proofs.api.CompleteLists.{HasOutcomeShape-of_compiled, IsListedOutcome-of_source}
 pub use Rattle.lw_tso_caches.proofs.api.CompleteLists.{on_machine, without_evictions-flat_run}

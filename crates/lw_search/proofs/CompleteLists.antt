@@ -9,18 +9,8 @@ use Rattle.lw_search.proofs.Common.{IsListedOutcome, OutcomeEntries, OutcomesWit
 use Rattle.lw_search.proofs.Common.{Protocol, ReplaysToOverCaches, OutcomeOverCaches}
 use Rattle.lw_search.proofs.Common.{without_evictions-flat_run, State, Components, Visited, SearchInvariant}
 use Rattle.lw_search.proofs.Common.{CollectsAll, LeadsTo, HasOutcomeShape, All-map, IsComplete, ListsAgreeing}
+use Rattle.lw_search.proofs.Common.{Contains-entry_of_outcome}
 use Rattle.lw_search.proofs.AllFound.{final_state-found}
-
--- Each listed outcome is that of an entry.
-Contains-entry_of_outcome : {Kept : Type 0} (entries : OutcomesWith Kept) (o : FinalState)
-    → Contains (outcomes_of entries) o
-    → (entry : FinalState × Kept) × Contains entries entry × (entry.0 ≡ o)
-Contains-entry_of_outcome [] o c = absurd (not-Contains-nil o c)
-Contains-entry_of_outcome (entry ∷ entries) o c = elim (Contains-cons entry.0 o (outcomes_of entries) c) [
-  | inl same ↦ (entry, Contains-head entry entry entries refl, same)
-  | inr rest ↦
-      (let found = Contains-entry_of_outcome entries o rest in (found.0, Contains-tail entry found.0 entries found.1, found.2))
-]
 
 module _ (test : X86Test)
     (replay : (protocol : Protocol) (events : List Event) (o : FinalState)

@@ -3,14 +3,14 @@
 use Rattle.lw_search.proofs.Common.{not, true≢false, Register, zero, same_Some, Processor, slice_index}
 use Rattle.lw_search.proofs.Common.{get_or_from_slice_get, ObservesState, take, final_word, map, Bool, List}
 use Rattle.lw_search.proofs.Common.{if◌then◌else◌, ◌++◌, ◌∷◌, [], ℕ, slice_get, Some, ◌⊎◌, true, inl, ap, sym}
-use Rattle.lw_search.proofs.Common.{◌∙◌, false, slice_get-append_cases, inr, OutcomesWith, FinalState}
-use Rattle.lw_search.proofs.Common.{get_or, Contains-get_or, All-contains, Contains, outcomes_of, subst, map-append, Contains-push}
-use Rattle.lw_search.proofs.Common.{Contains-append_left, All, All-push, Seen, Instr, Components, Visited}
-use Rattle.lw_search.proofs.Common.{ObservedWords, State, Represents, length, IsTrue, is_final, final_words}
-use Rattle.lw_search.proofs.Common.{machine_outcome, flat_memory, InsertsWords, InsertsObserved, suc, arith}
-use Rattle.lw_search.proofs.Common.{LeadsTo, IsOfSomeRun, SearchInvariant, ◌<◌, slice_get_within}
-use Rattle.lw_search.proofs.Common.{slice_get-in_range, AreObserved, ContainsWordsOf, All-nil, ◌+◌, cases_lt}
-use Rattle.lw_search.proofs.Common.{◌≤◌, CollectsAll, HaveSameWords, ◌≡◌}
+use Rattle.lw_search.proofs.Common.{◌∙◌, false, slice_get-append_cases, inr, OutcomesWith, FinalState, get_or}
+use Rattle.lw_search.proofs.Common.{Contains-get_or, All-contains, Contains, outcomes_of, subst, map-append}
+use Rattle.lw_search.proofs.Common.{Contains-push, Contains-append_left, All, All-push, Seen, Instr}
+use Rattle.lw_search.proofs.Common.{Components, Visited, ObservedWords, State, Represents, length, IsTrue}
+use Rattle.lw_search.proofs.Common.{is_final, final_words, machine_outcome, flat_memory, InsertsWords}
+use Rattle.lw_search.proofs.Common.{InsertsObserved, suc, arith, LeadsTo, IsOfSomeRun, SearchInvariant, ◌<◌}
+use Rattle.lw_search.proofs.Common.{slice_get_within, slice_get-in_range, AreObserved, ContainsWordsOf}
+use Rattle.lw_search.proofs.Common.{All-nil, ◌+◌, cases_lt, ◌≤◌, CollectsAll, HaveSameWords, ◌≡◌}
 use Rattle.lw_search.proofs.Collected.{found-reachable}
 
 -- ---- the words of a state

@@ -436,7 +436,7 @@ module _ (program : List (List Instr)) where
 
   -- What holds of the states found holds when more are found.
   abbrev pub IsMonotone : (State → List State → Type 0) → Type 0
-  IsMonotone Served = (s : State) (found more : List State) → IsPrefix found more → Served s found → Served s more
+  IsMonotone A = (s : State) (found more : List State) → IsPrefix found more → A s found → A s more
 
   -- If two parts of an expansion give A and B, in sequence they give both, since A holds still when more states are found.
   pub expands-both : {t0 t1 t2 : Components} {m0 m1 m2 : Visited} (at : ℕ) (key : List ℕ) (Is : State → Type 0)
@@ -585,7 +585,7 @@ step_effect-ended program t code p coded end locs =
     ap (λ c. step_effect (slice_get c p.position) p) (get_or_from_slice_get program t code [] coded)
     ∙ ap (λ x. step_effect x p) end
 
--- The effect of a thread's step is that of its code.
+-- The effect of a thread's step is that of the instruction at the thread's position in its code.
 pub step_effect-of_code : (program : List (List Instr)) (t : ℕ) (code : List Instr) (p : Processor)
     → slice_get program t ≡ Some code
     → (locs : ℕ)

@@ -16,8 +16,8 @@ use lw_litmus::{Instr, Program, Statement};
 use std::alloc::Allocator;
 use std::marker::Model;
 
-/// A set of accesses: those that conflict with some events. Each is of a location, which it reads or writes. Contracts see the bits of a
-/// number.
+/// A set of accesses: those that conflict with some events, such as all that the other threads may still execute. Each access is of a
+/// location, which it reads or writes. Contracts see the bits of a number.
 #[derive(Clone, Copy)]
 pub(crate) struct Conflicts {
     /// Bit x: a read of location x. Bit 8 + x: a write of it. Bit 16, which is always set, conflicts with events that are not enabled.
@@ -212,7 +212,7 @@ impl Outlook {
         }
     }
 
-    /// Returns whether an invisible event may be enabled, beside threads with these conflicts. No contract depends on the answer.
+    /// Returns whether an invisible event may be enabled, given the conflicts of the other threads. No contract depends on the answer.
     fn may_settle(&self, conflicts: Conflicts) -> bool {
         self.step.is_apart(conflicts) || self.drain.is_apart(conflicts)
     }

@@ -45,7 +45,7 @@ fn is_invisible<A: Allocator>(
     usize::from(loc) < words.len() && conflicts.lacks(loc, written)
 }
 
-/// Takes the next step of a thread, if it is invisible beside threads with these conflicts, and enabled. Returns whether it did.
+/// Takes the next step of a thread, if it is invisible given the conflicts of the other threads, and enabled. Returns whether it did.
 fn take_step<A: Allocator>(
     program: &Program<A>,
     conflicts: Conflicts,
@@ -77,7 +77,7 @@ pub(crate) fn drain_access_of<A: Allocator>(thread: &ThreadState<A>) -> Option<(
     }
 }
 
-/// Drains the oldest entry of a thread, if the drain is invisible beside threads with these conflicts, and there is an entry. Returns
+/// Drains the oldest entry of a thread, if the drain is invisible given the conflicts of the other threads, and there is an entry. Returns
 /// whether it did.
 fn take_drain<A: Allocator>(
     program: &Program<A>,
@@ -96,7 +96,7 @@ fn take_drain<A: Allocator>(
     thread.drain(words)
 }
 
-/// Takes an invisible event of a thread, beside threads with these conflicts, if one is enabled. Returns it.
+/// Takes an invisible event of a thread, given the conflicts of the other threads, if one is enabled. Returns it.
 fn take_event<A: Allocator>(
     program: &Program<A>,
     conflicts: Conflicts,
@@ -118,7 +118,7 @@ fn take_event<A: Allocator>(
     Ok(None)
 }
 
-/// Takes invisible events of a thread, beside threads with these conflicts, for as long as one is enabled, and appends them to a run.
+/// Takes invisible events of a thread, given the conflicts of the other threads, for as long as one is enabled, and appends them to a run.
 pub(crate) fn settle<A: Allocator>(
     program: &Program<A>,
     conflicts: Conflicts,

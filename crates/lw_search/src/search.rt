@@ -269,7 +269,7 @@ impl<'a, A: Allocator + Copy> Search<'a, A> {
         })
     }
 
-    /// Takes an event of a thread in the state of a key, with the invisible events that follow it beside threads with these conflicts, in
+    /// Takes an event of a thread in the state of a key, with the invisible events that follow it given the conflicts of the other threads, in
     /// the working copies. Returns where they lead, or `None` if the event is not enabled.
     fn compute_successor(
         &mut self,

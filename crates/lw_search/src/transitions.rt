@@ -102,7 +102,7 @@ impl<A: Allocator> TransitionCache<A> {
         mixed as usize & self.slots.len().wrapping_sub(1)
     }
 
-    /// Returns where an event leads from the numbers of a thread's state and of a memory, beside threads with these conflicts, if the cache
+    /// Returns where an event leads from the numbers of a thread's state and of a memory, given the conflicts of the other threads, if the cache
     /// holds the transition.
     pub(crate) fn get(
         &self,
@@ -141,7 +141,7 @@ impl<A: Allocator> TransitionCache<A> {
 }
 
 impl Transition {
-    /// Returns where the transition leads, if it is of this event and from these numbers, beside threads with these conflicts.
+    /// Returns where the transition leads, if it is of this event and from these numbers, given the conflicts of the other threads.
     fn next_if_from(
         self,
         event: RunEvent,

@@ -1,5 +1,7 @@
 -- Outcomes as keys of a map: `==` is an equivalence and `cmp` a total order of them, so a sorted list without duplicates is strictly
 -- ascending.
+use Rattle.std.proofs.Common.{inl}
+use Rattle.std.proofs.Common.{inr}
 use Rattle.std.proofs.Common.{◌≡◌, ◌≢◌, ◌↔◌, refl, sym, ap, ◌∙◌, ℕ, Bool, true, false, true≢false, ◌&&◌, ◌<◌}
 use Rattle.std.proofs.Common.{⊎_elim, List, [], ◌∷◌, ◌++◌, nat_eq, get_or, slice_get, is_some}
 use Rattle.std.proofs.Common.{Contains, IsTrue, arith, Option, None, Some, IsPermutation}
@@ -21,6 +23,7 @@ use Rattle.std.proofs.lemmas.Option.{slice_get_within, get_or_from_slice_get}
 use Rattle.indexmap.specs.IndexMap.{insert_entry}
 use Rattle.indexmap.specs.Layout.{hash_map}
 use Rattle.indexmap.proofs.CallerLemmas.{insert_entry-new}
+use Rattle.lw_base.proofs.api.Members.{not-Contains-nil, Contains-head, Contains-tail, Contains-cons}
 use Rattle.lw_base.specs.Outcomes.{FinalState, final_state_cmp}
 use Rattle.lw_outcome_map.specs.Listings.{OutcomesWith, outcomes_of, IsStrictlySorted}
 
@@ -71,12 +74,16 @@ Contains-if_lookup : {Kept : Type 0} (es : OutcomesWith Kept) (o : FinalState)
     → Contains (outcomes_of es) o
 Contains-if_lookup es o h = Contains-keys_from_lookup (λ x y. (final_eq-Decides x y).0) o es h
 
--- If a look-up by `==` finds no such key, the outcome is not listed.
-not-Contains-if_no_lookup : {Kept : Type 0} (es : OutcomesWith Kept) (o : FinalState)
-    → is_some (lookup (final_eq o) es) ≡ false
-    → Contains (outcomes_of es) o
-    → ⊥
-not-Contains-if_no_lookup es o h i = true≢false (sym (IsSome-lookup_from_Contains final_eq-IsEquivalence o es i) ∙ h)
+-- Each listed outcome is that of an entry.
+pub Contains-entry_of_outcome : {Kept : Type 0} (entries : OutcomesWith Kept) (o : FinalState)
+    → Contains (outcomes_of entries) o
+    → (entry : FinalState × Kept) × Contains entries entry × (entry.0 ≡ o)
+Contains-entry_of_outcome [] o c = absurd (not-Contains-nil o c)
+Contains-entry_of_outcome (entry ∷ entries) o c = elim (Contains-cons entry.0 o (outcomes_of entries) c) [
+  | inl same ↦ (entry, Contains-head entry entry entries refl, same)
+  | inr rest ↦
+      (let found = Contains-entry_of_outcome entries o rest in (found.0, Contains-tail entry found.0 entries found.1, found.2))
+]
 
 -- The result b of a look-up of the outcome says whether it is listed.
 pub lookup-iff_Contains : {Kept : Type 0} (es : OutcomesWith Kept) (o : FinalState) (b : Bool)

@@ -57,7 +57,7 @@ module _ (program : List (List Instr)) where
       (s next : State) → Represents tables key s → length s.processors ≡ length program
       → MachineTransition flat_memory program (event_of e) s (Ok tt) next → ⊥
 
-  -- The result of taking an event of thread t in the state of a key, beside threads with these conflicts: where it leads, or nothing if
+  -- The result of taking an event of thread t in the state of a key, given the conflicts of the other threads: where it leads, or nothing if
   -- it is not enabled.
   abbrev pub TakesEvent : Components → List (List (ℕ × Bool)) → List ℕ → ℕ → ℕ × Bool → ℕ → Option Successor → Type 0
   TakesEvent tables runs key t e set (Some next) =

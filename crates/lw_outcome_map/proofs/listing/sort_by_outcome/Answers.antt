@@ -11,5 +11,5 @@ use Rattle.lw_outcome_map.proofs.listing.sort_by_outcome.Goals as goal
 pub returns-clause-sorted : goal.returns-clause-sorted
 returns-clause-sorted g c =
     sorted_keys (λ o p. is_lt (final_state_cmp o p)) _
-    (c.sort_unstable_by.ensures.sorted (λ a b. is_lt (final_state_cmp a.0 b.0))
-    (ranks_by final_state_cmp-IsTotalOrder (λ e. e.0)) (always_returns_same _ _ _ (λ a r f' k. (ap is_lt k.met, refl))))
+    (c.sort_unstable_by.ensures.sorted (λ a b. is_lt (final_state_cmp a.0 b.0)) (ranks_by final_state_cmp-IsTotalOrder (λ e. e.0))
+    (always_returns_same _ _ _ (λ a r f' k. (ap is_lt k.met, refl))))

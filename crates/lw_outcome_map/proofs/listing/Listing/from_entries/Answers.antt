@@ -26,5 +26,7 @@ returns-clause-from g c entry listed =
 pub returns-clause-complete : goal.returns-clause-complete
 returns-clause-complete g c outcome found =
     let left = dedup_same _ have_same_outcome _ (λ x y b f' x' y' k. search rules) _ _ c.dedup_by.ensures.filtered in
-    rw left (Contains-outcomes_of_dedup c.sort_by_outcome.new.entries.items outcome
-    ((Contains-permuted_outcomes c.args.entries.items c.sort_by_outcome.new.entries.items outcome c.sort_by_outcome.ensures.same).0 found))
+    rw left
+    (Contains-outcomes_of_dedup c.sort_by_outcome.new.entries.items outcome
+    ((Contains-permuted_outcomes c.args.entries.items c.sort_by_outcome.new.entries.items outcome
+    c.sort_by_outcome.ensures.same).0 found))

@@ -7,4 +7,6 @@ use Rattle.lw_outcome_map.proofs.listing.Listing.outcome.Goals as goal
 pub returns : goal.returns
 returns g c =
     let at = slice_get-get_or c.self.inside.entries.items c.args.index c.index.result.now (rw (← c.self.view_is) at c.requires) in
-    rw (← c.self.view_is) (slice_get-map {A = FinalState × g.row.K.Denot} (λ e. e.0) c.self.inside.entries.items c.args.index ∙ ap (option_map (λ (e : FinalState × g.row.K.Denot). e.0)) (at ∙ ap Some (sym c.index.ensures)))
+    rw (← c.self.view_is)
+    (slice_get-map {A = FinalState × g.row.K.Denot} (λ e. e.0) c.self.inside.entries.items c.args.index
+    ∙ ap (option_map (λ (e : FinalState × g.row.K.Denot). e.0)) (at ∙ ap Some (sym c.index.ensures)))

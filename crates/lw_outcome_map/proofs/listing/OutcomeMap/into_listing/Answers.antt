@@ -6,11 +6,8 @@ use Rattle.lw_outcome_map.proofs.listing.OutcomeMap.into_listing.Given as given
 use Rattle.lw_outcome_map.proofs.listing.OutcomeMap.into_listing.Goals as goal
 
 -- What is sorted are the entries of the map.
-entries-of_map : (g : given.Over) (c : goal.After-sort_by_outcome g)
-    → c.in_ok-entries.entries.items ≡ c.self.inside.found.entries
-entries-of_map g c =
-    let ran = c.in_ok-entries.ensures.ran in
-    ran.4.0 ∙ rest-of_drained _ _ ran.0 ran.1 ran.2.2 ran.3 ∙ ran.2.0
+entries-of_map : (g : given.Over) (c : goal.After-sort_by_outcome g) → c.in_ok-entries.entries.items ≡ c.self.inside.found.entries
+entries-of_map g c = let ran = c.in_ok-entries.ensures.ran in ran.4.0 ∙ rest-of_drained _ _ ran.0 ran.1 ran.2.2 ran.3 ∙ ran.2.0
 
 pub invariant_of-result : goal.invariant_of-result
 invariant_of-result g c =

@@ -1,7 +1,6 @@
 -- `observe` looks at one state of a search. A state that is not final changes nothing, and one whose words are known adds no outcome; another
 -- one appends its outcome, and adds its words.
-use Rattle.lw_search.proofs.Common.{InsertsObserved, ObservedWords, sym, ap, ◌∙◌, ◌++◌, ◌∷◌, []}
-use Rattle.lw_search.proofs.Common.{slice_get}
+use Rattle.lw_search.proofs.Common.{InsertsObserved, ObservedWords, sym, ap, ◌∙◌, ◌++◌, ◌∷◌, [], slice_get}
 use Rattle.lw_search.proofs.ObservedOutcomes.{observes-not_final, observes-known, observes-new}
 use Rattle.lw_search.proofs.observed.ObservedStates.observe.Goals as goal
 
