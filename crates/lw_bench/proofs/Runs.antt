@@ -26,7 +26,7 @@ module _ {R W : Type 0} (readers : Devices R) (writers : Devices W) (Tells : Lit
       written = tt;
       machine = machine;
       caches = caches;
-      told =
+      fault =
           IfSome-of_input_fault (RunFaultIsTrue Tells) (readers.bytes r) f (readers.failed s) (λ bytes. inl tt) (λ bytes. inl tt)
           is;
       taken = tt;
@@ -48,7 +48,7 @@ module _ {R W : Type 0} (readers : Devices R) (writers : Devices W) (Tells : Lit
         written = tt;
         machine = machine;
         caches = caches;
-        told = IfSome-FaultIsTrue_of_input Tells _ bytes f input told;
+        fault = IfSome-FaultIsTrue_of_input Tells _ bytes f input told;
         taken = tt;
         left = TakesBeforeFault-TakesInput _ _ f taken;
         read = other_fault-iff_not_failed (Err f) f f Read _ refl refl device.0 reading;
@@ -62,7 +62,7 @@ module _ {R W : Type 0} (readers : Devices R) (writers : Devices W) (Tells : Lit
         written = tt;
         machine = machine;
         caches = caches;
-        told = IfSome-of_all (RunFaultIsTrue Tells) _ Write (λ bytes. inl tt);
+        fault = IfSome-of_all (RunFaultIsTrue Tells) _ Write (λ bytes. inl tt);
         taken = tt;
         left = TakesBeforeFault-TakesInput _ _ Write taken;
         read = Write_fault-reader_not_failed _ reading;
@@ -80,7 +80,7 @@ module _ {R W : Type 0} (readers : Devices R) (writers : Devices W) (Tells : Lit
         written = output_written (IsMade answer) _ _ _ bytes made input makes appended;
         machine = machine;
         caches = caches;
-        told = tt;
+        fault = tt;
         taken = taken;
         left = tt;
         read = no_device_fault-of_success answer Read _ reading;
@@ -116,7 +116,7 @@ module _ {R W T U : Type 0} (readers : Devices R) (writers : Devices W) (P : T �
     written = tt;
     machine = run.machine;
     caches = run.caches;
-    told = run.told;
+    fault = run.fault;
     taken = tt;
     left = run.left;
     read = same_fault f Read _ run.read;
@@ -140,7 +140,7 @@ module _ {R W T U : Type 0} (readers : Devices R) (writers : Devices W) (P : T �
     written = Writes-weakened (P answer) (Q other) weaker _ _ _ run.written;
     machine = run.machine;
     caches = run.caches;
-    told = tt;
+    fault = tt;
     taken = run.taken;
     left = tt;
     read = no_device_fault-other_answer answer other Read _ run.read;

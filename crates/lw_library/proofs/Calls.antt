@@ -58,8 +58,8 @@ module _ (IsAnswer IsFault : ℕ → Bytes → Type 0) (call_result : CallResult
     }
   ]
 
-module _ (IsMade : LitmusTest → Bytes → ℕ → Type 0) (Tells : LitmusTest → BenchFault → Type 0) (text : Bytes) (call_result : CallResult)
-    (before after : Bytes) where
+module _ (IsMade : LitmusTest → Bytes → ℕ → Type 0) (Tells : LitmusTest → BenchFault → Type 0) (text : Bytes)
+    (call_result : CallResult) (before after : Bytes) where
   -- The result of the call is right for this task and text.
   abbrev IsRightResult : Type 0
   IsRightResult = IsCallResult IsMade Tells text call_result before after
@@ -69,7 +69,8 @@ module _ (IsMade : LitmusTest → Bytes → ℕ → Type 0) (Tells : LitmusTest 
       → IsAnswer IsMade Tells text call_result.status made
       → ReturnsBytes 0 made call_result before after
       → IsRightResult
-  IsCallResult-answer = ReturnsAnswerOrFault-answer (IsAnswer IsMade Tells text) (IsFault IsMade Tells text) call_result before after
+  IsCallResult-answer =
+      ReturnsAnswerOrFault-answer (IsAnswer IsMade Tells text) (IsFault IsMade Tells text) call_result before after
 
   -- If a fault is true of the text and not a device's, and the call returns its line, the result is right.
   pub IsCallResult-fault_line : (f : BenchFault)
@@ -102,7 +103,8 @@ module _ (request : Request) (text : Bytes) (call_result : CallResult) (before a
       → ReturnsBytes 0 made call_result before after
       → IsReachResult request text call_result before after
   IsReachResult-answer made status made_of tells =
-      ReturnsAnswerOrFault-answer (IsReached request text) (IsRefused request text) call_result before after made (status, made_of) tells
+      ReturnsAnswerOrFault-answer (IsReached request text) (IsRefused request text) call_result before after made
+      (status, made_of) tells
 
   -- If a request is rejected and the call returns the fault's line with kind 1, the result satisfies IsReachResult.
   pub IsReachResult-fault : (f : BeyondFault)

@@ -9,8 +9,8 @@ abbrev pub location_initializer : TestHead → ℕ → Bytes
 location_initializer head x = initializer_text head (Location x)
 
 -- The text of a register's initializer; empty if the register starts with 0.
-abbrev pub initializer_of : TestHead → ℕ → ℕ → Bytes
-initializer_of head t r = register_initializer head (Register t r)
+abbrev pub initializer_of_register : TestHead → ℕ → ℕ → Bytes
+initializer_of_register head t r = register_initializer head (Register t r)
 
 -- The concatenated texts of the initializers of a thread's registers.
 abbrev pub thread_initializers : TestHead → ℕ → Bytes

@@ -2,7 +2,7 @@
 -- index is that index, so each round writes the next of the six.
 use Rattle.lw_x86.proofs.Common.{◌≡◌, ◌∙◌, ap, get_or, get_or-range_with_len, head_of, numbers_written-push}
 use Rattle.lw_x86.proofs.Common.{zero-add}
-use Rattle.lw_x86.proofs.BlockTexts.{initializer_of}
+use Rattle.lw_x86.proofs.BlockTexts.{initializer_of_register}
 use Rattle.lw_x86.proofs.block.write_registers_of.Goals as goal
 
 pub loop-reg-preserved : goal.loop-reg-preserved
@@ -13,5 +13,5 @@ loop-reg-preserved g c =
     ∙ ap (λ l. get_or l i c.reg-item.result) c.all-reg-items.ensures
     ∙ get_or-range_with_len 0 6 i _ c.loop-reg-test.true
     ∙ zero-add i in
-    numbers_written-push (initializer_of (head_of c.args.head.now) c.args.thread) 6 i _ _ c.loop-reg.invariant _
+    numbers_written-push (initializer_of_register (head_of c.args.head.now) c.args.thread) 6 i _ _ c.loop-reg.invariant _
     c.loop-reg-test.true (rw (← c.reg-item.is, at) at c.in_ok-write_register.ensures)
