@@ -1,7 +1,7 @@
 -- Entries sorted by their outcomes. For `find`, which searches them, and for `from_entries`, which leaves one entry of those with the same
 -- outcome.
 use Rattle.std.proofs.Common.{◌≡◌, sym, ap, ◌∙◌, subst, arith, ℕ, Bool, true≢false, ◌+◌, ◌<◌, get_or, slice_get}
-use Rattle.std.proofs.Common.{List, [], ◌∷◌, length, All, Contains, MatchOption, Option, Some, Result, Ok, Err, IsPermutation, IsSorted}
+use Rattle.std.proofs.Common.{[], ◌∷◌, length, All, Contains, MatchOption, Some, Result, Ok, Err, IsPermutation, IsSorted}
 use Rattle.std.proofs.Common.{is_eq, is_lt, Ordering, Less, Equal, Greater, ⊎_elim}
 use Rattle.std.proofs.lemmas.Bool.{cases_lt}
 use Rattle.std.proofs.lemmas.Cmp.{on_equiv, on_total, tied_itself}
@@ -11,26 +11,15 @@ use Rattle.std.proofs.lemmas.List.Kept.{AllPairs-cons, Any-dedup, IsStrictlySort
 use Rattle.std.proofs.lemmas.List.Sorted.{searchable_from_sorted, IsPermutation-map}
 use Rattle.std.proofs.lemmas.Option.{slice_get-get_or}
 use Rattle.std.specs.Cmp.{IsTotalOrder}
-use Rattle.std.specs.Iterator.{DrainsIf}
-use Rattle.std.specs.Iterator.Runs.{YieldsInOrder}
 use Rattle.std.specs.List.{HoldsAt, IsDistinct, dedup}
 use Rattle.std.specs.List.Sorted.{IsStrictlySortedBy, IsBinarySearchResult, IsSearchInRange, IsPartitionPoint}
 use Rattle.std.specs.Ordering.{ordering_reverse}
 use Rattle.std.specs.Result.{result_ok}
 use Rattle.std.proofs.lemmas.Map.Entries.{length-keys_of}
-use Rattle.indexmap.proofs.CallerLemmas.{Drains-YieldsInOrder}
 use Rattle.indexmap.proofs.MapLemmas.{distinct_permutation}
 use Rattle.lw_base.specs.Outcomes.{FinalState, final_state_cmp}
 use Rattle.lw_outcome_map.specs.Listings.{OutcomesWith, outcomes_of, IsStrictlySorted}
 use Rattle.lw_outcome_map.proofs.api.Listings.{final_eq, final_eq-Decides, final_eq-IsEquivalence, final_eq-is_cmp_equal, final_state_cmp-IsTotalOrder, IsStrictlySorted-of_distinct, Contains-entry_of_outcome}
-
--- What an iterator that gives its items in order gave until its end is all that it had left.
-pub rest-of_drained : {S A : Type 0} (steps : S → Option A → S → Type 0) (rest : S → List A) (s : S) (xs : List A)
-    → YieldsInOrder steps rest
-    → DrainsIf steps (Unit {0}) s xs
-    → xs ≡ rest s
-rest-of_drained steps rest s xs in_order drained =
-    let end = drained.2 tt in Drains-YieldsInOrder steps rest s xs in_order (end.0, (drained.0, drained.1, end.1))
 
 -- No two of the results of a comparison are the same.
 less-not_equal : Less ≡ Equal → ⊥

@@ -66,7 +66,8 @@ impl<A: Allocator, K: Drop> OutcomeMap<A, K> {
         ensures sorted { IfOk result (λ listing. IsStrictlySorted listing) }
     {
         let alloc = *self.found.allocator();
-        let mut entries = Vec::from_iter(alloc, self.found)?;
+        let mut entries = Vec::with_capacity(alloc, self.found.len())?;
+        entries.extend(self.found)?;
         sort_by_outcome(&mut entries);
         Ok(Listing { entries })
     }
