@@ -1,9 +1,7 @@
 -- Outcomes as keys of a map: `==` is an equivalence and `cmp` a total order of them, so a sorted list without duplicates is strictly
 -- ascending.
-use Rattle.std.proofs.Common.{inl}
-use Rattle.std.proofs.Common.{inr}
 use Rattle.std.proofs.Common.{◌≡◌, ◌≢◌, ◌↔◌, refl, sym, ap, ◌∙◌, ℕ, Bool, true, false, true≢false, ◌&&◌, ◌<◌}
-use Rattle.std.proofs.Common.{⊎_elim, List, [], ◌∷◌, ◌++◌, nat_eq, get_or, slice_get, is_some}
+use Rattle.std.proofs.Common.{inl, inr, ⊎_elim, List, [], ◌∷◌, ◌++◌, nat_eq, get_or, slice_get, is_some}
 use Rattle.std.proofs.Common.{Contains, IsTrue, arith, Option, None, Some, IsPermutation}
 use Rattle.std.proofs.Common.{IsSorted, Decides, is_eq, is_lt, nat_cmp, Ordering, Less, Equal, Greater}
 use Rattle.std.specs.List.{IsDistinct}
