@@ -1,4 +1,19 @@
--- Units of memory can be split in two, and are room for each type that fits into them. Assumes `Logic`.
+-- Units of memory can be split in two, and are room for each type that fits into them.
+--
+-- How to read the proofs by separation logic of this crate. `Logic` is the record of the laws of the kit's separation logic: a lemma holds
+-- of every such `𝓛`, over every resource algebra `𝓤`. `ent 𝓤 P Q` says that P entails Q; `sep 𝓤 P Q` is P and Q, each with memory of its
+-- own; `wand 𝓤 P Q` is the right to exchange P for Q. `sem 𝓛` gives the meaning of a formula, whose connectives begin with f (`fsep`,
+-- `fwand`). `Seq K 𝓛 Γ G` says that the entries of Γ together entail G. A proof after `qed` is a list of steps, each of which changes the
+-- first entries of Γ or the goal:
+--
+-- - `split` takes a `sep` apart, and `join` makes one; `move` brings the entries at some indices to the front; `drop` gives the first away;
+-- - `use1` and `use2` replace the first entry, or the first two, by what they entail; `rewrite` uses an equation;
+-- - `assume` moves the left side of a goal's `wand` to Γ; `frame` meets the first part of the goal with the first entry;
+-- - `fsplit`, `fjoin`: `split` and `join` of formulas; `fpick` names what exists by `fex`, `fpack` says what exists; `feq_l` takes an
+--   equation out of Γ;
+-- - `by` ends a proof by an entailment, `done` by equality.
+--
+-- The first argument of a step, `!` or `t`, says nothing: it makes the checker read the goal before the step's other arguments.
 use Rattle.std.proofs.Common.{◌≡◌, ℕ, zero, suc, ◌+◌, ◌-◌, ◌*◌, ◌%◌, ◌≤◌, max, List, [], ◌∷◌, sym, ap, subst, ◌∙◌, arith}
 use seplogic.Ra.Ura.{Ura}
 use mir.Syntax.{Ty, Tys, w8, w128, tnil, tcons, ty_int, ty_array, ty_struct}

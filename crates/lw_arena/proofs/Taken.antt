@@ -1,4 +1,4 @@
--- The two cases of the result of `take`, and a block as room for a type with the right to give it back. Assumes `Logic`.
+-- The two cases of the result of `take`, and a block as room for a type with the right to give it back. `Rooms` says how its proofs are read.
 use Rattle.std.proofs.Common.{◌≡◌, ℕ, ◌^◌, ◌<◌, ◌≤◌, List, [], ◌∷◌, ◌++◌, IfSome, None, Some, refl, sym, ap, subst, ◌∙◌, arith}
 use seplogic.Ra.Ura.{Ura}
 use mir.Syntax.{Ty, Width, w8, w16, w32, w64, w128}
@@ -39,7 +39,7 @@ alignment-divides_16 w32 = tt
 alignment-divides_16 w64 = tt
 alignment-divides_16 w128 = tt
 
--- The right to make the room whole again is the right to give the memory back.
+-- The right to exchange the room of a τ for all k units is the right to give the block's memory back.
 give_back-of_room : {M : Type 1} {𝓤 : Ura M} (𝓛 : Logic 𝓤) (τ : Ty) (k b o : ℕ)
     → ent 𝓤 (wand 𝓤 (𝓛.H.room τ b o) (𝓛.H.room (units k) b o)) (sem 𝓛 (fwand (froom τ b o) (memory k (block_ptr b o))))
 give_back-of_room {𝓤 = 𝓤} 𝓛 τ k b o =
@@ -47,7 +47,7 @@ give_back-of_room {𝓤 = 𝓤} 𝓛 τ k b o =
     let Whole = 𝓛.H.room (units k) b o in
     qed 𝓛 (raw (wand 𝓤 Room Whole) ∷ []) ∵ assume ! (raw Room) $ use2 𝓛 (raw Whole) (apply∗ 𝓤 Room Whole) $ by ! (memory-of_room 𝓛 k b o)
 
--- A block of the class of n bytes is room for a τ of that size, with the right to give the block back for it.
+-- A block of the class of n bytes is room for a τ of n bytes, together with the block's token: the right to free the block for that room.
 pub block_token-of_room : {M : Type 1} {𝓤 : Ura M} (𝓛 : Logic 𝓤) (τ : Ty) (b o n : ℕ)
     → capped (size τ) ≡ n
     → n < 2 ^ 63

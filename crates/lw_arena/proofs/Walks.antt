@@ -1,5 +1,5 @@
 -- Lemmas for the proofs by hand, which follow a function's body statement by statement: slots of parameters, what runs after an arm of a
--- match, a struct of one pointer as the machine represents it, and a pair of two values. Assumes `Logic`.
+-- match, a struct of one pointer as the machine represents it, and a pair of two values. `Rooms` says how these proofs are read.
 use Rattle.std.proofs.Common.{◌≡◌, ℕ, zero, suc, List, [], ◌∷◌, ◌++◌, refl, ◌∙◌, lit<}
 use seplogic.Ra.Ura.{Ura}
 use mir.Syntax.{Body, ty_ptr, ty_struct, tcons, tnil}

@@ -76,7 +76,7 @@ pub use Rattle.lw_paths.proofs.api.PreservedOrder.{AreOrdered, HasOrdered-if_res
 pub use Rattle.lw_paths.proofs.api.Successors.{IsFlowSuccessor-in_range}
 pub use Rattle.lw_paths.proofs.api.Visitable.{JumpsForward-thread}
 pub use Rattle.lw_paths.specs.declared.item.Item.{Item}
-pub use Rattle.lw_finals.proofs.Common.{IsX86ChoiceOutcome, ItemsRunTo, X86FollowsPathsToEnd}
+pub use Rattle.lw_finals.proofs.Common.{IsX86AssignmentOutcome, ItemsRunTo, X86FollowsPathsToEnd}
 pub use Rattle.lw_finals.proofs.Common.{X86ItemTransition, event_by, x86_item_system}
 pub use Rattle.lw_finals.proofs.api.Waiting.{IsAscendingBetween, IsAscendingBetween-member, entry_location}
 pub use Rattle.lw_finals.proofs.api.Waiting.{own_waits, waits_after, waits_after-other_thread}

@@ -3,7 +3,7 @@
 -- times, which satisfies the axioms (Timed).
 use Rattle.lw_axiomatic.proofs.Common.{IsWellScopedProgram, ℕ, List, length, sym, subst, FinalState}
 use Rattle.lw_axiomatic.proofs.Common.{HasOutcomeShape, x86_language, X86Test, flat_memory, IsPathAssignment}
-use Rattle.lw_axiomatic.proofs.Common.{IsX86ChoiceOutcome, Execution, IsCandidate, IsAllowed}
+use Rattle.lw_axiomatic.proofs.Common.{IsX86AssignmentOutcome, Execution, IsCandidate, IsAllowed}
 use Rattle.lw_axiomatic.proofs.Common.{HasConsistentTimes, HasTimes}
 use Rattle.lw_axiomatic.proofs.Timed.{SatisfiesAxioms-HasConsistentTimes}
 use Rattle.lw_axiomatic.proofs.Timing.{HasTimes-SatisfiesAxioms}
@@ -13,18 +13,20 @@ use Rattle.lw_axiomatic.proofs.TimeOrder as by
 use Rattle.lw_axiomatic.proofs.FromMachine as from
 
 -- An outcome that the machine reaches along an order of a path assignment's items, as lw_finals defines it.
-abbrev pub OfChoice : X86Test → FinalState → Type 0
-OfChoice test o =
+abbrev pub OfAssignment : X86Test → FinalState → Type 0
+OfAssignment test o =
     (paths : List (List ℕ))
     × IsPathAssignment x86_language test.threads paths
-    × IsX86ChoiceOutcome flat_memory test test.head.init_words paths o
+    × IsX86AssignmentOutcome flat_memory test test.head.init_words paths o
 
 module _ {test : X86Test} (well_scoped : IsWellScopedProgram test) {o : FinalState} where
   -- The axioms allow an outcome that the machine reaches along an order of a path assignment's items.
-  pub IsAllowed-OfChoice : HasOutcomeShape test.head.threads (length test.head.locs) o → OfChoice test o → IsAllowed test o
-  IsAllowed-OfChoice of_test (paths, choice, c) =
+  pub IsAllowed-OfAssignment : HasOutcomeShape test.head.threads (length test.head.locs) o
+      → OfAssignment test o
+      → IsAllowed test o
+  IsAllowed-OfAssignment of_test (paths, assignment, c) =
       let given : KeptOrder test paths =
-      record { well_scoped = well_scoped; choice = choice; order = c.order; keeps = c.keeps } in
+      record { well_scoped = well_scoped; assignment = assignment; order = c.order; keeps = c.keeps } in
       let x : Execution = from.run_execution given c.run.end c.run.ran in
       let timed : HasConsistentTimes test x (done given) (reached given) = from.has_consistent_times given c.run.end c.run.ran in
       record {
@@ -37,12 +39,12 @@ module _ {test : X86Test} (well_scoped : IsWellScopedProgram test) {o : FinalSta
       }
 
   -- The machine reaches an outcome that the axioms allow along an order of a path assignment's items.
-  pub OfChoice-IsAllowed : IsAllowed test o → OfChoice test o
-  OfChoice-IsAllowed a =
+  pub OfAssignment-IsAllowed : IsAllowed test o → OfAssignment test o
+  OfAssignment-IsAllowed a =
       let t : HasTimes test a.execution = HasTimes-SatisfiesAxioms a.candidate a.axioms in
       let given : KeptOrder test a.execution.paths = by.kept_order well_scoped a.candidate t.timed in (
         a.execution.paths,
-        given.choice,
+        given.assignment,
         record {
           order = given.order;
           keeps = given.keeps;

@@ -429,7 +429,7 @@ module _ {test : X86Test} {paths : List (List ℕ)} (given : KeptOrder test path
     -- The invariant holds at the start.
     IsInv-start : IsInv 0 (λ t. []) (initial_machine_state test test.head.init_words)
     IsInv-start = record {
-      waiting = AreWaitingStores-start test.threads (forward given) paths given.choice given.order;
+      waiting = AreWaitingStores-start test.threads (forward given) paths given.assignment given.order;
       hold = AllBuffersHoldStores-start test test.head.init_words;
       words = λ t p got. subst (Written run_execution given t []) (sym (initial_buffer_empty t p got)) tt;
       memory = λ l. inl ((λ e writing lt. omega (arith, lt)), refl);

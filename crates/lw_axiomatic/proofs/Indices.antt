@@ -97,10 +97,10 @@ Contains-IsMember (k ∷ path) j (inl e) = (0, omega arith, e)
 Contains-IsMember (k ∷ path) j (inr h) =
     let member = Contains-IsMember path j h in (suc member.0, omega (arith, member.1), member.2)
 
--- A well-scoped test, a choice of its paths, and an order of the choice's items that keeps the preserved pairs.
+-- A well-scoped test, a path assignment of its threads, and an order of the assignment's items that keeps the preserved pairs.
 pub record KeptOrder (test : X86Test) (paths : List (List ℕ)) : Type 0 where
   pub well_scoped : IsWellScopedProgram test
-  pub choice : IsPathAssignment x86_language test.threads paths
+  pub assignment : IsPathAssignment x86_language test.threads paths
   pub order : List ℕ
   pub keeps : IsLinearExtension (constraints_of x86_language test.threads (items_of x86_language test.threads paths)) order
 
@@ -151,7 +151,7 @@ module _ {test : X86Test} {paths : List (List ℕ)} (given : KeptOrder test path
       item_index_at items (λ j k lj lk e f.
       (let s =
       same_slot (item_numbered j).is_drain (item_numbered k).is_drain (item_numbered j).position (item_numbered k).position f in
-      item_index-unique x86_language test.threads paths forward given.choice j k lj lk e s.1 s.0)) i in_range
+      item_index-unique x86_language test.threads paths forward given.assignment j k lj lk e s.1 s.0)) i in_range
 
   -- An item's turn is its number's index in the order.
   pub turn-of_number : (i : ℕ) → i < length items → turn (item_numbered i) ≡ index_in given.order i
@@ -161,7 +161,7 @@ module _ {test : X86Test} {paths : List (List ℕ)} (given : KeptOrder test path
   abbrev OnPath : MemoryEvent → Type 0
   OnPath e = Contains (thread_code paths e.thread) e.position
 
-  -- An item of the choice, with its number and its turn.
+  -- An item of the path assignment, with its number and its turn.
   pub record Placed (a : Item) : Type 0 where
     pub index : ℕ
     pub below : index < length items
@@ -179,7 +179,7 @@ module _ {test : X86Test} {paths : List (List ℕ)} (given : KeptOrder test path
 
   -- Each thread has a path.
   pub paths_length : length paths ≡ length test.threads
-  paths_length = length-path_assignment x86_language test.threads paths given.choice
+  paths_length = length-path_assignment x86_language test.threads paths given.assignment
 
   -- An item of the path assignment is read at its number.
   pub get-of_Placed : {a : Item} (p : Placed a) → slice_index_or items p.index a ≡ a
@@ -198,7 +198,8 @@ module _ {test : X86Test} {paths : List (List ℕ)} (given : KeptOrder test path
     | inl h ↦ h
     | inr h ↦
         (let is_nil : thread_code paths e.thread ≡ [] =
-        get_or_past paths e.thread [] (omega (arith, h, length-path_assignment x86_language test.threads paths given.choice)) in
+        get_or_past paths e.thread []
+        (omega (arith, h, length-path_assignment x86_language test.threads paths given.assignment)) in
         absurd (not-Contains-nil e.position (subst (λ (path : List ℕ). Contains path e.position) is_nil c)))
   ]
 
@@ -245,7 +246,7 @@ module _ {test : X86Test} {paths : List (List ℕ)} (given : KeptOrder test path
   pub whole_path : (t : ℕ)
       → t < length test.threads
       → IsFlowPathFrom x86_language (thread_code test.threads t) 0 (thread_code paths t)
-  whole_path t in_range = flow_path_of_thread test.threads paths given.choice t in_range
+  whole_path t in_range = flow_path_of_thread test.threads paths given.assignment t in_range
 
   -- An event on a path has an instruction.
   pub instr_of : (e : MemoryEvent) → OnPath e → (i : Instr) × (slice_get (thread_code test.threads e.thread) e.position ≡ Some i)
@@ -271,7 +272,7 @@ module _ {test : X86Test} {paths : List (List ℕ)} (given : KeptOrder test path
       let instr = instr_of e c in
       Placed-HasItem (item e.thread e.position b)
       (HasItem-on_path x86_language test.threads paths e.thread e.position instr.0 b
-      (length-path_assignment x86_language test.threads paths given.choice) (thread_in_range-OnPath e c)
+      (length-path_assignment x86_language test.threads paths given.assignment) (thread_in_range-OnPath e c)
       (in_list (thread_code paths e.thread) e.position c) instr.1
       (λ f. IsStoring-is_store instr.0 (sym (operation_is-of_instruction is_store e instr.0 instr.1) ∙ store f)))
 
@@ -301,7 +302,7 @@ module _ {test : X86Test} {paths : List (List ℕ)} (given : KeptOrder test path
       let slots : thread_rank (item_numbered pa.index) < thread_rank (item_numbered pb.index) =
       omega (arith, less, ap thread_rank pa.item_is, ap thread_rank pb.item_is) in
       let index : pa.index < pb.index =
-      index_lt-if_rank_lt x86_language test.threads paths forward given.choice pa.index pb.index pa.below threads slots in
+      index_lt-if_rank_lt x86_language test.threads paths forward given.assignment pa.index pb.index pa.below threads slots in
       let before : Before given.order pa.index pb.index =
       HasOrdered-if_respected x86_language test.threads paths given.order given.keeps.1 pa.index pb.index index pb.below threads
       (subst (λ (z : Item). AreOrdered x86_language test.threads z (item_numbered pb.index)) (sym pa.item_is)

@@ -187,7 +187,7 @@ module _ {test : X86Test} (x : Execution) (given : KeptOrder test x.paths) where
 
   -- After the first k items: which stores wait, that the buffers hold their words, and memory the last words written.
   pub record PrefixInvariant (k : ℕ) (pending : ℕ → List ℕ) (s : MachineState (List ℕ)) : Type 0 where
-    pub waiting : AreWaitingStores test.threads (forward given) x.paths given.choice given.order k pending
+    pub waiting : AreWaitingStores test.threads (forward given) x.paths given.assignment given.order k pending
     pub hold : AllBuffersHoldStores test.threads pending s
     pub words : (t : ℕ) (p : Processor) → slice_get s.processors t ≡ Some p → Written t (pending t) p.buffer
     pub memory : (l : ℕ) → LastBefore k l (slice_index s.memory l)
@@ -318,8 +318,8 @@ module _ {test : X86Test} (x : Execution) (given : KeptOrder test x.paths) where
     -- A drain is that of the store that has waited longest.
     pub waiting_head : (nth_item now_at.index).is_drain ≡ true → (rest : List ℕ) × (pending item_thread ≡ item_position ∷ rest)
     waiting_head =
-        DrainsOldest-at_turn test.threads (forward given) x.paths given.choice given.order given.keeps k item_step.old.position
-        now_at.index pending inv.waiting Holds-old.climbs now_at.below now_at.index_is
+        DrainsOldest-at_turn test.threads (forward given) x.paths given.assignment given.order given.keeps k
+        item_step.old.position now_at.index pending inv.waiting Holds-old.climbs now_at.below now_at.index_is
 
     -- The stores of each thread that wait after the item.
     abbrev pub waiting_after : ℕ → List ℕ
@@ -574,7 +574,7 @@ module _ {test : X86Test} (x : Execution) (given : KeptOrder test x.paths) where
     PrefixInvariant-next agrees = elim (cases_Bool (nth_item now_at.index).is_drain) [
       | inl f ↦ record {
         waiting =
-            AreWaitingStores-next test.threads (forward given) x.paths given.choice given.order given.keeps k
+            AreWaitingStores-next test.threads (forward given) x.paths given.assignment given.order given.keeps k
             item_step.old.position now_at.index pending inv.waiting Holds-old.climbs now_at.below now_at.index_is;
         hold =
             AllBuffersHoldStores-after_item test.threads (forward given) (nth_item now_at.index) item_on_path.statement pending s
@@ -585,7 +585,7 @@ module _ {test : X86Test} (x : Execution) (given : KeptOrder test x.paths) where
       }
       | inr f ↦ record {
         waiting =
-            AreWaitingStores-next test.threads (forward given) x.paths given.choice given.order given.keeps k
+            AreWaitingStores-next test.threads (forward given) x.paths given.assignment given.order given.keeps k
             item_step.old.position now_at.index pending inv.waiting Holds-old.climbs now_at.below now_at.index_is;
         hold =
             AllBuffersHoldStores-after_item test.threads (forward given) (nth_item now_at.index) item_on_path.statement pending s

@@ -21,7 +21,7 @@ use Rattle.lw_axiomatic.proofs.Indices.{KeptOrder, turn, step_of, point_of, done
 use Rattle.lw_axiomatic.proofs.Indices.{step_placed, point_placed, Contains-IsMember}
 use Rattle.lw_litmus.specs.Operations as operations
 
--- ---- the paths of a candidate are a choice
+-- ---- the paths of a candidate are a path assignment
 
 -- Whole flow paths, one for each thread, are a path assignment.
 IsPathAssignment-flow_paths : (program : List (List Instr)) (paths : List (List ℕ))
@@ -216,7 +216,7 @@ module _ {test : X86Test} (well_scoped : IsWellScopedProgram test) {x : Executio
     abbrev pub kept_order : KeptOrder test x.paths
     kept_order = record {
       well_scoped = well_scoped;
-      choice = candidate_paths_are_assignment;
+      assignment = candidate_paths_are_assignment;
       order = order;
       keeps = IsLinearExtension-by_time;
     }

@@ -151,8 +151,8 @@ module _ {test : X86Test} {x : Execution} {o : FinalState} (candidate : IsCandid
           → (mid : MachineState (List ℕ)) × TransitionAt flat_memory test.threads (event_by true item_thread) item_position s mid
       transition-of_drain f =
           let h =
-          DrainsOldest-at_turn test.threads (forward given) x.paths given.choice given.order given.keeps k p.position now_at.index
-          at_state.pending at_state.inv.waiting Holds-of_processor.climbs now_at.below now_at.index_is f in
+          DrainsOldest-at_turn test.threads (forward given) x.paths given.assignment given.order given.keeps k p.position
+          now_at.index at_state.pending at_state.inv.waiting Holds-of_processor.climbs now_at.below now_at.index_is f in
           let d =
           drain_does p.buffer h.0 p s.memory
           (subst (λ (ws : List ℕ). BufferHolds (thread_code test.threads item_thread) ws p.buffer) h.1
@@ -496,7 +496,7 @@ module _ {test : X86Test} {x : Execution} {o : FinalState} (candidate : IsCandid
   IsAt-start = record {
     pending = λ t. [];
     inv = record {
-      waiting = AreWaitingStores-start test.threads (forward given) x.paths given.choice given.order;
+      waiting = AreWaitingStores-start test.threads (forward given) x.paths given.assignment given.order;
       hold = AllBuffersHoldStores-start test test.head.init_words;
       words = λ t p got. (let initial = initial_case t p got in subst (Written x given t []) (sym initial.2) tt);
       memory = λ l. inl ((λ e writing lt. omega (arith, lt)), refl);
@@ -577,7 +577,7 @@ module _ {test : X86Test} {x : Execution} {o : FinalState} (candidate : IsCandid
             → BufferHolds (thread_code test.threads t) ws b
             → ((v : ℕ)
             → IsMember v ws
-            → IsDrainedLater test.threads (forward given) x.paths given.choice given.order (length given.order) t v)
+            → IsDrainedLater test.threads (forward given) x.paths given.assignment given.order (length given.order) t v)
             → b ≡ []
         no_store_left [] [] holds coming = refl
         no_store_left [] (f ∷ b) holds coming = absurd holds

@@ -86,7 +86,7 @@ pub use Rattle.lw_fence.proofs.api.Compilations.{IsWellScopedProgram-with_fences
 pub use Rattle.lw_fence.proofs.api.Compilations.{without_needless_fences}
 pub use Rattle.lw_outcome_map.specs.Listings.{IsStrictlySorted, OutcomeEntries, OutcomesWith, outcomes_of}
 pub use Rattle.lw_outcome_map.specs.Listings.{schedules_of}
-pub use Rattle.lw_paths.proofs.Common.{HasTooManyItems, IsWithinOrderLimit, JumpsForward, items_at_choice}
+pub use Rattle.lw_paths.proofs.Common.{HasTooManyItems, IsWithinOrderLimit, JumpsForward, items_of_assignment}
 pub use Rattle.lw_paths.proofs.Common.{path_assignments, total_of}
 pub use Rattle.lw_paths.proofs.api.Enumerated.{Contains-path_assignments}
 pub use Rattle.lw_paths.proofs.api.Totals.{IsTotalOrderCount-total_of}

@@ -11,7 +11,7 @@ use Rattle.lw_bench.proofs.Common.{IsWellFormedThread, store_buffering_in_x86, P
 use Rattle.lw_bench.proofs.Common.{Of_x86, IsStatesReport, OutcomeOf, AllPairs, slice_cmp, nat_cmp, Less}
 use Rattle.lw_bench.proofs.Common.{ltb-true, AllPairs-cons, All-from_recursion, Register, project_state}
 use Rattle.lw_bench.proofs.Common.{final_word, Contains-path_assignments, JumpsForward, path_assignments}
-use Rattle.lw_bench.proofs.Common.{HasTooManyItems, IsWithinOrderLimit, items_at_choice, total_of}
+use Rattle.lw_bench.proofs.Common.{HasTooManyItems, IsWithinOrderLimit, items_of_assignment, total_of}
 use Rattle.lw_bench.proofs.Common.{IsTotalOrderCount-total_of, EffectLeadsTo, MachineTransition-of_effect}
 use Rattle.lw_bench.proofs.Common.{store_buffering_report, Leaves, act_after}
 use Rattle.std.specs.Fmt.{digits}
@@ -218,11 +218,11 @@ JumpsForward-store_buffering =
 
 -- Store buffering does not have too many items for a list.
 few_items : HasTooManyItems x86_language store_buffering_threads → ⊥
-few_items (paths, choice, many) =
-    go ((Contains-path_assignments x86_language store_buffering_threads paths JumpsForward-store_buffering).1 choice)
+few_items (paths, assignment, many) =
+    go ((Contains-path_assignments x86_language store_buffering_threads paths JumpsForward-store_buffering).1 assignment)
   where
     go : Contains (path_assignments x86_language store_buffering_threads) paths → ⊥
-    go (zero, l, e) = omega (arith, subst (λ p. 128 < items_at_choice x86_language store_buffering_threads p) (sym e) many)
+    go (zero, l, e) = omega (arith, subst (λ p. 128 < items_of_assignment x86_language store_buffering_threads p) (sym e) many)
     go (suc k, l, e) = omega (arith, l)
 
 -- Store buffering does not have too many orders for a list.

@@ -70,13 +70,13 @@ pub use Rattle.lw_orders.proofs.api.SwapInvariance.{preserved-by_swaps, trace_eq
 pub use Rattle.lw_outcome_map.proofs.api.Listings.{Contains-permuted_outcomes}
 pub use Rattle.lw_outcome_map.specs.Listings.{OutcomeEntries, OutcomesWith, outcomes_of}
 pub use Rattle.lw_paths.proofs.Common.{HasTooManyItems, IsPathAssignment, IsWithinLimits, JumpsForward}
-pub use Rattle.lw_paths.proofs.Common.{LimitFaultOfChoice, VisitsAll, choice_of, conflict_by, constraints_of}
-pub use Rattle.lw_paths.proofs.Common.{drained_location, item_at, items_at_choice, items_conflict, items_of}
-pub use Rattle.lw_paths.proofs.Common.{location_by, statement_needs_empty_buffer, statement_of}
-pub use Rattle.lw_paths.proofs.Common.{transitive_reduction, writes_by}
-pub use Rattle.lw_paths.proofs.api.Counting.{GivesReasons, LimitFaultIsTrue-of_choices}
-pub use Rattle.lw_paths.proofs.api.Counting.{LimitFaultOfChoice-items_refused}
-pub use Rattle.lw_paths.proofs.api.Counting.{LimitFaultOfChoices-visit_fails, VisitorView}
+pub use Rattle.lw_paths.proofs.Common.{LimitFaultOfAssignment, VisitsAll, assignment_of, conflict_by}
+pub use Rattle.lw_paths.proofs.Common.{constraints_of, drained_location, item_at, items_conflict, items_of}
+pub use Rattle.lw_paths.proofs.Common.{items_of_assignment, location_by, statement_needs_empty_buffer}
+pub use Rattle.lw_paths.proofs.Common.{statement_of, transitive_reduction, writes_by}
+pub use Rattle.lw_paths.proofs.api.Counting.{GivesReasons, LimitFaultIsTrue-of_assignments}
+pub use Rattle.lw_paths.proofs.api.Counting.{LimitFaultOfAssignment-items_refused}
+pub use Rattle.lw_paths.proofs.api.Counting.{LimitFaultOfAssignments-visit_fails, VisitorView}
 pub use Rattle.lw_paths.proofs.api.Enumerated.{Contains-path_assignments}
 pub use Rattle.lw_paths.proofs.api.Members.{Contains-cons, Contains-head, Contains-map_inv}
 pub use Rattle.lw_paths.proofs.api.Members.{Contains-singleton, Contains-tail, not-Contains-nil}
@@ -100,14 +100,14 @@ pub use Rattle.lw_tso_caches.proofs.api.CompleteLists.{HasOutcomeShape-of_compil
 pub use Rattle.lw_tso_caches.proofs.api.CompleteLists.{on_machine, without_evictions-flat_run}
 pub use Rattle.lw_tso_caches.specs.CompleteLists.{AreAllOutcomes, IsComplete}
 pub use Rattle.lw_tso_caches.specs.OverCaches.{OutcomeOverCaches, ReplaysToOverCaches}
-pub use Rattle.lw_finals.specs.OrderRuns.{FollowsPathsToEnd, IsChoiceOutcome, ItemTransitionSystem}
+pub use Rattle.lw_finals.specs.OrderRuns.{FollowsPathsToEnd, IsAssignmentOutcome, ItemTransitionSystem}
 pub use Rattle.lw_finals.specs.OrderRuns.{ItemsRunTo, OrderRunsTo}
-pub use Rattle.lw_finals.specs.SourceRuns.{IsSourceChoiceOutcome, SourceFollowsPathsToEnd}
+pub use Rattle.lw_finals.specs.SourceRuns.{IsSourceAssignmentOutcome, SourceFollowsPathsToEnd}
 pub use Rattle.lw_finals.specs.SourceRuns.{SourceItemTransition, source_item_system}
-pub use Rattle.lw_finals.specs.X86Runs.{IsX86ChoiceOutcome, ReplaysFlatTo, X86FollowsPathsToEnd}
+pub use Rattle.lw_finals.specs.X86Runs.{IsX86AssignmentOutcome, ReplaysFlatTo, X86FollowsPathsToEnd}
 pub use Rattle.lw_finals.specs.X86Runs.{X86ItemTransition, event_by, event_of, events_of, x86_item_system}
 pub use Rattle.lw_finals.specs.declared.collect.Gatherer.{Gatherer}
-pub use Rattle.lw_finals.specs.inner.Collected.{CollectsOutcomes, OutcomesOfChoice, OutcomesOfOne}
+pub use Rattle.lw_finals.specs.inner.Collected.{CollectsOutcomes, OutcomesOfAssignment, OutcomesOfOne}
 pub use Rattle.lw_finals.specs.inner.Collected.{OutcomesOfProgram, RunnerState}
 pub use Rattle.lw_finals.specs.inner.Listed.{AreComplete, AreFlat}
 pub use Rattle.lw_finals.specs.inner.SourceRunners.{CompiledSource, HasStatementAt, events_at, item_events}

@@ -9,7 +9,7 @@ use Rattle.lw_finals.proofs.Common.{MachineState, MachineRunsTo, IsMachineOutcom
 use Rattle.lw_finals.proofs.Common.{EventOccurrence, EventOccurrence-of_event, not-EffectLeadsTo-evict_event}
 use Rattle.lw_finals.proofs.Common.{Event, Step, Drain, Evict, Language, Test, X86Test, Constraints}
 use Rattle.lw_finals.proofs.Common.{IsLinearExtension, most_items, orders, JumpsForward, IsPathAssignment}
-use Rattle.lw_finals.proofs.Common.{HasTooManyItems, IsWithinLimits, items_at_choice, items_of}
+use Rattle.lw_finals.proofs.Common.{HasTooManyItems, IsWithinLimits, items_of_assignment, items_of}
 use Rattle.lw_finals.proofs.Common.{transitive_reduction, Item, Contains-path_assignments}
 use Rattle.lw_finals.proofs.Common.{IsWellFormed-reduced_pairs, IsLinearExtension-reduced_iff, Contains-head}
 use Rattle.lw_finals.proofs.Common.{Contains-map_inv, OutcomeEntries, outcomes_of, ReplaysToOverCaches}
@@ -18,7 +18,7 @@ use Rattle.lw_finals.proofs.Common.{AreComplete, AreFlat, IsComplete, AreAllOutc
 use Rattle.lw_finals.proofs.Common.{HasOutcomeShape, OutcomeOverCaches, All-contains_itself}
 use Rattle.lw_finals.proofs.Common.{without_evictions-flat_run, FollowsPathsToEnd}
 use Rattle.lw_finals.proofs.SourceTraceEquivalence.{OrdersEndAlike}
-use Rattle.lw_finals.proofs.Ordered.{OfChoice}
+use Rattle.lw_finals.proofs.Ordered.{OfAssignment}
 use Rattle.lw_orders.specs.Order as orders
 
 -- If P and Q imply R, and the value of a result has P where it has one, and Q holds there, then the value has R.
@@ -32,12 +32,12 @@ IfOk-with_fact (Err e) P R Q f p q = tt
 
 module _ {S : Type 0} (language : Language S) (test : Test S) {State : Type 0} (system : ItemTransitionSystem State) where
   -- The items of a path assignment of the test.
-  abbrev choice_items : List (List ℕ) → List Item
-  choice_items paths = items_of language test.threads paths
+  abbrev assignment_items : List (List ℕ) → List Item
+  assignment_items paths = items_of language test.threads paths
 
   -- The items of a path assignment with their reduced pairs, from which the orders are computed.
   abbrev pub reduced_constraints : List (List ℕ) → Constraints
-  reduced_constraints paths = transitive_reduction language test.threads (choice_items paths)
+  reduced_constraints paths = transitive_reduction language test.threads (assignment_items paths)
 
   -- For each path assignment of the test, trace-equivalent orders of its items reach the same outcome.
   abbrev pub AreAlike : Type 0
@@ -50,34 +50,34 @@ module _ {S : Type 0} (language : Language S) (test : Test S) {State : Type 0} (
     IsWellFormed-reduced : (paths : List (List ℕ))
         → IsPathAssignment language test.threads paths
         → orders.IsWellFormed (reduced_constraints paths)
-    IsWellFormed-reduced paths choice = elim (cases_lt most_items (items_at_choice language test.threads paths)) [
-      | inl many ↦ absurd (not_too_many (paths, choice, many))
-      | inr within ↦ IsWellFormed-reduced_pairs language test.threads (choice_items paths) within
+    IsWellFormed-reduced paths assignment = elim (cases_lt most_items (items_of_assignment language test.threads paths)) [
+      | inl many ↦ absurd (not_too_many (paths, assignment, many))
+      | inr within ↦ IsWellFormed-reduced_pairs language test.threads (assignment_items paths) within
     ]
 
     -- An outcome of some order of a path assignment is the outcome of a listed order.
-    OutcomesOfProgram-if_of_choice : (o : FinalState)
-        → OfChoice language test.threads system o
+    OutcomesOfProgram-if_of_assignment : (o : FinalState)
+        → OfAssignment language test.threads system o
         → OutcomesOfProgram language (FollowsPathsToEnd system) test.threads o
-    OutcomesOfProgram-if_of_choice o (paths, choice, c) =
+    OutcomesOfProgram-if_of_assignment o (paths, assignment, c) =
         let t : Constraints = reduced_constraints paths in
         let same = IsLinearExtension-reduced_iff language test.threads paths in
-        let given = complete.exactly_one t (IsWellFormed-reduced paths choice) c.order ((same c.order).1 c.keeps) in
+        let given = complete.exactly_one t (IsWellFormed-reduced paths assignment) c.order ((same c.order).1 c.keeps) in
         let is_member : Contains (orders t) given.element =
         subst (λ (xs : List (List ℕ)). Contains xs given.element) (sym given.split)
         (Contains-append_right given.before _ given.element (Contains-head given.element given.element given.after refl)) in
         let keeps =
-        (same given.element).0 (All-contains (IsLinearExtension t) _ _ (complete.each t (IsWellFormed-reduced paths choice))
+        (same given.element).0 (All-contains (IsLinearExtension t) _ _ (complete.each t (IsWellFormed-reduced paths assignment))
         is_member) in
         let forward : All (JumpsForward language) test.threads =
         All-weaker (IsWellScopedThread language (length test.head.locs)) (JumpsForward language) (λ code t. t.forward)
         test.threads well_scoped.code in (
           paths,
-          (Contains-path_assignments language test.threads paths forward).1 choice,
-          (given.element, is_member, alike paths choice c.order given.element o c.keeps keeps given.has c.run),
+          (Contains-path_assignments language test.threads paths forward).1 assignment,
+          (given.element, is_member, alike paths assignment c.order given.element o c.keeps keeps given.has c.run),
         )
 
-    module _ (Has : FinalState → Type 0) (choices : (o : FinalState) → Has o ↔ OfChoice language test.threads system o)
+    module _ (Has : FinalState → Type 0) (assignments : (o : FinalState) → Has o ↔ OfAssignment language test.threads system o)
         (program : X86Test) (same : (o : FinalState) → IsMachineOutcome flat_memory program program.head.init_words o ↔ Has o)
         (flat_too : AreFlat program) where
       -- What leads to an outcome shows that the program reaches it.
@@ -97,7 +97,7 @@ module _ {S : Type 0} (language : Language S) (test : Test S) {State : Type 0} (
               (let e = Contains-map_inv _ entries o c in
               subst Has e.2
               ((same e.0.0).0 (reached e.0.1 e.0.0 (All-contains (λ e. Leads e.1 e.0) entries e.0 All-lead_to_outcome e.1)))),
-          λ has. gathers.covered o (OutcomesOfProgram-if_of_choice o ((choices o).0 has)),
+          λ has. gathers.covered o (OutcomesOfProgram-if_of_assignment o ((assignments o).0 has)),
         )
 
         -- The collected outcomes are exactly those of the program over the caches of each protocol.
@@ -145,7 +145,7 @@ module _ {S : Type 0} (language : Language S) (test : Test S) {State : Type 0} (
     pub well_scoped : IsWellScoped language test
     pub alike : AreAlike
     pub complete : AreComplete
-    pub choices : (o : FinalState) → Has o ↔ OfChoice language test.threads system o
+    pub assignments : (o : FinalState) → Has o ↔ OfAssignment language test.threads system o
     pub same : (o : FinalState) → IsMachineOutcome flat_memory program program.head.init_words o ↔ Has o
     pub flat_too : AreFlat program
 
@@ -163,7 +163,7 @@ module _ {S : Type 0} (language : Language S) (test : Test S) {State : Type 0} (
   IsComplete-collected Has program can result =
       IfOk-with_fact result (IsCollected (ReplaysFlatTo program)) (IsComplete Has program) (IsWithinLimits language test.threads)
       (λ l gathers within.
-      complete_list can.well_scoped can.alike can.complete within.0 Has can.choices program can.same can.flat_too l gathers)
+      complete_list can.well_scoped can.alike can.complete within.0 Has can.assignments program can.same can.flat_too l gathers)
 
   -- If a test has a list without schedules, it has exactly the test's outcomes.
   pub AreAllOutcomes-collected : (Has : FinalState → Type 0) (program : X86Test)
@@ -177,5 +177,5 @@ module _ {S : Type 0} (language : Language S) (test : Test S) {State : Type 0} (
   AreAllOutcomes-collected Has program can Leads reached result =
       IfOk-with_fact result (IsCollected Leads) (λ l. AreAllOutcomes Has program (outcomes_of l))
       (IsWithinLimits language test.threads) (λ l gathers within.
-      all_outcomes can.well_scoped can.alike can.complete within.0 Has can.choices program can.same can.flat_too Leads reached l
-      gathers)
+      all_outcomes can.well_scoped can.alike can.complete within.0 Has can.assignments program can.same can.flat_too Leads reached
+      l gathers)

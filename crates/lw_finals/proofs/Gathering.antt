@@ -102,18 +102,19 @@ module _ {V Kept : Type 0} (Test : Type 0) (test_of : V → Test) (found_of : V 
     → visits v paths w
     → (test_of w ≡ test_of v) × CollectsOutcomes (Ends (test_of v) paths) (Leads (test_of v)) (found_of v) (found_of w)) where
   -- What path assignments collect, visited in sequence, is collected from all of them.
-  pub CollectsOutcomes-all_visits : (test : Test) (choices : List (List (List ℕ))) (v w : V)
+  pub CollectsOutcomes-all_visits : (test : Test) (assignments : List (List (List ℕ))) (v w : V)
       → test_of v ≡ test
-      → VisitsAll visits choices v w
-      → CollectsOutcomes (OutcomesOfOne (Ends test) choices) (Leads test) (found_of v) (found_of w)
+      → VisitsAll visits assignments v w
+      → CollectsOutcomes (OutcomesOfOne (Ends test) assignments) (Leads test) (found_of v) (found_of w)
   CollectsOutcomes-all_visits test [] v w is same =
       subst (λ (u : V). CollectsOutcomes (OutcomesOfOne (Ends test) []) (Leads test) (found_of v) (found_of u)) (sym same)
       (CollectsOutcomes-none (Leads test) _ (found_of v) (λ o (paths, c, e). not-Contains-nil paths c))
-  CollectsOutcomes-all_visits test (paths ∷ choices) v w is (mid, one, rest) =
+  CollectsOutcomes-all_visits test (paths ∷ assignments) v w is (mid, one, rest) =
       let h : (test_of mid ≡ test) × CollectsOutcomes (Ends test paths) (Leads test) (found_of v) (found_of mid) =
       subst (λ (t : Test). (test_of mid ≡ t) × CollectsOutcomes (Ends t paths) (Leads t) (found_of v) (found_of mid)) is
       (each v paths mid one) in
-      CollectsOutcomes-cons _ _ paths choices _ _ (found_of w) h.1 (CollectsOutcomes-all_visits test choices mid w h.0 rest)
+      CollectsOutcomes-cons _ _ paths assignments _ _ (found_of w) h.1
+      (CollectsOutcomes-all_visits test assignments mid w h.0 rest)
 
 -- If there is only one order, what it collects is collected from all orders.
 pub CollectsOutcomes-only_order : {Kept : Type 0} (Ends : List ℕ → FinalState → Type 0) (Leads : Kept → FinalState → Type 0)

@@ -12,7 +12,7 @@ use Rattle.lw_finals.proofs.Common.{constraints_of, AreOrdered, Respects-if_orde
 use Rattle.lw_finals.proofs.Common.{Contains-cons, Contains-map_inv, IsMember, Pairwise, HasItem, item}
 use Rattle.lw_finals.proofs.Common.{HasItem-on_path, IsItemOnPath, length-path_assignment}
 use Rattle.lw_finals.proofs.Common.{IsItemOnPath-of_member, thread_rank-increasing, item_index-unique}
-use Rattle.lw_finals.proofs.Common.{ItemTransitionSystem, ItemsRunTo, IsChoiceOutcome}
+use Rattle.lw_finals.proofs.Common.{ItemTransitionSystem, ItemsRunTo, IsAssignmentOutcome}
 use Rattle.lw_finals.proofs.PathOfRun.{MayPrecede, IsAhead, Completed, AreItemRuns, Completed-of_run}
 
 -- An item of a list is found at an index below the list's length.
@@ -118,9 +118,9 @@ module _ {S : Type 0} (language : Language S) (program : List (List S)) (items :
   ]
 
 -- The outcome is one of some path assignment of the program.
-abbrev pub OfChoice : {S State : Type 0} → Language S → List (List S) → ItemTransitionSystem State → FinalState → Type 0
-OfChoice language program system o =
-    (paths : List (List ℕ)) × IsPathAssignment language program paths × IsChoiceOutcome system language program paths o
+abbrev pub OfAssignment : {S State : Type 0} → Language S → List (List S) → ItemTransitionSystem State → FinalState → Type 0
+OfAssignment language program system o =
+    (paths : List (List ℕ)) × IsPathAssignment language program paths × IsAssignmentOutcome system language program paths o
 
 module _ {S : Type 0} (language : Language S) (program : List (List S)) {State : Type 0} (system : ItemTransitionSystem State)
     (position_of : State → ℕ → Option ℕ) where
@@ -222,11 +222,11 @@ module _ {S : Type 0} (language : Language S) (program : List (List S)) {State :
         ]
 
     -- The outcome is that of the order in which the run executes the items.
-    OfChoice-completed : (o : FinalState)
+    OfAssignment-completed : (o : FinalState)
         → IsTrue (system.is_final end)
         → o ≡ system.outcome_of end
-        → OfChoice language program system o
-    OfChoice-completed o final is = (
+        → OfAssignment language program system o
+    OfAssignment-completed o final is = (
       paths,
       IsPathAssignment-paths,
       record {
@@ -246,15 +246,17 @@ module _ {S : Type 0} (language : Language S) (program : List (List S)) {State :
     )
 
   -- The outcome of a run is one of a path assignment.
-  pub OfChoice-of_run : (Done : Event → State → Result (Unit {0}) Stop → State → Type 0) (Sound : (ℕ → List ℕ) → State → Type 0)
+  pub OfAssignment-of_run : (Done : Event → State → Result (Unit {0}) Stop → State → Type 0) (Sound : (ℕ → List ℕ)
+      → State
+      → Type 0)
       → AreItemRuns language program system position_of Done Sound
       → ((t : ℕ) → JumpsForward language (thread_code program t))
       → (es : List Event) (end : State) (o : FinalState)
       → RunsTo Done es system.start end
       → IsTrue (system.is_final end)
       → o ≡ system.outcome_of end
-      → OfChoice language program system o
-  OfChoice-of_run Done Sound runs forward es end o ran final is =
-      OfChoice-completed forward end runs.starts
+      → OfAssignment language program system o
+  OfAssignment-of_run Done Sound runs forward es end o ran final is =
+      OfAssignment-completed forward end runs.starts
       (Completed-of_run language _ _ position_of Done _ runs forward es (λ t. []) system.start end
       (λ t p e. omega (arith, runs.at_start t p e)) runs.first ran final) o final is

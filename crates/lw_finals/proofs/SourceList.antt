@@ -18,9 +18,9 @@ module _ (test : SourceTest) (well_scoped : IsWellScopedSource test) (complete :
   CanBeListed-source : CanBeListed source_language test (source_item_system test) (SourceOutcome test) program
   CanBeListed-source = record {
     well_scoped = well_scoped;
-    alike = λ paths choice. trace_equivalent_orders_have_one_outcome test paths;
+    alike = λ paths assignment. trace_equivalent_orders_have_one_outcome test paths;
     complete = complete;
-    choices = λ o. outcomes_are_those_of_path_assignments test o well_scoped;
+    assignments = λ o. outcomes_are_those_of_path_assignments test o well_scoped;
     same = same_outcomes;
     flat_too = are_flat;
   }

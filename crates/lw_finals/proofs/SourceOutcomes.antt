@@ -14,8 +14,8 @@ use Rattle.lw_finals.proofs.Common.{next_statement-at_position, IsPathAssignment
 use Rattle.lw_finals.proofs.Common.{statement_of, conflict_by, items_conflict, IsMember, item, IsItemOnPath}
 use Rattle.lw_finals.proofs.Common.{IsItemOnPath-of_member, JumpsForward-thread, OrderRunsTo}
 use Rattle.lw_finals.proofs.Common.{source_item_system, SourceFollowsPathsToEnd, threads_of, none-some}
-use Rattle.lw_finals.proofs.Common.{thread_position, IsSourceChoiceOutcome, SourceItemTransition}
-use Rattle.lw_finals.proofs.Ordered.{OfChoice-of_run}
+use Rattle.lw_finals.proofs.Common.{thread_position, IsSourceAssignmentOutcome, SourceItemTransition}
+use Rattle.lw_finals.proofs.Ordered.{OfAssignment-of_run}
 use Rattle.lw_finals.proofs.PathOfRun.{ExecutesItem, AreItemRuns, position-at_start, position-at_start_unique}
 use Rattle.lw_finals.proofs.api.Waiting.{IsAscendingBetween, own_waits, entry_location, waits_after}
 use Rattle.lw_finals.proofs.SourceTraceEquivalence.{Neighbours, OrdersEndAlike, OrdersEndAlike-if_swaps}
@@ -251,13 +251,13 @@ InterleavesTo-of_order s items order o r = record {
 pub outcomes_are_those_of_path_assignments : (s : SourceTest) (o : FinalState)
     → IsWellScopedSource s
     → SourceOutcome s o
-    ↔ ((paths : List (List ℕ)) × IsPathAssignment source_language s.threads paths × IsSourceChoiceOutcome s paths o)
+    ↔ ((paths : List (List ℕ)) × IsPathAssignment source_language s.threads paths × IsSourceAssignmentOutcome s paths o)
 outcomes_are_those_of_path_assignments s o well_scoped = (
   λ (order, u).
-      OfChoice-of_run _ s.threads (source_item_system s) thread_position (Steps s) _ (AreItemRuns-source s well_scoped)
+      OfAssignment-of_run _ s.threads (source_item_system s) thread_position (Steps s) _ (AreItemRuns-source s well_scoped)
       (JumpsForward-thread source_language s well_scoped) (map Step order) u.end o
       (RunsTo-only_steps s order (initial_state s) u.end u.ran) u.final u.outcome_is,
-  λ (paths, choice, c). (
+  λ (paths, assignment, c). (
     threads_of (items_of source_language s.threads paths) c.order,
     InterleavesTo-of_order s (items_of source_language s.threads paths) c.order o c.run,
   ),

@@ -7,7 +7,7 @@ use Rattle.lw_finals.proofs.Common.{Instr, X86FollowsPathsToEnd, CollectsOutcome
 use Rattle.lw_finals.proofs.CompleteLists.{CanBeListed, IsCollected, IsComplete-collected}
 use Rattle.lw_finals.proofs.CompleteLists.{AreAllOutcomes-collected}
 use Rattle.lw_finals.proofs.X86TraceEquivalence.{OrdersEndAlike-x86}
-use Rattle.lw_finals.proofs.X86Outcomes.{IsMachineOutcome-iff_choice}
+use Rattle.lw_finals.proofs.X86Outcomes.{IsMachineOutcome-iff_assignment}
 
 module _ (test : X86Test) (well_scoped : IsWellScopedProgram test) (complete : AreComplete) (are_flat : AreFlat test) where
   -- The list of a well-scoped x86 test is complete, for these reasons.
@@ -17,7 +17,7 @@ module _ (test : X86Test) (well_scoped : IsWellScopedProgram test) (complete : A
     well_scoped = well_scoped;
     alike = λ paths. OrdersEndAlike-x86 test paths well_scoped;
     complete = complete;
-    choices = λ o. IsMachineOutcome-iff_choice test o well_scoped;
+    assignments = λ o. IsMachineOutcome-iff_assignment test o well_scoped;
     same = λ o. ((λ m. m), (λ m. m));
     flat_too = are_flat;
   }

@@ -15,9 +15,9 @@ use Rattle.lw_finals.proofs.Common.{EventOccurrence-of_event, not-EffectLeadsTo-
 use Rattle.lw_finals.proofs.Common.{OperationTransition, JumpsForward, IsPathAssignment, Item, items_of}
 use Rattle.lw_finals.proofs.Common.{IsMember, IsStoring, item, JumpsForward-thread, OrderRunsTo, events_of}
 use Rattle.lw_finals.proofs.Common.{X86ItemTransition, position_of-in_range, x86_item_system}
-use Rattle.lw_finals.proofs.Common.{X86FollowsPathsToEnd, IsX86ChoiceOutcome}
+use Rattle.lw_finals.proofs.Common.{X86FollowsPathsToEnd, IsX86AssignmentOutcome}
 use Rattle.lw_finals.proofs.api.Waiting.{DrainsOldest, entry_location}
-use Rattle.lw_finals.proofs.Ordered.{OfChoice-of_run}
+use Rattle.lw_finals.proofs.Ordered.{OfAssignment-of_run}
 use Rattle.lw_finals.proofs.PathOfRun.{ExecutesItem, AreItemRuns, position-at_start, position-at_start_unique}
 use Rattle.lw_finals.proofs.api.X86Waiting.{ItemStep, ItemStep-of_transition, OperationTransition-of_item}
 use Rattle.lw_finals.proofs.api.X86Waiting.{DrainShape, DrainShape-of_effect, BufferHolds}
@@ -211,19 +211,19 @@ ReplaysTo-of_order test items order o r = record {
 }
 
 -- The outcomes of a well-scoped test are those of its path assignments.
-pub IsMachineOutcome-iff_choice : (test : X86Test) (o : FinalState)
+pub IsMachineOutcome-iff_assignment : (test : X86Test) (o : FinalState)
     → IsWellScopedProgram test
     → IsMachineOutcome flat_memory test test.head.init_words o
     ↔ ((paths : List (List ℕ))
     × IsPathAssignment x86_language test.threads paths
-    × IsX86ChoiceOutcome flat_memory test test.head.init_words paths o)
-IsMachineOutcome-iff_choice test o well_scoped = (
+    × IsX86AssignmentOutcome flat_memory test test.head.init_words paths o)
+IsMachineOutcome-iff_assignment test o well_scoped = (
   λ (events, r).
-      OfChoice-of_run x86_language test.threads (x86_item_system flat_memory test test.head.init_words) position_of
+      OfAssignment-of_run x86_language test.threads (x86_item_system flat_memory test test.head.init_words) position_of
       (MachineTransition flat_memory test.threads) (IsSound test)
       (AreItemRuns-x86 test (JumpsForward-thread x86_language test well_scoped) well_scoped)
       (JumpsForward-thread x86_language test well_scoped) events r.end o r.ran r.final r.outcome_is,
-  λ (paths, choice, c). (
+  λ (paths, assignment, c). (
     events_of (items_of x86_language test.threads paths) c.order,
     ReplaysTo-of_order test (items_of x86_language test.threads paths) c.order o c.run,
   ),

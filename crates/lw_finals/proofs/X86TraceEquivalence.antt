@@ -18,7 +18,7 @@ use Rattle.lw_finals.proofs.api.X86Prefix.{AreWaitingStores-next}
 use Rattle.lw_finals.proofs.X86Swap.{IsUnpreservedPair, AreIndependent-unpreserved_items}
 
 module _ (program : List (List Instr)) (forward : (u : ℕ) → JumpsForward x86_language (thread_code program u))
-    (paths : List (List ℕ)) (choice : IsPathAssignment x86_language program paths) where
+    (paths : List (List ℕ)) (assignment : IsPathAssignment x86_language program paths) where
   -- The items of the path assignment.
   abbrev items : List Item
   items = items_of x86_language program paths
@@ -33,7 +33,7 @@ module _ (program : List (List Instr)) (forward : (u : ℕ) → JumpsForward x86
 
   -- The buffers hold these stores, which wait after the first k items of the order.
   pub record HoldsWaitingStores (order : List ℕ) (k : ℕ) (pending : ℕ → List ℕ) (s : MachineState (List ℕ)) : Type 0 where
-    pub waiting : AreWaitingStores program forward paths choice order k pending
+    pub waiting : AreWaitingStores program forward paths assignment order k pending
     pub hold : AllBuffersHoldStores program pending s
 
   -- The item i of an order leads from s to `mid`: it is an instruction, or the drain of the store that has waited longest. Then the buffers
@@ -66,9 +66,11 @@ module _ (program : List (List Instr)) (forward : (u : ℕ) → JumpsForward x86
         statement = at_i.at;
         did = c;
         head =
-            DrainsOldest-at_turn program forward paths choice order is k c.old.position i pending r.waiting climbs in_range there;
+            DrainsOldest-at_turn program forward paths assignment order is k c.old.position i pending r.waiting climbs in_range
+            there;
         reached = record {
-          waiting = AreWaitingStores-next _ forward _ choice order is k c.old.position i pending r.waiting climbs in_range there;
+          waiting =
+              AreWaitingStores-next _ forward _ assignment order is k c.old.position i pending r.waiting climbs in_range there;
           hold = AllBuffersHoldStores-after_item program forward (nth_item i) at_i.statement pending s mid c at_i.at r.hold;
         };
       }
@@ -103,7 +105,7 @@ module _ (program : List (List Instr)) (forward : (u : ℕ) → JumpsForward x86
           → AreOrdered x86_language program (nth_item x) (nth_item y)
           → ⊥
       not-ordered_neighbours less =
-          n.forth (index_lt-if_rank_lt x86_language program paths forward choice x y n.x_below same less) same
+          n.forth (index_lt-if_rank_lt x86_language program paths forward assignment x y n.x_below same less) same
 
   -- Two adjacent items that neither conflict nor are preserved can be executed in the other order, with the same state after both.
   X86ItemTransition-swap : (order : List ℕ)
@@ -135,22 +137,22 @@ pub OrdersEndAlike-x86 : (test : X86Test) (paths : List (List ℕ))
     → IsWellScopedProgram test
     → IsPathAssignment x86_language test.threads paths
     → OrdersEndAlike x86_language test.threads paths (x86_item_system flat_memory test test.head.init_words)
-OrdersEndAlike-x86 test paths well_scoped choice =
+OrdersEndAlike-x86 test paths well_scoped assignment =
     let forward : (u : ℕ) → JumpsForward x86_language (thread_code test.threads u) =
     JumpsForward-thread x86_language test well_scoped in
     OrdersEndAlike-if_swaps x86_language test.threads paths (x86_item_system flat_memory test test.head.init_words)
-    (λ order k s. (pending : ℕ → List ℕ) × HoldsWaitingStores test.threads forward paths choice order k pending s) (record {
+    (λ order k s. (pending : ℕ → List ℕ) × HoldsWaitingStores test.threads forward paths assignment order k pending s) (record {
       first = λ order. (
         (λ u. []),
         record {
-          waiting = AreWaitingStores-start test.threads forward paths choice order;
+          waiting = AreWaitingStores-start test.threads forward paths assignment order;
           hold = AllBuffersHoldStores-start test test.head.init_words;
         },
       );
       next = λ order is k i l there s mid r out. (
         waits_after x86_language test.threads (item_at (items_of x86_language test.threads paths) i) r.0,
-        (ItemTurn-of_transition test.threads forward paths choice order is k i l there r.0 s mid r.1 out).reached,
+        (ItemTurn-of_transition test.threads forward paths assignment order is k i l there r.0 s mid r.1 out).reached,
       );
       exchange = λ order is k x y n s mid end r.
-          X86ItemTransition-swap test.threads forward paths choice order is k x y n r.0 s mid end r.1;
+          X86ItemTransition-swap test.threads forward paths assignment order is k x y n r.0 s mid end r.1;
     })

@@ -32,7 +32,7 @@ module _ {State : Type 0} (system : ItemTransitionSystem State) where
     pub outcome_is : o ≡ system.outcome_of end
 
   -- The outcome is one of a path assignment: that of a linear extension of its items.
-  pub record IsChoiceOutcome {S : Type 0} (language : Language S) (program : List (List S)) (paths : List (List ℕ)) (o : FinalState) : Type 0 where
+  pub record IsAssignmentOutcome {S : Type 0} (language : Language S) (program : List (List S)) (paths : List (List ℕ)) (o : FinalState) : Type 0 where
     pub order : List ℕ
     pub keeps : IsLinearExtension (constraints_of language program (items_of language program paths)) order
     pub run : FollowsPathsToEnd (items_of language program paths) order o

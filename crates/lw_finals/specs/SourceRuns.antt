@@ -23,5 +23,5 @@ abbrev pub SourceFollowsPathsToEnd : SourceTest → List Item → List ℕ → F
 SourceFollowsPathsToEnd s = runs.FollowsPathsToEnd (source_item_system s)
 
 -- The outcome is one of a path assignment of a source test.
-abbrev pub IsSourceChoiceOutcome : SourceTest → List (List ℕ) → FinalState → Type 0
-IsSourceChoiceOutcome s = runs.IsChoiceOutcome (source_item_system s) source_language s.threads
+abbrev pub IsSourceAssignmentOutcome : SourceTest → List (List ℕ) → FinalState → Type 0
+IsSourceAssignmentOutcome s = runs.IsAssignmentOutcome (source_item_system s) source_language s.threads

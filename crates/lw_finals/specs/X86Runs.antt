@@ -47,8 +47,8 @@ module _ {M : Type 0} (mem : Memory M) where
   X86FollowsPathsToEnd test m = runs.FollowsPathsToEnd (x86_item_system test m)
 
   -- The outcome is one of a path assignment of an x86 test.
-  abbrev pub IsX86ChoiceOutcome : X86Test → M → List (List ℕ) → FinalState → Type 0
-  IsX86ChoiceOutcome test m = runs.IsChoiceOutcome (x86_item_system test m) x86_language test.threads
+  abbrev pub IsX86AssignmentOutcome : X86Test → M → List (List ℕ) → FinalState → Type 0
+  IsX86AssignmentOutcome test m = runs.IsAssignmentOutcome (x86_item_system test m) x86_language test.threads
 
 -- The schedule replays over flat memory to the outcome.
 abbrev pub ReplaysFlatTo : X86Test → List Event → FinalState → Type 0

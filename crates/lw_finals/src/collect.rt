@@ -4,8 +4,8 @@ ghost use Rattle.lw_orders.specs.Limits.{most_items};
 ghost use Rattle.lw_paths.specs.Items.{constraints_of};
 ghost use Rattle.lw_paths.specs.declared.item.Item.{Item};
 ghost use Rattle.lw_paths.specs.Counts.{LimitFaultIsTrue, IsWithinLimits};
-ghost use Rattle.lw_paths.specs.Totals.{LimitFaultOfChoice, TellsOfGiven};
-ghost use Rattle.lw_finals.specs.inner.Collected.{RunResult, CollectsOutcomes, OutcomesOfOne, OutcomesOfItems, OutcomesOfChoice, OutcomesOfProgram};
+ghost use Rattle.lw_paths.specs.Totals.{LimitFaultOfAssignment, TellsOfGiven};
+ghost use Rattle.lw_finals.specs.inner.Collected.{RunResult, CollectsOutcomes, OutcomesOfOne, OutcomesOfItems, OutcomesOfAssignment, OutcomesOfProgram};
 ghost use Rattle.lw_outcome_map.specs.Listings.{IsStrictlySorted, outcomes_of};
 ghost use Rattle.lw_paths.specs.Visits.{IsVisitable};
 
@@ -16,7 +16,7 @@ use lw_orders::{Order, Orders, one_order_without_unordered_conflicts};
 use lw_outcome_map::{Listing, OutcomeMap};
 use lw_paths::{
     Item, ListFault, PathAssignment, Visitor, check_limits, conflicts_of, fill_few_items,
-    has_no_conflicts, reduced_constraints, visit_choices,
+    has_no_conflicts, reduced_constraints, visit_assignments,
 };
 use std::alloc::{AllocError, Allocator};
 
@@ -166,13 +166,13 @@ impl<'a, 'r, S: Statement, A: Allocator + Copy, B: Allocator, R: OrderRunner<A>>
     type Fault = ListFault;
 
     ghost visits = { λ v paths w. (w.program.now ≡ v.program.now) × (R.test w.runner.now ≡ R.test v.runner.now)
-        × CollectsOutcomes (OutcomesOfChoice S.language (R.ends (R.test v.runner.now)) v.program.now paths) (R.leads (R.test v.runner.now)) v.found w.found };
+        × CollectsOutcomes (OutcomesOfAssignment S.language (R.ends (R.test v.runner.now)) v.program.now paths) (R.leads (R.test v.runner.now)) v.found w.found };
 
-    ghost refuses = { λ v paths e. LimitFaultOfChoice S.language v.program.now 0 paths e };
+    ghost refuses = { λ v paths e. LimitFaultOfAssignment S.language v.program.now 0 paths e };
 
     /// Computes the items of one path assignment, and collects the outcomes of their orders.
-    fn visit(&mut self, choice: &PathAssignment) -> Result<(), ListFault> {
-        fill_few_items(self.program, choice, &mut self.items)?;
+    fn visit(&mut self, assignment: &PathAssignment) -> Result<(), ListFault> {
+        fill_few_items(self.program, assignment, &mut self.items)?;
         collect_items(
             self.alloc,
             self.program,
@@ -206,6 +206,6 @@ pub(crate) fn list_program<S: Statement, A: Allocator + Copy, B: Allocator, R: O
         runner,
         found: OutcomeMap::new(alloc),
     };
-    visit_choices(program, &mut gatherer)?;
+    visit_assignments(program, &mut gatherer)?;
     Ok(gatherer.found.into_listing()?)
 }

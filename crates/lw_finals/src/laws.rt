@@ -11,10 +11,10 @@ ghost use Rattle.lw_litmus.specs.WellScopedTests.{IsWellScopedSource, IsWellScop
 ghost use Rattle.lw_litmus.specs.Tests.{SourceTest, X86Test};
 ghost use Rattle.lw_tso.specs.Runs.{IsMachineOutcome};
 ghost use Rattle.lw_litmus.specs.Programs.{x86_language};
-ghost use Rattle.lw_paths.specs.Choices.{IsPathAssignment};
+ghost use Rattle.lw_paths.specs.PathAssignments.{IsPathAssignment};
 ghost use Rattle.lw_paths.specs.Items.{items_of, constraints_of};
 ghost use Rattle.lw_finals.specs.inner.Listed.{AreComplete, AreFlat};
-ghost use Rattle.lw_finals.specs.SourceRuns.{SourceFollowsPathsToEnd, IsSourceChoiceOutcome};
+ghost use Rattle.lw_finals.specs.SourceRuns.{SourceFollowsPathsToEnd, IsSourceAssignmentOutcome};
 ghost use Rattle.lw_finals.specs.X86Runs as machine;
 
 use lw_orders::orders_are_complete;
@@ -46,7 +46,7 @@ pub fn trace_equivalent_source_orders_have_one_outcome()
 /// items that follow the paths to a final state.
 pub fn source_outcomes_are_those_of_path_assignments()
     ensures { (s : SourceTest) (o : FinalState) → IsWellScopedSource s
-        → SourceOutcome s o ↔ ((paths : List (List ℕ)) × IsPathAssignment source_language s.threads paths × IsSourceChoiceOutcome s paths o) }
+        → SourceOutcome s o ↔ ((paths : List (List ℕ)) × IsPathAssignment source_language s.threads paths × IsSourceAssignmentOutcome s paths o) }
 {}
 
 /// States of two trace-equivalent linear extensions of the items of an x86 test's path assignment, over flat memory:
@@ -66,5 +66,5 @@ pub fn trace_equivalent_x86_orders_have_one_outcome()
 pub fn x86_outcomes_are_those_of_path_assignments()
     ensures { (test : X86Test) (o : FinalState) → IsWellScopedProgram test
         → IsMachineOutcome flat_memory test test.head.init_words o
-        ↔ ((paths : List (List ℕ)) × IsPathAssignment x86_language test.threads paths × machine.IsX86ChoiceOutcome flat_memory test test.head.init_words paths o) }
+        ↔ ((paths : List (List ℕ)) × IsPathAssignment x86_language test.threads paths × machine.IsX86AssignmentOutcome flat_memory test test.head.init_words paths o) }
 {}

@@ -31,6 +31,6 @@ pub use list::{list_source, list_source_outcomes, list_x86, list_x86_outcomes};
 pub use lw_outcome_map::{Listing, OutcomeList, outcomes_stand_once};
 pub use lw_paths::{
     ListFault, Path, PathAssignment, Visitor, path_assignments_are_complete,
-    source_tests_have_few_items, visit_choices,
+    source_tests_have_few_items, visit_assignments,
 };
 pub use lw_tso_caches::{outcomes_over_caches_are_flat, replays_over_caches_are_flat};

@@ -7,7 +7,7 @@ use Rattle.lw_paths.proofs.Common.{drop-cons, get_or, Contains, eqb-true, flat_m
 use Rattle.lw_paths.proofs.Common.{IfErr, flat_map-map, map-map, slice_get_within, slice_get_read}
 use Rattle.lw_paths.proofs.Common.{get_or_from_slice_get, thread_code, Language, JumpsForward, paths_through}
 use Rattle.lw_paths.proofs.Common.{paths_from, paths_of, path_assignments, successors, VisitsAll, VisitFails}
-use Rattle.lw_paths.proofs.Common.{CanExtendPath, paths_at, choices_along, VisitResult, drop-past_end}
+use Rattle.lw_paths.proofs.Common.{CanExtendPath, paths_at, assignments_along, VisitResult, drop-past_end}
 use Rattle.lw_paths.proofs.api.Successors.{successors-in_range}
 use Rattle.lw_paths.proofs.FlatMaps.{flat_map-same, flat_map-of_flat_map, map-flat_map}
 
@@ -95,44 +95,44 @@ module _ {S : Type 0} (language : Language S) where
   paths-end code (suc n) at is_none = ap (λ o. paths_through language (λ k. paths_from language n code k) o at) is_none
 
   -- If a program has threads, the path assignments that remain at the first position of its first thread are all of them.
-  pub choices_along-start : (program : List (List S)) (choice : List (List ℕ)) (path : List ℕ)
+  pub assignments_along-start : (program : List (List S)) (assignment : List (List ℕ)) (path : List ℕ)
       → false ≡ (length program == 0)
-      → choice ≡ []
+      → assignment ≡ []
       → path ≡ []
-      → choices_along language program choice path 0 ≡ path_assignments language program
-  choices_along-start [] choice path some no_choice no_path = absurd cc
-  choices_along-start (code ∷ program) choice path some no_choice no_path =
-      rw (no_choice, no_path)
+      → assignments_along language program assignment path 0 ≡ path_assignments language program
+  assignments_along-start [] assignment path some no_assignment no_path = absurd cc
+  assignments_along-start (code ∷ program) assignment path some no_assignment no_path =
+      rw (no_assignment, no_path)
       (ap (λ n. flat_map (λ p. map (λ paths. p ∷ paths) (path_assignments language program)) (paths_from language n code 0))
       (omega arith))
 
   -- A program without threads has exactly one path assignment: the empty one.
-  pub path_assignments-no_threads : (program : List (List S)) (choice : List (List ℕ))
+  pub path_assignments-no_threads : (program : List (List S)) (assignment : List (List ℕ))
       → true ≡ (length program == 0)
-      → choice ≡ []
-      → choice ∷ [] ≡ path_assignments language program
-  path_assignments-no_threads [] choice none no_choice = ap (λ c. c ∷ []) no_choice
-  path_assignments-no_threads (code ∷ program) choice none no_choice =
+      → assignment ≡ []
+      → assignment ∷ [] ≡ path_assignments language program
+  path_assignments-no_threads [] assignment none no_assignment = ap (λ c. c ∷ []) no_assignment
+  path_assignments-no_threads (code ∷ program) assignment none no_assignment =
       absurd (omega (arith, eqb-true (length (code ∷ program)) 0 (sym none)))
 
-module _ {S : Type 0} {language : Language S} {program : List (List S)} {choice : List (List ℕ)} {path : List ℕ} {position : ℕ}
-    (can : CanExtendPath language program choice path position) where
+module _ {S : Type 0} {language : Language S} {program : List (List S)} {assignment : List (List ℕ)} {path : List ℕ}
+    {position : ℕ} (can : CanExtendPath language program assignment path position) where
   -- The code of the thread whose path is being extended.
   abbrev code_of_thread : List S
-  code_of_thread = thread_code program (length choice)
+  code_of_thread = thread_code program (length assignment)
 
   -- Jumps of this code lead forward.
   own : JumpsForward language code_of_thread
-  own = can.visitable.forward (length choice) [] can.thread
+  own = can.visitable.forward (length assignment) [] can.thread
 
   -- This code has at most 32 statements.
   own_short : length code_of_thread ≤ 32
-  own_short = can.visitable.short (length choice) [] can.thread
+  own_short = can.visitable.short (length assignment) [] can.thread
 
   -- The statement read at the position is the one in the code of the thread whose path is being extended.
   pub statement_at_position : {code : List S} {n : ℕ} {o : Option S}
       → code ≡ get_or program n code
-      → n ≡ length choice
+      → n ≡ length assignment
       → o ≡ slice_get code position
       → slice_get code_of_thread position ≡ o
   statement_at_position {code = code} {n = n} is len e =
@@ -146,16 +146,16 @@ module _ {S : Type 0} {language : Language S} {program : List (List S)} {choice 
       let in_range : position < length code_of_thread = slice_get_within code_of_thread position s found_at in
       (omega (arith, in_range, own_short), omega (arith, in_range, own_short, can.begun))
 
-  -- The choice with one more path has paths of one more thread.
-  length_of_more : {more : List (List ℕ)} → more ≡ choice ++ path ∷ [] → length more ≡ suc (length choice)
-  length_of_more grown = omega (arith, ap length grown, length-append choice (path ∷ []))
+  -- The path assignment with one more path has paths of one more thread.
+  length_of_more : {more : List (List ℕ)} → more ≡ assignment ++ path ∷ [] → length more ≡ suc (length assignment)
+  length_of_more grown = omega (arith, ap length grown, length-append assignment (path ∷ []))
 
   -- After a complete path the walk continues at the first position of the next thread.
   pub CanExtendPath-next_thread : {more : List (List ℕ)} {none : List ℕ}
-      → more ≡ choice ++ path ∷ []
+      → more ≡ assignment ++ path ∷ []
       → none ≡ []
       → (length more ≡ length program → ⊥)
-      → CanExtendPath language program more none 0 × (length more ≡ suc (length choice))
+      → CanExtendPath language program more none 0 × (length more ≡ suc (length assignment))
   CanExtendPath-next_thread grown empty ne = (
     record {
       visitable = can.visitable;
@@ -172,7 +172,7 @@ module _ {S : Type 0} {language : Language S} {program : List (List S)} {choice 
       → slice_get code_of_thread position ≡ Some s
       → longer ≡ path ++ position ∷ []
       → Contains (successors language s position) k
-      → CanExtendPath language program choice longer k × (position < k) × (k ≤ 32)
+      → CanExtendPath language program assignment longer k × (position < k) × (k ≤ 32)
   CanExtendPath-successor {s = s} k found_at grown is_member =
       let (up, within) = successors-in_range language code_of_thread position k s own found_at is_member in (
         record {
@@ -191,80 +191,80 @@ module _ {S : Type 0} {language : Language S} {program : List (List S)} {choice 
     module _ {s : S} {longer : List ℕ} (e : slice_get code_of_thread position ≡ Some s) (grown : longer ≡ path ++ position ∷ [])
         (first : ℕ) where
       -- The path assignments from a statement on are those through its first successor, followed by those through the others.
-      choices_along-successors : (others : List ℕ)
+      assignments_along-successors : (others : List ℕ)
           → (first ∷ others) ≡ successors language s position
-          → choices_along language program choice path position
-          ≡ choices_along language program choice longer first
-          ++ flat_map (λ k. choices_along language program choice longer k) others
-      choices_along-successors others led_is =
+          → assignments_along language program assignment path position
+          ≡ assignments_along language program assignment longer first
+          ++ flat_map (λ k. assignments_along language program assignment longer k) others
+      assignments_along-successors others led_is =
           rw (paths-step language code_of_thread own position s e, ← led_is, grown)
           (simp (flat_map-map, flat_map-of_flat_map, append_assoc))
 
       -- If the statement has one successor, a visit of all path assignments through it visits all from the statement on.
       pub VisitsAll-one_successor : (first ∷ []) ≡ successors language s position
-          → VisitsAll R (choices_along language program choice longer first) v w
-          → VisitsAll R (choices_along language program choice path position) v w
-      VisitsAll-one_successor led_is a = rw (choices_along-successors [] led_is, append-nil) a
+          → VisitsAll R (assignments_along language program assignment longer first) v w
+          → VisitsAll R (assignments_along language program assignment path position) v w
+      VisitsAll-one_successor led_is a = rw (assignments_along-successors [] led_is, append-nil) a
 
       -- If the statement has two successors, and the path assignments through the first are visited, the visit of those through the second
       -- has the result of the whole visit.
       pub VisitResult-two_successors : (to : ℕ) (m : V) (r : Result (Unit {0}) E)
           → (first ∷ to ∷ []) ≡ successors language s position
-          → VisitsAll R (choices_along language program choice longer first) v m
-          → VisitResult R F (choices_along language program choice longer to) m r w
-          → VisitResult R F (choices_along language program choice path position) v r w
+          → VisitsAll R (assignments_along language program assignment longer first) v m
+          → VisitResult R F (assignments_along language program assignment longer to) m r w
+          → VisitResult R F (assignments_along language program assignment path position) v r w
       VisitResult-two_successors to m r led_is a d =
           subst (λ cs. VisitResult R F cs v r w)
-          (sym (choices_along-successors (to ∷ []) led_is
-          ∙ ap (λ cs. choices_along language program choice longer first ++ cs)
-          (append-nil (choices_along language program choice longer to))))
-          (VisitResult-append R F (choices_along language program choice longer first)
-          (choices_along language program choice longer to) v m w r a d)
+          (sym (assignments_along-successors (to ∷ []) led_is
+          ∙ ap (λ cs. assignments_along language program assignment longer first ++ cs)
+          (append-nil (assignments_along language program assignment longer to))))
+          (VisitResult-append R F (assignments_along language program assignment longer first)
+          (assignments_along language program assignment longer to) v m w r a d)
 
       -- If a visit of the path assignments through the first successor fails, the whole visit does.
       pub VisitFails-first_successor : (others : List ℕ) (f : E)
           → (first ∷ others) ≡ successors language s position
-          → VisitFails R F (choices_along language program choice longer first) v f
-          → VisitFails R F (choices_along language program choice path position) v f
+          → VisitFails R F (assignments_along language program assignment longer first) v f
+          → VisitFails R F (assignments_along language program assignment path position) v f
       VisitFails-first_successor others f led_is h =
-          rw (choices_along-successors others led_is)
-          (VisitFails-append R F (choices_along language program choice longer first) _ v f h)
+          rw (assignments_along-successors others led_is)
+          (VisitFails-append R F (assignments_along language program assignment longer first) _ v f h)
 
     -- At the end of the code the path is complete.
-    choices_along-end : slice_get code_of_thread position ≡ None
-        → choices_along language program choice path position
-        ≡ map (λ later. choice ++ path ∷ later) (path_assignments language (drop (suc (length choice)) program))
-    choices_along-end end =
+    assignments_along-end : slice_get code_of_thread position ≡ None
+        → assignments_along language program assignment path position
+        ≡ map (λ later. assignment ++ path ∷ later) (path_assignments language (drop (suc (length assignment)) program))
+    assignments_along-end end =
         rw (paths-end language code_of_thread (length code_of_thread - position) position end) (simp append-nil)
 
     -- At the end of the last thread, the only path assignment is visited.
     pub VisitResult-last_thread : (more : List (List ℕ)) (r : Result (Unit {0}) E)
         → slice_get code_of_thread position ≡ None
-        → more ≡ choice ++ path ∷ []
+        → more ≡ assignment ++ path ∷ []
         → length more ≡ length program
         → OnOk r (R v more w)
         → IfErr r (F v more)
-        → VisitResult R F (choices_along language program choice path position) v r w
+        → VisitResult R F (assignments_along language program assignment path position) v r w
     VisitResult-last_thread more r end grown all ok err =
-        let is : choices_along language program choice path position ≡ more ∷ [] =
-        choices_along-end end
-        ∙ rw (drop-past_end program (suc (length choice)) (omega (arith, length_of_more grown, all)), grown) refl in
+        let is : assignments_along language program assignment path position ≡ more ∷ [] =
+        assignments_along-end end
+        ∙ rw (drop-past_end program (suc (length assignment)) (omega (arith, length_of_more grown, all)), grown) refl in
         subst (λ cs. VisitResult R F cs v r w) (sym is) (VisitResult-one R F more v w r ok err)
 
     -- At the end of an earlier thread, the path assignments along the next thread are visited.
     pub VisitResult-next_thread : (more : List (List ℕ)) (none : List ℕ) (r : Result (Unit {0}) E)
         → slice_get code_of_thread position ≡ None
-        → more ≡ choice ++ path ∷ []
+        → more ≡ assignment ++ path ∷ []
         → none ≡ []
         → (length more ≡ length program → ⊥)
-        → VisitResult R F (choices_along language program more none 0) v r w
-        → VisitResult R F (choices_along language program choice path position) v r w
+        → VisitResult R F (assignments_along language program more none 0) v r w
+        → VisitResult R F (assignments_along language program assignment path position) v r w
     VisitResult-next_thread more none r end grown empty ne d =
-        let n = suc (length choice) in
+        let n = suc (length assignment) in
         let next : thread_code program n ∷ drop (suc n) program ≡ drop n program =
         sym (drop-cons program n [] (omega (arith, can.thread, length_of_more grown, ne))) in
         let whole : paths_at language (thread_code program n) 0 ≡ paths_of language (thread_code program n) =
         ap (λ k. paths_from language k (thread_code program n) 0) (omega arith) in
         subst (λ cs. VisitResult R F cs v r w)
-        (sym (choices_along-end end
+        (sym (assignments_along-end end
         ∙ rw (← next, length_of_more grown, empty, whole, grown) (simp (map-flat_map, map-map, append_assoc)))) d

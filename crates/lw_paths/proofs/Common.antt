@@ -45,21 +45,22 @@ pub use Rattle.lw_orders.proofs.api.Closure.{IsOrderedByPath-along, Leads, Leads
 pub use Rattle.lw_orders.proofs.api.Closure.{orientation_count-same_closure}
 pub use Rattle.lw_orders.proofs.api.Complete.{All-parts}
 pub use Rattle.lw_orders.proofs.api.UnorderedPairs.{HasOrientationCount-computed, HasOrientationCount-unique}
-pub use Rattle.lw_paths.specs.ChoiceLists.{next_and_target, path_assignments, paths_from, paths_of}
-pub use Rattle.lw_paths.specs.ChoiceLists.{paths_through, successor_list, successors}
-pub use Rattle.lw_paths.specs.Choices.{IsPathAssignment, JumpsForward}
+pub use Rattle.lw_paths.specs.AssignmentLists.{next_and_target, path_assignments, paths_from, paths_of}
+pub use Rattle.lw_paths.specs.AssignmentLists.{paths_through, successor_list, successors}
 pub use Rattle.lw_paths.specs.Counts.{HasOrderCount, HasTooManyItems, HaveOrderCounts, IsTotalOrderCount}
-pub use Rattle.lw_paths.specs.Counts.{IsWithinLimits, IsWithinOrderLimit, LimitFaultIsTrue, items_at_choice}
+pub use Rattle.lw_paths.specs.Counts.{IsWithinLimits, IsWithinOrderLimit, LimitFaultIsTrue}
+pub use Rattle.lw_paths.specs.Counts.{items_of_assignment}
 pub use Rattle.lw_paths.specs.Items.{conflict_by, constraints_of, drained_location, is_drained, is_preserved}
 pub use Rattle.lw_paths.specs.Items.{item_at, items_at, items_conflict, items_from, items_of, location_by}
 pub use Rattle.lw_paths.specs.Items.{needs_earlier_drains, pairs_from, path_items}
 pub use Rattle.lw_paths.specs.Items.{statement_needs_empty_buffer, statement_of, writes_by}
-pub use Rattle.lw_paths.specs.Totals.{LimitFaultOfChoice, LimitFaultOfChoices, TellsOfGiven, orders_at_choice}
-pub use Rattle.lw_paths.specs.Totals.{orders_of, total_of}
+pub use Rattle.lw_paths.specs.PathAssignments.{IsPathAssignment, JumpsForward}
+pub use Rattle.lw_paths.specs.Totals.{LimitFaultOfAssignment, LimitFaultOfAssignments, TellsOfGiven}
+pub use Rattle.lw_paths.specs.Totals.{orders_of, orders_of_assignment, total_of}
 pub use Rattle.lw_paths.specs.TransitiveReduction.{edge_from, last_of_thread, none_before, record_last}
 pub use Rattle.lw_paths.specs.TransitiveReduction.{reduced_at, reduced_from, transitive_reduction}
-pub use Rattle.lw_paths.specs.Views.{choice_of, path_of}
-pub use Rattle.lw_paths.specs.Visits.{CanExtendPath, IsVisitable, VisitFails, VisitsAll, choices_along}
+pub use Rattle.lw_paths.specs.Views.{assignment_of, path_of}
+pub use Rattle.lw_paths.specs.Visits.{CanExtendPath, IsVisitable, VisitFails, VisitsAll, assignments_along}
 pub use Rattle.lw_paths.specs.Visits.{paths_at}
 pub use Rattle.lw_paths.specs.declared.conflicts.Access.{Access}
 pub use Rattle.lw_paths.specs.declared.count.Counter.{Counter}

@@ -57,9 +57,10 @@ module _ {S : Type 0} (language : Language S) (undrained : (s : S) → drained_l
 
 -- No path assignment of a well-formed source test has too many items.
 pub not-HasTooManyItems-source : (s : SourceTest) → IsWellFormedSource s → HasTooManyItems source_language s.threads → ⊥
-not-HasTooManyItems-source s well_formed (paths, choice, many) = omega (
+not-HasTooManyItems-source s well_formed (paths, assignment, many) = omega (
   arith,
-  length-items_from_le source_language (λ s. refl) (length s.head.locs) (omega arith) 0 s.threads paths well_formed.code choice,
+  length-items_from_le source_language (λ s. refl) (length s.head.locs) (omega arith) 0 s.threads paths well_formed.code
+      assignment,
   many,
   well_formed.head.bounded,
   well_formed.as_many,

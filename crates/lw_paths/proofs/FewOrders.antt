@@ -10,9 +10,9 @@ use Rattle.lw_paths.proofs.Common.{All-head, All-tail, slice_get_within, get_or_
 use Rattle.lw_paths.proofs.Common.{is_same_location, Language, branch_target, falls_through, location_of}
 use Rattle.lw_paths.proofs.Common.{most_unordered, most_orders, Item, JumpsForward, successor_list}
 use Rattle.lw_paths.proofs.Common.{successors, paths_through, paths_from, paths_of, path_assignments}
-use Rattle.lw_paths.proofs.Common.{orders_at_choice, orders_of, total_of, is_drained, location_by, writes_by}
-use Rattle.lw_paths.proofs.Common.{conflict_by, items_conflict, statement_of, items_of, item_at, pairs_from}
-use Rattle.lw_paths.proofs.Common.{constraints_of, branches, code_has_no_access, has_no_access}
+use Rattle.lw_paths.proofs.Common.{orders_of_assignment, orders_of, total_of, is_drained, location_by}
+use Rattle.lw_paths.proofs.Common.{writes_by, conflict_by, items_conflict, statement_of, items_of, item_at}
+use Rattle.lw_paths.proofs.Common.{pairs_from, constraints_of, branches, code_has_no_access, has_no_access}
 
 -- If each element's list has at most m elements, the concatenation has at most m for each element.
 length-flat_map_le : {X Y : Type 0} (f : X → List Y) (m : ℕ) (xs : List X)
@@ -131,9 +131,9 @@ module _ {S : Type 0} (language : Language S) where
       let paths = length-paths_from_le (length code) code (All-head (JumpsForward language) code program forward) 0 in
       let later = length-path_assignments_le program (All-tail (JumpsForward language) code program forward) in
       let all =
-      length-flat_map_le (λ path. map (λ choice. path ∷ choice) (path_assignments language program))
+      length-flat_map_le (λ path. map (λ assignment. path ∷ assignment) (path_assignments language program))
       (length (path_assignments language program)) (paths_of language code)
-      (λ path. omega (arith, length-map (path_assignments language program) (λ choice. path ∷ choice))) in
+      (λ path. omega (arith, length-map (path_assignments language program) (λ assignment. path ∷ assignment))) in
       let product : length (paths_of language code) * length (path_assignments language program)
       ≤ 2 ^ branches language code * 2 ^ sum_by (branches language) program = mul-le-mul paths later in
       omega (
@@ -195,13 +195,14 @@ module _ {S : Type 0} (language : Language S) where
         (code_silent (item_at items p.0).thread) at))
 
     -- If no statement accesses a location, a path assignment has one order.
-    orders_at_choice-one : (paths : List (List ℕ)) → orders_at_choice language program paths ≡ 1
-    orders_at_choice-one paths = rw (conflicts-none (items_of language program paths)) refl
+    orders_of_assignment-one : (paths : List (List ℕ)) → orders_of_assignment language program paths ≡ 1
+    orders_of_assignment-one paths = rw (conflicts-none (items_of language program paths)) refl
 
     -- If no statement accesses a location, the number of orders is that of the path assignments.
-    orders_of-no_conflicts : (choices : List (List (List ℕ))) → orders_of language program choices ≡ length choices
+    orders_of-no_conflicts : (assignments : List (List (List ℕ))) → orders_of language program assignments ≡ length assignments
     orders_of-no_conflicts [] = refl
-    orders_of-no_conflicts (paths ∷ choices) = omega (arith, orders_at_choice-one paths, orders_of-no_conflicts choices)
+    orders_of-no_conflicts (paths ∷ assignments) =
+        omega (arith, orders_of_assignment-one paths, orders_of-no_conflicts assignments)
 
     -- If no statement accesses a location, and there are few branches, the total is within the limit of orders.
     pub total_of-le_most_orders : All (JumpsForward language) program

@@ -5,7 +5,7 @@ use Rattle.lw_paths.proofs.Common.{◌∷◌, length, refl, sym, ap, ap₂, ◌�
 use Rattle.lw_paths.proofs.Common.{Contains, slice_index, slice_set, length-set, get_or-set_same}
 use Rattle.lw_paths.proofs.Common.{get_or-set_other, option_to_list, cases_eq, slice_get_within}
 use Rattle.lw_paths.proofs.Common.{slice_get_past, most_instructions, Language, IsFlowPathFrom, JumpsForward}
-use Rattle.lw_paths.proofs.Common.{IsPathAssignment, successors, items_at_choice, items_at, path_items}
+use Rattle.lw_paths.proofs.Common.{IsPathAssignment, successors, items_of_assignment, items_at, path_items}
 use Rattle.lw_paths.proofs.Common.{items_from, IsMost, statement_size, path_size, IsVisitable}
 use Rattle.lw_paths.proofs.api.Successors.{successors-has, successors-only, successors-in_range}
 use Rattle.lw_paths.proofs.api.Members.{Contains-singleton, Contains-head, Contains-tail, Contains-cons}
@@ -200,10 +200,10 @@ module _ {S : Type 0} (language : Language S) where
   length-items_from_any_thread t u _ _ = refl
 
   -- The items of a path assignment are those of the first thread's path, and those of the others'.
-  items_at_choice-cons : (code : List S) (program : List (List S)) (path : List ℕ) (paths : List (List ℕ))
-      → items_at_choice language (code ∷ program) (path ∷ paths)
-      ≡ path_size language code path + items_at_choice language program paths
-  items_at_choice-cons code program path paths =
+  items_of_assignment-cons : (code : List S) (program : List (List S)) (path : List ℕ) (paths : List (List ℕ))
+      → items_of_assignment language (code ∷ program) (path ∷ paths)
+      ≡ path_size language code path + items_of_assignment language program paths
+  items_of_assignment-cons code program path paths =
       length-append (path_items language 0 code path) (items_from language 1 program paths)
       ∙ ap (λ n. path_size language code path + n) (length-items_from_any_thread 1 0 program paths)
 
@@ -211,35 +211,39 @@ module _ {S : Type 0} (language : Language S) where
   pub IsMost-more_threads : (program : List (List S)) (code : List S) (others : List (List S)) (m n : ℕ)
       → program ≡ code ∷ others
       → IsMost (IsFlowPathFrom language code 0) (path_size language code) m
-      → IsMost (IsPathAssignment language others) (items_at_choice language others) n
-      → IsMost (IsPathAssignment language program) (items_at_choice language program) (m + n)
+      → IsMost (IsPathAssignment language others) (items_of_assignment language others) n
+      → IsMost (IsPathAssignment language program) (items_of_assignment language program) (m + n)
   IsMost-more_threads program code others m n are first rest = rw are (record {
-    none_more = size-of_choice;
+    none_more = size-of_assignment;
     element = first.element ∷ rest.element;
     is_element = (first.is_element, rest.is_element);
-    reached = items_at_choice-cons code others first.element rest.element ∙ ap₂ (λ a b. a + b) first.reached rest.reached;
+    reached = items_of_assignment-cons code others first.element rest.element ∙ ap₂ (λ a b. a + b) first.reached rest.reached;
   })
     where
-      -- A choice has a path of the first thread, and a choice of the others.
-      size-of_choice : (paths : List (List ℕ))
+      -- A path assignment has a path of the first thread, and an assignment of the others.
+      size-of_assignment : (paths : List (List ℕ))
           → IsPathAssignment language (code ∷ others) paths
-          → items_at_choice language (code ∷ others) paths ≤ m + n
-      size-of_choice [] choice = absurd choice
-      size-of_choice (path ∷ paths) choice =
-          omega (arith, items_at_choice-cons code others path paths, first.none_more path choice.0, rest.none_more paths choice.1)
+          → items_of_assignment language (code ∷ others) paths ≤ m + n
+      size-of_assignment [] assignment = absurd assignment
+      size-of_assignment (path ∷ paths) assignment = omega (
+        arith,
+        items_of_assignment-cons code others path paths,
+        first.none_more path assignment.0,
+        rest.none_more paths assignment.1,
+      )
 
   -- A program without threads has exactly one path assignment, which has no items.
   pub IsMost-no_threads : (program : List (List S))
       → length program ≡ 0
-      → IsMost (IsPathAssignment language program) (items_at_choice language program) 0
-  IsMost-no_threads [] none = record { none_more = items_at_choice-no_threads; element = []; is_element = tt; reached = refl }
+      → IsMost (IsPathAssignment language program) (items_of_assignment language program) 0
+  IsMost-no_threads [] none = record { none_more = items_of_assignment-no_threads; element = []; is_element = tt; reached = refl }
     where
-      -- A choice for no threads has no item.
-      items_at_choice-no_threads : (paths : List (List ℕ))
+      -- A path assignment for no threads has no item.
+      items_of_assignment-no_threads : (paths : List (List ℕ))
           → IsPathAssignment language [] paths
-          → items_at_choice language [] paths ≤ 0
-      items_at_choice-no_threads [] choice = omega arith
-      items_at_choice-no_threads (path ∷ paths) choice = absurd choice
+          → items_of_assignment language [] paths ≤ 0
+      items_of_assignment-no_threads [] assignment = omega arith
+      items_of_assignment-no_threads (path ∷ paths) assignment = absurd assignment
   IsMost-no_threads (code ∷ others) none = absurd (omega (arith, none))
 
   module _ (program : List (List S)) (code : List S) (others : List (List S)) (are : program ≡ code ∷ others)

@@ -4,15 +4,15 @@ use Rattle.lw_base.specs.Lists.{IsDuplicateFree}
 use Rattle.lw_litmus.specs.Languages.{Language}
 use Rattle.lw_orders.specs.Order.{HasOrientationCount}
 use Rattle.lw_orders.specs.Limits.{most_items, most_orders}
-use Rattle.lw_paths.specs.Choices.{IsPathAssignment}
+use Rattle.lw_paths.specs.PathAssignments.{IsPathAssignment}
 use Rattle.lw_paths.specs.Items.{items_of, constraints_of}
 use Rattle.lw_paths.specs.declared.fault.ListFault.{ListFault}
 use Rattle.lw_paths.specs.declared.fault.ListFault.TheVariants.{TooManyItems, TooManyOrders, Memory}
 
 module _ {S : Type 0} (language : Language S) (program : List (List S)) where
   -- The number of items of a path assignment.
-  abbrev pub items_at_choice : List (List ℕ) → ℕ
-  items_at_choice paths = length (items_of language program paths)
+  abbrev pub items_of_assignment : List (List ℕ) → ℕ
+  items_of_assignment paths = length (items_of language program paths)
 
   -- The path assignment has this number of orders: of orientations of the unordered conflicts of its items.
   abbrev pub HasOrderCount : List (List ℕ) → ℕ → Type 0
@@ -21,18 +21,18 @@ module _ {S : Type 0} (language : Language S) (program : List (List S)) where
   -- The path assignments have this number of orders together.
   abbrev pub HaveOrderCounts : List (List (List ℕ)) → ℕ → Type 0
   HaveOrderCounts [] n = n ≡ 0
-  HaveOrderCounts (paths ∷ choices) n = (m : ℕ) × (k : ℕ) × HasOrderCount paths m × HaveOrderCounts choices k × (n ≡ m + k)
+  HaveOrderCounts (paths ∷ assignments) n = (m : ℕ) × (k : ℕ) × HasOrderCount paths m × HaveOrderCounts assignments k × (n ≡ m + k)
 
   -- The number n is the sum of the order counts of all path assignments, each counted once.
   pub record IsTotalOrderCount (n : ℕ) : Type 0 where
-    pub choices : List (List (List ℕ))
-    pub exactly : (paths : List (List ℕ)) → Contains choices paths ↔ IsPathAssignment language program paths
-    pub without_duplicates : IsDuplicateFree choices
-    pub orders : HaveOrderCounts choices n
+    pub assignments : List (List (List ℕ))
+    pub exactly : (paths : List (List ℕ)) → Contains assignments paths ↔ IsPathAssignment language program paths
+    pub without_duplicates : IsDuplicateFree assignments
+    pub orders : HaveOrderCounts assignments n
 
   -- Some path assignment has more items than a list takes.
   abbrev pub HasTooManyItems : Type 0
-  HasTooManyItems = (paths : List (List ℕ)) × IsPathAssignment language program paths × (most_items < items_at_choice paths)
+  HasTooManyItems = (paths : List (List ℕ)) × IsPathAssignment language program paths × (most_items < items_of_assignment paths)
 
   -- All path assignments together have more orders than a list takes.
   abbrev pub HasTooManyOrders : Type 0

@@ -1,5 +1,5 @@
-pub mod Choices
-pub mod ChoiceLists
+pub mod PathAssignments
+pub mod AssignmentLists
 pub mod Items
 pub mod TransitiveReduction
 pub mod Faults

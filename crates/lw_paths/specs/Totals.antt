@@ -4,8 +4,8 @@ use Rattle.std.specs.Prelude.{◌<◌, ◌+◌, ℕ, List, [], ◌∷◌}
 use Rattle.lw_litmus.specs.Languages.{Language}
 use Rattle.lw_orders.specs.Limits.{most_items, most_orders}
 use Rattle.lw_orders.specs.Orientations.{orientation_count}
-use Rattle.lw_paths.specs.ChoiceLists.{path_assignments}
-use Rattle.lw_paths.specs.Counts.{items_at_choice, HasTooManyItems}
+use Rattle.lw_paths.specs.AssignmentLists.{path_assignments}
+use Rattle.lw_paths.specs.Counts.{items_of_assignment, HasTooManyItems}
 use Rattle.lw_paths.specs.Items.{items_of, constraints_of}
 use Rattle.lw_paths.specs.TransitiveReduction.{transitive_reduction}
 use Rattle.lw_paths.specs.declared.fault.ListFault.{ListFault}
@@ -14,27 +14,27 @@ use Rattle.lw_paths.specs.declared.item.Item.{Item}
 
 module _ {S : Type 0} (language : Language S) (program : List (List S)) where
   -- The number of orders of a path assignment.
-  abbrev pub orders_at_choice : List (List ℕ) → ℕ
-  orders_at_choice paths = orientation_count (constraints_of language program (items_of language program paths))
+  abbrev pub orders_of_assignment : List (List ℕ) → ℕ
+  orders_of_assignment paths = orientation_count (constraints_of language program (items_of language program paths))
 
   -- The number of orders of path assignments together.
   abbrev pub orders_of : List (List (List ℕ)) → ℕ
   orders_of [] = 0
-  orders_of (paths ∷ choices) = orders_at_choice paths + orders_of choices
+  orders_of (paths ∷ assignments) = orders_of_assignment paths + orders_of assignments
 
   -- The number of orders of all path assignments together.
   abbrev pub total_of : ℕ
   total_of = orders_of (path_assignments language program)
 
   -- The reason for which a path assignment is rejected, after others with this number of orders.
-  abbrev pub LimitFaultOfChoice : ℕ → List (List ℕ) → ListFault → Type 0
-  LimitFaultOfChoice before paths TooManyItems = most_items < items_at_choice language program paths
-  LimitFaultOfChoice before paths TooManyOrders = most_orders < before + orders_at_choice paths
-  LimitFaultOfChoice before paths Memory = Unit {0}
+  abbrev pub LimitFaultOfAssignment : ℕ → List (List ℕ) → ListFault → Type 0
+  LimitFaultOfAssignment before paths TooManyItems = most_items < items_of_assignment language program paths
+  LimitFaultOfAssignment before paths TooManyOrders = most_orders < before + orders_of_assignment paths
+  LimitFaultOfAssignment before paths Memory = Unit {0}
 
   -- The reason for which the items of a path assignment are rejected: there are too many, or memory was refused.
   abbrev pub LimitFaultOfItems : List (List ℕ) → ListFault → Type 0
-  LimitFaultOfItems paths TooManyItems = most_items < items_at_choice language program paths
+  LimitFaultOfItems paths TooManyItems = most_items < items_of_assignment language program paths
   LimitFaultOfItems paths TooManyOrders = ⊥
   LimitFaultOfItems paths Memory = Unit {0}
 
@@ -45,7 +45,7 @@ module _ {S : Type 0} (language : Language S) (program : List (List S)) where
   TellsOfGiven items Memory = Unit {0}
 
   -- The reason for which a visit of all path assignments fails.
-  abbrev pub LimitFaultOfChoices : ListFault → Type 0
-  LimitFaultOfChoices TooManyItems = HasTooManyItems language program
-  LimitFaultOfChoices TooManyOrders = most_orders < total_of
-  LimitFaultOfChoices Memory = Unit {0}
+  abbrev pub LimitFaultOfAssignments : ListFault → Type 0
+  LimitFaultOfAssignments TooManyItems = HasTooManyItems language program
+  LimitFaultOfAssignments TooManyOrders = most_orders < total_of
+  LimitFaultOfAssignments Memory = Unit {0}

@@ -8,5 +8,5 @@ abbrev pub path_of : Path → List ℕ
 path_of p = take p.len p.positions
 
 -- The paths of a path assignment, one for each thread.
-abbrev pub choice_of : PathAssignment → List (List ℕ)
-choice_of c = map path_of (take c.len c.paths)
+abbrev pub assignment_of : PathAssignment → List (List ℕ)
+assignment_of c = map path_of (take c.len c.paths)

@@ -5,8 +5,8 @@ use Rattle.lw_base.specs.Limits.{most_threads}
 use Rattle.lw_base.specs.Threads.{thread_code}
 use Rattle.lw_litmus.specs.Limits.{most_instructions}
 use Rattle.lw_litmus.specs.Languages.{Language}
-use Rattle.lw_paths.specs.ChoiceLists.{paths_from, path_assignments}
-use Rattle.lw_paths.specs.Choices.{JumpsForward}
+use Rattle.lw_paths.specs.AssignmentLists.{paths_from, path_assignments}
+use Rattle.lw_paths.specs.PathAssignments.{JumpsForward}
 
 -- The visitor changes from v to w by a visit of each path assignment, once, in their order.
 abbrev pub VisitsAll : {V : Type 0} → (V → List (List ℕ) → V → Type 0) → List (List (List ℕ)) → V → V → Type 0
@@ -30,16 +30,16 @@ module _ {S : Type 0} (language : Language S) where
   abbrev pub paths_at : List S → ℕ → List (List ℕ)
   paths_at code at = paths_from language (length code - at) code at
 
-  -- The path assignments that begin with the paths in `choice`, and whose next path begins with `path` and continues at the position `at`.
-  abbrev pub choices_along : List (List S) → List (List ℕ) → List ℕ → ℕ → List (List (List ℕ))
-  choices_along program choice path at =
-      flat_map (λ rest. map (λ later. choice ++ (path ++ rest) ∷ later) (path_assignments language (drop (suc (length choice)) program)))
-      (paths_at (thread_code program (length choice)) at)
+  -- The path assignments that begin with the paths in `assignment`, and whose next path begins with `path` and continues at the position `at`.
+  abbrev pub assignments_along : List (List S) → List (List ℕ) → List ℕ → ℕ → List (List (List ℕ))
+  assignments_along program assignment path at =
+      flat_map (λ rest. map (λ later. assignment ++ (path ++ rest) ∷ later) (path_assignments language (drop (suc (length assignment)) program)))
+      (paths_at (thread_code program (length assignment)) at)
 
   -- Such path assignments can be visited: the paths are of the program's first threads, and the position is one of the next.
-  pub record CanExtendPath (program : List (List S)) (choice : List (List ℕ)) (path : List ℕ) (at : ℕ) : Type 0 where
+  pub record CanExtendPath (program : List (List S)) (assignment : List (List ℕ)) (path : List ℕ) (at : ℕ) : Type 0 where
     pub visitable : IsVisitable program
-    pub thread : length choice < length program
+    pub thread : length assignment < length program
     pub begun : length path ≤ at
-    pub within : at ≤ length (thread_code program (length choice))
+    pub within : at ≤ length (thread_code program (length assignment))
     pub within_room : at ≤ most_instructions

@@ -2,11 +2,11 @@
 ghost use Rattle.std.specs.Prelude.{◌≡◌, ◌+◌, ◌<◌, ◌≤◌, ℕ, List, length, take, IfOk, IfErr, OnOk, OnErr, MatchOption};
 ghost use Rattle.lw_orders.specs.Orientations.{orientation_count};
 ghost use Rattle.lw_orders.specs.Limits.{most_items, most_orders};
-ghost use Rattle.lw_paths.specs.Counts.{items_at_choice};
-ghost use Rattle.lw_paths.specs.Totals.{orders_at_choice, LimitFaultOfItems, LimitFaultOfChoice};
+ghost use Rattle.lw_paths.specs.Counts.{items_of_assignment};
+ghost use Rattle.lw_paths.specs.Totals.{orders_of_assignment, LimitFaultOfItems, LimitFaultOfAssignment};
 ghost use Rattle.lw_paths.specs.Items.{constraints_of, items_of};
 ghost use Rattle.lw_paths.specs.TransitiveReduction.{transitive_reduction};
-ghost use Rattle.lw_paths.specs.Views.{choice_of};
+ghost use Rattle.lw_paths.specs.Views.{assignment_of};
 
 use crate::conflicts::conflicts_of;
 use crate::fault::ListFault;
@@ -24,15 +24,15 @@ use std::alloc::{AllocError, Allocator};
 /// out; then the list has some of the first items.
 pub fn fill_few_items<S: Statement, A: Allocator, B: Allocator>(
     program: &[Sequence<S, B>],
-    choice: &PathAssignment,
+    assignment: &PathAssignment,
     items: &mut Vec<Item, A>,
 ) -> Result<(), ListFault>
-    ensures ok { OnOk result (items.new.items ≡ items_of S.language program.now (choice_of choice.now)) }
+    ensures ok { OnOk result (items.new.items ≡ items_of S.language program.now (assignment_of assignment.now)) }
     ensures bounded { OnOk result (length items.new.items ≤ most_items) }
-    ensures err { IfErr result (LimitFaultOfItems S.language program.now (choice_of choice.now)) }
-    ensures left { OnErr result ((filled : ℕ) × (items.new.items ≡ take filled (items_of S.language program.now (choice_of choice.now)))) }
+    ensures err { IfErr result (LimitFaultOfItems S.language program.now (assignment_of assignment.now)) }
+    ensures left { OnErr result ((filled : ℕ) × (items.new.items ≡ take filled (items_of S.language program.now (assignment_of assignment.now)))) }
 {
-    fill_items(program, choice, items)?;
+    fill_items(program, assignment, items)?;
     if items.len() > MAX_ITEMS {
         return Err(ListFault::TooManyItems);
     }
@@ -63,7 +63,7 @@ fn count_orders<S: Statement, A: Allocator + Copy, B: Allocator>(
     items: &[Item],
 ) -> Result<Option<u64>, AllocError>
     requires bounded { length items.now ≤ most_items }
-    requires of_choice { (paths : List (List ℕ)) × (items.now ≡ items_of S.language program.now paths) }
+    requires of_assignment { (paths : List (List ℕ)) × (items.now ≡ items_of S.language program.now paths) }
     ensures { IfOk result (λ c. MatchOption c
         (most_orders < orientation_count (constraints_of S.language program.now items.now))
         (λ n. (n ≡ orientation_count (constraints_of S.language program.now items.now)) × (n ≤ most_orders))) }
@@ -89,14 +89,14 @@ impl<'a, S: Statement, A: Allocator + Copy, B: Allocator> Visitor for Counter<'a
     type Fault = ListFault;
 
     ghost visits = { λ v paths w. (w.program.now ≡ v.program.now)
-        × (items_at_choice S.language v.program.now paths ≤ most_items)
-        × (w.total ≡ v.total + orders_at_choice S.language v.program.now paths) × (w.total ≤ most_orders) };
+        × (items_of_assignment S.language v.program.now paths ≤ most_items)
+        × (w.total ≡ v.total + orders_of_assignment S.language v.program.now paths) × (w.total ≤ most_orders) };
 
-    ghost refuses = { λ v paths e. LimitFaultOfChoice S.language v.program.now v.total paths e };
+    ghost refuses = { λ v paths e. LimitFaultOfAssignment S.language v.program.now v.total paths e };
 
     /// Adds the number of one path assignment's orders to the total. Fails at too many items or orders.
-    fn visit(&mut self, choice: &PathAssignment) -> Result<(), ListFault> {
-        fill_few_items(self.program, choice, &mut self.items)?;
+    fn visit(&mut self, assignment: &PathAssignment) -> Result<(), ListFault> {
+        fill_few_items(self.program, assignment, &mut self.items)?;
         let Some(orders) = count_orders(self.alloc, self.program, self.items.as_slice())? else {
             return Err(ListFault::TooManyOrders);
         };

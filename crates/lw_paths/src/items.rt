@@ -1,8 +1,8 @@
 //! The items of a path assignment.
 ghost use Rattle.std.specs.Prelude.{◌≡◌, ◌++◌, ℕ, List, take, OnOk, OnErr, option_copied};
-ghost use Rattle.lw_paths.specs.Items as choice_items;
+ghost use Rattle.lw_paths.specs.Items as assignment_items;
 ghost use Rattle.lw_paths.specs.Items.{items_at, path_items};
-ghost use Rattle.lw_paths.specs.Views.{choice_of};
+ghost use Rattle.lw_paths.specs.Views.{assignment_of};
 ghost use Rattle.lw_paths.specs.declared.item.Item.{Item};
 
 use crate::item::Item;
@@ -16,14 +16,14 @@ use std::alloc::{AllocError, Allocator};
 /// list has some of the first items.
 pub(crate) fn fill_items<S: Statement, A: Allocator, B: Allocator>(
     program: &[Sequence<S, B>],
-    choice: &PathAssignment,
+    assignment: &PathAssignment,
     items: &mut Vec<Item, A>,
 ) -> Result<(), AllocError>
-    ensures ok { OnOk result (items.new.items ≡ choice_items.items_of S.language program.now (choice_of choice.now)) }
-    ensures err { OnErr result ((filled : ℕ) × (items.new.items ≡ take filled (choice_items.items_of S.language program.now (choice_of choice.now)))) }
+    ensures ok { OnOk result (items.new.items ≡ assignment_items.items_of S.language program.now (assignment_of assignment.now)) }
+    ensures err { OnErr result ((filled : ℕ) × (items.new.items ≡ take filled (assignment_items.items_of S.language program.now (assignment_of assignment.now)))) }
 {
     items.clear();
-    for (thread, path) in choice.as_slice().iter().enumerate() {
+    for (thread, path) in assignment.as_slice().iter().enumerate() {
         let Some(code) = program.get(thread) else {
             return Ok(());
         };

@@ -9,7 +9,7 @@
 //!    assignments are counted, up to the limit, unless `few_orders` shows without counting that they are within it.
 //!    `fault` has the causes.
 //! This crate depends on lw_base, on the operations of lw_litmus, and on lw_orders. It executes nothing. Crates above
-//! rely on one promise: `visit_choices` visits exactly the path assignments of a program, each once; `laws` says so
+//! rely on one promise: `visit_assignments` visits exactly the path assignments of a program, each once; `laws` says so
 //! of their list.
 #![tactic(auto)]
 
@@ -39,4 +39,4 @@ pub use laws::{
 };
 pub use limits::check_limits;
 pub use path::{Path, PathAssignment};
-pub use visit::{Visitor, visit_choices};
+pub use visit::{Visitor, visit_assignments};

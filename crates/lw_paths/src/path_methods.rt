@@ -2,7 +2,7 @@
 ghost use Rattle.std.specs.Prelude.{◌≡◌, ◌<◌, ◌≤◌, ◌++◌, [], ◌∷◌, length, map};
 ghost use Rattle.lw_base.specs.Limits.{most_threads};
 ghost use Rattle.lw_litmus.specs.Limits.{most_instructions};
-ghost use Rattle.lw_paths.specs.Views.{path_of, choice_of};
+ghost use Rattle.lw_paths.specs.Views.{path_of, assignment_of};
 
 use crate::path::{Path, PathAssignment};
 use lw_base::MAX_THREADS;
@@ -43,7 +43,7 @@ impl Path {
 impl PathAssignment {
     /// Creates an empty path assignment.
     pub(crate) fn new() -> Self
-        ensures { choice_of result ≡ [] }
+        ensures { assignment_of result ≡ [] }
     {
         PathAssignment {
             paths: [Path::new(); MAX_THREADS],
@@ -53,8 +53,8 @@ impl PathAssignment {
 
     /// Returns the path assignment with the path of one more thread.
     pub(crate) fn with(self, path: Path) -> Self
-        requires { length (choice_of self) < most_threads }
-        ensures { choice_of result ≡ choice_of self ++ path_of path ∷ [] }
+        requires { length (assignment_of self) < most_threads }
+        ensures { assignment_of result ≡ assignment_of self ++ path_of path ∷ [] }
     {
         let mut paths = self.paths;
         paths[self.len as usize] = path;
@@ -66,14 +66,14 @@ impl PathAssignment {
 
     /// Returns the number of paths.
     pub fn len(&self) -> usize
-        ensures { result ≡ length (choice_of self.now) }
+        ensures { result ≡ length (assignment_of self.now) }
     {
         self.len as usize
     }
 
     /// Returns the paths, the first thread's first.
     pub fn as_slice(&self) -> &[Path]
-        ensures { map path_of result.now ≡ choice_of self.now }
+        ensures { map path_of result.now ≡ assignment_of self.now }
     {
         &self.paths[..self.len as usize]
     }

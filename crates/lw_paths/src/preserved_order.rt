@@ -2,7 +2,7 @@
 //! few, and equivalent to all preserved pairs.
 ghost use Rattle.std.specs.Prelude.{◌≡◌, ◌≤◌, ◌++◌, ◌||◌, [], if◌then◌else◌, length, IfOk, OnOk, option_copied};
 ghost use Rattle.lw_orders.specs.Limits.{most_items};
-ghost use Rattle.lw_paths.specs.Items as choice_items;
+ghost use Rattle.lw_paths.specs.Items as assignment_items;
 ghost use Rattle.lw_paths.specs.Items.{needs_earlier_drains};
 ghost use Rattle.lw_paths.specs.TransitiveReduction.{none_before, edge_from, record_last, last_of_thread, reduced_from};
 
@@ -58,7 +58,7 @@ pub(crate) fn statement_of<S: Statement, B: Allocator>(
     program: &[Sequence<S, B>],
     item: Item,
 ) -> Option<&S>
-    ensures { option_copied result ≡ choice_items.statement_of S.language program.now item }
+    ensures { option_copied result ≡ assignment_items.statement_of S.language program.now item }
 {
     program
         .get(item.thread.index())?

@@ -2,9 +2,9 @@
 ghost use Rattle.std.specs.Prelude.{◌≡◌, ◌+◌, ◌*◌, ◌<◌, ◌≤◌, ℕ, Contains, length, OnOk, IfErr, slice_index, Some};
 ghost use Rattle.lw_litmus.specs.Limits.{most_instructions};
 ghost use Rattle.lw_litmus.specs.Flow.{IsFlowPathFrom};
-ghost use Rattle.lw_paths.specs.Choices.{JumpsForward, IsPathAssignment};
-ghost use Rattle.lw_paths.specs.ChoiceLists.{successors};
-ghost use Rattle.lw_paths.specs.Counts.{HasTooManyItems, items_at_choice};
+ghost use Rattle.lw_paths.specs.PathAssignments.{JumpsForward, IsPathAssignment};
+ghost use Rattle.lw_paths.specs.AssignmentLists.{successors};
+ghost use Rattle.lw_paths.specs.Counts.{HasTooManyItems, items_of_assignment};
 ghost use Rattle.lw_paths.specs.inner.Sizes.{IsMost, statement_size, path_size};
 ghost use Rattle.lw_paths.specs.Visits.{IsVisitable};
 ghost use Rattle.lw_paths.specs.declared.fault.ListFault.TheVariants.{TooManyItems as PastItems};
@@ -68,7 +68,7 @@ fn max_items_of_thread<S: Statement, A: Allocator>(code: &Sequence<S, A>) -> usi
 /// Returns the maximum number of items of the path assignments of a program.
 fn max_items<S: Statement, A: Allocator>(program: &[Sequence<S, A>]) -> usize
     requires { IsVisitable S.language program.now }
-    ensures most { IsMost (IsPathAssignment S.language program.now) (items_at_choice S.language program.now) result }
+    ensures most { IsMost (IsPathAssignment S.language program.now) (items_of_assignment S.language program.now) result }
     ensures bounded { result ≤ 2 * most_instructions * length program.now }
 {
     match program.split_first() {

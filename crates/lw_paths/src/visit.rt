@@ -3,9 +3,9 @@ ghost use Rattle.std.specs.Prelude.{◌≡◌, ℕ, ◌<◌, ◌≤◌, List, []
 ghost use Rattle.std.specs.Option.{option_to_list};
 ghost use Rattle.lw_base.specs.Threads.{thread_code};
 ghost use Rattle.lw_litmus.specs.Limits.{most_instructions};
-ghost use Rattle.lw_paths.specs.ChoiceLists.{successors, path_assignments};
-ghost use Rattle.lw_paths.specs.Views.{path_of, choice_of};
-ghost use Rattle.lw_paths.specs.Visits.{VisitsAll, VisitFails, IsVisitable, CanExtendPath, choices_along};
+ghost use Rattle.lw_paths.specs.AssignmentLists.{successors, path_assignments};
+ghost use Rattle.lw_paths.specs.Views.{path_of, assignment_of};
+ghost use Rattle.lw_paths.specs.Visits.{VisitsAll, VisitFails, IsVisitable, CanExtendPath, assignments_along};
 ghost use Rattle.lw_paths.specs.inner.Visiting.{VisitResult};
 
 use crate::path::{Path, PathAssignment};
@@ -25,9 +25,9 @@ pub trait Visitor {
     ghost refuses: { Self → List (List ℕ) → Self.Fault → Type 0 };
 
     /// Visits a path assignment.
-    fn visit(&mut self, choice: &PathAssignment) -> Result<(), Self::Fault>
-        ensures ok { OnOk result (visits self.old (choice_of choice.now) self.new) }
-        ensures err { IfErr result (λ e. refuses self.old (choice_of choice.now) e) };
+    fn visit(&mut self, assignment: &PathAssignment) -> Result<(), Self::Fault>
+        ensures ok { OnOk result (visits self.old (assignment_of assignment.now) self.new) }
+        ensures err { IfErr result (λ e. refuses self.old (assignment_of assignment.now) e) };
 }
 
 /// Returns the successors of a statement: one position, and a second if there are two.
@@ -52,33 +52,33 @@ pub(crate) fn successors<S: Statement>(stmt: &S, at: usize) -> (usize, Option<us
 /// a position.
 fn visit_from<S: Statement, A: Allocator, V: Visitor>(
     program: &[Sequence<S, A>],
-    choice: &PathAssignment,
+    assignment: &PathAssignment,
     path: &Path,
     at: usize,
     visitor: &mut V,
 ) -> Result<(), V::Fault>
-    requires { CanExtendPath S.language program.now (choice_of choice.now) (path_of path.now) at }
-    ensures { VisitResult V.visits V.refuses (choices_along S.language program.now (choice_of choice.now) (path_of path.now) at) visitor.old result visitor.new }
+    requires { CanExtendPath S.language program.now (assignment_of assignment.now) (path_of path.now) at }
+    ensures { VisitResult V.visits V.refuses (assignments_along S.language program.now (assignment_of assignment.now) (path_of path.now) at) visitor.old result visitor.new }
 {
-    let code = &program[choice.len()];
+    let code = &program[assignment.len()];
     let Some(stmt) = code.get(at) else {
-        let choice = choice.with(*path);
-        if choice.len() == program.len() {
-            return visitor.visit(&choice);
+        let assignment = assignment.with(*path);
+        if assignment.len() == program.len() {
+            return visitor.visit(&assignment);
         }
-        return visit_from(program, &choice, &Path::new(), 0, visitor);
+        return visit_from(program, &assignment, &Path::new(), 0, visitor);
     };
     let path = path.with(at as u8);
     let (first, second) = successors(stmt, at);
-    visit_from(program, choice, &path, first, visitor)?;
+    visit_from(program, assignment, &path, first, visitor)?;
     match second {
-        Some(to) => visit_from(program, choice, &path, to, visitor),
+        Some(to) => visit_from(program, assignment, &path, to, visitor),
         None => Ok(()),
     }
 }
 
 /// Visits each path assignment of a program, the first thread's path changing slowest, until a visit fails.
-pub fn visit_choices<S: Statement, A: Allocator, V: Visitor>(
+pub fn visit_assignments<S: Statement, A: Allocator, V: Visitor>(
     program: &[Sequence<S, A>],
     visitor: &mut V,
 ) -> Result<(), V::Fault>

@@ -4,7 +4,8 @@ use Rattle.lw_search.proofs.Common.{◌≡◌, ◌<◌, ℕ, zero, suc, List, []
 use Rattle.lw_search.proofs.Common.{arith, slice_get, Some, All, X86Test, initial_machine_state, Contains}
 use Rattle.lw_search.proofs.Common.{All-cons, All-nil, not-Contains-nil, Contains-head, Contains-tail}
 use Rattle.lw_search.proofs.Common.{Contains-cons, IsDuplicateFree, IsReachable, AreReachable, Visits}
-use Rattle.lw_search.proofs.Common.{ExceedsBudget, State, Components, Visited, AreDistinct, SearchInvariant}
+use Rattle.lw_search.proofs.Common.{ExceedsBudget, State, Components, Visited, HasUniqueIndices}
+use Rattle.lw_search.proofs.Common.{SearchInvariant}
 use Rattle.lw_search.proofs.AllFound.{final_state-found}
 use Rattle.lw_search.proofs.Collected.{found-reachable}
 
@@ -28,14 +29,14 @@ slice_get-Contains (y ∷ xs) zero x at = Contains-head y x xs (Some-injective y
 slice_get-Contains (y ∷ xs) (suc i) x at = Contains-tail y x xs (slice_get-Contains xs i x at)
 
 -- A list of which each item has only one index has no duplicates.
-each_once-distinct : {X : Type 0} (xs : List X) → AreDistinct xs → IsDuplicateFree xs
-each_once-distinct [] distinct = tt
-each_once-distinct (x ∷ xs) distinct = (
+IsDuplicateFree-of_unique_indices : {X : Type 0} (xs : List X) → HasUniqueIndices xs → IsDuplicateFree xs
+IsDuplicateFree-of_unique_indices [] distinct = tt
+IsDuplicateFree-of_unique_indices (x ∷ xs) distinct = (
   λ c.
       (let again = Contains-index xs x c in
       let e = distinct 0 (suc again.0) x refl again.1 in
       absurd (omega (arith, e))),
-  each_once-distinct xs (λ i j y at and. let e = distinct (suc i) (suc j) y at and in omega (arith, e)),
+  IsDuplicateFree-of_unique_indices xs (λ i j y at and. let e = distinct (suc i) (suc j) y at and in omega (arith, e)),
 )
 
 -- What holds of the item at each index holds of all items.
@@ -51,7 +52,7 @@ module _ (test : X86Test) (tables : Components) (visited : Visited) (found : Lis
       → SearchInvariant test.threads (initial_machine_state test test.head.init_words) tables visited found closed
       → AreReachable test found
   found-are_reachable closed invariant = record {
-    distinct = each_once-distinct found invariant.distinct;
+    distinct = IsDuplicateFree-of_unique_indices found invariant.distinct;
     reachable = All-slice_get (IsReachable test) found (λ i s at.
         found-reachable test.threads (initial_machine_state test test.head.init_words) tables visited found closed invariant
         (suc i) i s (omega arith) at);

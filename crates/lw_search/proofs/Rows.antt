@@ -6,7 +6,7 @@ use Rattle.lw_search.proofs.Common.{if◌then◌else◌, length, ◌⊎◌, inl,
 use Rattle.lw_search.proofs.Common.{Decides, ◌&&◌, ◌||◌, unsigned_Decides, booleans_Decides, first_so}
 use Rattle.lw_search.proofs.Common.{second_so, pointwise, pointwise_decides, beq, slice_get-append_cases}
 use Rattle.lw_search.proofs.Common.{Processor, list_any, position-Some, slice_get-get_or, IsPrefix}
-use Rattle.lw_search.proofs.Common.{AreDistinct, Extends, Components}
+use Rattle.lw_search.proofs.Common.{HasUniqueIndices, Extends, Components}
 
 -- The item at the position of x is x.
 pub position-item : {X : Type 0} (eq : X → X → Bool)
@@ -53,8 +53,8 @@ absent-any {X} eq decides (y ∷ xs) x none (suc i) at =
 -- Appending a new item preserves that a list has no duplicates.
 pub distinct-append : {X : Type 0} (xs : List X) (x : X)
     → ((i : ℕ) → slice_get xs i ≡ Some x → ⊥)
-    → AreDistinct xs
-    → AreDistinct (xs ++ x ∷ [])
+    → HasUniqueIndices xs
+    → HasUniqueIndices (xs ++ x ∷ [])
 distinct-append {X} xs x absent distinct i j y at and =
     go (slice_get-append_cases xs x y i at) (slice_get-append_cases xs x y j and)
   where
@@ -76,13 +76,13 @@ pub distinct-insert : {X : Type 0} (eq : X → X → Bool)
     → ((x y : X) → Decides (eq x y) (x ≡ y))
     → (ks new : List X) (k : X)
     → new ≡ (if list_any (eq k) ks then ks else (ks ++ k ∷ []))
-    → AreDistinct ks
-    → AreDistinct new
+    → HasUniqueIndices ks
+    → HasUniqueIndices new
 distinct-insert {X} eq decides ks new k is distinct = go (list_any (eq k) ks) refl is
   where
-    go : (b : Bool) → list_any (eq k) ks ≡ b → new ≡ (if b then ks else (ks ++ k ∷ [])) → AreDistinct new
-    go true e n = subst AreDistinct (sym n) distinct
-    go false e n = subst AreDistinct (sym n) (distinct-append ks k (absent-any eq decides ks k e) distinct)
+    go : (b : Bool) → list_any (eq k) ks ≡ b → new ≡ (if b then ks else (ks ++ k ∷ [])) → HasUniqueIndices new
+    go true e n = subst HasUniqueIndices (sym n) distinct
+    go false e n = subst HasUniqueIndices (sym n) (distinct-append ks k (absent-any eq decides ks k e) distinct)
 
 -- ---- states of threads
 

@@ -12,8 +12,8 @@ use Rattle.lw_search.proofs.Common.{step_effect, Stop, EffectLeadsTo, EventOccur
 use Rattle.lw_search.proofs.Common.{EventOccurrence-of_event, MachineTransition-deterministic}
 use Rattle.lw_search.proofs.Common.{not-EffectLeadsTo-evict_event, slice_get-append_cases, get-append_middle}
 use Rattle.lw_search.proofs.Common.{Origin, State, Components, Visited, Extends, Represents, IsPrefix}
-use Rattle.lw_search.proofs.Common.{AreDistinct, InsertsKey, AppendsOrigin, event_of, events_of, set_thread}
-use Rattle.lw_search.proofs.Common.{Covers, IsCovered, HasPredecessor, SearchInvariant, Expansion}
+use Rattle.lw_search.proofs.Common.{HasUniqueIndices, InsertsKey, AppendsOrigin, event_of, events_of}
+use Rattle.lw_search.proofs.Common.{set_thread, Covers, IsCovered, HasPredecessor, SearchInvariant, Expansion}
 use Rattle.lw_search.proofs.Common.{HasConflictsOfOthers, ExpandsState, ExpandsUpTo, CoversThread, Settled}
 use Rattle.lw_search.proofs.Common.{SettlesFrom, IsLoaded}
 use Rattle.lw_search.proofs.Settling.{conflicts-set_thread, represents-others, represents-working}
@@ -51,8 +51,8 @@ represents-unique tables key s r a b size =
 
 -- A state has at most one key, since each value has one number.
 key-unique : (tables : Components) (key other : List ℕ) (s : State)
-    → AreDistinct tables.threads
-    → AreDistinct tables.memories
+    → HasUniqueIndices tables.threads
+    → HasUniqueIndices tables.memories
     → Represents tables key s
     → Represents tables other s
     → key ≡ other
@@ -563,32 +563,30 @@ module _ (program : List (List Instr)) where
               subst (λ z. IsCovered program a.more z e) one
               (covered-all n there.0 a.more few (invariant.thread_count at there.0 there.1) a.holds e)
 
--- The effect of a step, from the code of its thread.
-pub step_effect-is : (program : List (List Instr)) (t : ℕ) (code : List Instr) (p : Processor) (i : Instr) (o : Operation)
+-- The effect of a thread's step is that of the instruction at the thread's position in its code.
+pub event_effect-of_code : (program : List (List Instr)) (t : ℕ) (code : List Instr) (p : Processor)
+    → slice_get program t ≡ Some code
+    → (locs : ℕ)
+    → event_effect program locs (Step t) p ≡ step_effect (slice_get code p.position) p
+event_effect-of_code program t code p coded locs =
+    ap (λ c. step_effect (slice_get c p.position) p) (get_or_from_slice_get program t code [] coded)
+
+-- If that position has an instruction, the step does this instruction's operation.
+pub event_effect-of_instruction : (program : List (List Instr)) (t : ℕ) (code : List Instr) (p : Processor) (i : Instr)
+    (o : Operation)
     → slice_get program t ≡ Some code
     → slice_get code p.position ≡ Some i
     → o ≡ x86_operation i
     → (locs : ℕ)
     → event_effect program locs (Step t) p ≡ operation_effect o p
-step_effect-is program t code p i o coded next is locs =
-    ap (λ c. step_effect (slice_get c p.position) p) (get_or_from_slice_get program t code [] coded)
-    ∙ ap (λ x. step_effect x p) next
-    ∙ ap (λ x. operation_effect x p) (sym is)
+event_effect-of_instruction program t code p i o coded next is locs =
+    event_effect-of_code program t code p coded locs ∙ ap (λ x. step_effect x p) next ∙ ap (λ x. operation_effect x p) (sym is)
 
 -- At the end of a thread's code its step is refused.
-pub step_effect-ended : (program : List (List Instr)) (t : ℕ) (code : List Instr) (p : Processor)
+pub event_effect-at_end : (program : List (List Instr)) (t : ℕ) (code : List Instr) (p : Processor)
     → slice_get program t ≡ Some code
     → slice_get code p.position ≡ None
     → (locs : ℕ)
     → event_effect program locs (Step t) p ≡ Refused Ended
-step_effect-ended program t code p coded end locs =
-    ap (λ c. step_effect (slice_get c p.position) p) (get_or_from_slice_get program t code [] coded)
-    ∙ ap (λ x. step_effect x p) end
-
--- The effect of a thread's step is that of the instruction at the thread's position in its code.
-pub step_effect-of_code : (program : List (List Instr)) (t : ℕ) (code : List Instr) (p : Processor)
-    → slice_get program t ≡ Some code
-    → (locs : ℕ)
-    → event_effect program locs (Step t) p ≡ step_effect (slice_get code p.position) p
-step_effect-of_code program t code p coded locs =
-    ap (λ c. step_effect (slice_get c p.position) p) (get_or_from_slice_get program t code [] coded)
+event_effect-at_end program t code p coded end locs =
+    event_effect-of_code program t code p coded locs ∙ ap (λ x. step_effect x p) end

@@ -9,7 +9,7 @@ ghost use Rattle.lw_search.specs.inner.StateKeys.{State, Represents};
 ghost use Rattle.lw_search.specs.inner.Invariant.{CollectsAll, HaveSameWords, IsOfSomeRun};
 ghost use Rattle.lw_search.specs.inner.ObservedStates.{InsertsWords, ObservesState};
 
-use crate::collect::{is_final, outcome_of, registers_of};
+use crate::collect::{is_final, outcome_of};
 use crate::search::Search;
 use crate::states::StateKey;
 use crate::tables::Tables;
@@ -36,8 +36,10 @@ fn register_of<A: Allocator>(
     if program.threads.len() <= cpu.index() {
         return 0;
     }
-    let regs = registers_of(tables, key, cpu);
-    regs[reg.index()]
+    match tables.thread(key[cpu.index() + 1]) {
+        Some(thread) => thread.reg(reg),
+        None => 0,
+    }
 }
 
 /// Returns the word of a location in a state, or 0 if the state has no such location.

@@ -142,6 +142,13 @@ impl<A: Allocator> ThreadState<A> {
         self.buffer.is_empty()
     }
 
+    /// Returns the word of a register.
+    pub(crate) fn reg(&self, reg: Reg) -> Word
+        ensures { result ≡ slice_index self.now.regs reg }
+    {
+        self.regs[reg.index()]
+    }
+
     /// Returns the registers.
     pub(crate) fn regs(&self) -> [Word; REGISTERS]
         ensures { result ≡ self.now.regs }

@@ -14,7 +14,8 @@ use Rattle.lw_text.proofs.Common.{open_quote, in_key_line, FailsInNotes, open_co
 use Rattle.lw_text.proofs.Common.{after_note, IsNoteCause, FailsInPreamble, in_keyword, no_keyword}
 use Rattle.lw_text.proofs.Common.{other_keyword, in_test_name, in_notes, TextCause}
 use Rattle.lw_text.proofs.api.Numbers.{number_first}
-use Rattle.lw_text.proofs.NameRuns.{run-unique, run_front, symbol_front, token_no_trivia, token_nonempty}
+use Rattle.lw_text.proofs.NameRuns.{IsLongestPrefix-unique, run_front, symbol_front, token_no_trivia}
+use Rattle.lw_text.proofs.NameRuns.{token_nonempty}
 use Rattle.lw_text.proofs.NoteRows.{Quoted-front, Quoted-open, KeyLine-front, no_key_line-if_no_equals}
 use Rattle.lw_text.proofs.NoteRows.{no_note-neither_kind, no_note-unclosed_quote, Note-unique, note_no_trivia}
 use Rattle.lw_text.proofs.NoteRows.{block_no_trivia, Notes-note_inv, Notes-trivia_first, key_front}
@@ -61,7 +62,7 @@ FailsInToken-unique bytes c d (no_symbol some other lacks p) (no_symbol also off
 not-FailsInToken-if_parsed : (t rest : Bytes) (cause : TextCause) → FailsInToken (t ++ rest) cause → IsToken t rest → ⊥
 not-FailsInToken-if_parsed t rest cause (no_number_run w r run digit never c) (inl name) =
     let same =
-    run-unique is_name_byte t w {text = t ++ rest}
+    IsLongestPrefix-unique is_name_byte t w {text = t ++ rest}
     (record { parts = refl; bytes_pass = name.are_name_bytes; longest = name.longest })
     (record { parts = run.parts; bytes_pass = run.bytes_pass; longest = run.longest }) in
     elim name.kind [
@@ -80,7 +81,7 @@ not-FailsInToken-if_parsed t rest cause (no_number_run w r run digit never c) (i
     digit_in_name (t ++ rest) digit (symbol_front t rest symbol)
 not-FailsInToken-if_parsed t rest cause (no_name_run w r run first other never c) (inl name) =
     let same =
-    run-unique is_name_byte t w {text = t ++ rest}
+    IsLongestPrefix-unique is_name_byte t w {text = t ++ rest}
     (record { parts = refl; bytes_pass = name.are_name_bytes; longest = name.longest })
     (record { parts = run.parts; bytes_pass = run.bytes_pass; longest = run.longest }) in
     elim name.kind [
@@ -192,7 +193,7 @@ FailsInTestName-unique text r s c d (bad_name blanks name after e f some are pla
 FailsInTestName-unique text r s c d (bad_name blanks name after e f has are plain too longest not_name p) (no_blank some other at q) =
     absurd (false≢true (sym other ∙ blank_first text blanks r e has are))
 FailsInTestName-unique text r s c d (bad_name blanks name after e f some are plain has longest not_name p) (bad_name spaces word behind g h many blank also too last off q) = (
-  (run-unique is_blank blanks spaces {text = text}
+  (IsLongestPrefix-unique is_blank blanks spaces {text = text}
       (record { parts = e; bytes_pass = are; longest = ap (first_byte_is is_blank) f ∙ plain_front name after plain has })
       (record { parts = g; bytes_pass = blank; longest = ap (first_byte_is is_blank) h ∙ plain_front word behind also too })).1,
   p ∙ sym q,
@@ -228,9 +229,10 @@ FailsInKeyLine-unique text r s (no_equals_sign key spaces e some all blank after
     absurd (not-both-first_byte is_key_byte text (ap (first_byte_is is_key_byte) e ∙ key_front key (spaces ++ r) some all) other)
 FailsInKeyLine-unique text r s (no_equals_sign key spaces e some all blank after stop sign) (no_equals_sign word room f many every space behind end mark) =
     let outer =
-    run-unique is_key_byte key word {text = text} (record { parts = e; bytes_pass = all; longest = after })
+    IsLongestPrefix-unique is_key_byte key word {text = text} (record { parts = e; bytes_pass = all; longest = after })
     (record { parts = f; bytes_pass = every; longest = behind }) in
-    (run-unique is_space spaces room {text = spaces ++ r} (record { parts = refl; bytes_pass = blank; longest = stop })
+    (IsLongestPrefix-unique is_space spaces room {text = spaces ++ r}
+    (record { parts = refl; bytes_pass = blank; longest = stop })
     (record { parts = outer.1; bytes_pass = space; longest = end })).1
 
 -- A key line does not fail.

@@ -16,26 +16,29 @@ use Rattle.lw_text.proofs.api.Spelling.{list_all-AllByRecursion}
 -- ---- runs of bytes
 
 -- The longest prefix of the text whose bytes pass a test, and the rest of the text.
-pub record IsRun (p : ℕ → Bool) (text w rest : Bytes) : Type 0 where
+pub record IsLongestPrefix (p : ℕ → Bool) (text w rest : Bytes) : Type 0 where
   pub parts : text ≡ w ++ rest
   pub bytes_pass : AllByRecursion (λ b. p b ≡ true) w
   pub longest : first_byte_is p rest ≡ false
 
 -- The longest such prefix is unique.
-pub run-unique : (p : ℕ → Bool) (w v : Bytes) {text r s : Bytes} → IsRun p text w r → IsRun p text v s → (w ≡ v) × (r ≡ s)
-run-unique p [] [] a c = (refl, sym a.parts ∙ c.parts)
-run-unique p [] (b ∷ v) a c =
+pub IsLongestPrefix-unique : (p : ℕ → Bool) (w v : Bytes) {text r s : Bytes}
+    → IsLongestPrefix p text w r
+    → IsLongestPrefix p text v s
+    → (w ≡ v) × (r ≡ s)
+IsLongestPrefix-unique p [] [] a c = (refl, sym a.parts ∙ c.parts)
+IsLongestPrefix-unique p [] (b ∷ v) a c =
     absurd (let h = ap (first_byte_is p) (sym a.parts ∙ c.parts) in
     let i = a.longest in
     cc (c.bytes_pass.0))
-run-unique p (b ∷ w) [] a c =
+IsLongestPrefix-unique p (b ∷ w) [] a c =
     absurd (let h = ap (first_byte_is p) (sym a.parts ∙ c.parts) in
     let i = c.longest in
     cc (a.bytes_pass.0))
-run-unique p (b ∷ w) (d ∷ v) {text} {r} {s} a c =
+IsLongestPrefix-unique p (b ∷ w) (d ∷ v) {text} {r} {s} a c =
     let same : b ∷ (w ++ r) ≡ d ∷ (v ++ s) = sym a.parts ∙ c.parts in
     let both : (w ≡ v) × (r ≡ s) =
-    run-unique p w v {text = w ++ r} (record { parts = refl; bytes_pass = a.bytes_pass.1; longest = a.longest })
+    IsLongestPrefix-unique p w v {text = w ++ r} (record { parts = refl; bytes_pass = a.bytes_pass.1; longest = a.longest })
     (record { parts = cc; bytes_pass = c.bytes_pass.1; longest = c.longest }) in
     (cc, both.1)
 
@@ -125,7 +128,8 @@ symbol-unique _ r _ s p q e = absurd q
 -- The token at a position is unique: a run of name bytes or a symbol, by its first byte.
 pub token-unique : (t r u s : Bytes) → IsToken t r → IsToken u s → t ++ r ≡ u ++ s → (t ≡ u) × (r ≡ s)
 token-unique t r u s (inl p) (inl q) e =
-    run-unique is_name_byte t u {text = t ++ r} (record { parts = refl; bytes_pass = p.are_name_bytes; longest = p.longest })
+    IsLongestPrefix-unique is_name_byte t u {text = t ++ r}
+    (record { parts = refl; bytes_pass = p.are_name_bytes; longest = p.longest })
     (record { parts = e; bytes_pass = q.are_name_bytes; longest = q.longest })
 token-unique t r u s (inl p) (inr q) e =
     absurd (let h = run_front t r p in
@@ -143,7 +147,7 @@ token-unique t r u s (inr p) (inr q) e = symbol-unique t r u s p q e
 
 -- If the longest run of name bytes is neither a name nor a number, there is no token.
 pub no_token-if_no_kind : {bytes w r : Bytes}
-    → IsRun is_name_byte bytes w r
+    → IsLongestPrefix is_name_byte bytes w r
     → first_byte_is is_name_byte bytes ≡ true
     → (IsNameOrNumber w → ⊥)
     → (t rest : Bytes)
@@ -152,7 +156,8 @@ pub no_token-if_no_kind : {bytes w r : Bytes}
     → ⊥
 no_token-if_no_kind {w = w} run front never t rest f (inl p) =
     never (subst IsNameOrNumber
-    (run-unique is_name_byte t w (record { parts = f; bytes_pass = p.are_name_bytes; longest = p.longest }) run).0 p.kind)
+    (IsLongestPrefix-unique is_name_byte t w (record { parts = f; bytes_pass = p.are_name_bytes; longest = p.longest }) run).0
+    p.kind)
 no_token-if_no_kind run front never t rest f (inr p) =
     let h = symbol_front t rest p in
     let i = ap (first_byte_is is_name_byte) f in

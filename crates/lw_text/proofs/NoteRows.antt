@@ -8,7 +8,7 @@ use Rattle.lw_text.proofs.Common.{KeyLine, Note, Notes, note, IsSuffix, list_all
 use Rattle.lw_text.proofs.Common.{All-mono, none}
 use Rattle.lw_text.proofs.Lists.{IsSuffix-join}
 use Rattle.lw_text.proofs.TriviaLemmas.{Trivia-unique, Trivia-suffix, Trivia-shorter}
-use Rattle.lw_text.proofs.NameRuns.{run-unique, no_trivia-first_byte}
+use Rattle.lw_text.proofs.NameRuns.{IsLongestPrefix-unique, no_trivia-first_byte}
 
 -- ---- quoted texts
 
@@ -32,7 +32,7 @@ module _ (text inside quoted rest : Bytes) (e : text ≡ 34 ∷ inside) (f : ins
   Quoted-rest end q =
       let p = q.parts in
       let g : inside ≡ q.inside ++ 34 ∷ end = cc in
-      sym (run-unique (λ b. not (b == 34)) q.inside quoted
+      sym (IsLongestPrefix-unique (λ b. not (b == 34)) q.inside quoted
       (record { parts = g; bytes_pass = Without-of_all 34 q.inside q.plain; longest = refl })
       (record { parts = f; bytes_pass = all; longest = longest })).1
 
@@ -91,13 +91,13 @@ module _ (text key rest spaces left : Bytes) (e : text ≡ key ++ rest) (all : K
   pub KeyLine-parts : (end : Bytes) → (p : KeyLine text end) → (p.key ≡ key) × (left ≡ 61 ∷ p.value ++ end)
   KeyLine-parts end p =
       let outer =
-      run-unique is_key_byte p.key key (record {
+      IsLongestPrefix-unique is_key_byte p.key key (record {
         parts = p.parts ∙ line_parts p.key p.spaces p.value end;
         bytes_pass = p.are_key_bytes;
         longest = behind_key p.spaces (p.value ++ end) p.spaced;
       }) (record { parts = e; bytes_pass = all; longest = longest }) in
       let inner =
-      run-unique is_space p.spaces spaces (record { parts = sym outer.1; bytes_pass = p.spaced; longest = refl })
+      IsLongestPrefix-unique is_space p.spaces spaces (record { parts = sym outer.1; bytes_pass = p.spaced; longest = refl })
       (record { parts = f; bytes_pass = spaced; longest = stop }) in
       (outer.0, sym inner.1)
 
@@ -135,7 +135,7 @@ KeyLine-unique text a b p q =
     KeyLine-parts text q.key (q.spaces ++ 61 ∷ (q.value ++ b)) q.spaces (61 ∷ (q.value ++ b))
     (q.parts ∙ line_parts q.key _ q.value b) q.are_key_bytes (behind_key q.spaces _ q.spaced) refl q.spaced refl a p in
     let ends : p.value ++ a ≡ q.value ++ b = cc in
-    (run-unique (λ b. not (b == 10)) p.value q.value {text = p.value ++ a}
+    (IsLongestPrefix-unique (λ b. not (b == 10)) p.value q.value {text = p.value ++ a}
     (record { parts = refl; bytes_pass = Without-of_all 10 _ p.one_line; longest = p.longest })
     (record { parts = ends; bytes_pass = Without-of_all 10 q.value q.one_line; longest = q.longest })).1
 

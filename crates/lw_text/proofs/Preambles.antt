@@ -7,7 +7,7 @@ use Rattle.lw_text.proofs.Common.{is_blank, first_byte_is, IsFirstToken, IsTestN
 use Rattle.lw_text.proofs.Common.{Preamble, is_blank-passes, ◌∙◌, append-nil, false≢true, length}
 use Rattle.lw_text.proofs.Common.{nil_from_length, not-false}
 use Rattle.lw_text.proofs.Texts.{not-equal-if_bytes_differ}
-use Rattle.lw_text.proofs.NameRuns.{run-unique}
+use Rattle.lw_text.proofs.NameRuns.{IsLongestPrefix-unique}
 use Rattle.lw_text.proofs.TokenRows.{IsFirstToken-unique}
 use Rattle.lw_text.proofs.NoteRows.{Notes-unique}
 
@@ -39,10 +39,11 @@ module _ (text space after name rest : Bytes) (e : text ≡ space ++ after) (bla
   pub ParsesTestName-parts : (n r : Bytes) → (p : ParsesTestName text n r) → (p.blanks ≡ space) × (n ≡ name) × (r ≡ rest)
   ParsesTestName-parts n r p =
       let outer =
-      run-unique is_blank p.blanks space (record { parts = p.parts; bytes_pass = p.blank; longest = name_front n r p.is_name })
+      IsLongestPrefix-unique is_blank p.blanks space
+      (record { parts = p.parts; bytes_pass = p.blank; longest = name_front n r p.is_name })
       (record { parts = e; bytes_pass = blank; longest = stop }) in
       let inner =
-      run-unique (λ b. not (is_blank b)) n name
+      IsLongestPrefix-unique (λ b. not (is_blank b)) n name
       (record { parts = sym outer.1; bytes_pass = graphic_plain n p.is_name.are_graphic_bytes; longest = p.longest })
       (record { parts = f; bytes_pass = plain; longest = longest }) in
       (outer.0, inner.0, inner.1)

@@ -16,7 +16,7 @@ use crate::site::Site;
 use lw_base::{Arch, LocNames, Sequence, Word};
 use std::alloc::Allocator;
 
-/// An initializer of the block: the offset of its first token, a site, and the site's initial word.
+/// An initializer of the block: the offset of its first token (`None` if the text ends before it), a site, and the site's initial word.
 #[derive(Clone, Copy)]
 pub(crate) struct Initializer {
     pub(crate) at: Option<usize>,

@@ -14,7 +14,7 @@ use Rattle.lw_finals.proofs.api.Waiting.{entry_location, waits_after, waits_afte
 use Rattle.lw_finals.proofs.api.Waiting.{waits_after-still_waits, waits_after-contains_store}
 
 module _ (program : List (List Instr)) (forward : (t : ℕ) → JumpsForward x86_language (thread_code program t))
-    (paths : List (List ℕ)) (choice : IsPathAssignment x86_language program paths) where
+    (paths : List (List ℕ)) (assignment : IsPathAssignment x86_language program paths) where
   -- The items of the path assignment.
   abbrev items : List Item
   items = items_of x86_language program paths
@@ -66,7 +66,7 @@ module _ (program : List (List Instr)) (forward : (t : ℕ) → JumpsForward x86
         → Before order i j
     Before-if_ordered_items i j li lj same less ordered =
         HasOrdered-if_respected x86_language program paths order keeps.1 i j
-        (index_lt-if_rank_lt x86_language program paths forward choice i j li same less) lj same ordered
+        (index_lt-if_rank_lt x86_language program paths forward assignment i j li same less) lj same ordered
 
     -- A store precedes its drain.
     Before-store_and_drain : (s d : ℕ)
@@ -86,7 +86,8 @@ module _ (program : List (List Instr)) (forward : (t : ℕ) → JumpsForward x86
     partner-of_drain : (d : ℕ) → d < length items → (it d).is_drain ≡ true → (s : Partner d false) × Before order s.0 d
     partner-of_drain d in_range f =
         let s =
-        HasItem-same_position x86_language program paths forward choice d false in_range (λ e. absurd (true≢false (sym e))) in (
+        HasItem-same_position x86_language program paths forward assignment d false in_range
+        (λ e. absurd (true≢false (sym e))) in (
           s,
           Before-store_and_drain s.0 d s.1 in_range (ap (λ (a : Item). a.thread) s.2) (ap (λ (a : Item). a.position) s.2)
               (ap (λ (a : Item). a.is_drain) s.2) f,
@@ -99,7 +100,7 @@ module _ (program : List (List Instr)) (forward : (t : ℕ) → JumpsForward x86
         → entry_location x86_language (statement_of x86_language program (it s)) ≡ Some x
         → (d : Partner s true) × Before order s d.0
     partner-of_store s x in_range f e =
-        let d : Partner s true = HasItem-same_position x86_language program paths forward choice s true in_range (λ b.
+        let d : Partner s true = HasItem-same_position x86_language program paths forward assignment s true in_range (λ b.
         (x, sym (ap (entry_location x86_language) (IsItemOnPath-of_member x86_language program paths s in_range).at) ∙ e)) in (
           d,
           Before-store_and_drain s d.0 in_range d.1 (ap (λ (a : Item). a.thread) (sym d.2))
@@ -213,6 +214,6 @@ module _ (program : List (List Instr)) (forward : (t : ℕ) → JumpsForward x86
         store_still_waits d ld g later is_member =
             waits_after-still_waits x86_language program pending (it i) high climbs drains_oldest (it d).thread (it d).position
             is_member (λ same f e.
-            (let n = item_index-unique x86_language _ _ forward choice d i ld in_range (sym same) e (g ∙ sym f) in
+            (let n = item_index-unique x86_language _ _ forward assignment d i ld in_range (sym same) e (g ∙ sym f) in
             let p = ap (index_in order) n in
             absurd (omega (arith, p, later, at))))

@@ -3,7 +3,7 @@ use Rattle.std.specs.Prelude.{◌≡◌, ℕ, Bool, true, false, All, Contains, 
 use Rattle.lw_base.specs.Outcomes.{FinalState}
 use Rattle.lw_orders.specs.Sequence.{orders}
 use Rattle.lw_paths.specs.declared.item.Item.{Item}
-use Rattle.lw_paths.specs.ChoiceLists.{path_assignments}
+use Rattle.lw_paths.specs.AssignmentLists.{path_assignments}
 use Rattle.lw_litmus.specs.Languages.{Language}
 use Rattle.lw_paths.specs.Items.{items_of}
 use Rattle.lw_paths.specs.TransitiveReduction.{transitive_reduction}
@@ -36,9 +36,9 @@ module _ {S : Type 0} (language : Language S) (Ends : List Item → List ℕ →
   OutcomesOfItems items = OutcomesOfOne (Ends items) (orders (transitive_reduction language program items))
 
   -- The outcomes of the enumerated orders of a path assignment's items.
-  abbrev pub OutcomesOfChoice : List (List ℕ) → FinalState → Type 0
-  OutcomesOfChoice paths = OutcomesOfItems (items_of language program paths)
+  abbrev pub OutcomesOfAssignment : List (List ℕ) → FinalState → Type 0
+  OutcomesOfAssignment paths = OutcomesOfItems (items_of language program paths)
 
   -- The outcomes of the enumerated orders of all path assignments.
   abbrev pub OutcomesOfProgram : FinalState → Type 0
-  OutcomesOfProgram = OutcomesOfOne OutcomesOfChoice (path_assignments language program)
+  OutcomesOfProgram = OutcomesOfOne OutcomesOfAssignment (path_assignments language program)

@@ -3,10 +3,10 @@
 use Rattle.lw_paths.proofs.Common.{◌^◌, ◌-◌, ◌≡◌, ℕ, ◌+◌, ◌<◌, ◌≤◌, List, [], ◌∷◌, length, min, refl, ◌∙◌}
 use Rattle.lw_paths.proofs.Common.{inl, inr, arith, All, Contains, orientation_count, most_items, most_orders}
 use Rattle.lw_paths.proofs.Common.{ListFault, TooManyItems, TooManyOrders, Memory, Item, JumpsForward}
-use Rattle.lw_paths.proofs.Common.{path_assignments, items_at_choice, orders_at_choice, orders_of, total_of}
-use Rattle.lw_paths.proofs.Common.{HasTooManyItems, LimitFaultOfChoice, TellsOfGiven, LimitFaultOfChoices}
-use Rattle.lw_paths.proofs.Common.{LimitFaultIsTrue, IsWithinLimits, Language, items_of, constraints_of}
-use Rattle.lw_paths.proofs.Common.{VisitsAll, VisitFails}
+use Rattle.lw_paths.proofs.Common.{path_assignments, items_of_assignment, orders_of_assignment, orders_of}
+use Rattle.lw_paths.proofs.Common.{total_of, HasTooManyItems, LimitFaultOfAssignment, TellsOfGiven}
+use Rattle.lw_paths.proofs.Common.{LimitFaultOfAssignments, LimitFaultIsTrue, IsWithinLimits, Language}
+use Rattle.lw_paths.proofs.Common.{items_of, constraints_of, VisitsAll, VisitFails}
 use Rattle.lw_paths.proofs.api.Enumerated.{Contains-path_assignments}
 use Rattle.lw_paths.proofs.api.Members.{Contains-head, Contains-tail, Contains-cons, not-Contains-nil}
 use Rattle.lw_paths.proofs.api.Reduced.{orientation_count-reduced}
@@ -25,8 +25,8 @@ module _ {S : Type 0} (language : Language S) where
   abbrev pub Counts : List (List S) → ℕ → List (List ℕ) → List (List S) → ℕ → Type 0
   Counts program before paths after_program after =
       (after_program ≡ program)
-      × (items_at_choice language program paths ≤ most_items)
-      × (after ≡ before + orders_at_choice language program paths)
+      × (items_of_assignment language program paths ≤ most_items)
+      × (after ≡ before + orders_of_assignment language program paths)
       × (after ≤ most_orders)
 
   -- What happens at a path assignment: its items are listed, and are within the limit; its orientations are counted, and added with
@@ -45,7 +45,7 @@ module _ {S : Type 0} (language : Language S) where
       → Counted program before paths after
       → Counts program before paths program after
   Counts-if_counted program before paths after c =
-      let same : c.orders ≡ orders_at_choice language program paths = rw (← c.made) c.orders_are in
+      let same : c.orders ≡ orders_of_assignment language program paths = rw (← c.made) c.orders_are in
       (refl, rw c.made at c.within_item_limit, omega (arith, c.total, c.within_order_limit, same), c.within_order_limit)
 
   -- If the saturated sum of a path assignment's orders and those before passes the limit, so does the exact sum.
@@ -55,55 +55,55 @@ module _ {S : Type 0} (language : Language S) where
       → orders ≡ orientation_count (constraints_of language program items)
       → total ≡ min (before + orders) (2 ^ 64 - 1)
       → most_orders < total
-      → most_orders < before + orders_at_choice language program paths
+      → most_orders < before + orders_of_assignment language program paths
   sum_too_large-if_saturated program before paths {orders = orders} made ways sum over =
-      let same : orders ≡ orders_at_choice language program paths = rw (← made) ways in omega (arith, sum, over, same)
+      let same : orders ≡ orders_of_assignment language program paths = rw (← made) ways in omega (arith, sum, over, same)
 
   -- The cause with which one of some path assignments failed, after `before` orders, holds.
   abbrev FailureHolds : List (List S) → ℕ → List (List (List ℕ)) → ListFault → Type 0
-  FailureHolds program before choices TooManyItems =
-      (paths : List (List ℕ)) × Contains choices paths × (most_items < items_at_choice language program paths)
-  FailureHolds program before choices TooManyOrders = most_orders < before + orders_of language program choices
-  FailureHolds program before choices Memory = Unit {0}
+  FailureHolds program before assignments TooManyItems =
+      (paths : List (List ℕ)) × Contains assignments paths × (most_items < items_of_assignment language program paths)
+  FailureHolds program before assignments TooManyOrders = most_orders < before + orders_of language program assignments
+  FailureHolds program before assignments Memory = Unit {0}
 
   -- The cause for which the first of some path assignments failed holds of them all.
-  FailureHolds-first : (program : List (List S)) (before : ℕ) (paths : List (List ℕ)) (choices : List (List (List ℕ)))
+  FailureHolds-first : (program : List (List S)) (before : ℕ) (paths : List (List ℕ)) (assignments : List (List (List ℕ)))
       (e : ListFault)
-      → LimitFaultOfChoice language program before paths e
-      → FailureHolds program before (paths ∷ choices) e
-  FailureHolds-first program before paths choices TooManyItems h = (paths, Contains-head paths paths choices refl, h)
-  FailureHolds-first program before paths choices TooManyOrders h = omega (arith, h)
-  FailureHolds-first program before paths choices Memory h = tt
+      → LimitFaultOfAssignment language program before paths e
+      → FailureHolds program before (paths ∷ assignments) e
+  FailureHolds-first program before paths assignments TooManyItems h = (paths, Contains-head paths paths assignments refl, h)
+  FailureHolds-first program before paths assignments TooManyOrders h = omega (arith, h)
+  FailureHolds-first program before paths assignments Memory h = tt
 
   -- A cause that holds of later path assignments, counted from the first one's total on, holds of them all.
-  FailureHolds-later : (program : List (List S)) (before after : ℕ) (paths : List (List ℕ)) (choices : List (List (List ℕ)))
+  FailureHolds-later : (program : List (List S)) (before after : ℕ) (paths : List (List ℕ)) (assignments : List (List (List ℕ)))
       (e : ListFault)
-      → after ≤ before + orders_at_choice language program paths
-      → FailureHolds program after choices e
-      → FailureHolds program before (paths ∷ choices) e
-  FailureHolds-later program before after paths choices TooManyItems l (p, c, h) = (p, Contains-tail paths p _ c, h)
-  FailureHolds-later program before after paths choices TooManyOrders l h = omega (arith, l, h)
-  FailureHolds-later program before after paths choices Memory l h = tt
+      → after ≤ before + orders_of_assignment language program paths
+      → FailureHolds program after assignments e
+      → FailureHolds program before (paths ∷ assignments) e
+  FailureHolds-later program before after paths assignments TooManyItems l (p, c, h) = (p, Contains-tail paths p _ c, h)
+  FailureHolds-later program before after paths assignments TooManyOrders l h = omega (arith, l, h)
+  FailureHolds-later program before after paths assignments Memory l h = tt
 
   -- ---- the list of path assignments is complete
   module _ (program : List (List S)) (forward : All (JumpsForward language) program) where
     -- If the cause holds of all path assignments, it is a reason why not all can be visited.
-    LimitFaultOfChoices-if_failure : (e : ListFault)
+    LimitFaultOfAssignments-if_failure : (e : ListFault)
         → FailureHolds program 0 (path_assignments language program) e
-        → LimitFaultOfChoices language program e
-    LimitFaultOfChoices-if_failure TooManyItems (paths, c, h) =
+        → LimitFaultOfAssignments language program e
+    LimitFaultOfAssignments-if_failure TooManyItems (paths, c, h) =
         (paths, (Contains-path_assignments language program paths forward).0 c, h)
-    LimitFaultOfChoices-if_failure TooManyOrders h = omega (arith, h)
-    LimitFaultOfChoices-if_failure Memory h = tt
+    LimitFaultOfAssignments-if_failure TooManyOrders h = omega (arith, h)
+    LimitFaultOfAssignments-if_failure Memory h = tt
 
     -- If no path assignment on the list has too many items, none has.
     pub not-HasTooManyItems-listed : ((paths : List (List ℕ))
         → Contains (path_assignments language program) paths
-        → items_at_choice language program paths ≤ most_items)
+        → items_of_assignment language program paths ≤ most_items)
         → HasTooManyItems language program
         → ⊥
     not-HasTooManyItems-listed all (paths, is, h) =
-        let l : items_at_choice language program paths ≤ most_items =
+        let l : items_of_assignment language program paths ≤ most_items =
         all paths ((Contains-path_assignments language program paths forward).1 is) in
         omega arith
 
@@ -115,11 +115,11 @@ module _ {S : Type 0} (language : Language S) where
       -- A visit counts at most the orders of its path assignment.
       pub at_most : (v : V) (paths : List (List ℕ)) (w : V)
           → view.visits v paths w
-          → view.count w ≤ view.count v + orders_at_choice language (view.program v) paths
+          → view.count w ≤ view.count v + orders_of_assignment language (view.program v) paths
       -- The cause of a failure holds of this path assignment, after the orders counted before.
       pub why : (v : V) (paths : List (List ℕ)) (e : ListFault)
           → view.refuses v paths e
-          → LimitFaultOfChoice language (view.program v) (view.count v) paths e
+          → LimitFaultOfAssignment language (view.program v) (view.count v) paths e
 
     -- A visitor that counts the orders of the path assignments.
     pub record IsCounter : Type 0 where
@@ -130,7 +130,7 @@ module _ {S : Type 0} (language : Language S) where
       -- The cause of a failure holds of this path assignment.
       pub why : (v : V) (paths : List (List ℕ)) (e : ListFault)
           → view.refuses v paths e
-          → LimitFaultOfChoice language (view.program v) (view.count v) paths e
+          → LimitFaultOfAssignment language (view.program v) (view.count v) paths e
 
     -- A counter states causes that hold.
     GivesReasons-counter : IsCounter → GivesReasons
@@ -143,30 +143,30 @@ module _ {S : Type 0} (language : Language S) where
     module _ (program : List (List S)) where
       -- If one of some path assignments failed, the cause holds of them all.
       FailureHolds-visit_fails : GivesReasons
-          → (choices : List (List (List ℕ))) (v : V) (e : ListFault)
+          → (assignments : List (List (List ℕ))) (v : V) (e : ListFault)
           → view.program v ≡ program
-          → VisitFails view.visits view.refuses choices v e
-          → FailureHolds program (view.count v) choices e
+          → VisitFails view.visits view.refuses assignments v e
+          → FailureHolds program (view.count v) assignments e
       FailureHolds-visit_fails reasons [] v e is h = absurd h
-      FailureHolds-visit_fails reasons (paths ∷ choices) v e is (inl h) =
-          FailureHolds-first _ _ paths choices e (rw is at (reasons.why v paths e h))
-      FailureHolds-visit_fails reasons (paths ∷ choices) v e is (inr (mid, one, rest)) =
-          FailureHolds-later program _ _ paths choices e (rw is at (reasons.at_most v paths mid one))
-          (FailureHolds-visit_fails reasons choices mid e (reasons.keeps v paths mid one ∙ is) rest)
+      FailureHolds-visit_fails reasons (paths ∷ assignments) v e is (inl h) =
+          FailureHolds-first _ _ paths assignments e (rw is at (reasons.why v paths e h))
+      FailureHolds-visit_fails reasons (paths ∷ assignments) v e is (inr (mid, one, rest)) =
+          FailureHolds-later program _ _ paths assignments e (rw is at (reasons.at_most v paths mid one))
+          (FailureHolds-visit_fails reasons assignments mid e (reasons.keeps v paths mid one ∙ is) rest)
 
       -- If some path assignments were counted, each has few items, and all together few orders.
       IsWithinLimits-visited : IsCounter
-          → (choices : List (List (List ℕ))) (v w : V)
+          → (assignments : List (List (List ℕ))) (v w : V)
           → view.program v ≡ program
           → view.count v ≤ most_orders
-          → VisitsAll view.visits choices v w
-          → ((paths : List (List ℕ)) → Contains choices paths → items_at_choice language program paths ≤ most_items)
-          × (view.count v + orders_of language program choices ≤ most_orders)
+          → VisitsAll view.visits assignments v w
+          → ((paths : List (List ℕ)) → Contains assignments paths → items_of_assignment language program paths ≤ most_items)
+          × (view.count v + orders_of language program assignments ≤ most_orders)
       IsWithinLimits-visited counter [] v w is few h = ((λ paths c. absurd (not-Contains-nil paths c)), omega arith)
-      IsWithinLimits-visited counter (paths ∷ choices) v w is few (mid, one, rest) =
+      IsWithinLimits-visited counter (paths ∷ assignments) v w is few (mid, one, rest) =
           let (same, items, orders, within) = counter.each v paths mid one in
-          let more = IsWithinLimits-visited counter choices mid w (same ∙ is) within rest in (
-            (λ p c. elim (Contains-cons paths p choices c) [
+          let more = IsWithinLimits-visited counter assignments mid w (same ∙ is) within rest in (
+            (λ p c. elim (Contains-cons paths p assignments c) [
               | inl is_head ↦ rw (← is_head, ← is) items
               | inr in_tail ↦ more.0 p in_tail
             ]),
@@ -186,45 +186,45 @@ module _ {S : Type 0} (language : Language S) where
             (not-HasTooManyItems-listed program forward all.0, omega (arith, all.1, none))
 
         -- The cause with which a visitor fails is a reason why not all path assignments can be visited.
-        pub LimitFaultOfChoices-visit_fails : GivesReasons
+        pub LimitFaultOfAssignments-visit_fails : GivesReasons
             → (v : V) (e : ListFault)
             → view.program v ≡ program
             → view.count v ≡ 0
             → VisitFails view.visits view.refuses (path_assignments language program) v e
-            → LimitFaultOfChoices language program e
-        LimitFaultOfChoices-visit_fails reasons v e is none h =
-            LimitFaultOfChoices-if_failure program forward e
+            → LimitFaultOfAssignments language program e
+        LimitFaultOfAssignments-visit_fails reasons v e is none h =
+            LimitFaultOfAssignments-if_failure program forward e
             (rw none at (FailureHolds-visit_fails reasons (path_assignments language program) v e is h))
 
         -- The same holds of a counter.
-        pub LimitFaultOfChoices-counter_fails : IsCounter
+        pub LimitFaultOfAssignments-counter_fails : IsCounter
             → (v : V) (e : ListFault)
             → view.program v ≡ program
             → view.count v ≡ 0
             → VisitFails view.visits view.refuses (path_assignments language program) v e
-            → LimitFaultOfChoices language program e
-        LimitFaultOfChoices-counter_fails counter = LimitFaultOfChoices-visit_fails (GivesReasons-counter counter)
+            → LimitFaultOfAssignments language program e
+        LimitFaultOfAssignments-counter_fails counter = LimitFaultOfAssignments-visit_fails (GivesReasons-counter counter)
 
   -- The cause for which a path assignment's items are rejected is a cause for the first path assignment.
-  pub LimitFaultOfChoice-items_refused : (program : List (List S)) (paths : List (List ℕ)) (e : ListFault)
+  pub LimitFaultOfAssignment-items_refused : (program : List (List S)) (paths : List (List ℕ)) (e : ListFault)
       → TellsOfGiven language program (items_of language program paths) e
-      → LimitFaultOfChoice language program 0 paths e
-  LimitFaultOfChoice-items_refused program paths TooManyItems h = absurd h
-  LimitFaultOfChoice-items_refused program paths TooManyOrders h =
+      → LimitFaultOfAssignment language program 0 paths e
+  LimitFaultOfAssignment-items_refused program paths TooManyItems h = absurd h
+  LimitFaultOfAssignment-items_refused program paths TooManyOrders h =
       omega (arith, h, orientation_count-reduced language program paths)
-  LimitFaultOfChoice-items_refused program paths Memory h = tt
+  LimitFaultOfAssignment-items_refused program paths Memory h = tt
 
 -- If no path assignment has too many items, the cause with which a visit fails is the list's: too many orders, or no memory.
-pub LimitFaultIsTrue-of_choices : {S : Type 0} (language : Language S) (program : List (List S))
+pub LimitFaultIsTrue-of_assignments : {S : Type 0} (language : Language S) (program : List (List S))
     → All (JumpsForward language) program
     → (HasTooManyItems language program → ⊥)
     → (e : ListFault)
-    → LimitFaultOfChoices language program e
+    → LimitFaultOfAssignments language program e
     → LimitFaultIsTrue language program e
-LimitFaultIsTrue-of_choices language program forward few TooManyItems h = h
-LimitFaultIsTrue-of_choices language program forward few TooManyOrders h =
+LimitFaultIsTrue-of_assignments language program forward few TooManyItems h = h
+LimitFaultIsTrue-of_assignments language program forward few TooManyOrders h =
     (few, (total_of language program, IsTotalOrderCount-total_of language program forward, h))
-LimitFaultIsTrue-of_choices language program forward few Memory h = tt
+LimitFaultIsTrue-of_assignments language program forward few Memory h = tt
 
 -- If no path assignment has too many items, and the total of orders is within its limit, the program is within the limits.
 pub IsWithinLimits-of_total : {S : Type 0} (language : Language S) (program : List (List S))

@@ -77,39 +77,39 @@ module _ {S : Type 0} (language : Language S) where
     paths-only (suc n) j path l on_path = on-only _ j path l (λ k p a b g. paths-only n k p b g) on_path
 
   -- The list contains each path assignment.
-  choices-has : (program : List (List S))
+  assignments-has : (program : List (List S))
       → All (JumpsForward language) program
       → (paths : List (List ℕ))
       → IsPathAssignment language program paths
       → Contains (path_assignments language program) paths
-  choices-has [] all [] choice = Contains-head [] [] [] refl
-  choices-has (code ∷ program) all (p ∷ paths) (one, rest) =
+  assignments-has [] all [] assignment = Contains-head [] [] [] refl
+  assignments-has (code ∷ program) all (p ∷ paths) (one, rest) =
       Contains-flat_map (λ path. map (λ paths. path ∷ paths) (path_assignments language program)) (paths_of language code) p
       (p ∷ paths) (paths-has code (All-head (JumpsForward language) code program all) (length code) 0 p (omega arith) one)
       (Contains-map (λ paths. p ∷ paths) (path_assignments language program) paths
-      (choices-has program (All-tail (JumpsForward language) code program all) paths rest))
-  choices-has _ all _ choice = absurd choice
+      (assignments-has program (All-tail (JumpsForward language) code program all) paths rest))
+  assignments-has _ all _ assignment = absurd assignment
 
   -- The list contains only path assignments.
-  choices-only : (program : List (List S))
+  assignments-only : (program : List (List S))
       → All (JumpsForward language) program
       → (paths : List (List ℕ))
       → Contains (path_assignments language program) paths
       → IsPathAssignment language program paths
-  choices-only [] all paths is_member = elim (Contains-cons [] paths [] is_member) [
+  assignments-only [] all paths is_member = elim (Contains-cons [] paths [] is_member) [
     | inl is_head ↦ rw (← is_head) tt
     | inr in_tail ↦ absurd (not-Contains-nil paths in_tail)
   ]
-  choices-only (code ∷ program) all paths is_member =
+  assignments-only (code ∷ program) all paths is_member =
       let (path, one, there) = Contains-flat_map_inv _ (paths_of language code) paths is_member in
       let (others, rest, is) = Contains-map_inv (λ paths. path ∷ paths) (path_assignments language program) paths there in
       rw (← is) (
         paths-only code (All-head (JumpsForward language) code program all) _ 0 path (omega arith) one,
-        choices-only program (All-tail (JumpsForward language) code program all) others rest,
+        assignments-only program (All-tail (JumpsForward language) code program all) others rest,
       )
 
   -- If jumps go forward, the list contains `paths` if and only if they are a path assignment of the program.
   pub Contains-path_assignments : (program : List (List S)) (paths : List (List ℕ))
       → All (JumpsForward language) program
       → Contains (path_assignments language program) paths ↔ IsPathAssignment language program paths
-  Contains-path_assignments program paths all = (choices-only program all paths, choices-has program all paths)
+  Contains-path_assignments program paths all = (assignments-only program all paths, assignments-has program all paths)

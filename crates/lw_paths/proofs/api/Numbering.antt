@@ -312,7 +312,7 @@ module _ {S : Type 0} (language : Language S) where
     ]
 
     module _ (forward : (t : ℕ) → JumpsForward language (thread_code program t))
-        (choice : IsPathAssignment language program paths) where
+        (assignment : IsPathAssignment language program paths) where
       -- Within a thread the `thread_rank`s increase with the indices.
       pub thread_rank-increasing : (i j : ℕ)
           → i < j
@@ -324,7 +324,7 @@ module _ {S : Type 0} (language : Language S) where
           (Pairwise-items_from IsLower (IsAscendingFrom 0) (λ t code path up. thread_sorted t 0 code path up)
           (λ a b less same. absurd (omega (arith, less, same))) 0 program paths (λ t l.
           IsAscendingFrom-flow_path (thread_code program t) 0 (thread_code paths t) (forward t)
-          (IsFlowPathFrom-path_assignment program paths choice t l))) less in_range same
+          (IsFlowPathFrom-path_assignment program paths assignment t l))) less in_range same
 
       -- Within a thread the indices increase with the `thread_rank`s.
       pub index_lt-if_rank_lt : (i j : ℕ)
@@ -360,5 +360,5 @@ module _ {S : Type 0} (language : Language S) where
           → HasItem items (item (at i).thread (at i).position b)
       HasItem-same_position i b l store =
           let r : IsItemOnPath (at i) = IsItemOnPath-of_member i l in
-          HasItem-on_path (at i).thread (at i).position r.statement b (length-path_assignment _ _ choice) r.thread_in_range
+          HasItem-on_path (at i).thread (at i).position r.statement b (length-path_assignment _ _ assignment) r.thread_in_range
           r.on_path r.at store

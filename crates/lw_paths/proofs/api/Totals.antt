@@ -3,7 +3,7 @@
 use Rattle.lw_paths.proofs.Common.{◌≡◌, ℕ, ◌+◌, List, [], ◌∷◌, refl, sym, ◌∙◌, subst, inl, inr, arith, All}
 use Rattle.lw_paths.proofs.Common.{Contains, ◌↔◌, IsDuplicateFree, Language, JumpsForward, HasOrderCount}
 use Rattle.lw_paths.proofs.Common.{HaveOrderCounts, IsTotalOrderCount, constraints_of, items_of}
-use Rattle.lw_paths.proofs.Common.{path_assignments, orders_at_choice, orders_of, total_of}
+use Rattle.lw_paths.proofs.Common.{path_assignments, orders_of_assignment, orders_of, total_of}
 use Rattle.lw_paths.proofs.Common.{HasOrientationCount-computed, HasOrientationCount-unique, ListFault}
 use Rattle.lw_paths.proofs.Common.{Memory, TooManyItems, TooManyOrders, LimitFaultIsTrue, IsWithinLimits, ◌≢◌}
 use Rattle.lw_paths.proofs.Once.{IsDuplicateFree-path_assignments}
@@ -14,21 +14,21 @@ use Rattle.lw_paths.proofs.api.Members.{not-Contains-nil, Contains-head, Contain
 module _ {S : Type 0} (language : Language S) (program : List (List S)) where
   -- The computed number of a path assignment's orders is its number of orders.
   HasOrderCount-computed : (paths : List (List ℕ))
-      → HasOrderCount language program paths (orders_at_choice language program paths)
+      → HasOrderCount language program paths (orders_of_assignment language program paths)
   HasOrderCount-computed paths =
       let items = items_of language program paths in
       HasOrientationCount-computed (constraints_of language program items) (AreAscending-preserved language program items)
       (AreSorted-conflicts language program items)
 
   -- The computed number of orders of some path assignments is theirs together.
-  HaveOrderCounts-computed : (choices : List (List (List ℕ)))
-      → HaveOrderCounts language program choices (orders_of language program choices)
+  HaveOrderCounts-computed : (assignments : List (List (List ℕ)))
+      → HaveOrderCounts language program assignments (orders_of language program assignments)
   HaveOrderCounts-computed [] = refl
-  HaveOrderCounts-computed (paths ∷ choices) = (
-    orders_at_choice language program paths,
-    orders_of language program choices,
+  HaveOrderCounts-computed (paths ∷ assignments) = (
+    orders_of_assignment language program paths,
+    orders_of language program assignments,
     HasOrderCount-computed paths,
-    HaveOrderCounts-computed choices,
+    HaveOrderCounts-computed assignments,
     refl,
   )
 
@@ -36,7 +36,7 @@ module _ {S : Type 0} (language : Language S) (program : List (List S)) where
   pub IsTotalOrderCount-total_of : All (JumpsForward language) program
       → IsTotalOrderCount language program (total_of language program)
   IsTotalOrderCount-total_of forward = record {
-    choices = path_assignments language program;
+    assignments = path_assignments language program;
     exactly = λ paths. Contains-path_assignments language program paths forward;
     without_duplicates = IsDuplicateFree-path_assignments language program forward;
     orders = HaveOrderCounts-computed (path_assignments language program);
@@ -51,7 +51,7 @@ module _ {S : Type 0} (language : Language S) (program : List (List S)) where
       HasOrientationCount-unique (constraints_of language program (items_of language program paths)) n m
 
   -- One of some path assignments, and the others, with their numbers of orders.
-  record IsSetAside (one : List (List ℕ)) (choices : List (List (List ℕ))) (n : ℕ) : Type 0 where
+  record IsSetAside (one : List (List ℕ)) (assignments : List (List (List ℕ))) (n : ℕ) : Type 0 where
     pub others : List (List (List ℕ))
     pub orders : ℕ
     pub more : ℕ
@@ -59,72 +59,75 @@ module _ {S : Type 0} (language : Language S) (program : List (List S)) where
     pub others_have : HaveOrderCounts language program others more
     pub sum : n ≡ orders + more
     pub without_duplicates : IsDuplicateFree others
-    pub left : (c : List (List ℕ)) → Contains others c ↔ (Contains choices c × (one ≡ c → ⊥))
+    pub left : (c : List (List ℕ)) → Contains others c ↔ (Contains assignments c × (one ≡ c → ⊥))
 
   -- A member of a list of path assignments without duplicates can be set aside from the others.
-  IsSetAside-member : (one : List (List ℕ)) (choices : List (List (List ℕ))) (n : ℕ)
-      → Contains choices one
-      → IsDuplicateFree choices
-      → HaveOrderCounts language program choices n
-      → IsSetAside one choices n
+  IsSetAside-member : (one : List (List ℕ)) (assignments : List (List (List ℕ))) (n : ℕ)
+      → Contains assignments one
+      → IsDuplicateFree assignments
+      → HaveOrderCounts language program assignments n
+      → IsSetAside one assignments n
   IsSetAside-member one [] n is_member once have = absurd (not-Contains-nil one is_member)
-  IsSetAside-member one (c ∷ choices) n is_member once (m, k, has, have, sum) = elim (Contains-cons c one choices is_member) [
-    | inl is_head ↦ record {
-      others = choices;
-      orders = m;
-      more = k;
-      one_has = subst (λ d. HasOrderCount language program d m) is_head has;
-      others_have = have;
-      sum = sum;
-      without_duplicates = once.1;
-      left = λ d. (
-        λ h. (Contains-tail c d choices h, λ e. once.0 (subst (Contains choices) (sym (is_head ∙ e)) h)),
-        λ h. elim (Contains-cons c d choices h.0) [ inl e ↦ absurd (h.1 (sym is_head ∙ e)) | inr in_tail ↦ in_tail ],
-      );
-    }
-    | inr in_tail ↦
-        (let p : IsSetAside one choices k = IsSetAside-member one choices k in_tail once.1 have in
-        record {
-          others = c ∷ p.others;
-          orders = p.orders;
-          more = m + p.more;
-          one_has = p.one_has;
-          others_have = (m, p.more, has, p.others_have, refl);
-          sum = omega (arith, sum, p.sum);
-          without_duplicates = ((λ h. once.0 ((p.left c).0 h).0), p.without_duplicates);
+  IsSetAside-member one (c ∷ assignments) n is_member once (m, k, has, have, sum) =
+      elim (Contains-cons c one assignments is_member) [
+        | inl is_head ↦ record {
+          others = assignments;
+          orders = m;
+          more = k;
+          one_has = subst (λ d. HasOrderCount language program d m) is_head has;
+          others_have = have;
+          sum = sum;
+          without_duplicates = once.1;
           left = λ d. (
-            λ h. elim (Contains-cons c d p.others h) [
-              | inl is_head ↦
-                  (Contains-head c d choices is_head, λ same. once.0 (subst (Contains choices) (same ∙ sym is_head) in_tail))
-              | inr in_tail ↦ (Contains-tail c d choices ((p.left d).0 in_tail).0, ((p.left d).0 in_tail).1)
-            ],
-            λ h. elim (Contains-cons c d choices h.0) [
-              | inl is_head ↦ Contains-head c d p.others is_head
-              | inr in_tail ↦ Contains-tail c d p.others ((p.left d).1 (in_tail, h.1))
-            ],
+            λ h. (Contains-tail c d assignments h, λ e. once.0 (subst (Contains assignments) (sym (is_head ∙ e)) h)),
+            λ h. elim (Contains-cons c d assignments h.0) [ inl e ↦ absurd (h.1 (sym is_head ∙ e)) | inr in_tail ↦ in_tail ],
           );
-        })
-  ]
+        }
+        | inr in_tail ↦
+            (let p : IsSetAside one assignments k = IsSetAside-member one assignments k in_tail once.1 have in
+            record {
+              others = c ∷ p.others;
+              orders = p.orders;
+              more = m + p.more;
+              one_has = p.one_has;
+              others_have = (m, p.more, has, p.others_have, refl);
+              sum = omega (arith, sum, p.sum);
+              without_duplicates = ((λ h. once.0 ((p.left c).0 h).0), p.without_duplicates);
+              left = λ d. (
+                λ h. elim (Contains-cons c d p.others h) [
+                  | inl is_head ↦ (
+                    Contains-head c d assignments is_head,
+                    λ same. once.0 (subst (Contains assignments) (same ∙ sym is_head) in_tail),
+                  )
+                  | inr in_tail ↦ (Contains-tail c d assignments ((p.left d).0 in_tail).0, ((p.left d).0 in_tail).1)
+                ],
+                λ h. elim (Contains-cons c d assignments h.0) [
+                  | inl is_head ↦ Contains-head c d p.others is_head
+                  | inr in_tail ↦ Contains-tail c d p.others ((p.left d).1 (in_tail, h.1))
+                ],
+              );
+            })
+      ]
 
   -- Two lists of the same path assignments, without duplicates, have the same number of orders.
-  HaveOrderCounts-unique : (choices others : List (List (List ℕ))) (n m : ℕ)
-      → IsDuplicateFree choices
+  HaveOrderCounts-unique : (assignments others : List (List (List ℕ))) (n m : ℕ)
+      → IsDuplicateFree assignments
       → IsDuplicateFree others
-      → ((c : List (List ℕ)) → Contains choices c ↔ Contains others c)
-      → HaveOrderCounts language program choices n
+      → ((c : List (List ℕ)) → Contains assignments c ↔ Contains others c)
+      → HaveOrderCounts language program assignments n
       → HaveOrderCounts language program others m
       → n ≡ m
   HaveOrderCounts-unique [] [] n m once other_once same none also_none = none ∙ sym also_none
   HaveOrderCounts-unique [] (d ∷ others) n m once other_once same none have =
       absurd (not-Contains-nil d ((same d).1 (Contains-head d d others refl)))
-  HaveOrderCounts-unique (c ∷ choices) others n m once other_once same (i, k, has, have, sum) other_have =
+  HaveOrderCounts-unique (c ∷ assignments) others n m once other_once same (i, k, has, have, sum) other_have =
       let p : IsSetAside c others m =
-      IsSetAside-member c others m ((same c).0 (Contains-head c c choices refl)) other_once other_have in
+      IsSetAside-member c others m ((same c).0 (Contains-head c c assignments refl)) other_once other_have in
       let first : i ≡ p.orders = HasOrderCount-unique c i p.orders has p.one_has in
       let rest : k ≡ p.more =
-      HaveOrderCounts-unique choices p.others k p.more once.1 p.without_duplicates (λ d. (
-        λ h. (p.left d).1 ((same d).0 (Contains-tail c d choices h), λ e. once.0 (subst (Contains choices) (sym e) h)),
-        λ h. elim (Contains-cons c d choices ((same d).1 ((p.left d).0 h).0)) [
+      HaveOrderCounts-unique assignments p.others k p.more once.1 p.without_duplicates (λ d. (
+        λ h. (p.left d).1 ((same d).0 (Contains-tail c d assignments h), λ e. once.0 (subst (Contains assignments) (sym e) h)),
+        λ h. elim (Contains-cons c d assignments ((same d).1 ((p.left d).0 h).0)) [
           | inl is_head ↦ absurd (((p.left d).0 h).1 is_head)
           | inr in_tail ↦ in_tail
         ],
@@ -134,7 +137,7 @@ module _ {S : Type 0} (language : Language S) (program : List (List S)) where
   -- The definition determines a program's total.
   pub IsTotalOrderCount-unique : (n m : ℕ) → IsTotalOrderCount language program n → IsTotalOrderCount language program m → n ≡ m
   IsTotalOrderCount-unique n m a b =
-      HaveOrderCounts-unique a.choices b.choices n m a.without_duplicates b.without_duplicates
+      HaveOrderCounts-unique a.assignments b.assignments n m a.without_duplicates b.without_duplicates
       (λ c. ((λ h. (b.exactly c).1 ((a.exactly c).0 h)), λ h. (a.exactly c).1 ((b.exactly c).0 h))) a.orders b.orders
 
   -- No test is both past a limit and within the limits.

@@ -17,7 +17,7 @@ use Rattle.lw_tso.specs.Runs.{IsMachineOutcome, MachineRunsTo, is_final, initial
 use Rattle.lw_tso_caches.specs.OverCaches.{OutcomeOverCaches}
 use Rattle.lw_search.specs.declared.states.Origin.{Origin}
 use Rattle.lw_search.specs.inner.Accesses.{HasConflictsOfOthers}
-use Rattle.lw_search.specs.inner.StateKeys.{State, Components, Visited, Extends, Represents, RepresentsOthers, RepresentsThreads, IsPrefix, AreDistinct, events_of, set_thread}
+use Rattle.lw_search.specs.inner.StateKeys.{State, Components, Visited, Extends, Represents, RepresentsOthers, RepresentsThreads, IsPrefix, HasUniqueIndices, events_of, set_thread}
 
 -- The events of the run that has a number, or none if no run has it.
 abbrev pub events_at : List (List (ℕ × Bool)) → ℕ → List Event
@@ -58,9 +58,9 @@ module _ (program : List (List Instr)) where
     pub represents : (i : ℕ) (key : List ℕ) (s : State) → slice_get visited.keys i ≡ Some key → slice_get found i ≡ Some s
         → Represents tables key s
     pub thread_count : (i : ℕ) (s : State) → slice_get found i ≡ Some s → length s.processors ≡ length program
-    pub distinct : AreDistinct found
-    pub distinct_threads : AreDistinct tables.threads
-    pub distinct_memories : AreDistinct tables.memories
+    pub distinct : HasUniqueIndices found
+    pub distinct_threads : HasUniqueIndices tables.threads
+    pub distinct_memories : HasUniqueIndices tables.memories
     pub first : slice_get found 0 ≡ Some start
     pub predecessor : (i : ℕ) (origin : Origin) (s : State) → slice_get visited.origins (suc i) ≡ Some origin
         → slice_get found (suc i) ≡ Some s → HasPredecessor visited.runs found (suc i) origin s

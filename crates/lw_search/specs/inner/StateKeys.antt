@@ -22,16 +22,16 @@ abbrev pub IsPrefix : {X : Type 0} → List X → List X → Type 0
 IsPrefix {X} old new = (i : ℕ) (x : X) → slice_get old i ≡ Some x → slice_get new i ≡ Some x
 
 -- No item is at two indices.
-abbrev pub AreDistinct : {X : Type 0} → List X → Type 0
-AreDistinct {X} xs = (i j : ℕ) (x : X) → slice_get xs i ≡ Some x → slice_get xs j ≡ Some x → i ≡ j
+abbrev pub HasUniqueIndices : {X : Type 0} → List X → Type 0
+HasUniqueIndices {X} xs = (i j : ℕ) (x : X) → slice_get xs i ≡ Some x → slice_get xs j ≡ Some x → i ≡ j
 
 -- Rows were appended to the tables: numbers stay, and values without duplicates stay so.
 pub record Extends (old new : Components) : Type 0 where
   pub program : new.program ≡ old.program
   pub threads : IsPrefix old.threads new.threads
   pub memories : IsPrefix old.memories new.memories
-  pub distinct_threads : AreDistinct old.threads → AreDistinct new.threads
-  pub distinct_memories : AreDistinct old.memories → AreDistinct new.memories
+  pub distinct_threads : HasUniqueIndices old.threads → HasUniqueIndices new.threads
+  pub distinct_memories : HasUniqueIndices old.memories → HasUniqueIndices new.memories
 
 -- A key represents a state: it is the number of the memory, followed by that of each thread's state, and by 0 for each further thread.
 pub record Represents (tables : Components) (key : List ℕ) (s : State) : Type 0 where

@@ -1,23 +1,23 @@
 -- The theorem: the machine's outcomes are exactly those that the axioms allow. Both are compared with the
--- outcomes of orders of a path assignment's items, which lw_finals proves equal to the machine's; `IsAllowed-OfChoice`
--- and `OfChoice-IsAllowed` are the two directions. Over caches the outcomes are those over flat memory.
+-- outcomes of orders of a path assignment's items, which lw_finals proves equal to the machine's; `IsAllowed-OfAssignment`
+-- and `OfAssignment-IsAllowed` are the two directions. Over caches the outcomes are those over flat memory.
 use Rattle.lw_axiomatic.proofs.Common.{HasOutcomeShape-flat_outcome}
-use Rattle.lw_axiomatic.proofs.Equivalence.{IsAllowed-OfChoice, OfChoice-IsAllowed}
+use Rattle.lw_axiomatic.proofs.Equivalence.{IsAllowed-OfAssignment, OfAssignment-IsAllowed}
 use Rattle.lw_axiomatic.proofs.laws.the_machine_is_what_the_axioms_allow.Goals as goal
 
 pub returns : goal.returns
 returns c = record {
   flat_memory = λ test o well_scoped.
-      let choices = c.x86_outcomes_are_those_of_path_assignments.ensures test o well_scoped in (
-        λ run. IsAllowed-OfChoice well_scoped (HasOutcomeShape-flat_outcome test o well_scoped run) (choices.0 run),
-        λ a. choices.1 (OfChoice-IsAllowed well_scoped a),
+      let assignments = c.x86_outcomes_are_those_of_path_assignments.ensures test o well_scoped in (
+        λ run. IsAllowed-OfAssignment well_scoped (HasOutcomeShape-flat_outcome test o well_scoped run) (assignments.0 run),
+        λ a. assignments.1 (OfAssignment-IsAllowed well_scoped a),
       );
   caches = λ protocol test o well_scoped fits.
       let flat_too = c.outcomes_over_caches_are_flat.ensures protocol test o well_scoped fits in
-      let choices = c.x86_outcomes_are_those_of_path_assignments.ensures test o well_scoped in (
+      let assignments = c.x86_outcomes_are_those_of_path_assignments.ensures test o well_scoped in (
         λ over.
-            IsAllowed-OfChoice well_scoped (HasOutcomeShape-flat_outcome test o well_scoped (flat_too.0 over))
-            (choices.0 (flat_too.0 over)),
-        λ a. flat_too.1 (choices.1 (OfChoice-IsAllowed well_scoped a)),
+            IsAllowed-OfAssignment well_scoped (HasOutcomeShape-flat_outcome test o well_scoped (flat_too.0 over))
+            (assignments.0 (flat_too.0 over)),
+        λ a. flat_too.1 (assignments.1 (OfAssignment-IsAllowed well_scoped a)),
       );
 }

@@ -22,5 +22,5 @@ returns g c =
     (λ n. MatchOption n (most_orders < orientation_count t) (λ k. (k ≡ orientation_count t) × (k ≤ most_orders))))
     c.in_ok-constraints.ensures c.count.ensures.number in
     subst (λ (ways : ℕ). IfOk c.count.result (λ n. MatchOption n (most_orders < ways) (λ k. (k ≡ ways) × (k ≤ most_orders))))
-    (orientation_count-reduced_items g.S.Statement.language c.args.program.now c.args.items.now c.requires.of_choice.0
-    c.requires.of_choice.1) counted
+    (orientation_count-reduced_items g.S.Statement.language c.args.program.now c.args.items.now c.requires.of_assignment.0
+    c.requires.of_assignment.1) counted

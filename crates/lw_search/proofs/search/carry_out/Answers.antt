@@ -1,8 +1,8 @@
 -- Of `carry_out`, which carries out a drain, or the step of the thread's next instruction. The effect of the event is that of the
--- operation (`step_effect-is`), and at the end of the code the step is refused (`step_effect-ended`).
+-- operation (`event_effect-of_instruction`), and at the end of the code the step is refused (`event_effect-at_end`).
 use Rattle.lw_search.proofs.Common.{◌≡◌, ◌∙◌, Bool, ap, sym, refl, subst, slice_get, IfOk-weaker, Ended}
 use Rattle.lw_search.proofs.Common.{Event, Step, Drain, if◌then◌else◌, ActResult, event_effect, event_of}
-use Rattle.lw_search.proofs.Successors.{step_effect-is, step_effect-ended}
+use Rattle.lw_search.proofs.Successors.{event_effect-of_instruction, event_effect-at_end}
 use Rattle.lw_search.proofs.search.carry_out.Goals as goal
 
 pub returns-then-is_drain : goal.returns-then-is_drain
@@ -25,7 +25,7 @@ returns-in_default g c = λ locs.
       (
         Ended,
         ap (λ (f : Event). event_effect c.args.program.now.threads locs f c.args.thread.now) steps
-            ∙ step_effect-ended c.args.program.now.threads c.args.cpu code c.args.thread.now c.requires.code end locs,
+            ∙ event_effect-at_end c.args.program.now.threads c.args.cpu code c.args.thread.now c.requires.code end locs,
       ),
       refl,
       refl,
@@ -44,5 +44,5 @@ returns g c =
     IfOk-weaker c.carry_out.result _ _ (λ done result locs.
     subst (λ act. ActResult act thread c.args.words.now done c.carry_out.new.self c.carry_out.new.words)
     (sym (ap (λ (f : Event). event_effect program locs f thread) steps
-    ∙ step_effect-is program c.args.cpu code thread c.in-Some.instr c.operation.result c.requires.code next c.operation.ensures
-    locs)) result) c.carry_out.ensures
+    ∙ event_effect-of_instruction program c.args.cpu code thread c.in-Some.instr c.operation.result c.requires.code next
+    c.operation.ensures locs)) result) c.carry_out.ensures

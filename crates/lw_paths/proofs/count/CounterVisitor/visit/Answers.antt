@@ -16,8 +16,8 @@ returns-clause-ok g c = Counts-if_counted g.S.Statement.language c.args.self.now
   within_order_limit = omega arith;
 })
 
-pub count_orders-requires-clause-of_choice : goal.count_orders-requires-clause-of_choice
-count_orders-requires-clause-of_choice g c = (_, c.as_slice.ensures.value ∙ c.in_ok-fill_few_items.ensures.ok)
+pub count_orders-requires-clause-of_assignment : goal.count_orders-requires-clause-of_assignment
+count_orders-requires-clause-of_assignment g c = (_, c.as_slice.ensures.value ∙ c.in_ok-fill_few_items.ensures.ok)
 
 pub returns-then-total-gt-MAX_ORDERS-clause-err : goal.returns-then-total-gt-MAX_ORDERS-clause-err
 returns-then-total-gt-MAX_ORDERS-clause-err g c =
