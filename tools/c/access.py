@@ -11,24 +11,24 @@ from c.own_memory import load_own, store_own
 from c.program import Program
 from c.refused import Refused
 from c.values import MASK, Clock, Question, Symbol, Value, later_clock, record_earlier, symbols_in
-from c.way import Way
-from c.ways import Effect, Load, Store
+from c.execution_path import ExecutionPath
+from c.path_graph import Effect, Load, Store
 
 RED_ZONE = 128
 
 
 class Access:
-    """An instruction on a way, which it changes; what other threads can see of it is in `effects`.
+    """An instruction on a path, which it changes; what other threads can see of it is in `effects`.
 
-    `done` is set when the instruction's load is done: the way on which the instruction continues from there, if it forks later. `guess` is
+    `done` is set when the instruction's load is done: the path on which the instruction continues from there, if it forks later. `guess` is
     what an effect must find: a question, and the answer that does not abandon the run.
     """
 
-    def __init__(self, program: Program, thread: int, stored_words: dict[int, dict[int, Clock]], way: Way, instruction: Instruction) -> None:
-        """Does an instruction on a way of a thread. `stored_words` are the words that the thread has stored at each address, with their clocks."""
-        self.program, self.thread, self.stored_words, self.way, self.instruction = program, thread, stored_words, way, instruction
+    def __init__(self, program: Program, thread: int, stored_words: dict[int, dict[int, Clock]], path: ExecutionPath, instruction: Instruction) -> None:
+        """Does an instruction on a path of a thread. `stored_words` are the words that the thread has stored at each address, with their clocks."""
+        self.program, self.thread, self.stored_words, self.path, self.instruction = program, thread, stored_words, path, instruction
         self.effects: list[Effect] = []
-        self.done: tuple[Way, Effect] | None = None
+        self.done: tuple[ExecutionPath, Effect] | None = None
         self.guess: tuple[Question, bool] | None = None
         self.gives_up = False
 
@@ -36,8 +36,8 @@ class Access:
 
     def read_register(self, name: str, size: int, offset: int = 0) -> Value:
         """Returns some bytes of a register."""
-        value, known_bytes = self.way.registers[name]
-        return self.way.extract_bytes(value, size, offset) if known_bytes >= size + offset else None
+        value, known_bytes = self.path.registers[name]
+        return self.path.extract_bytes(value, size, offset) if known_bytes >= size + offset else None
 
     def read_register_or_number(self, operand: Any, size: int) -> Value:
         """Returns the value of a register or a number."""
@@ -51,26 +51,26 @@ class Access:
 
     def write_register(self, operand: Any, size: int, value: Value) -> None:
         """Sets a register. A write of 4 bytes clears those above, and a shorter one preserves them."""
-        way, name, offset = self.way, operand.name, operand.offset
-        old, known_bytes = way.registers[name]
+        path, name, offset = self.path, operand.name, operand.offset
+        old, known_bytes = path.registers[name]
         if size >= 4:
-            way.registers[name] = (value, 8 if value is not None else 0)
+            path.registers[name] = (value, 8 if value is not None else 0)
         elif known_bytes <= size and not offset:
-            way.registers[name] = (value, size if value is not None else 0)
+            path.registers[name] = (value, size if value is not None else 0)
         elif value is None or old is None or known_bytes < size + offset:
-            way.registers[name] = (None, 0)
-        elif isinstance(value, Symbol) and not offset and way.apply(old, lambda it: it & MASK[known_bytes] & ~MASK[size]) == 0:
-            way.registers[name] = (value, known_bytes)
+            path.registers[name] = (None, 0)
+        elif isinstance(value, Symbol) and not offset and path.apply(old, lambda it: it & MASK[known_bytes] & ~MASK[size]) == 0:
+            path.registers[name] = (value, known_bytes)
         else:
-            number = way.require_number(value) & MASK[size]
-            way.registers[name] = (way.require_number(old) & ~(MASK[size] << 8 * offset) | number << 8 * offset, known_bytes)
+            number = path.require_number(value) & MASK[size]
+            path.registers[name] = (path.require_number(old) & ~(MASK[size] << 8 * offset) | number << 8 * offset, known_bytes)
 
     def compute_address(self, memory: Memory) -> int:
         """Returns the address of a place in memory."""
         address = self.program.layout.find_address(memory.symbol, memory.number)
         for name, scale in ((memory.base, 1), (memory.index, memory.scale)):
             if name:
-                address += self.way.require_number(self.read_register(name, 8)) * scale
+                address += self.path.require_number(self.read_register(name, 8)) * scale
         return address & MASK[8]
 
     # Memory.
@@ -90,30 +90,30 @@ class Access:
 
     def read_own_last_store(self, address: int, size: int) -> Value:
         """Returns the value that this thread, the only one that stores to the location, stored last."""
-        return self.way.last_stored.get(address, self.program.layout.read_initial_word(address, size))
+        return self.path.last_stored.get(address, self.program.layout.read_initial_word(address, size))
 
     def load(self, address: int, size: int) -> Value:
         """Returns the value that a load finds. The load is an effect if others may have stored it."""
         locations = self.program.locations
         if not self.is_shared(address, size):
-            return load_own(self.way, self.program.layout, address, size)
+            return load_own(self.path, self.program.layout, address, size)
         if not locations.find_writers(address, size):
             return self.program.layout.read_initial_word(address, size)
         begin, length = locations.find_location(address, size)
-        if self.way.pending_value:
-            value, = self.way.pending_value
-            self.way.pending_value = None
+        if self.path.pending_value:
+            value, = self.path.pending_value
+            self.path.pending_value = None
         elif self.is_only_writer(begin, length):
             value = self.read_own_last_store(begin, length)
         else:
             symbol = self.make_symbol(begin, length)
             value = Symbol(symbol, length, 0, length)
             self.finish_load(Load(symbol, begin), value)
-        return value if (begin, length) == (address, size) else self.way.apply(value, lambda it: it >> 8 * (address - begin) & MASK[size])
+        return value if (begin, length) == (address, size) else self.path.apply(value, lambda it: it >> 8 * (address - begin) & MASK[size])
 
     def finish_load(self, effect: Effect, value: Value) -> None:
-        """Adds the effect of a load. If the way forks later in this instruction, the load stays done, and the rest is followed again."""
-        before = self.way.copy()
+        """Adds the effect of a load. If the path forks later in this instruction, the load stays done, and the rest is followed again."""
+        before = self.path.copy()
         before.position -= 1
         before.pending_value = (value,)
         self.done = (before, effect)
@@ -126,12 +126,12 @@ class Access:
         if not self.program.layout.is_stack(address):
             locations.record_store(self.thread, address, size)
         if not is_shared:
-            store_own(self.way, address, size, value)
+            store_own(self.path, address, size, value)
             return
         self.check_whole_location(address, size)
-        value = self.way.extract_bytes(value, size)
-        self.record_store(address, self.way.list_clocked_words(value))
-        self.way.last_stored[address] = value
+        value = self.path.extract_bytes(value, size)
+        self.record_store(address, self.path.list_clocked_words(value))
+        self.path.last_stored[address] = value
         self.effects.append(Store(address, value))
 
     def check_whole_location(self, address: int, size: int) -> None:
@@ -142,51 +142,51 @@ class Access:
             raise Refused(f"a part of '{name}', of {size} bytes, is stored or locked, and all {length} bytes are accessed at once elsewhere")
 
     def record_store(self, address: int, words: dict[int, Clock]) -> None:
-        """Records a store: its words come after all that this way has observed, and after this thread's earlier stores."""
-        self.way.stores += 1
+        """Records a store: its words come after all that this path has observed, and after this thread's earlier stores."""
+        self.path.stores += 1
         clocks = self.stored_words.setdefault(address, {})
         for word, clock in words.items():
-            clock = later_clock(clock, self.way.past)
-            record_earlier(clocks, word, (*clock[: self.thread], self.way.stores, *clock[self.thread + 1 :]))
+            clock = later_clock(clock, self.path.past)
+            record_earlier(clocks, word, (*clock[: self.thread], self.path.stores, *clock[self.thread + 1 :]))
 
     # Symbols.
 
     def make_symbol(self, address: int, size: int) -> int:
         """Returns a symbol for what a load of a location finds."""
-        way, locations = self.way, self.program.locations
+        path, locations = self.path, self.program.locations
         symbol = self.find_free_symbol()
-        way.begin_symbol(symbol)
+        path.begin_symbol(symbol)
         if self.is_only_writer(address, size):
-            clocks = way.list_clocked_words(self.read_own_last_store(address, size))
+            clocks = path.list_clocked_words(self.read_own_last_store(address, size))
             words = frozenset(clocks)
         else:
             clocks = dict(locations.words[address])
-            words = locations.list_readable_words(address, self.thread, way.stores)
-        way.clocks[symbol] = clocks
-        way.narrow(symbol, words)
+            words = locations.list_readable_words(address, self.thread, path.stores)
+        path.clocks[symbol] = clocks
+        path.narrow(symbol, words)
         return symbol
 
     def find_free_symbol(self) -> int:
-        """Returns the first symbol that nothing refers to any more, so that ways that continue in the same way are equal."""
+        """Returns the first symbol that nothing refers to any more, so that paths that continue in the same way are equal."""
         self.forget_dead()
-        way = self.way
-        values = [*(value for value, _ in way.registers.values()), *(value for _, value in way.memory.values())]
-        values += [*way.shown_values.values(), *way.last_stored.values()]
-        values += [way.flags.left, way.flags.right] if way.flags else []
+        path = self.path
+        values = [*(value for value, _ in path.registers.values()), *(value for _, value in path.memory.values())]
+        values += [*path.shown_values.values(), *path.last_stored.values()]
+        values += [path.flags.left, path.flags.right] if path.flags else []
         taken_symbols = frozenset().union(*map(symbols_in, values))
         return next(it for it in range(len(taken_symbols) + 1) if it not in taken_symbols)
 
     def forget_dead(self) -> None:
         """Forgets registers, flags and places of the stack that cannot be read any more."""
-        way, (used, writes) = self.way, list_reads_and_writes(self.instruction)
+        path, (used, writes) = self.path, list_reads_and_writes(self.instruction)
         if self.instruction.mnemonic.startswith("jmp"):  # what comes next is not known yet
             return
-        live = used | self.program.live[way.position] - writes
+        live = used | self.program.live[path.position] - writes
         for name in WHOLE_REGISTERS:
             if name not in live:
-                way.registers[name] = (None, 0)
+                path.registers[name] = (None, 0)
         if FLAGS not in live:
-            way.flags = None
-        bottom = way.resolve(way.registers["rsp"][0]) - RED_ZONE
-        for area in [it for it in way.memory if self.program.layout.is_stack(it) and it < bottom]:
-            del way.memory[area]
+            path.flags = None
+        bottom = path.resolve(path.registers["rsp"][0]) - RED_ZONE
+        for area in [it for it in path.memory if self.program.layout.is_stack(it) and it < bottom]:
+            del path.memory[area]

@@ -1,4 +1,4 @@
-"""Conditions, jumps and calls: where a way continues, and the stack that calls use."""
+"""Conditions, jumps and calls: where a path continues, and the stack that calls use."""
 from __future__ import annotations
 
 from typing import Any
@@ -25,14 +25,14 @@ class Control(Locked):
     def evaluate_condition(self, letters: str) -> bool:
         """Returns whether a condition holds."""
         name, expected = parse_condition(letters)
-        way = self.way
-        flags = require_readable(way.flags, name)
+        path = self.path
+        flags = require_readable(path.flags, name)
         if flags.source in (Source.EXCHANGE, Source.BIT):
-            return way.require_number(flags.left) == expected
+            return path.require_number(flags.left) == expected
         if name == "e" and flags.source is Source.DIFFERENCE:
-            return way.are_equal(flags.left, flags.right, flags.size) == expected
-        if name == "e" and flags.source is Source.SUM and (right_number := way.resolve(flags.right)) is not None:
-            return way.are_equal(flags.left, -right_number & MASK[flags.size], flags.size) == expected
+            return path.are_equal(flags.left, flags.right, flags.size) == expected
+        if name == "e" and flags.source is Source.SUM and (right_number := path.resolve(flags.right)) is not None:
+            return path.are_equal(flags.left, -right_number & MASK[flags.size], flags.size) == expected
         mask, right = MASK[flags.size], 0 if flags.right is None else flags.right
 
         def work(left: int, right: int) -> bool:
@@ -42,8 +42,8 @@ class Control(Locked):
             return evaluate_condition(name, flags.source, left & mask, right & mask, flags.size)
 
         if flags.source in (Source.LOGIC, Source.SHIFT) and name == "e":
-            return way.are_equal(flags.left, 0, flags.size) == expected
-        return way.apply_both(flags.left, right, work) == expected
+            return path.are_equal(flags.left, 0, flags.size) == expected
+        return path.apply_both(flags.left, right, work) == expected
 
     # Jumps and calls.
 
@@ -61,7 +61,7 @@ class Control(Locked):
         if it is in another file, or no code.
         """
         if isinstance(destination, Through):
-            index = self.way.require_number(self.read_operand(destination.operand, 8)) - CODE
+            index = self.path.require_number(self.read_operand(destination.operand, 8)) - CODE
             if not 0 <= index < len(self.program.assembly.code):
                 raise Refused("a jump leads to no code")
             return index
@@ -72,9 +72,9 @@ class Control(Locked):
 
     def go_to(self, index: int) -> None:
         """Continues elsewhere. A backward jump within a call is one more pass through a loop."""
-        if index < self.way.position and (self.way.call, index) in self.way.passes:
-            self.way.has_jumped_back = True
-        self.way.position = index
+        if index < self.path.position and (self.path.call, index) in self.path.passes:
+            self.path.has_jumped_back = True
+        self.path.position = index
 
     def call(self, destination: Operand) -> None:
         """Calls: the return address is pushed onto the stack."""
@@ -83,54 +83,54 @@ class Control(Locked):
         if isinstance(destination, Label) and destination.name in FREERS:
             self.program.notes.add(f"{destination.name} does nothing: memory is not given out again")
             return None
-        index, way = self.find_target(destination), self.way
-        address = self.push(CODE + way.position)
-        way.callers[address] = way.call
-        way.calls += 1
-        way.call = way.calls
-        way.position = index
+        index, path = self.find_target(destination), self.path
+        address = self.push(CODE + path.position)
+        path.callers[address] = path.call
+        path.calls += 1
+        path.call = path.calls
+        path.position = index
         return None
 
     def return_(self) -> None:
         """Returns from a call. Raises Refused if it takes arguments from the stack."""
         if self.instruction.operands:
             raise Refused("a return that takes arguments from the stack is not followed")
-        way = self.way
-        address = way.require_number(self.read_register("rsp", 8))
-        way.position = way.require_number(self.pop()) - CODE
-        way.call = way.callers.get(address, 0)
+        path = self.path
+        address = path.require_number(self.read_register("rsp", 8))
+        path.position = path.require_number(self.pop()) - CODE
+        path.call = path.callers.get(address, 0)
 
     def call_allocator(self, name: str) -> None:
         """Does a call of malloc or the like. Raises Refused if the block is too large."""
-        way = self.way
-        sizes = [way.require_number(self.read_register(it, 8)) for it in (("rdi", "rsi") if name == "calloc" else ("rdi",))]
+        path = self.path
+        sizes = [path.require_number(self.read_register(it, 8)) for it in (("rdi", "rsi") if name == "calloc" else ("rdi",))]
         size = sizes[0] * sizes[-1] if name == "calloc" else sizes[0]
-        way.blocks += 1
-        if size > LARGEST_BLOCK // 2 or way.blocks >= HEAP_OF_THREAD // LARGEST_BLOCK:
+        path.blocks += 1
+        if size > LARGEST_BLOCK // 2 or path.blocks >= HEAP_OF_THREAD // LARGEST_BLOCK:
             raise Refused(f"{name} of {size} bytes is too much here")
         for register in LEFT_OPEN:
-            way.registers[register] = (None, 0)
-        way.flags = None
-        way.registers["rax"] = (HEAP + HEAP_OF_THREAD * self.thread + LARGEST_BLOCK * way.blocks, 8)
+            path.registers[register] = (None, 0)
+        path.flags = None
+        path.registers["rax"] = (HEAP + HEAP_OF_THREAD * self.thread + LARGEST_BLOCK * path.blocks, 8)
         self.program.notes.add(f"{name} succeeds, and gives memory that nobody else has and that begins with 0")
 
     def push(self, value: Value) -> int:
         """Pushes 8 bytes onto the stack. Returns their address."""
-        address = self.way.require_number(self.read_register("rsp", 8)) - 8
-        self.way.registers["rsp"] = (address, 8)
+        address = self.path.require_number(self.read_register("rsp", 8)) - 8
+        self.path.registers["rsp"] = (address, 8)
         self.is_shared(address, 8)
-        store_own(self.way, address, 8, value)
+        store_own(self.path, address, 8, value)
         return address
 
     def pop(self) -> Value:
         """Pops 8 bytes from the stack."""
-        address = self.way.require_number(self.read_register("rsp", 8))
+        address = self.path.require_number(self.read_register("rsp", 8))
         self.is_shared(address, 8)
-        self.way.registers["rsp"] = (address + 8, 8)
-        return load_own(self.way, self.program.layout, address, 8)
+        self.path.registers["rsp"] = (address + 8, 8)
+        return load_own(self.path, self.program.layout, address, 8)
 
     def execute_leave(self) -> None:
         """Does LEAVE."""
-        self.way.registers["rsp"] = (self.way.require_number(self.read_register("rbp", 8)), 8)
+        self.path.registers["rsp"] = (self.path.require_number(self.read_register("rbp", 8)), 8)
         value = self.pop()
-        self.way.registers["rbp"] = (value, 8 if value is not None else 0)
+        self.path.registers["rbp"] = (value, 8 if value is not None else 0)

@@ -16,7 +16,7 @@ from c.registers import SIX
 from c.rounds import find_threads
 from c.source import MAX_THREADS, strip_prefix
 from c.thread import Thread
-from c.ways import Do, End, Fence, GiveUp
+from c.path_graph import Do, End, Fence, GiveUp
 from c.write import Writer
 from herd.convert import Conversion
 
@@ -26,7 +26,7 @@ ALWAYS = plain.Constant(True)
 
 @dataclass
 class Written:
-    """A test of lw with its marks, the source lines of each thread's instructions, and the indices at which the code of a node of its ways begins."""
+    """A test of lw with its marks, the source lines of each thread's instructions, and the indices at which the code of a node of its paths begins."""
 
     conversion: Conversion
     lines: list[list[set[int]]]
@@ -50,7 +50,7 @@ class Converter:
         try:
             self.threads: list[list[Thread]] = find_threads(self.program)
         except RecursionError:
-            raise Refused("the threads have too many ways") from None
+            raise Refused("the threads have too many paths") from None
         self.check_seen()
         self.locations = self.number_locations()
         self.names = self.name_locations()
@@ -59,9 +59,9 @@ class Converter:
     # The question.
 
     def check_seen(self) -> None:
-        """Refuses a condition with a name that no way shows."""
+        """Refuses a condition with a name that no path shows."""
         for number, names in self.condition.collect_names().items():
-            nodes = [thread.ways.nodes[index] for thread in self.threads[number] for index in thread.ways.list_reachable()]
+            nodes = [thread.graph.nodes[index] for thread in self.threads[number] for index in thread.graph.list_reachable()]
             shown_names = {name for node in nodes if isinstance(node, End) for name, _ in node.seen}
             for name in sorted(names - shown_names):
                 if shown_names or any(isinstance(node, End) for node in nodes):
@@ -84,8 +84,8 @@ class Converter:
         """
         used = set()
         for thread in itertools.chain(*self.threads):
-            for address in thread.ways.list_reachable():
-                node = thread.ways.nodes[address]
+            for address in thread.graph.list_reachable():
+                node = thread.graph.nodes[address]
                 used |= {node.effect.address} if isinstance(node, Do) and not isinstance(node.effect, Fence) else set()
         used_globals = [address for address in self.program.asked_addresses.values() if address in used]
         order = list(dict.fromkeys([*used_globals, *sorted(used)]))
@@ -174,7 +174,7 @@ class Converter:
             raise Refused(f"the locked instructions make {count} tests, and {MAX_TESTS} at most are listed")
         for numbers in itertools.product(*(range(len(it)) for it in self.threads)):
             threads = [self.threads[index][number] for index, number in enumerate(numbers)]
-            if all(it.ways.can_reach(End) for it in threads):
+            if all(it.graph.can_reach(End) for it in threads):
                 yield self.make_test(threads, numbers)
 
     def make_test(self, threads: list[Thread], numbers: tuple[int, ...]) -> Written:
@@ -184,11 +184,11 @@ class Converter:
         marks: list[plain.Site] = []
         for number, thread in enumerate(threads):
             seen_registers = self.assign_seen_registers(number)
-            mark = self.choose_mark(number, seen_registers) if thread.ways.can_reach(GiveUp) else None
+            mark = self.choose_mark(number, seen_registers) if thread.graph.can_reach(GiveUp) else None
             marks += [] if mark is None else [plain.RegisterSite(number, mark)]
-            writer = Writer(thread.ways, seen_registers, mark, self.locations, number)
+            writer = Writer(thread.graph, seen_registers, mark, self.locations, number)
             columns.append(writer.write_statements())
-            lines.append([thread.ways.lines[index] for index in writer.origins])
+            lines.append([thread.graph.lines[index] for index in writer.origins])
             starts.append([index for index, (before, node) in enumerate(zip([None, *writer.origins], writer.origins)) if before != node])
         sizes = self.program.locations.sizes
         words = tuple(self.program.layout.read_initial_word(index, sizes[index]) % 2**32 for index in self.locations)

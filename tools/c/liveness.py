@@ -1,6 +1,6 @@
 """Which registers and flags may still be read, before each instruction of a file.
 
-What cannot be read any more is forgotten on the ways through a thread, so that ways that continue in the same way are equal. If a register
+What cannot be read any more is forgotten on the paths through a thread, so that paths that continue in the same way are equal. If a register
 were forgotten too early, it would be one that nothing has set, and reading it is refused.
 """
 from __future__ import annotations

@@ -11,7 +11,7 @@ from c.own_memory import load_own, store_own
 from c.refused import Refused
 from c.values import MASK, Ask, Clock, IsOneOf, IsSame, Question, Symbol, Value, later_clock, record_earlier
 from c.vectors import Vectors
-from c.ways import Exchange, ExchangeAdd, Fence
+from c.path_graph import Exchange, ExchangeAdd, Fence
 
 SUMS = ("xadd", "add", "sub", "inc", "dec")
 BITS = {"bts": lambda old, bit: old | bit, "btr": lambda old, bit: old & ~bit, "btc": lambda old, bit: old ^ bit}
@@ -37,10 +37,10 @@ class Locked(Vectors):
 
     def take_guess(self, cases: int) -> int:
         """Returns the guess of one of several cases. Raises NextGuess if the thread is followed without a guess for it."""
-        index = self.way.guess_count
+        index = self.path.guess_count
         if index >= len(self.guesses):
             raise NextGuess(cases)
-        self.way.guess_count += 1
+        self.path.guess_count += 1
         return min(self.guesses[index], cases - 1)
 
     def execute_locked(self, base: str, size: int) -> None:
@@ -65,30 +65,30 @@ class Locked(Vectors):
 
     def execute_locked_on_own(self, base: str, address: int, size: int, value: Value, register: Operand | None) -> None:
         """Does a locked instruction on memory that no other thread accesses: it waits until the store buffer is empty."""
-        way = self.way
+        path = self.path
         if not self.program.layout.is_stack(address):
             self.program.locations.record_store(self.thread, address, size)
-        old = load_own(way, self.program.layout, address, size)
+        old = load_own(path, self.program.layout, address, size)
         if base == "xchg":
-            store_own(way, address, size, value)
+            store_own(path, address, size, value)
             self.write_register(register, size, old)
         elif base == "cmpxchg":
-            is_same = way.are_equal(old, self.read_register("rax", size), size)
-            way.flags = Flags(Source.EXCHANGE, int(is_same), None, size)
+            is_same = path.are_equal(old, self.read_register("rax", size), size)
+            path.flags = Flags(Source.EXCHANGE, int(is_same), None, size)
             if is_same:
-                store_own(way, address, size, value)
+                store_own(path, address, size, value)
             else:
                 self.write_register(RAX, size, old)
         elif base == "xadd":
-            way.flags = Flags(Source.SUM, old, value, size)
-            store_own(way, address, size, add_values(way, old, value, size))
+            path.flags = Flags(Source.SUM, old, value, size)
+            store_own(path, address, size, add_values(path, old, value, size))
             self.write_register(register, size, old)
         elif self.is_fence(base, address, value):
-            way.flags = None
+            path.flags = None
         else:
             result, flags = self.compute_locked_result(base, old, value, size)
-            way.flags = flags or way.flags
-            store_own(way, address, size, result)
+            path.flags = flags or path.flags
+            store_own(path, address, size, result)
         self.wait_for_empty_buffer()
 
     def is_fence(self, base: str, address: int, value: Value) -> bool:
@@ -98,17 +98,17 @@ class Locked(Vectors):
     def compute_locked_result(self, base: str, old: Value, value: Value, size: int) -> tuple[Value, Flags | None]:
         """Returns the result of an operation on an old word, and the flags."""
         if base in BITS:
-            bit = 1 << self.way.require_number(value) % (8 * size)
-            was_set = self.way.apply(old, lambda it: int(it & bit != 0))
-            return self.way.apply(old, lambda it: BITS[base](it, bit) & MASK[size]), Flags(Source.BIT, was_set, None, size)
-        return compute_result(self.way, "add" if base == "xadd" else base, old, value, size)
+            bit = 1 << self.path.require_number(value) % (8 * size)
+            was_set = self.path.apply(old, lambda it: int(it & bit != 0))
+            return self.path.apply(old, lambda it: BITS[base](it, bit) & MASK[size]), Flags(Source.BIT, was_set, None, size)
+        return compute_result(self.path, "add" if base == "xadd" else base, old, value, size)
 
     def take_pending(self, register: Operand | None, size: int) -> bool:
-        """Puts what a locked instruction has found into its register, if the way forked after it."""
-        if not self.way.pending_value:
+        """Puts what a locked instruction has found into its register, if the path forked after it."""
+        if not self.path.pending_value:
             return False
-        value, = self.way.pending_value
-        self.way.pending_value = None
+        value, = self.path.pending_value
+        self.path.pending_value = None
         if register is not None:
             self.write_register(register, size, value)
         return True
@@ -124,10 +124,10 @@ class Locked(Vectors):
         """Does XCHG of a register with a location."""
         if self.take_pending(register, size):
             return
-        words = self.way.list_clocked_words(value)
+        words = self.path.list_clocked_words(value)
         symbol = self.make_symbol(address, size)
         self.record_store(address, words)
-        self.way.last_stored[address] = value
+        self.path.last_stored[address] = value
         self.finish_locked(register, size, Exchange(symbol, address, value))
 
     def execute_locked_add(self, base: str, address: int, size: int, value: Value, register: Operand | None) -> None:
@@ -135,20 +135,20 @@ class Locked(Vectors):
         result_register = register if base == "xadd" else None
         if self.take_pending(result_register, size):
             return
-        way = self.way
+        path = self.path
         added = {"inc": 1, "dec": MASK[size]}.get(base, value)
-        added = -way.require_number(value) & MASK[size] if base == "sub" else added
-        addends = way.list_clocked_words(added)
+        added = -path.require_number(value) & MASK[size] if base == "sub" else added
+        addends = path.list_clocked_words(added)
         symbol = self.make_symbol(address, size)
         old = Symbol(symbol, size, 0, size)
         words: dict[int, Clock] = {}
-        for word, clock in way.list_clocked_words(old).items():
+        for word, clock in path.list_clocked_words(old).items():
             for addend, other_clock in addends.items():
                 record_earlier(words, word + addend & MASK[size], later_clock(clock, other_clock))
         self.record_store(address, words)
         if self.is_only_writer(address, size):
             try:
-                way.last_stored[address] = add_values(way, old, added, size)
+                path.last_stored[address] = add_values(path, old, added, size)
             except Ask:
                 raise Refused("two words that are not known are added in a location to which only one thread stores") from None
         self.set_flags_of_sum(base, old, added, value, size)
@@ -157,26 +157,26 @@ class Locked(Vectors):
     def set_flags_of_sum(self, base: str, old: Symbol, added: Value, value: Value, size: int) -> None:
         """Sets the flags of a locked sum."""
         if base in ("sub", "dec"):
-            self.way.flags = Flags(Source.DIFFERENCE, old, value if base == "sub" else 1, size, base == "sub")
+            self.path.flags = Flags(Source.DIFFERENCE, old, value if base == "sub" else 1, size, base == "sub")
         else:
-            self.way.flags = Flags(Source.SUM, old, added, size, base != "inc")
+            self.path.flags = Flags(Source.SUM, old, added, size, base != "inc")
 
     def execute_by_guess(self, base: str, address: int, size: int, value: Value, register: Operand | None) -> None:
         """Does a locked instruction that lw lacks, with a guess of the word that it finds: it is an XCHG, and another word abandons the
         run.
         """
-        way = self.way
+        path = self.path
         words = sorted(self.list_words_now(address, size))
-        number = None if value is None else way.require_number(value)
+        number = None if value is None else path.require_number(value)
         old = words[self.take_guess(len(words))] if len(words) > 1 else words[0]
         result, flags = self.compute_locked_result(base, old, number, size)
         if base == "xadd":
             self.write_register(register, size, old)
-        before = way.flags
+        before = path.flags
         symbol = self.make_symbol(address, size)
-        self.record_store(address, {way.resolve(result): way.clocks[symbol][old]})
-        way.last_stored[address] = result
-        way.flags = flags or before
+        self.record_store(address, {path.resolve(result): path.clocks[symbol][old]})
+        path.last_stored[address] = result
+        path.flags = flags or before
         self.effects.append(Exchange(symbol, address, result))
         if len(words) > 1:
             self.guess = IsOneOf(symbol, (old,), tuple(it for it in words if it != old)), True
@@ -184,23 +184,23 @@ class Locked(Vectors):
     def list_words_now(self, address: int, size: int) -> frozenset[int]:
         """Returns the words that an access of a location can find now."""
         if self.is_only_writer(address, size):
-            return self.way.list_words(self.read_own_last_store(address, size))
-        return self.program.locations.list_readable_words(address, self.thread, self.way.stores)
+            return self.path.list_words(self.read_own_last_store(address, size))
+        return self.program.locations.list_readable_words(address, self.thread, self.path.stores)
 
     def execute_compare_exchange(self, address: int, size: int, new: Value) -> None:
         """Does LOCK CMPXCHG with a guess of whether it succeeds: then it is an XCHG, and otherwise an addition of 0."""
-        way = self.way
+        path = self.path
         expected = self.read_register("rax", size)
-        words, expected_words = self.list_words_now(address, size), way.list_words(expected)
+        words, expected_words = self.list_words_now(address, size), path.list_words(expected)
         can_succeed, can_fail = bool(words & expected_words), not (len(words) == 1 and words == expected_words)
         succeeds = can_succeed and (not can_fail or self.take_guess(2) == 0)
         question = self.make_question(expected, words, size)
-        stored = way.list_clocked_words(new)
+        stored = path.list_clocked_words(new)
         symbol = self.make_symbol(address, size)
-        way.flags = Flags(Source.EXCHANGE, int(succeeds), None, size)
+        path.flags = Flags(Source.EXCHANGE, int(succeeds), None, size)
         if succeeds:
             self.record_store(address, stored)
-            way.last_stored[address] = new
+            path.last_stored[address] = new
             self.effects.append(Exchange(symbol, address, new))
         else:
             self.put_found(symbol, size)
@@ -214,15 +214,15 @@ class Locked(Vectors):
         try:
             self.write_register(RAX, size, value)
         except Ask:
-            self.way.registers["rax"] = (value, size)
+            self.path.registers["rax"] = (value, size)
 
     def make_question(self, expected: Value, words: frozenset[int], size: int) -> Callable[[int], Question]:
         """Returns the question that a CMPXCHG asks of the symbol of what it finds."""
-        expected_word = self.way.resolve(expected)
+        expected_word = self.path.resolve(expected)
         if expected_word is not None:
             others = tuple(sorted(words - {expected_word}))
             return lambda symbol: IsOneOf(symbol, (expected_word,), others)
-        union = {it % 2**32 for it in words | self.way.list_words(expected)}
-        if size < 4 or expected.width != size or len(union) != len(words | self.way.list_words(expected)):
-            self.way.require_number(expected)
+        union = {it % 2**32 for it in words | self.path.list_words(expected)}
+        if size < 4 or expected.width != size or len(union) != len(words | self.path.list_words(expected)):
+            self.path.require_number(expected)
         return lambda symbol: IsSame(symbol, expected.id, expected.added, size)

@@ -33,7 +33,7 @@ class Program:
     notes: set[str] = field(default_factory=set)
     # The words that each global can have at the end, of those that the condition names and only one thread uses.
     own_words: dict[str, set[int]] = field(default_factory=dict)
-    # The number of instructions followed so far, and why the ways of the last round are incomplete, if they are.
+    # The number of instructions followed so far, and why the paths of the last round are incomplete, if they are.
     work: int = 0
     too_long: Refused | None = None
 

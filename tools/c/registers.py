@@ -4,7 +4,7 @@ from __future__ import annotations
 
 from c.refused import Refused
 from c.values import Symbol
-from c.ways import End, Ways, find_defined_symbol, list_used_symbols
+from c.path_graph import End, PathGraph, find_defined_symbol, list_used_symbols
 
 SIX = 6
 
@@ -12,13 +12,13 @@ SIX = 6
 class Registers:
     """The registers of a thread's symbols. What the condition mentions has registers of its own at the end; the mark's is used last."""
 
-    def __init__(self, ways: Ways, seen_registers: dict[str, int], mark: int | None, thread: int) -> None:
-        """Chooses registers for the symbols of a thread's ways."""
-        self.ways, self.seen, self.mark, self.thread = ways, seen_registers, mark, thread
+    def __init__(self, graph: PathGraph, seen_registers: dict[str, int], mark: int | None, thread: int) -> None:
+        """Chooses registers for the symbols of a thread's paths."""
+        self.graph, self.seen, self.mark, self.thread = graph, seen_registers, mark, thread
         self.live: dict[int, frozenset[int]] = {}
         self.of: dict[int, int] = {}
-        for node_index in ways.list_reachable():
-            node = ways.nodes[node_index]
+        for node_index in graph.list_reachable():
+            node = graph.nodes[node_index]
             defined_symbol = find_defined_symbol(node)
             after = self.find_live_after(node_index)
             self.live[node_index] = (after if defined_symbol is None else after - {defined_symbol}) | list_used_symbols(node)
@@ -26,13 +26,13 @@ class Registers:
 
     def find_live_after(self, node_index: int) -> frozenset[int]:
         """Returns the symbols that are read after a node."""
-        return frozenset().union(*(self.live[it] for it in self.ways.successors(node_index)))
+        return frozenset().union(*(self.live[it] for it in self.graph.successors(node_index)))
 
     def find_conflicts(self) -> dict[int, set[int]]:
         """Returns, for each symbol, those that need another register."""
         conflicts: dict[int, set[int]] = {}
-        for node_index in self.ways.list_reachable():
-            new = find_defined_symbol(self.ways.nodes[node_index])
+        for node_index in self.graph.list_reachable():
+            new = find_defined_symbol(self.graph.nodes[node_index])
             together = self.live[node_index] if new is None else self.find_live_after(node_index) | {new}
             for group in (together, self.live[node_index]):
                 for symbol in group:
@@ -42,8 +42,8 @@ class Registers:
     def find_wishes(self) -> dict[int, list[int]]:
         """Returns, for each symbol, the registers that hold it at the end."""
         wishes: dict[int, list[int]] = {}
-        for node_index in self.ways.list_reachable():
-            node = self.ways.nodes[node_index]
+        for node_index in self.graph.list_reachable():
+            node = self.graph.nodes[node_index]
             for name, value in node.seen if isinstance(node, End) else ():
                 if isinstance(value, Symbol) and not value.added:
                     wishes.setdefault(value.id, []).append(self.seen[name])

@@ -22,11 +22,11 @@ def is_enough(program: Program, threads: list[list[Thread]], words: dict[int, di
     """
     if program.locations.copy_words() == words:
         return True
-    return rounds > sum(max(it.ways.count_max_stores() for it in guessed) for guessed in threads) + 1
+    return rounds > sum(max(it.graph.count_max_stores() for it in guessed) for guessed in threads) + 1
 
 
 def find_threads(program: Program) -> list[list[Thread]]:
-    """Returns, for each thread, its ways under each of its guesses. Raises Refused if what locations can have does not come to an end."""
+    """Returns, for each thread, its paths under each of its guesses. Raises Refused if what locations can have does not come to an end."""
     locations, rounds, restarts = program.locations, 0, 0
     while restarts <= MAX_RESTARTS:
         words, shape = locations.copy_words(), locations.snapshot_accesses()

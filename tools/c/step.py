@@ -1,4 +1,4 @@
-"""The effect of each instruction on a way."""
+"""The effect of each instruction on a path."""
 from __future__ import annotations
 
 import itertools
@@ -28,10 +28,10 @@ LOW_BYTES = ("add", "sub", "and", "or", "xor", "inc", "dec", "neg", "not", "shl"
 
 
 class Step(Control):
-    """One instruction on a way."""
+    """One instruction on a path."""
 
     def execute(self) -> None:
-        """Executes the instruction. The way's place is already the next one. Raises Refused if the instruction is not followed."""
+        """Executes the instruction. The path's place is already the next one. Raises Refused if the instruction is not followed."""
         instruction, name = self.instruction, self.instruction.mnemonic
         if WITHOUT_EFFECT.fullmatch(name):
             return
@@ -84,8 +84,8 @@ class Step(Control):
     def execute_see(self) -> None:
         """Does what `lw_see` writes: a name, and its value."""
         value = self.read_register_or_number(self.instruction.operands[0], 4)
-        self.way.list_words(value)
-        self.way.shown_values[self.instruction.name] = value
+        self.path.list_words(value)
+        self.path.shown_values[self.instruction.name] = value
 
     def execute_extension(self, name: str) -> None:
         """Does MOVZX and MOVSX."""
@@ -96,9 +96,9 @@ class Step(Control):
 
     def sign_extend(self, value: Value, size: int, target: int) -> Value:
         """Returns a value sign-extended to more bytes. A symbol whose words have no sign stays as it is."""
-        if value is None or not any(word >> (8 * size - 1) for word in self.way.list_words(value)):
+        if value is None or not any(word >> (8 * size - 1) for word in self.path.list_words(value)):
             return value
-        return to_signed(self.way.require_number(value), size) & MASK[target]
+        return to_signed(self.path.require_number(value), size) & MASK[target]
 
     def execute_conversion(self) -> None:
         """Does CLTQ and similar instructions: they extend RAX."""
@@ -108,12 +108,12 @@ class Step(Control):
         if name in ("cbtw", "cbw", "cltq", "cdqe", "cwtl", "cwde"):
             self.write_register(rax, 2 * size, self.sign_extend(value, size, 2 * size))
         else:
-            self.way.registers["rdx"] = (self.way.apply(value, lambda it: MASK[size] if to_signed(it, size) < 0 else 0), 8)
+            self.path.registers["rdx"] = (self.path.apply(value, lambda it: MASK[size] if to_signed(it, size) < 0 else 0), 8)
 
     def execute_lea(self, source: Memory, target: Register, size: int) -> None:
         """Does LEA: a symbol and a number stay a symbol."""
         if source.base and not source.index and source.symbol is None:
-            self.write_register(target, size, add_values(self.way, self.read_register(source.base, size), source.number & MASK[size], size))
+            self.write_register(target, size, add_values(self.path, self.read_register(source.base, size), source.number & MASK[size], size))
         else:
             self.write_register(target, size, self.compute_address(source) & MASK[size])
 
@@ -139,7 +139,7 @@ class Step(Control):
         elif base == "bswap":
             self.write_register(
                 operands[0], size,
-                self.way.apply(self.read_register_or_number(operands[0], size), lambda it: int.from_bytes(it.to_bytes(size, "little"), "big")),
+                self.path.apply(self.read_register_or_number(operands[0], size), lambda it: int.from_bytes(it.to_bytes(size, "little"), "big")),
             )
         elif base in ("mov", "movabs"):
             self.execute_mov(size)
@@ -174,7 +174,7 @@ class Step(Control):
 
     def copy_register(self, source: Register, target: Any, size: int) -> None:
         """Copies a register. If only its lowest bytes are known these are copied, and not to where other threads look."""
-        value, known_bytes = self.way.registers[source.name]
+        value, known_bytes = self.path.registers[source.name]
         if known_bytes >= size + source.offset or not known_bytes or source.offset:
             value = self.read_register_or_number(source, size)
             if isinstance(target, Memory):
@@ -182,11 +182,11 @@ class Step(Control):
             else:
                 self.write_register(target, size, value)
         elif isinstance(target, Register):
-            self.way.registers[target.name] = (value, known_bytes) if size >= 4 else (None, 0)
+            self.path.registers[target.name] = (value, known_bytes) if size >= 4 else (None, 0)
         else:
             address = self.compute_address(target)
             self.store(address, size, None)
-            store_own(self.way, address, known_bytes, value)
+            store_own(self.path, address, known_bytes, value)
 
     def execute_imul(self, size: int) -> None:
         """Does IMUL with two or three operands."""
@@ -195,27 +195,27 @@ class Step(Control):
             self.instruction.operands[1], size
         ) if len(self.instruction.operands) == 3 else self.read_register_or_number(target, size)
         first = self.read_operand(source, size)
-        self.write_register(target, size, self.way.apply_both(other, first, lambda x, y: x * y & MASK[size]))
-        self.way.flags = None
+        self.write_register(target, size, self.path.apply_both(other, first, lambda x, y: x * y & MASK[size]))
+        self.path.flags = None
 
     def execute_wide(self, base: str, size: int) -> None:
         """Does a division, or a product of twice the size: RDX and RAX together. Raises Refused for another operation."""
         if size < 4:
             raise Refused(f"'{self.instruction.mnemonic}' is not followed")
-        way, operand = self.way, self.read_operand(self.instruction.operands[0], size)
+        path, operand = self.path, self.read_operand(self.instruction.operands[0], size)
         rax, rdx = Register("rax", size), Register("rdx", size)
         if base in ("div", "idiv"):
             quotient, rest = divide(
-                way, self.read_register_or_number(rdx, size), self.read_register_or_number(rax, size), operand, size, base == "idiv"
+                path, self.read_register_or_number(rdx, size), self.read_register_or_number(rax, size), operand, size, base == "idiv"
             )
             self.write_register(rax, size, quotient)
             self.write_register(rdx, size, rest)
         else:
             sign = (lambda it: to_signed(it, size)) if base == "imul" else (lambda it: it)
-            product = way.apply_both(self.read_register_or_number(rax, size), operand, lambda x, y: sign(x) * sign(y) & MASK[2 * size])
+            product = path.apply_both(self.read_register_or_number(rax, size), operand, lambda x, y: sign(x) * sign(y) & MASK[2 * size])
             self.write_register(rax, size, product & MASK[size])
             self.write_register(rdx, size, product >> 8 * size & MASK[size])
-        way.flags = None
+        path.flags = None
 
     def execute_operation(self, base: str, size: int) -> None:
         """Does an operation on a register, or on memory without a lock. Raises Refused for one that is not followed without a lock."""
@@ -229,7 +229,7 @@ class Step(Control):
             self.write_register(source, size, values[1])
             return
         if base in ("xor", "sub") and source == target:
-            self.way.flags = Flags(Source.LOGIC, 0, None, size)
+            self.path.flags = Flags(Source.LOGIC, 0, None, size)
             self.write_register(target, size, 0)
             return
         in_memory = self.compute_address(target) if isinstance(target, Memory) else None
@@ -245,17 +245,17 @@ class Step(Control):
             else:
                 self.store(in_memory, size, result)
         if flags is not None:
-            self.way.flags = flags
+            self.path.flags = flags
 
     def mask_part(self, target: Register, mask: Value, size: int) -> bool:
         """Does an AND with a number that has only the lowest bytes, which are known: then all bytes of the result are. Returns whether it
         is one.
         """
-        value, known_bytes = self.way.registers[target.name]
-        number = self.way.resolve(mask)
+        value, known_bytes = self.path.registers[target.name]
+        number = self.path.resolve(mask)
         if target.offset or known_bytes not in MASK or number is None or number > MASK[known_bytes]:
             return False
-        result, self.way.flags = compute_result(self.way, "and", value, number, size)
+        result, self.path.flags = compute_result(self.path, "and", value, number, size)
         self.write_register(target, size, result)
         return True
 
@@ -263,39 +263,39 @@ class Step(Control):
         """Does an operation on registers of which only the lowest bytes are known, if those of the result depend only on these. Returns
         whether it is one. Its flags are unknown.
         """
-        known_bytes = [self.way.registers[it.name][1] for it in (source, target) if isinstance(it, Register)]
+        known_bytes = [self.path.registers[it.name][1] for it in (source, target) if isinstance(it, Register)]
         has_offset = any(it.offset for it in (source, target) if isinstance(it, Register))
         if base not in LOW_BYTES or isinstance(source, Memory) or not min(known_bytes) or has_offset:
             return False
         size = 1 << min(known_bytes).bit_length() - 1
         right = 1 if source is None else self.read_register_or_number(source, 1 if base in SHIFTS else size)
-        count = self.way.require_number(right) & 31 if base in SHIFTS else 0
+        count = self.path.require_number(right) & 31 if base in SHIFTS else 0
         value = self.read_register_or_number(target, size)
-        result = self.way.apply(value, lambda it: it << count & MASK[size]) if base in SHIFTS else self.compute_result(base, value, right, size)[0]
-        self.way.registers[target.name] = (result, size)
-        self.way.flags = None
+        result = self.path.apply(value, lambda it: it << count & MASK[size]) if base in SHIFTS else self.compute_result(base, value, right, size)[0]
+        self.path.registers[target.name] = (result, size)
+        self.path.flags = None
         return True
 
     def compute_result(self, base: str, left: Value, right: Value, size: int) -> tuple[Value, Flags | None]:
         """Returns the result of an operation, and the flags that it sets. Raises Refused for BT of memory."""
-        way = self.way
+        path = self.path
         if base in ("adc", "sbb"):
             carry, sign = int(self.evaluate_condition("b")), 1 if base == "adc" else -1
-            way.flags = None
+            path.flags = None
             if base == "sbb" and self.instruction.operands[0] == self.instruction.operands[1]:
                 return -carry & MASK[size], Flags(Source.BIT, carry, None, size)
-            return way.apply_both(left, right, lambda x, y: x + sign * (y + carry) & MASK[size]), None
+            return path.apply_both(left, right, lambda x, y: x + sign * (y + carry) & MASK[size]), None
         if base == "bt":
             if isinstance(self.instruction.operands[1], Memory):
                 raise Refused("'bt' of memory is not followed")
-            return None, Flags(Source.BIT, way.apply_both(left, right, lambda x, y: x >> y % (8 * size) & 1), None, size)
+            return None, Flags(Source.BIT, path.apply_both(left, right, lambda x, y: x >> y % (8 * size) & 1), None, size)
         if base in ("rol", "ror"):
-            way.flags = None
-            return rotate_value(way, base, left, right, size), None
+            path.flags = None
+            return rotate_value(path, base, left, right, size), None
         if base == "sub" and size == 8 and None not in (left, right):
-            for pair in itertools.product(way.list_words(left), way.list_words(right)):
+            for pair in itertools.product(path.list_words(left), path.list_words(right)):
                 self.program.layout.check_comparable(*pair)
-        return compute_result(way, base, left, right, size)
+        return compute_result(path, base, left, right, size)
 
 
 def refuse_abort(_: Step) -> None:

@@ -1,4 +1,4 @@
-"""Values on a way through a thread: numbers, and symbols for what loads of shared locations find."""
+"""Values on a path through a thread: numbers, and symbols for what loads of shared locations find."""
 from __future__ import annotations
 
 from collections.abc import Sequence
@@ -47,7 +47,7 @@ Question = Union[IsOneOf, IsSame]
 
 
 class Ask(Exception):
-    """The way forks here: both answers to a question are followed."""
+    """The path forks here: both answers to a question are followed."""
 
     def __init__(self, question: Question) -> None:
         super().__init__(question)

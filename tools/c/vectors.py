@@ -26,7 +26,7 @@ class Vectors(Access):
         """Moves a vector, or a part of one. Raises Refused for a vector that is not followed."""
         name, operands = self.instruction.mnemonic, self.instruction.operands
         if name in ZEROS and operands[0] == operands[1]:
-            self.way.registers[operands[1].name] = (0, VECTOR)
+            self.path.registers[operands[1].name] = (0, VECTOR)
             return
         in_registers = len(operands) == 2 and not any(isinstance(it, Memory) for it in operands)
         if name not in MOVES or len(operands) != 2 or any(isinstance(it, Number) for it in operands) or name in ELEMENTS and in_registers:
@@ -39,7 +39,7 @@ class Vectors(Access):
             self.check_own(target, size)
             self.store(self.compute_address(target), size, value)
         elif target.size == VECTOR:
-            self.way.registers[target.name] = (value, VECTOR if value is not None else 0)
+            self.path.registers[target.name] = (value, VECTOR if value is not None else 0)
         else:
             self.write_register(target, size, value)
 

@@ -1,31 +1,31 @@
-"""A thread's ways as instructions of lw, in an order in which all jumps go forward."""
+"""A thread's paths as instructions of lw, in an order in which all jumps go forward."""
 from __future__ import annotations
 
 from dataclasses import replace
 
 from c.registers import Registers, SIX
 from c.values import IsOneOf, IsSame, Symbol, Value, to_word
-from c.ways import Branch, Do, Effect, End, Exchange, Fence, Load, Store, Ways
+from c.path_graph import Branch, Do, Effect, End, Exchange, Fence, Load, PathGraph, Store
 from plain import Number, Register, Statement
 
 # The target of a jump to the thread's end.
 END = -1
 
 
-def sort_nodes(ways: Ways) -> list[int]:
+def sort_nodes(graph: PathGraph) -> list[int]:
     """Returns the nodes that are reached, each before its successors."""
-    return ways.list_reachable()[::-1]
+    return graph.list_reachable()[::-1]
 
 
 class Writer:
     """A writer of one thread. `locations` are the indices of locations, `seen` the registers of what the condition mentions, by its name.
     """
 
-    def __init__(self, ways: Ways, seen_registers: dict[str, int], mark: int | None, locations: dict[int, int], thread: int) -> None:
+    def __init__(self, graph: PathGraph, seen_registers: dict[str, int], mark: int | None, locations: dict[int, int], thread: int) -> None:
         """Chooses the registers of a thread's symbols, and an order of its nodes."""
-        self.ways, self.seen, self.mark, self.locations = ways, seen_registers, mark, locations
-        self.registers = Registers(ways, seen_registers, mark, thread)
-        self.order = sort_nodes(ways)
+        self.graph, self.seen, self.mark, self.locations = graph, seen_registers, mark, locations
+        self.registers = Registers(graph, seen_registers, mark, thread)
+        self.order = sort_nodes(graph)
         self.statements: list[Statement] = []
         self.origins: list[int] = []
         self.written = self.list_written_registers()
@@ -40,7 +40,7 @@ class Writer:
 
     def needs_spare(self, node_index: int) -> bool:
         """Returns whether a node computes a sum that it does not hold afterwards."""
-        node = self.ways.nodes[node_index]
+        node = self.graph.nodes[node_index]
         if isinstance(node, Branch):
             return isinstance(node.question, IsSame) and node.question.added != 0
         return isinstance(node, Do) and isinstance(node.effect, Store) and isinstance(node.effect.value, Symbol) and node.effect.value.added != 0
@@ -79,7 +79,7 @@ class Writer:
 
     def write_node(self, node_index: int, following: int) -> None:
         """Writes a node, after which another one is written."""
-        node = self.ways.nodes[node_index]
+        node = self.graph.nodes[node_index]
         if isinstance(node, Do):
             self.write_effect(node.effect, node_index)
             self.write_continuation(node.after, following)
@@ -155,7 +155,7 @@ class Writer:
     # Jumps.
 
     def simplify_jumps(self, code: list[Statement]) -> tuple[Statement, ...]:
-        """Retargets jumps to jumps, and removes jumps to what comes next and jumps that no way reaches."""
+        """Retargets jumps to jumps, and removes jumps to what comes next and jumps that no path reaches."""
         origins = self.origins
         while True:
             code = [it if it.target is None else replace(it, target=follow_jumps(code, it.target)) for it in code]

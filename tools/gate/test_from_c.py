@@ -599,7 +599,7 @@ def read_verdicts(folder: str) -> dict[str, list[str]]:
 
 # The lists by other versions of compilers than those of the tables, if they differ.
 OTHER_VERSIONS = []
-# The refusals: a level at which a program has too many ways.
+# The refusals: a level at which a program has too many paths.
 REFUSED = {("McsLock", "rustc -C opt-level=0")}
 
 

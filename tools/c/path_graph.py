@@ -1,4 +1,4 @@
-"""All ways through a thread as an acyclic graph: what other threads can see, and questions about what loads have found."""
+"""All paths through a thread as an acyclic graph: what other threads can see, and questions about what loads have found."""
 from __future__ import annotations
 
 from dataclasses import dataclass
@@ -84,8 +84,8 @@ class GiveUp:
 Node = Union[Do, Branch, End, GiveUp]
 
 
-class Ways:
-    """The nodes of a thread, without duplicates, so that ways that continue in the same way meet. `lines` has the source's lines of each.
+class PathGraph:
+    """The nodes of a thread, without duplicates, so that paths that continue in the same way meet. `lines` has the source's lines of each.
     """
 
     def __init__(self) -> None:
@@ -99,7 +99,7 @@ class Ways:
         """Returns the index of a node, which it adds if it is new. Raises Refused if there are too many."""
         if node not in self.numbers:
             if len(self.nodes) >= MAX_NODES:
-                raise Refused("the thread has too many ways")
+                raise Refused("the thread has too many paths")
             self.numbers[node] = len(self.nodes)
             self.nodes.append(node)
             self.lines.append(set())
@@ -135,7 +135,7 @@ class Ways:
         return any(isinstance(self.nodes[it], kind) for it in self.list_reachable())
 
     def count_max_stores(self) -> int:
-        """Returns the maximal number of stores and locked instructions on a way."""
+        """Returns the maximal number of stores and locked instructions on a path."""
         max_stores: dict[int, int] = {}
         for index in self.list_reachable():
             node = self.nodes[index]

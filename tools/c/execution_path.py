@@ -1,4 +1,4 @@
-"""A thread on one of its ways: registers, flags, its own memory, and what is known of what its loads have found."""
+"""A thread on one of its paths: registers, flags, its own memory, and what is known of what its loads have found."""
 from __future__ import annotations
 
 from collections.abc import Callable, Iterable
@@ -25,7 +25,7 @@ class Pass:
 
 
 @dataclass
-class Way:
+class ExecutionPath:
     """The position of a thread in the code, and what it knows there. A register has a value and the number of its lowest bytes that are known."""
 
     position: int
@@ -51,9 +51,9 @@ class Way:
     has_jumped_back: bool = False
     pending_value: tuple[Value] | None = None
 
-    def copy(self) -> "Way":
-        """Returns a copy of the way, which continues on its own."""
-        copied = Way.__new__(Way)
+    def copy(self) -> "ExecutionPath":
+        """Returns a copy of the path, which continues on its own."""
+        copied = ExecutionPath.__new__(ExecutionPath)
         for name in NAMES:
             value = getattr(self, name)
             setattr(copied, name, value.copy() if isinstance(value, dict) else value)
@@ -62,7 +62,7 @@ class Way:
     # What is known.
 
     def resolve(self, value: Value) -> Any:
-        """Returns a value as a number, if it is one on this way. Raises Refused if the value is unset."""
+        """Returns a value as a number, if it is one on this path. Raises Refused if the value is unset."""
         if value is None:
             raise Refused(UNSET)
         if isinstance(value, Symbol):
@@ -83,7 +83,7 @@ class Way:
         return {self.resolve(value): (0,) * len(self.past)}
 
     def require_number(self, value: Value) -> int:
-        """Returns a value as a number. If it can be several, the way forks. Raises Ask then."""
+        """Returns a value as a number. If it can be several, the path forks. Raises Ask then."""
         number = self.resolve(value)
         if number is not None:
             return number
@@ -173,7 +173,7 @@ class Way:
             del self.facts[fact]
 
     def snapshot(self) -> tuple[Any, ...]:
-        """Returns all that determines how the way continues, if nothing is asked and no other thread stores anything."""
+        """Returns all that determines how the path continues, if nothing is asked and no other thread stores anything."""
         simplify = lambda value: value if value is None or self.resolve(value) is None else self.resolve(value)
         registers = tuple((name, simplify(value), size) for name, (value, size) in sorted(self.registers.items()))
         memory = tuple((address, size, simplify(value)) for address, (size, value) in sorted(self.memory.items()))
@@ -182,4 +182,4 @@ class Way:
         return registers, memory, last, flags, tuple(sorted(self.shown_values.items(), key=lambda it: it[0]))
 
 
-NAMES = tuple(it.name for it in fields(Way))
+NAMES = tuple(it.name for it in fields(ExecutionPath))
