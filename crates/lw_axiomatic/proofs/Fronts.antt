@@ -98,14 +98,14 @@ module _ (passes : ℕ → ℕ → Bool) where
   no_paths = []
 
   -- Each of no paths is empty.
-  no_paths-empty : (k : ℕ) → thread_code no_paths k ≡ []
-  no_paths-empty k = get_or_past no_paths k [] (omega arith)
+  no_paths-if_empty : (k : ℕ) → thread_code no_paths k ≡ []
+  no_paths-if_empty k = get_or_past no_paths k [] (omega arith)
 
   -- The front at k is that of the path at k, which is thread u's.
   pub fronts-get : (t k u : ℕ) (paths : List (List ℕ))
       → u ≡ t + k
       → thread_code (fronts t paths) k ≡ front (passes u) (thread_code paths k)
-  fronts-get t k u [] e = no_paths-empty k ∙ sym (ap (front (passes u)) (no_paths-empty k))
+  fronts-get t k u [] e = no_paths-if_empty k ∙ sym (ap (front (passes u)) (no_paths-if_empty k))
   fronts-get t zero u (path ∷ paths) e = let same : t ≡ u = omega (arith, e) in ap (λ n. front (passes n) path) same
   fronts-get t (suc k) u (path ∷ paths) e = fronts-get (suc t) k u paths (omega (arith, e))
 
@@ -113,7 +113,7 @@ module _ (passes : ℕ → ℕ → Bool) where
   pub tails-get : (t k u : ℕ) (paths : List (List ℕ))
       → u ≡ t + k
       → thread_code (tails t paths) k ≡ tail (passes u) (thread_code paths k)
-  tails-get t k u [] e = no_paths-empty k ∙ sym (ap (tail (passes u)) (no_paths-empty k))
+  tails-get t k u [] e = no_paths-if_empty k ∙ sym (ap (tail (passes u)) (no_paths-if_empty k))
   tails-get t zero u (path ∷ paths) e = let same : t ≡ u = omega (arith, e) in ap (λ n. tail (passes n) path) same
   tails-get t (suc k) u (path ∷ paths) e = tails-get (suc t) k u paths (omega (arith, e))
 

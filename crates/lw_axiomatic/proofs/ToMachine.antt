@@ -201,20 +201,20 @@ module _ {test : X86Test} {x : Execution} {o : FinalState} (candidate : IsCandid
           (AheadOf-of_processor.rest_complete item_position on_path (omega (arith, event_done_now f))) f
 
       -- An instruction that waits for an empty buffer finds one.
-      no_entry-none_waiting : (ws : List ℕ) (b : List (ℕ × ℕ))
+      no_entry-if_none_waits : (ws : List ℕ) (b : List (ℕ × ℕ))
           → BufferHolds (thread_code test.threads item_thread) ws b
           → ((v : ℕ) → IsMember v ws → ⊥)
           → b ≡ []
-      no_entry-none_waiting [] [] holds none = refl
-      no_entry-none_waiting [] (f ∷ b) holds none = absurd holds
-      no_entry-none_waiting (w ∷ ws) b holds none = absurd (none w (inl refl))
+      no_entry-if_none_waits [] [] holds none = refl
+      no_entry-if_none_waits [] (f ∷ b) holds none = absurd holds
+      no_entry-if_none_waits (w ∷ ws) b holds none = absurd (none w (inl refl))
 
       -- If the step waits for an empty buffer, the buffer is empty: the drains of earlier stores come first.
       buffer_empty-if_waiting : (nth_item now_at.index).is_drain ≡ false
           → needs_empty_buffer (x86_operation item_on_path.statement) ≡ true
           → p.buffer ≡ []
       buffer_empty-if_waiting f w =
-          no_entry-none_waiting (at_state.pending item_thread) p.buffer Holds-of_processor.waits (λ v waiting.
+          no_entry-if_none_waits (at_state.pending item_thread) p.buffer Holds-of_processor.waits (λ v waiting.
           (let c : IsDrainedLater _ _ _ _ _ k item_thread v = at_state.inv.waiting.coming item_thread v waiting in
           let low : v < p.position =
           (IsAscendingBetween-member 0 p.position v (at_state.pending item_thread) Holds-of_processor.climbs waiting).1 in

@@ -96,23 +96,23 @@ module _ (words : Arguments) (many : 2 ≤ length words) (few : length words < 3
       go p (inr e) = nil_ne_cons _ _ (sym e.0 ∙ two_arguments words many few)
 
   -- If the first of two arguments is not `--protocol`, they name no protocol.
-  pub no_IsProtocolOption-other_word : (p : Protocol) → differs ≡ true → IsProtocolOption (argument_texts words) p → ⊥
-  no_IsProtocolOption-other_word p other (inl e) =
+  pub not-IsProtocolOption-if_other_word : (p : Protocol) → differs ≡ true → IsProtocolOption (argument_texts words) p → ⊥
+  not-IsProtocolOption-if_other_word p other (inl e) =
       texts_differ-by_test _ _ _ is other (cons-head_eq _ _ _ _ (sym (two_arguments words many few) ∙ e))
-  no_IsProtocolOption-other_word p other (inr e) = nil_ne_cons _ _ (sym e.0 ∙ two_arguments words many few)
+  not-IsProtocolOption-if_other_word p other (inr e) = nil_ne_cons _ _ (sym e.0 ∙ two_arguments words many few)
 
 -- One argument, or more than two, name no protocol.
-pub no_IsProtocolOption-other_count : (words : Arguments) (p : Protocol)
+pub not-IsProtocolOption-if_other_count : (words : Arguments) (p : Protocol)
     → (length words ≡ 2 → ⊥)
     → (length words == 0) ≡ false
     → IsProtocolOption (argument_texts words) p
     → ⊥
-no_IsProtocolOption-other_count [] p other some said = cc
-no_IsProtocolOption-other_count (x ∷ []) p other some (inl e) = nil_ne_cons _ _ (cons-injective_tail e)
-no_IsProtocolOption-other_count (x ∷ y ∷ []) p other some said = other refl
-no_IsProtocolOption-other_count (x ∷ y ∷ z ∷ words) p other some (inl e) =
+not-IsProtocolOption-if_other_count [] p other some said = cc
+not-IsProtocolOption-if_other_count (x ∷ []) p other some (inl e) = nil_ne_cons _ _ (cons-injective_tail e)
+not-IsProtocolOption-if_other_count (x ∷ y ∷ []) p other some said = other refl
+not-IsProtocolOption-if_other_count (x ∷ y ∷ z ∷ words) p other some (inl e) =
     nil_ne_cons _ _ (sym (cons-injective_tail (cons-injective_tail e)))
-no_IsProtocolOption-other_count (x ∷ words) p other some (inr e) = nil_ne_cons _ _ (sym e.0)
+not-IsProtocolOption-if_other_count (x ∷ words) p other some (inr e) = nil_ne_cons _ _ (sym e.0)
 
 -- ---- a task, by its name
 
@@ -166,29 +166,29 @@ Gives-IsCommand_replay words r many is told =
     (sym (texts-first_and_rest words many ∙ ap (λ n. n ∷ argument_texts (arguments_after_first words)) is)) told
 
 -- If the arguments after the schedule are no option of a protocol, `replay` with the schedule and these is no command.
-pub no_IsCommand-bad_option : (words : Arguments)
+pub not-IsCommand-if_bad_option : (words : Arguments)
     → 1 ≤ length words
     → HoldsOfNothing (IsProtocolOption (argument_texts (arguments_after_first words)))
     → (task : Task)
     → IsCommand (codes "replay" ∷ argument_texts words) task
     → ⊥
-no_IsCommand-bad_option words many none (Replay schedule protocol) said =
+not-IsCommand-if_bad_option words many none (Replay schedule protocol) said =
     let behind_it =
     cons-injective_tail (cons-injective_tail (ap (λ l. codes "replay" ∷ l) (sym (texts-first_and_rest words many)) ∙ said.1)) in
     none protocol (subst (λ l. IsProtocolOption l protocol) (sym behind_it) said.2)
-no_IsCommand-bad_option words many none Compile said = omega (arith, cons-head_eq 114 99 _ _ (cons-head_eq _ _ _ _ said))
-no_IsCommand-bad_option words many none _ said = omega (arith, cons-head_eq 114 115 _ _ (cons-head_eq _ _ _ _ said))
+not-IsCommand-if_bad_option words many none Compile said = omega (arith, cons-head_eq 114 99 _ _ (cons-head_eq _ _ _ _ said))
+not-IsCommand-if_bad_option words many none _ said = omega (arith, cons-head_eq 114 115 _ _ (cons-head_eq _ _ _ _ said))
 
 -- No arguments name no task.
-pub no_IsCommand-if_no_arguments : (words : Arguments) (t : Task) → length words < 1 → IsCommand (argument_texts words) t → ⊥
-no_IsCommand-if_no_arguments (x ∷ words) t few said = absurd (omega (arith, few))
-no_IsCommand-if_no_arguments [] (Replay schedule protocol) few said = nil_ne_cons _ _ said.1
-no_IsCommand-if_no_arguments [] States few said = nil_ne_cons _ _ said
-no_IsCommand-if_no_arguments [] Compile few said = nil_ne_cons _ _ said
-no_IsCommand-if_no_arguments [] Schedules few said = nil_ne_cons _ _ said
+pub not-IsCommand-if_no_arguments : (words : Arguments) (t : Task) → length words < 1 → IsCommand (argument_texts words) t → ⊥
+not-IsCommand-if_no_arguments (x ∷ words) t few said = absurd (omega (arith, few))
+not-IsCommand-if_no_arguments [] (Replay schedule protocol) few said = nil_ne_cons _ _ said.1
+not-IsCommand-if_no_arguments [] States few said = nil_ne_cons _ _ said
+not-IsCommand-if_no_arguments [] Compile few said = nil_ne_cons _ _ said
+not-IsCommand-if_no_arguments [] Schedules few said = nil_ne_cons _ _ said
 
 -- If the first argument is none of the four names, the arguments name no task.
-pub no_IsCommand-other_word : (words : Arguments) (t : Task)
+pub not-IsCommand-if_other_word : (words : Arguments) (t : Task)
     → 1 ≤ length words
     → (argument_at words 0 ≡ codes "states" → ⊥)
     → (argument_at words 0 ≡ codes "compile" → ⊥)
@@ -196,7 +196,7 @@ pub no_IsCommand-other_word : (words : Arguments) (t : Task)
     → (argument_at words 0 ≡ codes "replay" → ⊥)
     → IsCommand (argument_texts words) t
     → ⊥
-no_IsCommand-other_word words t many states compile schedules replay said =
+not-IsCommand-if_other_word words t many states compile schedules replay said =
     go t (subst (λ l. IsCommand l t) (texts-first_and_rest words many) said)
   where
     go : (t : Task) → IsCommand (argument_at words 0 ∷ argument_texts (arguments_after_first words)) t → ⊥

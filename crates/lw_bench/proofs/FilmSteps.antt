@@ -5,13 +5,13 @@ use Rattle.lw_bench.proofs.Common.{codes, sym, subst, arith, Bytes, Event, End, 
 use Rattle.lw_bench.proofs.Common.{LitmusTest, head_of_test, IsPageOf, IsFilmOf}
 
 -- Appending the page of the prefix of n events extends the film of the first n prefixes to `n + 1`.
-pub IsFilmOf-one_more : (protocol : Protocol) (test : LitmusTest) (events : List Event) (n : ℕ) (before page new : Bytes)
+pub IsFilmOf-push : (protocol : Protocol) (test : LitmusTest) (events : List Event) (n : ℕ) (before page new : Bytes)
     (end : End)
     → IsFilmOf protocol test events n before
     → IsPageOf protocol test (take n events) page end
     → new ≡ before ++ (page ++ codes "\n")
     → IsFilmOf protocol test events (n + 1) new
-IsFilmOf-one_more protocol test events n before page new end film is appended = rw add-one (before, page, end, film, is, appended)
+IsFilmOf-push protocol test events n before page new end film is appended = rw add-one (before, page, end, film, is, appended)
 
 -- Appending the page of all events to the film of the shorter prefixes gives the whole film.
 pub IsFilmOf-whole : (protocol : Protocol) (test : LitmusTest) (events : List Event) (n : ℕ) (before page new : Bytes) (end : End)

@@ -127,10 +127,10 @@ module _ (program : List (List Instr)) where
         go (Some p) at d = slice_get_within s.processors (cpu_of e) p at
 
     -- Over flat memory no eviction is executed.
-    no_Evict-flat_memory : (t x : ℕ) (s after : MachineState (List ℕ))
+    no_Evict-if_flat_memory : (t x : ℕ) (s after : MachineState (List ℕ))
         → MachineTransition flat_memory program (Evict t x) s (Ok tt) after
         → ⊥
-    no_Evict-flat_memory t x s after = go (slice_get s.processors t)
+    no_Evict-if_flat_memory t x s after = go (slice_get s.processors t)
       where
         go : (o : Option Processor) → ProcessorTransition flat_memory o program (Evict t x) s (Ok tt) after → ⊥
         go None d = let e : ◌≡◌ {A = EventResult} (Ok tt) (Err NoCpu) = d.0 in cc
@@ -163,4 +163,4 @@ module _ (program : List (List Instr)) where
         (subst (λ r. holds_if_reached (every_machine_end_satisfies n) r ≡ true)
         (event_after-MachineTransition (Drain t) s ran.0 ran.1) each) ran.2 final
     every_machine_end_satisfies-sound (suc n) (Evict t x ∷ events) s end so ran final =
-        absurd (no_Evict-flat_memory t x s ran.0 ran.1)
+        absurd (no_Evict-if_flat_memory t x s ran.0 ran.1)

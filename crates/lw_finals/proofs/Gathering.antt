@@ -26,15 +26,15 @@ module _ {Kept : Type 0} (Leads : Kept → FinalState → Type 0) where
       subst (λ (gs : OutcomesWith Kept). CollectsOutcomes Ends Leads es gs) (sym grown) (record {
         covered = λ q e.
             (let is : q ≡ p = only q e ∙ sym same in
-            subst (λ (ks : List FinalState). Contains ks q) (sym outcomes_of-one_more)
+            subst (λ (ks : List FinalState). Contains ks q) (sym outcomes_of-push)
             (Contains-append_right (outcomes_of es) (p ∷ []) q (Contains-head p q [] (sym is))));
-        kept = λ q h. subst (λ ks. Contains ks q) (sym outcomes_of-one_more) (Contains-append_left (outcomes_of es) (p ∷ []) q h);
+        kept = λ q h. subst (λ ks. Contains ks q) (sym outcomes_of-push) (Contains-append_left (outcomes_of es) (p ∷ []) q h);
         lead = λ a. All-append (λ e. Leads e.1 e.0) es _ a (All-cons (λ e. Leads e.1 e.0) _ [] leads (All-nil _));
       })
     where
       -- The outcomes of the entries with one more.
-      outcomes_of-one_more : outcomes_of (es ++ (p, s) ∷ []) ≡ outcomes_of es ++ p ∷ []
-      outcomes_of-one_more = map-append _ es ((p, s) ∷ [])
+      outcomes_of-push : outcomes_of (es ++ (p, s) ∷ []) ≡ outcomes_of es ++ p ∷ []
+      outcomes_of-push = map-append _ es ((p, s) ∷ [])
 
   -- Entries that collect a set of outcomes collect each subset.
   pub CollectsOutcomes-weaker : (More Ends : FinalState → Type 0) (es fs : OutcomesWith Kept)

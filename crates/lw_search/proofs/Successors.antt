@@ -381,12 +381,12 @@ module _ (program : List (List Instr)) where
   }
 
   -- No event of a thread out of range is enabled.
-  pub no_event-without_thread : (e : Event) (s next : State)
+  pub no_event-if_no_thread : (e : Event) (s next : State)
       → length s.processors ≡ length program
       → slice_get program (cpu_of e) ≡ None
       → MachineTransition flat_memory program e s (Ok tt) next
       → ⊥
-  no_event-without_thread e s next as_many none done =
+  no_event-if_no_thread e s next as_many none done =
       let d : EventOccurrence program e s next = EventOccurrence-of_event program e s next done in
       let lt : cpu_of e < length program =
       subst (λ n. cpu_of e < n) as_many (slice_get_within s.processors (cpu_of e) d.from d.was) in
@@ -394,12 +394,12 @@ module _ (program : List (List Instr)) where
       absurd (let both = sym none ∙ there.1 in cc)
 
   -- No event whose effect is refused is enabled.
-  pub no_event-refused : (e : Event) (s next : State) (p : Processor) (stop : Stop)
+  pub no_event-if_refused : (e : Event) (s next : State) (p : Processor) (stop : Stop)
       → slice_get s.processors (cpu_of e) ≡ Some p
       → event_effect program (length s.memory) e p ≡ Refused stop
       → MachineTransition flat_memory program e s (Ok tt) next
       → ⊥
-  no_event-refused e s next p stop at act done =
+  no_event-if_refused e s next p stop at act done =
       let d : EventOccurrence program e s next = EventOccurrence-of_event program e s next done in
       let same : d.from ≡ p = same_Some d.from p (sym d.was ∙ at) in
       subst (λ a. EffectLeadsTo s.memory a d.to d.words) act
@@ -428,7 +428,7 @@ module _ (program : List (List Instr)) where
       → ExpandsState program tables visited tables visited at key Is (λ s more. IsCovered program more s e)
   expands-refused at t e key code p stop cpu coded thread is Is =
       covered-impossible at key e Is (λ s next found stands as_many done.
-      no_event-refused e s next p stop
+      no_event-if_refused e s next p stop
       (ap (slice_get s.processors) cpu ∙ slice_get-loaded_thread key s t code p stands as_many coded thread)
       (is (length s.memory)) done)
 
@@ -507,12 +507,12 @@ module _ (program : List (List Instr)) where
   covered-all n s more few as_many of (Step t) = elim (cases_lt t n) [
     | inl lt ↦ (of t lt).0
     | inr ge ↦ λ next done.
-        absurd (no_event-without_thread (Step t) s next as_many (slice_get_past program t (omega (arith, few, ge))) done)
+        absurd (no_event-if_no_thread (Step t) s next as_many (slice_get_past program t (omega (arith, few, ge))) done)
   ]
   covered-all n s more few as_many of (Drain t) = elim (cases_lt t n) [
     | inl lt ↦ (of t lt).1
     | inr ge ↦ λ next done.
-        absurd (no_event-without_thread (Drain t) s next as_many (slice_get_past program t (omega (arith, few, ge))) done)
+        absurd (no_event-if_no_thread (Drain t) s next as_many (slice_get_past program t (omega (arith, few, ge))) done)
   ]
   covered-all n s more few as_many of (Evict t x) = λ next done.
       let d : EventOccurrence program (Evict t x) s next = EventOccurrence-of_event program (Evict t x) s next done in

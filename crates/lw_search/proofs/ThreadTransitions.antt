@@ -12,7 +12,7 @@ use Rattle.lw_search.proofs.Common.{Transition, CopiesRow, AppendsRows, IsTransi
 use Rattle.lw_search.proofs.Common.{IsNeverEnabled, HasConflictsOfOthers}
 use Rattle.lw_search.proofs.Settling.{settles_from-loaded, settles_from-trans}
 use Rattle.lw_search.proofs.Successors.{IsCovered-after_event, cpu_of-event, invariant-extended}
-use Rattle.lw_search.proofs.Successors.{no_event-refused, predecessor-prefix, slice_get-loaded_thread}
+use Rattle.lw_search.proofs.Successors.{no_event-if_refused, predecessor-prefix, slice_get-loaded_thread}
 use Rattle.lw_search.proofs.Rows.{extends-refl, prefix-refl}
 
 -- ---- rows and slots
@@ -192,7 +192,7 @@ module _ (program : List (List Instr)) where
       → IsNeverEnabled program tables key e
   IsNeverEnabled-refused {tables} key t e code p q m n cpu coded row refused s next stands as_many done =
       let r = refused (length s.memory) in
-      no_event-refused program (event_of e) s next p r.0.0
+      no_event-if_refused program (event_of e) s next p r.0.0
       (ap (slice_get s.processors) (cpu_of-event e ∙ cpu)
       ∙ slice_get-loaded_thread program key s t code p stands as_many coded (λ z at. same_Some p z (sym row ∙ at))) r.0.1 done
 

@@ -12,7 +12,7 @@ use Rattle.lw_statements.proofs.Common.{HasSlotAfter, IsLocationSlot, IsRegister
 use Rattle.lw_statements.proofs.Common.{is_operand_slot, is_word_slot, is_register_free, tokens_differ}
 use Rattle.lw_statements.proofs.Common.{names_register, names_none, names_one, IsSpelling}
 use Rattle.lw_statements.proofs.api.Forms.{list_all-get}
-use Rattle.lw_statements.proofs.Slots.{not-given_to_differing_slots, location_slot, no_register-keyword}
+use Rattle.lw_statements.proofs.Slots.{not-given_to_differing_slots, location_slot, no_register-if_keyword}
 use Rattle.lw_statements.proofs.Slots.{not-register_and_location, register_no_number}
 use Rattle.lw_base.specs.declared.operand.Operand.TheVariants as operand
 
@@ -212,7 +212,7 @@ module _ {W Form Stmt : Type 0} (spelling : Spelling W Form Stmt) where
       → IsRegisterName spelling.language.arch q r
       → Gives spelling q slot g
       → IsRegisterSlot slot
-  register_slot (Keyword w) g q r free reg h = absurd (no_register-keyword spelling q w r (free w refl) h reg)
+  register_slot (Keyword w) g q r free reg h = absurd (no_register-if_keyword spelling q w r (free w refl) h reg)
   register_slot Register g q r free reg h = inl refl
   register_slot Location x q r free reg h = absurd (not-register_and_location _ q r reg (subst IsLocationName (sym h.0) h.1))
   register_slot Value g q r free reg h = inr refl

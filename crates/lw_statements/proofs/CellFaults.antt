@@ -10,7 +10,7 @@ use Rattle.lw_statements.proofs.Common.{IsGrammar, BeginsStatement, CanBegin, Is
 use Rattle.lw_statements.proofs.Common.{Labels, BeginsFitting, BeginsWithLabel, IsMeantAsRegister}
 use Rattle.lw_statements.proofs.Common.{IsMisfitCause, IsUnknownRegister, insert_name-if_new}
 use Rattle.lw_statements.proofs.FrontLabels.{Labels-unique, IsDuplicateFree-not_in_both}
-use Rattle.lw_statements.proofs.OneReading.{no_label-MaybeStatement as no_label_begins}
+use Rattle.lw_statements.proofs.OneReading.{no_label-if_statement as no_label_begins}
 use Rattle.lw_base.specs.declared.fault.CellCause.TheVariants as cause
 
 -- ---- lists
@@ -384,7 +384,7 @@ module _ {Syntax Stmt : Type 0} (grammar : Grammar Syntax Stmt) where
     -- ---- a cell with a fault has no content that fits
 
     -- No content of the cell goes on from a front that is stuck.
-    pub not-IsStuck-whole_cell : IsGrammar grammar
+    pub not-IsStuck-if_whole_cell : IsGrammar grammar
         → (labels : List Bytes) (mid rest : TokenList) (c : CellCause)
         → IsFront labels mid rest
         → IsStuck labels mid rest c
@@ -392,7 +392,7 @@ module _ {Syntax Stmt : Type 0} (grammar : Grammar Syntax Stmt) where
         → IsFront ks far []
         → MaybeStatement grammar far o
         → ⊥
-    not-IsStuck-whole_cell lawful labels mid rest c g (inl (none, t, more, is, bad)) ks far o f says =
+    not-IsStuck-if_whole_cell lawful labels mid rest c g (inl (none, t, more, is, bad)) ks far o f says =
         not-longer-IsStuck labels mid rest c g (inl (none, t, more, is, bad)) ks far [] f (omega (
           arith,
           labels_length ts labels (mid ++ rest) g.says,
@@ -401,7 +401,7 @@ module _ {Syntax Stmt : Type 0} (grammar : Grammar Syntax Stmt) where
           labels_length ts ks (far ++ []) f.says,
           length-append far [],
         ))
-    not-IsStuck-whole_cell lawful labels mid rest c g (inr (stops, inl (t, back, is, bad))) ks far o f says =
+    not-IsStuck-if_whole_cell lawful labels mid rest c g (inr (stops, inl (t, back, is, bad))) ks far o f says =
         not-longer-IsStuck labels mid rest c g (inr (stops, inl (t, back, is, bad))) ks far [] f (omega (
           arith,
           labels_length ts labels (mid ++ rest) g.says,
@@ -410,7 +410,7 @@ module _ {Syntax Stmt : Type 0} (grammar : Grammar Syntax Stmt) where
           labels_length ts ks (far ++ []) f.says,
           length-append far [],
         ))
-    not-IsStuck-whole_cell lawful labels mid rest c g (inr (stops, inr (is, some, e, none))) ks far o f says =
+    not-IsStuck-if_whole_cell lawful labels mid rest c g (inr (stops, inr (is, some, e, none))) ks far o f says =
         let halts = no_label_begins grammar lawful far o says in
         let one =
         Labels-unique ts (mid ++ rest) (far ++ []) labels ks g.says f.says stops

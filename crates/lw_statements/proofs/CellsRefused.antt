@@ -14,7 +14,7 @@ use Rattle.lw_statements.proofs.Elements.{All-middle}
 use Rattle.lw_statements.proofs.FaultPlaces.{ColumnFaultIsTrue-labels, ColumnFaultIsTrue-statement}
 use Rattle.lw_statements.proofs.FrontLabels.{Labels-whole, Labels-unique}
 use Rattle.lw_statements.proofs.Leads.{labels_of-append, count-append}
-use Rattle.lw_statements.proofs.OneReading.{cell_unique, no_label-MaybeStatement}
+use Rattle.lw_statements.proofs.OneReading.{cell_unique, no_label-if_statement}
 use Rattle.lw_statements.proofs.ResolvedNames.{names_in-append}
 use Rattle.lw_statements.proofs.TablesRead.{syntaxes_above_read, room_for_read_names}
 use Rattle.lw_statements.proofs.api.Zips.{Cut, AllZip-split}
@@ -91,7 +91,7 @@ module _ {Syntax Stmt : Type 0} (grammar : Grammar Syntax Stmt) where
               knows = HasExactlyLabels-drafted grammar draft_of front before mid column drafted;
               rest = y.says.0;
               says = y.says.1;
-              stops = no_label-MaybeStatement grammar lawful y.says.0 y.here.stmt y.says.2;
+              stops = no_label-if_statement grammar lawful y.says.0 y.here.stmt y.says.2;
               without_duplicates = labels_duplicate_free-with_cell t fits;
             });
         cause =
@@ -113,7 +113,7 @@ module _ {Syntax Stmt : Type 0} (grammar : Grammar Syntax Stmt) where
       statement_refused f next after taken phrase behind ends lies r = record {
         none = λ known t fits.
             let y = cut t fits in
-            let stops = no_label-MaybeStatement grammar lawful y.says.0 y.here.stmt y.says.2 in
+            let stops = no_label-if_statement grammar lawful y.says.0 y.here.stmt y.says.2 in
             let one =
             Labels-unique (cell_texts cell) y.says.0 _ y.here.labels taken.read.names y.says.1
             (Labels-whole cell.tokens next taken.read.names taken.read.says) stops taken.stops in

@@ -17,7 +17,7 @@ use Rattle.lw_statements.proofs.FrontLabels.{get_text, Labels-whole}
 use Rattle.lw_statements.proofs.Leads.{count-append, labels_of-append, is_some-label_target}
 use Rattle.lw_statements.proofs.Leads.{label_target-one_more_cell}
 use Rattle.lw_statements.proofs.ResolvedNames.{location_index-insert_names, names_in-append}
-use Rattle.lw_statements.proofs.TablesRead.{AreIn, columns_read-one_more}
+use Rattle.lw_statements.proofs.TablesRead.{AreIn, columns_read-push}
 
 -- A count stays within its bound if an item is added only while the count is below it.
 pub at_most_room : {X : Type 0} (count most : ℕ) (o : Option X)
@@ -169,21 +169,21 @@ module _ {Syntax Stmt D : Type 0} (grammar : Grammar Syntax Stmt) (draft_of : �
 
     -- If the labels of the next cell and what follows them are read, then the column with its draft is the result of reading the cells up
     -- to it.
-    pub ColumnDrafted-one_more : (now : DraftColumn D A) (cell : Cell A) (next : ℕ) (after : NameTable) (stmt : Option D)
+    pub ColumnDrafted-push : (now : DraftColumn D A) (cell : Cell A) (next : ℕ) (after : NameTable) (stmt : Option D)
         → LabelsTaken cell.tokens column.count column.labels next now.labels
         → MaybeRead grammar draft_of column.count (token_texts (drop next cell.tokens)) mid stmt after
         → now.cells ≡ column.cells ++ record { start = next; stmt = stmt } ∷ []
         → now.count ≡ column.count + option_len stmt
         → length after ≤ most_locations
         → ColumnDrafted grammar draft_of (front ++ cell ∷ []) before now after
-    ColumnDrafted-one_more now cell next after stmt taken maybe pushed counted room =
+    ColumnDrafted-push now cell next after stmt taken maybe pushed counted room =
         let ls = taken.read in
         let old = drafted.read.syntax in
         let syntax : CellSyntax Syntax = record { labels = ls.names; stmt = maybe.read.syntax } in
         let draft : DraftCell D = record { start = next; stmt = stmt } in
         let same : draft ≡ draft_cell grammar draft_of after syntax = rw (ls.two_each, maybe.read.made) refl in
         let more =
-        columns_read-one_more (names_in grammar) (draft_cell grammar draft_of) (names_in-append grammar) draft_cell-insert_names
+        columns_read-push (names_in grammar) (draft_cell grammar draft_of) (names_in-append grammar) draft_cell-insert_names
         (ParsesCell grammar) (cells_texts front) before mid column.cells drafted.read (cell_texts cell) syntax draft after
         (token_texts (drop next cell.tokens), Labels-whole cell.tokens next ls.names ls.says, maybe.read.says) maybe.read.names
         same in

@@ -183,12 +183,12 @@ module _ (tokens : List Token) (to : ℕ) (labels : LabelMap) (next : ℕ) (now 
   module _ (token : Token) (is : slice_get tokens next ≡ Some token)
       (colon : slice_get (token_texts tokens) (next + 1) ≡ Some (codes ":")) where
     -- If that token is a location's name that is not in the map, it is one more label.
-    pub LabelsRead-one_more : (after : LabelMap)
+    pub LabelsRead-push : (after : LabelMap)
         → IsLocationName token.text.now
         → is_some (target_by now token.text.now) ≡ false
         → ((m : Bytes) → target_by after m ≡ update bytes_eq (target_by now) token.text.now (Some to) m)
         → LabelsRead tokens to labels (next + 2) after
-    LabelsRead-one_more after loc fresh updated =
+    LabelsRead-push after loc fresh updated =
         let n : List ℕ = token.text.now in
         let within = next_within tokens next (codes ":") colon in
         record {

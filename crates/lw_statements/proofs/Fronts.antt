@@ -39,13 +39,13 @@ module _ {W Form Stmt : Type 0} (spelling : Spelling W Form Stmt) where
   -- ---- the slot after those that accept tokens
 
   -- If there are no slots, none follows.
-  pub no_slot-empty : (slots : List (Slot W)) (ts : TokenList)
+  pub no_slot-if_empty : (slots : List (Slot W)) (ts : TokenList)
       → length slots ≡ 0
       → (next : Slot W)
       → IsSlotAfter spelling ts slots next
       → ⊥
-  no_slot-empty [] ts a next h = h
-  no_slot-empty (slot ∷ slots) ts a next h = absurd (omega (arith, a))
+  no_slot-if_empty [] ts a next h = h
+  no_slot-if_empty (slot ∷ slots) ts a next h = absurd (omega (arith, a))
 
   -- After no tokens, the first slot follows.
   pub slot_next : (rest : List (Slot W)) (slot : Slot W) (tokens : List Token)

@@ -17,10 +17,10 @@ use Rattle.lw_statements.proofs.Common.{IsSecondLabel, IsSurplus, IsNinth, IsJum
 use Rattle.lw_statements.proofs.Common.{BeginsFitting, BeginsWithLabel, table_after, all_syntaxes}
 use Rattle.lw_statements.proofs.Common.{texts_of_cells, texts_of_grid, PlacedToken}
 use Rattle.lw_statements.proofs.CellFaults.{IsFront, IsStuck, split_order, labels_length, not-longer-IsStuck}
-use Rattle.lw_statements.proofs.CellFaults.{IsStuck-unique, not-IsStuck-whole_cell}
+use Rattle.lw_statements.proofs.CellFaults.{IsStuck-unique, not-IsStuck-if_whole_cell}
 use Rattle.lw_statements.proofs.CellsRefused.{IsDuplicateFree-front}
 use Rattle.lw_statements.proofs.Leads.{statements-append, count-append, labels_of-append}
-use Rattle.lw_statements.proofs.OneReading.{cell_unique, column_unique, no_label-MaybeStatement}
+use Rattle.lw_statements.proofs.OneReading.{cell_unique, column_unique, no_label-if_statement}
 use Rattle.lw_statements.proofs.ResolvedNames.{names_in-append}
 use Rattle.lw_statements.proofs.api.Zips.{AllZip-split, AllZip-unique}
 use Rattle.lw_base.specs.declared.fault.CellCause.TheVariants as cause
@@ -291,7 +291,7 @@ module _ {Syntax Stmt : Type 0} (grammar : Grammar Syntax Stmt) (lawful : IsGram
         → length (insert_names (table_after grammar names threads syntaxes) (names_in grammar (syntax ∷ []))) ≤ most_locations
         → ⊥
     faulty_whole at c f syntax parse few once room =
-        not-IsStuck-whole_cell grammar _ _ _ _ lawful f.labels f.mid f.rest c f.front f.stuck syntax.labels parse.0 syntax.stmt
+        not-IsStuck-if_whole_cell grammar _ _ _ _ lawful f.labels f.mid f.rest c f.front f.stuck syntax.labels parse.0 syntax.stmt
         (record {
           says =
               subst (λ (ts : TokenList). Labels (texts_of_tokens cell.tokens) syntax.labels ts) (sym (append-nil parse.0))
@@ -299,7 +299,7 @@ module _ {Syntax Stmt : Type 0} (grammar : Grammar Syntax Stmt) (lawful : IsGram
           without_duplicates = once;
           begun = λ some. begins_statement-MaybeStatement syntax.stmt parse.2 few room some;
           phase = inl (λ at.
-              no_label-MaybeStatement grammar lawful parse.0 syntax.stmt parse.2 (subst BeginsWithLabel (append-nil parse.0) at));
+              no_label-if_statement grammar lawful parse.0 syntax.stmt parse.2 (subst BeginsWithLabel (append-nil parse.0) at));
         }) parse.2
       where
         -- What was begun with room goes on, if the whole has room.
@@ -767,13 +767,13 @@ module _ {Syntax Stmt : Type 0} (grammar : Grammar Syntax Stmt) (lawful : IsGram
             ]
 
     -- No fault is true of columns that are the threads of a test.
-    pub no_true_fault-of_test : (at : ℕ) (c : CellCause) (threads : List (List (CellSyntax Syntax)))
+    pub no_true_fault-if_test : (at : ℕ) (c : CellCause) (threads : List (List (CellSyntax Syntax)))
         → AllZip (Column grammar) (texts_of_grid columns) threads
         → length (insert_names names (names_of grammar threads)) ≤ most_locations
         → (c ≡ Memory → ⊥)
         → CellCauseIsTrue grammar names columns at c
         → ⊥
-    no_true_fault-of_test at c threads says few known h =
+    no_true_fault-if_test at c threads says few known h =
         let v = fault_of at c known h in
         thread_unread (place_of at c v) (unread_of at c v) (place_of at c v).behind threads []
         (subst (λ (cs : List (List PlacedCell)). AllZip (Column grammar) (texts_of_grid cs) threads) (place_of at c v).in_columns

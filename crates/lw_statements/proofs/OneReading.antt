@@ -8,9 +8,9 @@ use Rattle.lw_statements.proofs.api.Zips.{AllZip-unique}
 
 module _ {Syntax Stmt : Type 0} (grammar : Grammar Syntax Stmt) (lawful : IsGrammar grammar) where
   -- What follows a cell's labels, a statement or nothing, has no `:` after its first token.
-  pub no_label-MaybeStatement : (ts : TokenList) (o : Option Syntax) → MaybeStatement grammar ts o → BeginsWithLabel ts → ⊥
-  no_label-MaybeStatement ts None h at = let e : slice_get ts 1 ≡ None = ap (λ (t : TokenList). slice_get t 1) h in absurd cc
-  no_label-MaybeStatement ts (Some s) h at = lawful.no_label ts s h at
+  pub no_label-if_statement : (ts : TokenList) (o : Option Syntax) → MaybeStatement grammar ts o → BeginsWithLabel ts → ⊥
+  no_label-if_statement ts None h at = let e : slice_get ts 1 ≡ None = ap (λ (t : TokenList). slice_get t 1) h in absurd cc
+  no_label-if_statement ts (Some s) h at = lawful.no_label ts s h at
 
   -- What follows a cell's labels is read in one way.
   maybe_unique : (ts : TokenList) (o p : Option Syntax) → MaybeStatement grammar ts o → MaybeStatement grammar ts p → o ≡ p
@@ -23,8 +23,8 @@ module _ {Syntax Stmt : Type 0} (grammar : Grammar Syntax Stmt) (lawful : IsGram
   pub cell_unique : (cell : TokenList) (x y : CellSyntax Syntax) → ParsesCell grammar cell x → ParsesCell grammar cell y → x ≡ y
   cell_unique cell x y h k =
       let ls =
-      Labels-unique cell h.0 k.0 x.labels y.labels h.1 k.1 (no_label-MaybeStatement h.0 x.stmt h.2)
-      (no_label-MaybeStatement k.0 y.stmt k.2) in
+      Labels-unique cell h.0 k.0 x.labels y.labels h.1 k.1 (no_label-if_statement h.0 x.stmt h.2)
+      (no_label-if_statement k.0 y.stmt k.2) in
       let s = maybe_unique h.0 x.stmt y.stmt h.2 (subst (λ (t : TokenList). MaybeStatement grammar t y.stmt) (sym ls.1) k.2) in
       cell_syntax_equal x.labels y.labels x.stmt y.stmt ls.0 s
     where

@@ -52,13 +52,13 @@ module _ {W Form Stmt : Type 0} (spelling : Spelling W Form Stmt) where
       ((f : Filling slots) → Fills spelling ts slots f → ⊥)
 
   -- If what follows a token was found at the other slots, and the token is added, then the tokens are taken together.
-  pub AreTaken-one_more : (rest : List (Slot W)) (slot : Slot W) (ts : TokenList) (t : Bytes) (k : ℕ) (found all : SlotBindings)
+  pub AreTaken-cons : (rest : List (Slot W)) (slot : Slot W) (ts : TokenList) (t : Bytes) (k : ℕ) (found all : SlotBindings)
       (b : Bool)
       → (f : Filling rest) × Fills spelling ts rest f × (found ≡ bindings_of (k + 1) rest f)
       → IsAdded slot t k found b all
       → AreTaken (t ∷ ts) k (slot ∷ rest) b all
-  AreTaken-one_more rest slot ts t k found all false behind h = λ g s. h g.0 s.0
-  AreTaken-one_more rest slot ts t k found all true (f, fills, is) (g, gives, made) =
+  AreTaken-cons rest slot ts t k found all false behind h = λ g s. h g.0 s.0
+  AreTaken-cons rest slot ts t k found all true (f, fills, is) (g, gives, made) =
       ((g, f), (gives, fills), made ∙ ap (bind_slot k slot g) is)
 
   -- The comparison of a token with a keyword says whether the keyword's slot accepts it.
@@ -132,11 +132,11 @@ module _ {W Form Stmt : Type 0} (spelling : Spelling W Form Stmt) where
   IsReach-no_tokens (slot ∷ slots) (t ∷ tokens) b = absurd (omega (arith, b))
 
   -- With a token before them that the first slot accepts, tokens reach one slot further.
-  pub IsReach-one_more : (rest : List (Slot W)) (slot : Slot W) (ts : TokenList) (t : Bytes) (k : ℕ)
+  pub IsReach-cons : (rest : List (Slot W)) (slot : Slot W) (ts : TokenList) (t : Bytes) (k : ℕ)
       → CanStand spelling (t ∷ []) (slot ∷ [])
       → IsReach spelling ts rest k
       → IsReach spelling (t ∷ ts) (slot ∷ rest) (1 + k)
-  IsReach-one_more rest slot ts t k stands h = let e : 1 + k ≡ suc k = omega arith in rw e (stands, h)
+  IsReach-cons rest slot ts t k stands h = let e : 1 + k ≡ suc k = omega arith in rw e (stands, h)
 
   -- Tokens reach at most as many slots as there are slots and tokens.
   pub IsReach-in_range : (slots : List (Slot W)) (ts : TokenList) (n : ℕ)

@@ -121,16 +121,16 @@ first_byte_case (b ∷ w) [] e h = absurd cc
 first_byte_case (b ∷ w) (c ∷ t) e h = name_byte_case b c (let f : to_ascii_lowercase b ≡ to_ascii_lowercase c = cc in f) h
 
 -- A keyword that is no location's name is not read as one.
-no_keyword-IsLocationName : (arch : Arch) (w t : Bytes)
+no_keyword-if_location_name : (arch : Arch) (w t : Bytes)
     → is_no_location arch w ≡ true
     → lowercase_if_x86 arch w ≡ lowercase_if_x86 arch t
     → IsLocationName t
     → ⊥
-no_keyword-IsLocationName Source w t none same loc = elim (cases_Bool (is_reserved w)) [
+no_keyword-if_location_name Source w t none same loc = elim (cases_Bool (is_reserved w)) [
   | inl e ↦ true≢false (sym e ∙ ap is_reserved same ∙ loc.1)
   | inr e ↦ true≢false (sym none ∙ rw (e, ap (first_byte_is is_name_byte) same ∙ first_byte_of_location t loc) refl)
 ]
-no_keyword-IsLocationName X86 w t none same loc =
+no_keyword-if_location_name X86 w t none same loc =
     true≢false (sym none ∙ ap not (first_byte_case w t same (first_byte_of_location t loc)))
 
 module _ {W Form Stmt : Type 0} (spelling : Spelling W Form Stmt) where
@@ -162,12 +162,12 @@ module _ {W Form Stmt : Type 0} (spelling : Spelling W Form Stmt) where
       (lowercase_if_x86 spelling.language.arch w)) all r r h (rw there ((bytes_eq-Decides _ _).1 e))
 
   -- A keyword that names no register is not read as one.
-  pub no_register-keyword : (t : Bytes) (w : W) (r : ℕ)
+  pub no_register-if_keyword : (t : Bytes) (w : W) (r : ℕ)
       → not (names_register spelling (spelling.text_of w)) ≡ true
       → lowercase_if_x86 spelling.language.arch (spelling.text_of w) ≡ lowercase_if_x86 spelling.language.arch t
       → IsRegisterName spelling.language.arch t r
       → ⊥
-  no_register-keyword t w r none word reg =
+  no_register-if_keyword t w r none word reg =
       true≢false (sym none ∙ ap not (names_register-same_lowercase (spelling.text_of w) r reg.0 (reg.1 ∙ sym word)))
 
   -- No token is accepted by two slots that differ.
@@ -177,8 +177,8 @@ module _ {W Form Stmt : Type 0} (spelling : Spelling W Form Stmt) where
       → Gives spelling t b h
       → ⊥
   not-given_to_differing_slots t (Keyword v) (Keyword w) g h d x y = bytes_eq-false _ _ d (x ∙ sym y)
-  not-given_to_differing_slots t (Keyword w) Register g r d x y = no_register-keyword t w r d x y
-  not-given_to_differing_slots t Register (Keyword w) r h d x y = no_register-keyword t w r d y x
+  not-given_to_differing_slots t (Keyword w) Register g r d x y = no_register-if_keyword t w r d x y
+  not-given_to_differing_slots t Register (Keyword w) r h d x y = no_register-if_keyword t w r d y x
   not-given_to_differing_slots t Register Location r n d x y =
       not-register_and_location _ t r x (subst IsLocationName (sym y.0) y.1)
   not-given_to_differing_slots t Location Register n r d x y =
@@ -194,7 +194,7 @@ module _ {W Form Stmt : Type 0} (spelling : Spelling W Form Stmt) where
       → IsLocationName t
       → slot ≡ Location
   location_slot t (Keyword w) g none h loc =
-      absurd (no_keyword-IsLocationName spelling.language.arch (spelling.text_of w) t (not-false _ none) h loc)
+      absurd (no_keyword-if_location_name spelling.language.arch (spelling.text_of w) t (not-false _ none) h loc)
   location_slot t Register r none h loc = absurd (not-register_and_location _ t r h loc)
   location_slot t Location x none h loc = refl
   location_slot t Value v none h loc = absurd (not-operand_and_location _ t v h loc)

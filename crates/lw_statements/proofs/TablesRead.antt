@@ -38,14 +38,14 @@ module _ {X D : Type 0} (names_by : List X → List Bytes) (make : NameTable →
   module _ {C : Type 0} (Says : C → X → Type 0) (front : List C) (before mid : NameTable) (ds : List D)
       (read : ReadOn (AllZip Says front) names_by (λ names. map (make names)) before ds mid) (c : C) where
     -- Reading the next thing adds it to what was read, and its names to the table.
-    pub columns_read-one_more : (x : X) (d : D) (after : NameTable)
+    pub columns_read-push : (x : X) (d : D) (after : NameTable)
         → Says c x
         → after ≡ insert_names mid (names_by (x ∷ []))
         → d ≡ make after x
         → AllZip Says (front ++ c ∷ []) (read.syntax ++ x ∷ [])
         × (after ≡ insert_names before (names_by (read.syntax ++ x ∷ [])))
         × (ds ++ d ∷ [] ≡ map (make after) (read.syntax ++ x ∷ []))
-    columns_read-one_more x d after says grown is =
+    columns_read-push x d after says grown is =
         let old : map (make after) read.syntax ≡ ds =
         ap (λ ns. map (make ns) read.syntax) grown
         ∙ make-insert_names mid (names_by (x ∷ [])) read.syntax

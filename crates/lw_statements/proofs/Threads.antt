@@ -12,7 +12,7 @@ use Rattle.lw_statements.proofs.Causes.{refusal-Memory}
 use Rattle.lw_statements.proofs.Elements.{All-middle, take-item-drop, take_further}
 use Rattle.lw_statements.proofs.OneReading.{column_unique}
 use Rattle.lw_statements.proofs.ResolvedNames.{code_in-insert_names}
-use Rattle.lw_statements.proofs.TablesRead.{AreIn, columns_read-one_more, room_for_read_names}
+use Rattle.lw_statements.proofs.TablesRead.{AreIn, columns_read-push, room_for_read_names}
 use Rattle.lw_statements.proofs.api.Zips.{AllZip-split}
 
 module _ {Syntax Stmt : Type 0} (grammar : Grammar Syntax Stmt) where
@@ -40,14 +40,14 @@ module _ {Syntax Stmt : Type 0} (grammar : Grammar Syntax Stmt) where
       (is : column ≡ get_or columns i column) (before mid : NameTable) (threads : List (List Stmt))
       (read : ColumnsRead grammar (all_texts (take i columns)) before threads mid) where
     -- If that column is read, the columns up to it are.
-    pub ColumnsRead-one_more : (stmts : List Stmt) (after : NameTable)
+    pub ColumnsRead-push : (stmts : List Stmt) (after : NameTable)
         → ColumnRead grammar (cells_texts column) mid stmts after
         → ColumnsRead grammar (all_texts (take (i + 1) columns)) before (threads ++ stmts ∷ []) after
-    ColumnsRead-one_more stmts after one =
+    ColumnsRead-push stmts after one =
         let grown : after ≡ insert_names mid (names_of grammar (one.syntax ∷ [])) =
         one.names ∙ ap (insert_names mid) (sym (append-nil (names_in grammar one.syntax))) in
         let more =
-        columns_read-one_more (names_of grammar) (code_in grammar) names_of-append code_in-insert_more_names (Column grammar)
+        columns_read-push (names_of grammar) (code_in grammar) names_of-append code_in-insert_more_names (Column grammar)
         (all_texts (take i columns)) before mid threads read (cells_texts column) one.syntax stmts after one.says grown
         one.made in
         record {

@@ -126,10 +126,10 @@ no_site (b ∷ w) h arch ts rest mid site e p =
     ]
 
 -- No tokens are no site.
-pub no_site-empty : (arch : Arch) (ts rest : TokenList) (s : SiteSyntax) → ts ≡ [] → IsSite arch ts s rest → ⊥
-no_site-empty arch ts rest (InMemory x) e (p, inl f) = cc
-no_site-empty arch ts rest (InMemory x) e (p, inr f) = cc
-no_site-empty arch ts rest (InThread t r) e p = let f = p.2 in cc
+pub no_site-if_empty : (arch : Arch) (ts rest : TokenList) (s : SiteSyntax) → ts ≡ [] → IsSite arch ts s rest → ⊥
+no_site-if_empty arch ts rest (InMemory x) e (p, inl f) = cc
+no_site-if_empty arch ts rest (InMemory x) e (p, inr f) = cc
+no_site-if_empty arch ts rest (InThread t r) e p = let f = p.2 in cc
 
 -- ---- initializers
 

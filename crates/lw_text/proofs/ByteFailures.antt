@@ -17,12 +17,12 @@ use Rattle.lw_text.proofs.api.Numbers.{number_first}
 use Rattle.lw_text.proofs.NameRuns.{IsLongestPrefix-unique, run_front, symbol_front, token_no_trivia}
 use Rattle.lw_text.proofs.NameRuns.{token_nonempty}
 use Rattle.lw_text.proofs.NoteRows.{Quoted-front, Quoted-open, KeyLine-front, no_key_line-if_no_equals}
-use Rattle.lw_text.proofs.NoteRows.{no_note-neither_kind, no_note-unclosed_quote, Note-unique, note_no_trivia}
+use Rattle.lw_text.proofs.NoteRows.{no_note-if_neither_kind, no_note-if_quote_is_unclosed, Note-unique, note_no_trivia}
 use Rattle.lw_text.proofs.NoteRows.{block_no_trivia, Notes-note_inv, Notes-trivia_first, key_front}
 use Rattle.lw_text.proofs.NoteRows.{Without-of_all}
 use Rattle.lw_text.proofs.Preambles.{graphic_no_blank, ParsesTestName-parts, ParsesTestName-unique}
 use Rattle.lw_text.proofs.Preambles.{arch_keyword-unique}
-use Rattle.lw_text.proofs.TokenRows.{IsFirstToken-unique, no_first_token-trivia_only}
+use Rattle.lw_text.proofs.TokenRows.{IsFirstToken-unique, no_first_token-if_only_trivia}
 use Rattle.lw_text.proofs.TriviaLemmas.{Trivia-unique}
 use Rattle.lw_text.specs.TextFailures.{no_key as no_key_byte}
 
@@ -66,17 +66,17 @@ not-FailsInToken-if_parsed t rest cause (no_number_run w r run digit never c) (i
     (record { parts = refl; bytes_pass = name.are_name_bytes; longest = name.longest })
     (record { parts = run.parts; bytes_pass = run.bytes_pass; longest = run.longest }) in
     elim name.kind [
-      | inl is ↦ false≢true (sym (no_digit_first-append t rest is.0.not_empty is.0.front) ∙ digit)
+      | inl is ↦ false≢true (sym (no_digit_first-of_append t rest is.0.not_empty is.0.front) ∙ digit)
       | inr number ↦ never number.0 (subst (λ x. IsNumber x number.0) same.0 number.1)
     ]
   where
     -- The first byte of a token is that of the text.
-    no_digit_first-append : (t rest : Bytes)
+    no_digit_first-of_append : (t rest : Bytes)
         → 0 < length t
         → first_byte_is is_ascii_digit t ≡ false
         → first_byte_is is_ascii_digit (t ++ rest) ≡ false
-    no_digit_first-append [] rest some e = absurd (omega (arith, some))
-    no_digit_first-append (b ∷ t) rest some e = e
+    no_digit_first-of_append [] rest some e = absurd (omega (arith, some))
+    no_digit_first-of_append (b ∷ t) rest some e = e
 not-FailsInToken-if_parsed t rest cause (no_number_run w r run digit never c) (inr symbol) =
     digit_in_name (t ++ rest) digit (symbol_front t rest symbol)
 not-FailsInToken-if_parsed t rest cause (no_name_run w r run first other never c) (inl name) =
@@ -99,10 +99,10 @@ not-FailsInToken-if_parsed t rest cause (no_symbol some other never c) (inl name
 not-FailsInToken-if_parsed t rest cause (no_symbol some other never c) (inr symbol) = never t rest refl symbol
 
 -- At the end of a text no token fails.
-not-FailsInToken-at_end : (cause : TextCause) → FailsInToken [] cause → ⊥
-not-FailsInToken-at_end cause (no_number_run w r run digit never c) = cc digit
-not-FailsInToken-at_end cause (no_name_run w r run first other never c) = cc first
-not-FailsInToken-at_end cause (no_symbol some other never c) = omega (arith, some)
+not-FailsInToken-if_at_end : (cause : TextCause) → FailsInToken [] cause → ⊥
+not-FailsInToken-if_at_end cause (no_number_run w r run digit never c) = cc digit
+not-FailsInToken-if_at_end cause (no_name_run w r run first other never c) = cc first
+not-FailsInToken-if_at_end cause (no_symbol some other never c) = omega (arith, some)
 
 -- The first token fails at one place only, and for one cause.
 pub FailsInFirstToken-unique : (text r s : Bytes) (c d : TextCause)
@@ -131,7 +131,7 @@ not-FailsInFirstToken-if_parsed text r t after c (in_token trivia stop fails) is
 pub FailsInFirstToken-end : (text r : Bytes) (c : TextCause) → FailsInFirstToken text r c → Trivia text [] → ⊥
 FailsInFirstToken-end text r c (open_comment never end p) is = never [] refl is
 FailsInFirstToken-end text r c (in_token trivia stop fails) is =
-    not-FailsInToken-at_end c (subst (λ x. FailsInToken x c) (Trivia-unique trivia is stop refl) fails)
+    not-FailsInToken-if_at_end c (subst (λ x. FailsInToken x c) (Trivia-unique trivia is stop refl) fails)
 
 -- ---- The test's name.
 
@@ -254,7 +254,7 @@ FailsInNote-unique text r s (in_key_line other p) (in_key_line too q) = FailsInK
 -- A note does not fail.
 not-FailsInNote-if_parsed : (text r end : Bytes) → FailsInNote text r → Note text end → ⊥
 not-FailsInNote-if_parsed text r end (open_quote inside e plain ends) is =
-    no_note-unclosed_quote text (ap (first_byte_is (λ b. b == 34)) e)
+    no_note-if_quote_is_unclosed text (ap (first_byte_is (λ b. b == 34)) e)
     (Quoted-open text inside inside [] e (sym (append-nil inside)) (Without-of_all 34 inside plain) refl refl) end is
 not-FailsInNote-if_parsed text r end (in_key_line other q) (inl is) =
     not-both-first_byte (λ b. b == 34) text (Quoted-front text end is) other
@@ -328,15 +328,15 @@ FailsInPreamble-unique text r s c d (in_keyword p) (in_notes arch mid name after
 FailsInPreamble-unique text r s c d (no_keyword end is p) (in_keyword q) = absurd (FailsInFirstToken-end text s d q end)
 FailsInPreamble-unique text r s c d (no_keyword end is p) (no_keyword also at q) = (is ∙ sym at, p ∙ sym q)
 FailsInPreamble-unique text r s c d (no_keyword end is p) (other_keyword t after first at other q) =
-    absurd (no_first_token-trivia_only text t after end first)
+    absurd (no_first_token-if_only_trivia text t after end first)
 FailsInPreamble-unique text r s c d (no_keyword end is p) (in_test_name arch after first q) =
-    absurd (no_first_token-trivia_only text _ after end first)
+    absurd (no_first_token-if_only_trivia text _ after end first)
 FailsInPreamble-unique text r s c d (no_keyword end is p) (in_notes arch mid name after first names q cause) =
-    absurd (no_first_token-trivia_only text _ mid end first)
+    absurd (no_first_token-if_only_trivia text _ mid end first)
 FailsInPreamble-unique text r s c d (other_keyword t after is at other q) (in_keyword p) =
     absurd (not-FailsInFirstToken-if_parsed text s t after d p is)
 FailsInPreamble-unique text r s c d (other_keyword t after first at other q) (no_keyword end is p) =
-    absurd (no_first_token-trivia_only text t after end first)
+    absurd (no_first_token-if_only_trivia text t after end first)
 FailsInPreamble-unique text r s c d (other_keyword t after is at other p) (other_keyword u behind also place another q) =
     let same = IsFirstToken-unique text t after u behind is also in
     (at ∙ ap (λ x. x ++ after) same.0 ∙ ap (λ x. u ++ x) same.1 ∙ sym place, p ∙ sym q)
@@ -347,7 +347,7 @@ FailsInPreamble-unique text r s c d (other_keyword t after is at other p) (in_no
 FailsInPreamble-unique text r s c d (in_test_name arch after is q) (in_keyword p) =
     absurd (not-FailsInFirstToken-if_parsed text s _ after d p is)
 FailsInPreamble-unique text r s c d (in_test_name arch after first q) (no_keyword end is p) =
-    absurd (no_first_token-trivia_only text _ after end first)
+    absurd (no_first_token-if_only_trivia text _ after end first)
 FailsInPreamble-unique text r s c d (in_test_name arch mid also q) (other_keyword t after is at other p) =
     absurd (other arch (first_token-is_keyword text t after mid arch is also))
 FailsInPreamble-unique text r s c d (in_test_name arch after is p) (in_test_name language mid also q) =
@@ -361,7 +361,7 @@ FailsInPreamble-unique text r s c d (in_test_name arch after is p) (in_notes lan
 FailsInPreamble-unique text r s c d (in_notes arch mid name after is names q cause) (in_keyword p) =
     absurd (not-FailsInFirstToken-if_parsed text s _ mid d p is)
 FailsInPreamble-unique text r s c d (in_notes arch mid name after first names q cause) (no_keyword end is p) =
-    absurd (no_first_token-trivia_only text _ mid end first)
+    absurd (no_first_token-if_only_trivia text _ mid end first)
 FailsInPreamble-unique text r s c d (in_notes arch mid name behind also names q cause) (other_keyword t after is at other p) =
     absurd (other arch (first_token-is_keyword text t after mid arch is also))
 FailsInPreamble-unique text r s c d (in_notes language mid name behind also names q cause) (in_test_name arch after is p) =
@@ -381,7 +381,7 @@ pub not-FailsInPreamble-if_parsed : (text r rest name : Bytes) (arch : Arch) (c 
     → Preamble text arch name rest
     → ⊥
 not-FailsInPreamble-if_parsed text r rest name arch c (in_keyword p) is = not-FailsInFirstToken-if_parsed text r _ is.0 c p is.2
-not-FailsInPreamble-if_parsed text r rest name arch c (no_keyword end at p) is = no_first_token-trivia_only text _ is.0 end is.2
+not-FailsInPreamble-if_parsed text r rest name arch c (no_keyword end at p) is = no_first_token-if_only_trivia text _ is.0 end is.2
 not-FailsInPreamble-if_parsed text r rest name arch c (other_keyword t after first at other p) is =
     other arch (first_token-is_keyword text t after is.0 arch first is.2)
 not-FailsInPreamble-if_parsed text r rest name arch c (in_test_name language after first p) is =

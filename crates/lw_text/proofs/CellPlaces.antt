@@ -69,8 +69,8 @@ module _ {A : Type 0} {start : List Token} {here after : Cursor} {cells : List (
   )
 
   -- The cells with positions, and this one.
-  CellsFrom-one_more : CellsFrom (with_spans start) (placed_row cells_so_far) (with_spans (remaining after))
-  CellsFrom-one_more =
+  CellsFrom-next_cell : CellsFrom (with_spans start) (placed_row cells_so_far) (with_spans (remaining after))
+  CellsFrom-next_cell =
       rw (map-append placed_cell cells (record { tokens = tokens; end = mark.at } ∷ []))
       (CellsFrom-push (with_spans start) (placed_row cells) {mark = with_span mark} read.cut (record {
         parts = ap with_spans taken.parts ∙ map-append with_span tokens (mark ∷ remaining after);
@@ -79,13 +79,13 @@ module _ {A : Type 0} {start : List Token} {here after : Cursor} {cells : List (
       }))
 
   -- If `|` ends the next cell, it is one more cell read.
-  pub CellsRead-one_more : bytes_eq mark.text.now (codes ";") ≡ false → CellsRead start (remaining after) cells_so_far
-  CellsRead-one_more e = record {
+  pub CellsRead-push : bytes_eq mark.text.now (codes ";") ≡ false → CellsRead start (remaining after) cells_so_far
+  CellsRead-push e = record {
     before =
         rw (map_push cell_texts cells (record { tokens = tokens; end = mark.at }))
         (ParsesMany-push _ _ _ (remaining_texts here) (remaining_texts after) _ read.before
         (ParsesCell-by_mark (codes "|") (mark_is_bar mark.text.now taken.ends e)));
-    cut = CellsFrom-one_more;
+    cut = CellsFrom-next_cell;
   }
 
   -- If `;` ends the next cell, the cells read with it are a whole row.
@@ -96,15 +96,15 @@ module _ {A : Type 0} {start : List Token} {here after : Cursor} {cells : List (
     rw (map_push cell_texts cells (record { tokens = tokens; end = mark.at }))
         (Before-close words.Cell _ (codes ";") _ _ (remaining_texts here) _ _ read.before
         (ParsesCell-by_mark (codes ";") (is_text _ (codes ";") e))),
-    CellsFrom-one_more,
+    CellsFrom-next_cell,
   )
 
 -- Reading one more row extends the rows read from the tokens.
-pub RowsFrom-one_more : {A : Type 0} (before here after : List Token) (rows : List (List (Cell A))) (row : List (Cell A))
+pub RowsFrom-push : {A : Type 0} (before here after : List Token) (rows : List (List (Cell A))) (row : List (Cell A))
     → RowsFrom (with_spans before) (placed_cells rows) (with_spans here)
     → CellsFrom (with_spans here) (placed_row row) (with_spans after)
     → RowsFrom (with_spans before) (placed_cells (rows ++ row ∷ [])) (with_spans after)
-RowsFrom-one_more before here after rows row cut more =
+RowsFrom-push before here after rows row cut more =
     subst (λ rs. RowsFrom (with_spans before) rs (with_spans after)) (sym (map-append placed_row rows (row ∷ [])))
     (ParsesMany-push CellsFrom (placed_cells rows) _ (with_spans here) _ (placed_row row) cut more)
 

@@ -77,12 +77,12 @@ module _ (ts here : TokenList) (cells : Cells) (before : Before Cell (codes "|")
       no_mark_in_cell f.0 f.1 f.2 (subst EndsNoCell f.4.0 plain) (mark_ends f.1 f.3)) row
 
 -- If a row's number of cells is not the number of threads, it is no row of the test.
-pub no_row-wrong_count : (ts next : TokenList) (cells : Cells)
+pub no_row-if_count_differs : (ts next : TokenList) (cells : Cells)
     → ParsesSepBy Cell (codes "|") (codes ";") ts cells next
     → (threads : ℕ)
     → (length cells ≡ threads → ⊥)
     → ParsesNothing (Row threads ts)
-no_row-wrong_count ts next cells row threads ne all rest line =
+no_row-if_count_differs ts next cells row threads ne all rest line =
     ne (ap length
     (ParsesSepBy-unique Cell (codes "|") (codes ";") Cell-exact not-bar_is_semicolon cells all ts next rest row line.0).0
     ∙ line.1)
@@ -112,11 +112,11 @@ module _ (threads : ℕ) (ts here : TokenList) (rows : CellGrid) (passed : Passe
   Rows-at_stop stop few = (Passed-stop begins_stop (Row threads) rows ts here passed stop, few)
 
   -- If the next token does not end the rows, and a row follows, it is one more row read.
-  pub Rows-one_more : (next : TokenList) (row : Cells)
+  pub Rows-push : (next : TokenList) (row : Cells)
       → begins_stop here ≡ false
       → Row threads here row next
       → Passed begins_stop (Row threads) ts (rows ++ row ∷ []) next
-  Rows-one_more next row go line = ParsesMany-push _ rows ts here next row passed (go, line)
+  Rows-push next row go line = ParsesMany-push _ rows ts here next row passed (go, line)
 
   -- All rows are those read, followed by the next row and others.
   next_row : begins_stop here ≡ false
@@ -140,8 +140,8 @@ module _ (threads : ℕ) (ts here : TokenList) (rows : CellGrid) (passed : Passe
   no_rows-if_no_row go never all rest r = let k = next_row go all rest r in never k.0 k.2 k.4
 
   -- If the maximal number of rows has been read, and the next token does not end the rows, the tokens have no rows.
-  pub no_rows-too_many : begins_stop here ≡ false → length rows ≡ 64 → ParsesNothing (Rows threads ts)
-  no_rows-too_many go full all rest r =
+  pub no_rows-if_too_many : begins_stop here ≡ false → length rows ≡ 64 → ParsesNothing (Rows threads ts)
+  no_rows-if_too_many go full all rest r =
       let k = next_row go all rest r in omega (arith, ap length k.3, length-append rows (k.0 ∷ k.1), r.1)
 
 -- The parse of a test's rows is unique.

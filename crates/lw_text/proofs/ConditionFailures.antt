@@ -101,33 +101,33 @@ module _ (arch : Arch) (threads : ℕ) where
   not-FailsInTerminal-if_parsed false (suc n) names ts rest mid because (Atom a) next fails is step room = cc step
 
   -- After a part outside of all parentheses no `)` is possible.
-  no_Close-outside_parentheses : (place next : PropositionPlace)
+  no_Close-if_outside_parentheses : (place next : PropositionPlace)
       → place ≡ (false, 0)
       → next_place {A = AtomSyntax} place Close ≡ Some next
       → ⊥
-  no_Close-outside_parentheses place next is step =
+  no_Close-if_outside_parentheses place next is step =
       let k : next_place {A = AtomSyntax} (false, 0) Close ≡ Some next =
       subst (λ (p : PropositionPlace). next_place {A = AtomSyntax} p Close ≡ Some next) is step in
       cc k
 
   -- A `)` that closes nothing is not a terminal that is possible.
-  no_Close-IsTerminal : (place next : PropositionPlace) (ts after mid : TokenList) (s : Terminal AtomSyntax)
+  no_Close-if_terminal : (place next : PropositionPlace) (ts after mid : TokenList) (s : Terminal AtomSyntax)
       → place ≡ (false, 0)
       → ts ≡ codes ")" ∷ after
       → IsTerminal arch threads ts s mid
       → next_place place s ≡ Some next
       → ⊥
-  no_Close-IsTerminal place next ts after mid s is begins terminal step =
-      no_Close-outside_parentheses place next is
+  no_Close-if_terminal place next ts after mid s is begins terminal step =
+      no_Close-if_outside_parentheses place next is
       (subst (λ t. next_place place t ≡ Some next) (IsTerminal-unique arch threads ts s Close mid after terminal begins).0 step)
 
   -- Where a `)` closes nothing, no terminal fails.
-  no_terminal-unopened : (place : PropositionPlace) (names : NameTable) (ts rest after : TokenList) (because : TextCause)
+  no_terminal-if_unopened : (place : PropositionPlace) (names : NameTable) (ts rest after : TokenList) (because : TextCause)
       → place ≡ (false, 0)
       → ts ≡ codes ")" ∷ after
       → FailsInTerminal arch threads place.0 names ts rest because
       → ⊥
-  no_terminal-unopened place names ts rest after because is begins fails =
+  no_terminal-if_unopened place names ts rest after because is begins fails =
       not-FailsBefore-if_parsed joint_signs cause.Condition ts rest after because (codes ")")
       (subst (λ (p : PropositionPlace). FailsInTerminal arch threads p.0 names ts rest because) is fails) begins
       (λ all. all.0 refl)
@@ -169,7 +169,7 @@ module _ (arch : Arch) (threads : ℕ) where
   FailsInProposition-unique r s d e place nodes names ts (in_terminal some room fails) (in_terminal also has more) =
       FailsInTerminal-unique place.0 names ts r s d e fails more
   FailsInProposition-unique r s d e place nodes names ts (in_terminal some room fails) (unopened here begins is because) =
-      absurd (no_terminal-unopened place names ts r _ d here begins fails)
+      absurd (no_terminal-if_unopened place names ts r _ d here begins fails)
   FailsInProposition-unique r s d e (part, n) nodes names ts (in_terminal some room fails) (after_terminal t mid next also terminal has step q) =
       absurd (not-FailsInTerminal-if_parsed part n names ts r mid d t next fails terminal step has)
   FailsInProposition-unique r s d e place nodes names ts (unopened here begins at because) (incomplete part_open end is) =
@@ -178,11 +178,11 @@ module _ (arch : Arch) (threads : ℕ) where
       absurd ((IfFirst-of_head (λ t. AllByRecursion (λ w. t ≢ w) (codes "(" ∷ codes ")" ∷ [])) s _ (codes ")") (sym at ∙ begins)
       first).1.0 refl)
   FailsInProposition-unique r s d e place nodes names ts (unopened here begins is because) (in_terminal some room fails) =
-      absurd (no_terminal-unopened place names ts s _ e here begins fails)
+      absurd (no_terminal-if_unopened place names ts s _ e here begins fails)
   FailsInProposition-unique r s d e place nodes names ts (unopened here begins is because) (unopened also again at cause) =
       (sym is ∙ at, λ some. because ∙ sym cause)
   FailsInProposition-unique r s d e place nodes names ts (unopened here begins is because) (after_terminal t mid next room terminal has step q) =
-      absurd (no_Close-IsTerminal place next ts _ mid t here begins terminal step)
+      absurd (no_Close-if_terminal place next ts _ mid t here begins terminal step)
   FailsInProposition-unique r s d e place nodes names ts (after_terminal t mid next room terminal has step q) (incomplete part_open end is) =
       absurd (not-empty-IsTerminal ts mid t terminal end)
   FailsInProposition-unique r s d e place nodes names ts (after_terminal t mid next room terminal has step q) (too_many_nodes some full at first because) =
@@ -191,7 +191,7 @@ module _ (arch : Arch) (threads : ℕ) where
   FailsInProposition-unique r s d e (part, n) nodes names ts (after_terminal t mid next also terminal has step q) (in_terminal some room fails) =
       absurd (not-FailsInTerminal-if_parsed part n names ts s mid e t next fails terminal step has)
   FailsInProposition-unique r s d e place nodes names ts (after_terminal t mid next room terminal has step q) (unopened here begins is because) =
-      absurd (no_Close-IsTerminal place next ts _ mid t here begins terminal step)
+      absurd (no_Close-if_terminal place next ts _ mid t here begins terminal step)
   FailsInProposition-unique r s d e place nodes names ts (after_terminal t mid next room terminal has step p) (after_terminal u other then more another too again q) =
       let same = IsTerminal-unique arch threads ts t u mid other terminal another in
       let F = λ (pl : PropositionPlace) (x : Terminal AtomSyntax) (l : TokenList).
@@ -328,7 +328,7 @@ module _ (arch : Arch) (threads : ℕ) where
       let after =
       state_after state (resolved (with_sites names (sites_in (s ∷ ss))) s)
       (map (resolved (with_sites names (sites_in (s ∷ ss)))) ss) p said in
-      no_Close-IsTerminal (place_of state) (place_of after.0) ts _ all.0 s (sym here ∙ at) begins all.1
+      no_Close-if_terminal (place_of state) (place_of after.0) ts _ all.0 s (sym here ∙ at) begins all.1
       (next_place-resolved state (with_sites names (sites_in (s ∷ ss))) s ∙ ap (option_map place_of) after.1)
   not-FailsInProposition-if_parsed rest because place nodes names ts state (s ∷ ss) p (after_terminal t mid next has terminal fits step q) here all said few room =
       let table = with_sites names (sites_in (s ∷ ss)) in

@@ -151,16 +151,16 @@ KeyLine-front text end p =
     ap (first_byte_is is_key_byte) e ∙ key_front p.key (p.spaces ++ 61 ∷ (p.value ++ end)) p.not_empty p.are_key_bytes
 
 -- If the text does not start with a byte of a key, there is no line `Key=value`.
-pub no_key_line-empty_key : (text key rest : Bytes)
+pub no_key_line-if_key_is_empty : (text key rest : Bytes)
     → text ≡ key ++ rest
     → first_byte_is is_key_byte rest ≡ false
     → length key ≡ 0
     → HoldsOfNothing (KeyLine text)
-no_key_line-empty_key text [] rest e longest gone end p =
+no_key_line-if_key_is_empty text [] rest e longest gone end p =
     let h = KeyLine-front text end p in
     let k = ap (first_byte_is is_key_byte) e in
     cc
-no_key_line-empty_key text (b ∷ key) rest e longest gone end p = omega (arith, gone)
+no_key_line-if_key_is_empty text (b ∷ key) rest e longest gone end p = omega (arith, gone)
 
 -- ---- one note
 
@@ -216,20 +216,20 @@ note_no_block text end h (inl q) =
 note_no_block text end h (inr p) = not-both_tests-first_byte _ _ text h (KeyLine-front _ end p) (λ b k. byte_no_key 123 b refl k)
 
 -- A text that starts with no quote and with no line `Key=value` starts with no note.
-pub no_note-neither_kind : (text : Bytes)
+pub no_note-if_neither_kind : (text : Bytes)
     → first_byte_is (λ b. b == 34) text ≡ false
     → HoldsOfNothing (KeyLine text)
     → HoldsOfNothing (Note text)
-no_note-neither_kind text other never end (inl q) = let h = Quoted-front text end q in cc
-no_note-neither_kind text other never end (inr p) = never end p
+no_note-if_neither_kind text other never end (inl q) = let h = Quoted-front text end q in cc
+no_note-if_neither_kind text other never end (inr p) = never end p
 
 -- A text that starts with a quote but with no quoted text starts with no note.
-pub no_note-unclosed_quote : (text : Bytes)
+pub no_note-if_quote_is_unclosed : (text : Bytes)
     → first_byte_is (λ b. b == 34) text ≡ true
     → HoldsOfNothing (Quoted text)
     → HoldsOfNothing (Note text)
-no_note-unclosed_quote text here never end (inl q) = never end q
-no_note-unclosed_quote text here never end (inr p) =
+no_note-if_quote_is_unclosed text here never end (inl q) = never end q
+no_note-if_quote_is_unclosed text here never end (inr p) =
     not-both_tests-first_byte (λ b. b == 34) is_key_byte text here (KeyLine-front text end p) (λ b h. byte_no_key 34 b refl h)
 
 -- A note takes at least one byte, and what follows it is a suffix of the text.

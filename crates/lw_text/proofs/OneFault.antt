@@ -11,7 +11,7 @@ use Rattle.lw_text.proofs.ByteFailures.{FailsInFirstToken-end, FailsInPreamble-u
 use Rattle.lw_text.proofs.ByteFailures.{not-FailsInPreamble-if_parsed}
 use Rattle.lw_text.proofs.Preambles.{Preamble-unique}
 use Rattle.lw_text.proofs.StreamFailures.{placed_many}
-use Rattle.lw_text.proofs.TokenRows.{IsFirstToken-unique, no_first_token-trivia_only, placed_tokens_equal}
+use Rattle.lw_text.proofs.TokenRows.{IsFirstToken-unique, no_first_token-if_only_trivia, placed_tokens_equal}
 use Rattle.lw_text.proofs.WholeFailures.{FailsInTest-unique, not-FailsInTest-if_parsed}
 
 -- A text's tokens, up to where none follows, and their end are unique.
@@ -53,7 +53,7 @@ HasTokens-PlacedTokens : (len : ℕ) (text : Bytes) (tokens : List PlacedToken)
     → (end : Bytes) × HasTokens len text tokens end × Trivia end []
 HasTokens-PlacedTokens len text tokens p =
     let read = placed_many len text tokens p in
-    (read.0, (read.1, λ t rest is. no_first_token-trivia_only read.0 t rest read.2 is), read.2)
+    (read.0, (read.1, λ t rest is. no_first_token-if_only_trivia read.0 t rest read.2 is), read.2)
 
 -- Where the next token fails, no token follows.
 fails_tokens : (len : ℕ) (text end rest : Bytes) (tokens : List PlacedToken) (c : TextCause)
@@ -152,7 +152,7 @@ HasTokens-Tokens : (len : ℕ) (text end : Bytes) (ts : List PlacedToken) (us : 
     → (texts_of_tokens ts ≡ us) × Trivia end []
 HasTokens-Tokens len text end [] [] p q = (refl, subst (λ x. Trivia x []) p.0 q)
 HasTokens-Tokens len text end [] (u ∷ us) p q = absurd (p.1 u q.0 (subst (λ x. IsFirstToken x u q.0) p.0 q.1))
-HasTokens-Tokens len text end (t ∷ ts) [] p q = absurd (no_first_token-trivia_only text t.text p.0.0 q p.0.1.0)
+HasTokens-Tokens len text end (t ∷ ts) [] p q = absurd (no_first_token-if_only_trivia text t.text p.0.0 q p.0.1.0)
 HasTokens-Tokens len text end (t ∷ ts) (u ∷ us) p q =
     let e = IsFirstToken-unique text t.text p.0.0 u q.0 p.0.1.0 q.1 in
     let more = HasTokens-Tokens len p.0.0 end ts us (p.0.2, p.1) (subst (λ x. Tokens x us) (sym e.1) q.2) in
@@ -164,21 +164,21 @@ not-FailsAt-if_frame text m c frame (in_preamble rest fails place) has =
     not-FailsInPreamble-if_parsed text rest has.rest has.name has.arch c fails has.preamble
 not-FailsAt-if_frame text m c frame (in_body arch name rest is fails) has =
     let u = Preamble-unique text arch name rest has.arch has.name has.rest is has.preamble in
-    not-FailsInBody-whole (subst (λ a. FailsInBody a (length text) has.rest m c) u.0
+    not-FailsInBody-if_whole (subst (λ a. FailsInBody a (length text) has.rest m c) u.0
     (subst (λ x. FailsInBody arch (length text) x m c) u.2 fails))
   where
     -- The body of a text with a frame does not fail.
-    not-FailsInBody-whole : FailsInBody has.arch (length text) has.rest m c → ⊥
-    not-FailsInBody-whole (at_token tokens behind token before end read parts place way) =
+    not-FailsInBody-if_whole : FailsInBody has.arch (length text) has.rest m c → ⊥
+    not-FailsInBody-if_whole (at_token tokens behind token before end read parts place way) =
         let same = (HasTokens-Tokens (length text) has.rest end tokens has.tokens read has.stream).0 in
         not-FailsInTest-if_parsed has.arch has.tokens (texts_of_tokens (token ∷ behind)) c
         (subst (λ ts. FailsInTest has.arch ts (texts_of_tokens (token ∷ behind)) c) same way) has.syntax has.condition has.parts
         has.proposition
-    not-FailsInBody-whole (in_next_token tokens end rest d many next place way) =
+    not-FailsInBody-if_whole (in_next_token tokens end rest d many next place way) =
         FailsInFirstToken-end end rest c next
         (HasTokens-Tokens (length text) has.rest end tokens has.tokens
         (fails_tokens (length text) has.rest end rest tokens c many next) has.stream).1
-    not-FailsInBody-whole (at_end tokens d whole way place because) =
+    not-FailsInBody-if_whole (at_end tokens d whole way place because) =
         let all = HasTokens-PlacedTokens (length text) has.rest tokens whole in
         let same = (HasTokens-Tokens (length text) has.rest all.0 tokens has.tokens all.1 has.stream).0 in
         not-FailsInTest-if_parsed has.arch has.tokens [] d (subst (λ ts. FailsInTest has.arch ts [] d) same way) has.syntax

@@ -236,7 +236,7 @@ module _ {arch : Arch} {threads : ℕ} {before behind : Cursor} {names after : N
       (IsDuplicateFree-insert_names names (site_names (sites_in (named_terminal after s ∷ []))) once)) taken.within
 
   -- If one more terminal was read that is allowed next and has room, it is one more terminal read.
-  pub TerminalsRead-one_more : {A : Type 0} {first start : TokenList} {nodes : ℕ} {reader reader_after : PropositionReader A}
+  pub TerminalsRead-push : {A : Type 0} {first start : TokenList} {nodes : ℕ} {reader reader_after : PropositionReader A}
       → TerminalsRead arch threads first names start (remaining_texts before) nodes reader
       → IsDuplicateFree first
       → next_state (state_of reader) (terminal_of s) ≡ Some (state_of reader_after)
@@ -244,7 +244,7 @@ module _ {arch : Arch} {threads : ℕ} {before behind : Cursor} {names after : N
       → nodes_after ≡ nodes + (if is_node (terminal_of s) then 1 else 0)
       → nodes_after ≤ 256
       → TerminalsRead arch threads first after start (remaining_texts behind) nodes_after reader_after
-  TerminalsRead-one_more {start = start} read once step nodes_after counts few =
+  TerminalsRead-push {start = start} read once step nodes_after counts few =
       let t = named_terminal after s in
       let ns = site_names (sites_in (t ∷ [])) in
       let made_more : map (resolved after) (read.terminals ++ t ∷ [])

@@ -165,12 +165,12 @@ module _ {X Y : Type 0} {kind : Kind X Y} {first names ts here : TokenList} {xs 
         read.within
 
     -- The named elements are those, and the new one.
-    at-one_more : map (kind.at after) (xs ++ x ∷ []) ≡ map (kind.at names) xs ++ kind.at after x ∷ []
-    at-one_more = map_push (kind.at after) xs x ∙ ap (λ l. l ++ kind.at after x ∷ []) sites_and_IsIn-unchanged.0
+    at-push : map (kind.at after) (xs ++ x ∷ []) ≡ map (kind.at names) xs ++ kind.at after x ∷ []
+    at-push = map_push (kind.at after) xs x ∙ ap (λ l. l ++ kind.at after x ∷ []) sites_and_IsIn-unchanged.0
 
     -- The table has the names of all, in order.
-    names-one_more : after ≡ with_sites first (sites_of kind after (xs ++ x ∷ []))
-    names-one_more =
+    names-push : after ≡ with_sites first (sites_of kind after (xs ++ x ∷ []))
+    names-push =
         let s = site_by_name after (kind.site x) in
         let same = sym (syntax_sites kind _ xs) ∙ ap (map kind.syntax) sites_and_IsIn-unchanged.0 ∙ syntax_sites kind names xs in
         let e = map_push (λ x. site_by_name after (kind.site x)) xs x ∙ ap (λ l. l ++ s ∷ []) same in
@@ -179,12 +179,12 @@ module _ {X Y : Type 0} {kind : Kind X Y} {first names ts here : TokenList} {xs 
         ∙ sym (ap (λ l. with_sites first l) e ∙ with_sites-append first (sites_of kind names xs) (s ∷ []))
 
     -- All sites are in the table.
-    IsIn-one_more : AllByRecursion (λ x. IsIn after (kind.site x)) (xs ++ x ∷ [])
-    IsIn-one_more = AllByRecursion-snoc (λ x. IsIn after (kind.site x)) xs x sites_and_IsIn-unchanged.1 more.is_in
+    IsIn-push : AllByRecursion (λ x. IsIn after (kind.site x)) (xs ++ x ∷ [])
+    IsIn-push = AllByRecursion-snoc (λ x. IsIn after (kind.site x)) xs x sites_and_IsIn-unchanged.1 more.is_in
 
     -- All elements satisfy what is asked of them.
-    asks-one_more : AllByRecursion kind.asks (map (kind.at after) (xs ++ x ∷ []))
-    asks-one_more = subst (AllByRecursion kind.asks) (sym at-one_more) (AllByRecursion-snoc kind.asks _ _ read.fits more.fits)
+    asks-push : AllByRecursion kind.asks (map (kind.at after) (xs ++ x ∷ []))
+    asks-push = subst (AllByRecursion kind.asks) (sym at-push) (AllByRecursion-snoc kind.asks _ _ read.fits more.fits)
 
     -- If a separator follows one more element, it is one more element read.
     pub Read-separator : (next : TokenList) → mid ≡ semicolon ∷ next → Read kind first after ts next (xs ++ x ∷ [])
@@ -192,11 +192,11 @@ module _ {X Y : Type 0} {kind : Kind X Y} {first names ts here : TokenList} {xs 
       start = read.start;
       begun = read.begun;
       listing =
-          subst (λ l. Listing kind.parses semicolon kind.close read.start l next) (sym at-one_more)
+          subst (λ l. Listing kind.parses semicolon kind.close read.start l next) (sym at-push)
           (ParsesMany-push _ _ read.start here next (kind.at after x) read.listing (mid, more.parsed, e));
-      names_are = names-one_more;
-      within = IsIn-one_more;
-      fits = asks-one_more;
+      names_are = names-push;
+      within = IsIn-push;
+      fits = asks-push;
     }
 
     -- If the closing token follows one more element, the whole list has been read.
@@ -205,10 +205,10 @@ module _ {X Y : Type 0} {kind : Kind X Y} {first names ts here : TokenList} {xs 
       whole = (
         read.start,
         read.begun,
-        subst (λ l. ParsesSepEndBy kind.parses semicolon kind.close read.start l rest) (sym at-one_more)
+        subst (λ l. ParsesSepEndBy kind.parses semicolon kind.close read.start l rest) (sym at-push)
             (Listing-last kind.parses semicolon kind.close _ read.start here mid rest _ read.listing more.parsed e),
       );
-      names_are = names-one_more;
-      within = All-from_recursion (λ x. IsIn after (kind.site x)) (xs ++ x ∷ []) IsIn-one_more;
-      fits = asks-one_more;
+      names_are = names-push;
+      within = All-from_recursion (λ x. IsIn after (kind.site x)) (xs ++ x ∷ []) IsIn-push;
+      fits = asks-push;
     }

@@ -132,12 +132,12 @@ pub Filling-in_range : {X : Type 0} {old columns : List (List X)} {row rest more
 Filling-in_range f is = omega (arith, ap length f.columns_are, length-append f.done f.todo, f.number, f.even, ap length is)
 
 -- If the next cell is appended to the column at `count`, one more column has got its cell.
-pub Filling-one_more : {X : Type 0} {old columns : List (List X)} {row rest more column : List X} {count : ℕ} {x : X}
+pub Filling-push : {X : Type 0} {old columns : List (List X)} {row rest more column : List X} {count : ℕ} {x : X}
     → Filling old columns row rest count
     → rest ≡ x ∷ more
     → column ≡ get_or columns count column
     → Filling old (set columns count (column ++ x ∷ [])) row more (count + 1)
-Filling-one_more {X} {old} {columns} {row} {rest} {more} {column} {count} {x} f is at = Filling-next f.todo refl
+Filling-push {X} {old} {columns} {row} {rest} {more} {column} {count} {x} f is at = Filling-next f.todo refl
   where
     -- By the columns that still lack their cell.
     Filling-next : (todo : List (List X))

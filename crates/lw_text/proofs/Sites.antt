@@ -23,12 +23,12 @@ allowed_thread None t r e = tt
 allowed_thread (Some threads) t r e = ltb-true t threads e
 
 -- A register of a thread that is not allowed is not allowed.
-pub not-ThreadAllowed-above_threads : (threads : Option ℕ) (t r : ℕ)
+pub not-ThreadAllowed-if_above_threads : (threads : Option ℕ) (t r : ℕ)
     → is_allowed threads t ≡ false
     → ThreadAllowed threads (InThread t r)
     → ⊥
-not-ThreadAllowed-above_threads None t r e there = absurd (true≢false e)
-not-ThreadAllowed-above_threads (Some threads) t r e there = omega (arith, there, ltb-false t threads e)
+not-ThreadAllowed-if_above_threads None t r e there = absurd (true≢false e)
+not-ThreadAllowed-if_above_threads (Some threads) t r e there = omega (arith, there, ltb-false t threads e)
 
 -- If a location's name was inserted, and is next with or without brackets, its site was read.
 pub location_site_parsed : {arch : Arch} {threads : Option ℕ} {before after : Cursor} {names table : NameTable} {loc : ℕ}

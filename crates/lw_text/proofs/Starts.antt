@@ -5,29 +5,29 @@ use Rattle.lw_text.proofs.Common.{take_all, range_with_len, flat_map-append, map
 use Rattle.lw_text.proofs.Common.{map-range_with_len_more, Seen, thread_registers, all_registers}
 
 -- The images of the first `n + 1` indices that pass a test are those of the first n that do, followed by the last, if it does.
-pub filter-one_more : {X : Type 0} (p : X → Bool) (f : ℕ → X) (n : ℕ)
+pub filter-push : {X : Type 0} (p : X → Bool) (f : ℕ → X) (n : ℕ)
     → filter p (map f (range_with_len 0 (n + 1))) ≡ filter p (map f (range_with_len 0 n)) ++ filter p (f n ∷ [])
-filter-one_more p f n = ap (filter p) (map-range_with_len_more f 0 n n (zero-add n)) ∙ filter-append p _ _
+filter-push p f n = ap (filter p) (map-range_with_len_more f 0 n n (zero-add n)) ∙ filter-append p _ _
 
 -- Appending h of the image of index n extends the list for the first n indices to `n + 1`.
-pub map-one_more : {X Y : Type 0} (h : X → Y) (f : ℕ → X) (before after : List Y) (n : ℕ) (y : Y)
+pub map-push : {X Y : Type 0} (h : X → Y) (f : ℕ → X) (before after : List Y) (n : ℕ) (y : Y)
     → before ≡ map h (map f (range_with_len 0 n))
     → after ≡ before ++ y ∷ []
     → y ≡ h (f n)
     → after ≡ map h (map f (range_with_len 0 (n + 1)))
-map-one_more h f before after n y e p q =
+map-push h f before after n y e p q =
     rw (map-range_with_len_more f 0 n n (zero-add n), map_push h (map f (range_with_len 0 n)) (f n), ← e, ← q) p
 
 -- Appending the image of index n, if it passes a test, extends the filtered images of the first n indices to `n + 1`.
-pub filtered_seen-one_more : {X : Type 0} (p : X → Bool) (before seen after : List X) (f : ℕ → X) (n : ℕ)
+pub filtered_seen-push : {X : Type 0} (p : X → Bool) (before seen after : List X) (f : ℕ → X) (n : ℕ)
     → seen ≡ before ++ filter p (map f (range_with_len 0 n))
     → after ≡ seen ++ filter p (f n ∷ [])
     → after ≡ before ++ filter p (map f (range_with_len 0 (n + 1)))
-filtered_seen-one_more p before seen after f n e h =
+filtered_seen-push p before seen after f n e h =
     h
     ∙ ap (λ l. l ++ filter p (f n ∷ [])) e
     ∙ append_assoc before (filter p (map f (range_with_len 0 n))) (filter p (f n ∷ []))
-    ∙ ap (λ l. before ++ l) (sym (filter-one_more p f n))
+    ∙ ap (λ l. before ++ l) (sym (filter-push p f n))
 
 -- The `n + 1` indices from a are the n from a, followed by `a + n`.
 range-more : (a n : ℕ) → range_with_len a (n + 1) ≡ range_with_len a n ++ (a + n) ∷ []
@@ -37,11 +37,11 @@ range-more a n =
     ∙ ap (λ l. l ++ (a + n) ∷ []) (map-id (range_with_len a n))
 
 -- Appending the registers of thread n that pass a test extends those of the first n threads to `n + 1`.
-pub registers-one_more : (p : Seen → Bool) (seen after : List Seen) (n : ℕ)
+pub registers-push : (p : Seen → Bool) (seen after : List Seen) (n : ℕ)
     → seen ≡ filter p (all_registers n)
     → after ≡ seen ++ filter p (thread_registers n)
     → after ≡ filter p (all_registers (n + 1))
-registers-one_more p seen after n e f =
+registers-push p seen after n e f =
     let more =
     ap (flat_map thread_registers) (range-more 0 n ∙ ap (λ (k : ℕ). range_with_len 0 n ++ k ∷ []) (zero-add n))
     ∙ flat_map-append thread_registers (range_with_len 0 n) (n ∷ [])

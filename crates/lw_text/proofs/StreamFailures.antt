@@ -12,7 +12,7 @@ use Rattle.lw_text.proofs.Common.{TextCause, StopsAt, StreamFails, at_stream_tok
 use Rattle.lw_text.proofs.Common.{at_stream_fault}
 use Rattle.lw_text.proofs.api.Places.{texts_placed}
 use Rattle.lw_text.proofs.ByteFailures.{not-FailsInFirstToken-if_parsed}
-use Rattle.lw_text.proofs.TokenRows.{no_first_token-trivia_only}
+use Rattle.lw_text.proofs.TokenRows.{no_first_token-if_only_trivia}
 
 -- What holds of all items holds of one after others.
 holds_after : {X : Type 0} (P : X → Type 0) (front : List X) (x : X) (more : List X) → AllByRecursion P (front ++ x ∷ more) → P x
@@ -85,7 +85,7 @@ body_fails {arch} {len} {text} {tokens} {fault} {at} {cause} stream (at_stream_t
         → (end : Bytes) × HasTokens len text tokens end
     HasTokens-by_fault None p =
         let read = placed_many len text tokens p in
-        (read.0, (read.1, λ t rest is. no_first_token-trivia_only read.0 t rest read.2 is))
+        (read.0, (read.1, λ t rest is. no_first_token-if_only_trivia read.0 t rest read.2 is))
     HasTokens-by_fault (Some g) p =
         (p.2.end, (p.2.read, λ t rest is. not-FailsInFirstToken-if_parsed p.2.end p.2.fails.rest t rest g.cause p.2.fails.way is))
 body_fails stream (at_stream_end c none way place cause) = at_end _ c (rw none at stream) way place cause

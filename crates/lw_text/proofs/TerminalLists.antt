@@ -67,11 +67,11 @@ terminal_front arch threads ts rest (Atom (Holds site n)) p =
     inr (record { site = site; n = n; mid = p.0; terminal_is = refl; site_is = p.1; value = p.3 })
 
 -- If no value follows a site, there is no terminal.
-pub no_terminal-site_without_value : (arch : Arch) (threads : ℕ) (ts mid : TokenList) (site : SiteSyntax)
+pub no_terminal-if_site_has_no_value : (arch : Arch) (threads : ℕ) (ts mid : TokenList) (site : SiteSyntax)
     → IsSite arch ts site mid
     → ParsesNothing (Value mid)
     → ParsesNothing (IsTerminal arch threads ts)
-no_terminal-site_without_value arch threads ts mid site p never s rest is = elim (terminal_front arch threads ts rest s is) [
+no_terminal-if_site_has_no_value arch threads ts mid site p never s rest is = elim (terminal_front arch threads ts rest s is) [
   | inl w ↦ no_site w.word w.apart arch ts rest mid site w.tokens_are p
   | inr w ↦ never w.n rest (subst (λ l. Value l w.n rest) (IsSite-unique arch ts w.site site w.mid mid w.site_is p).1 w.value)
 ]

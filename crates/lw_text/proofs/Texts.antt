@@ -46,8 +46,8 @@ word_next (t ∷ tokens) (suc next) w h =
     )
 
 -- Past the last token no tokens remain.
-pub no_tokens-past_last : (tokens : List Token) (next : ℕ) → length tokens ≤ next → token_texts (drop next tokens) ≡ []
-no_tokens-past_last tokens next le = ap token_texts (drop_all next tokens le)
+pub no_tokens-if_past_last : (tokens : List Token) (next : ℕ) → length tokens ≤ next → token_texts (drop next tokens) ≡ []
+no_tokens-if_past_last tokens next le = ap token_texts (drop_all next tokens le)
 
 -- Before the last token some tokens remain.
 pub tokens_remain-before_last : (tokens : List Token) (next : ℕ)

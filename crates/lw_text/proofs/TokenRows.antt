@@ -15,8 +15,8 @@ IsFirstToken-unique text t r u s p q =
     token-unique t r u s p.1 q.1 (Trivia-unique p.0 q.0 (token_no_trivia t r p.1) (token_no_trivia u s q.1))
 
 -- If only trivia remains, there is no first token.
-pub no_first_token-trivia_only : (text t r : Bytes) → Trivia text [] → IsFirstToken text t r → ⊥
-no_first_token-trivia_only text t r g p =
+pub no_first_token-if_only_trivia : (text t r : Bytes) → Trivia text [] → IsFirstToken text t r → ⊥
+no_first_token-if_only_trivia text t r g p =
     let e = Trivia-unique g p.0 refl (token_no_trivia t r p.1) in
     let n = token_nonempty t r p.1 in
     omega (arith, ap length e, length-append t r)
@@ -24,8 +24,8 @@ no_first_token-trivia_only text t r g p =
 -- The list of tokens of a text is unique.
 pub Tokens-unique : (ts us : TokenList) (text : Bytes) → Tokens text ts → Tokens text us → ts ≡ us
 Tokens-unique [] [] text p q = refl
-Tokens-unique [] (u ∷ us) text p q = absurd (no_first_token-trivia_only text u q.0 p q.1)
-Tokens-unique (t ∷ ts) [] text p q = absurd (no_first_token-trivia_only text t p.0 q p.1)
+Tokens-unique [] (u ∷ us) text p q = absurd (no_first_token-if_only_trivia text u q.0 p q.1)
+Tokens-unique (t ∷ ts) [] text p q = absurd (no_first_token-if_only_trivia text t p.0 q p.1)
 Tokens-unique (t ∷ ts) (u ∷ us) text p q =
     let e = IsFirstToken-unique text t p.0 u q.0 p.1 q.1 in
     let i : t ≡ u = e.0 in
@@ -52,7 +52,7 @@ pub Read-fault : (len : ℕ) (ts : List PlacedToken) (text rest : Bytes)
     → HoldsOfNothing (Tokens rest)
     → HoldsOfNothing (Tokens text)
 Read-fault len [] text rest p never us q = never us (subst (λ x. Tokens x us) p q)
-Read-fault len (t ∷ ts) text rest p never [] q = no_first_token-trivia_only text t.text p.0 q p.1.0
+Read-fault len (t ∷ ts) text rest p never [] q = no_first_token-if_only_trivia text t.text p.0 q p.1.0
 Read-fault len (t ∷ ts) text rest p never (u ∷ us) q =
     Read-fault _ ts _ _ p.2 never us (subst (λ x. Tokens x us) (sym (IsFirstToken-unique _ _ _ u _ p.1.0 q.1).1) q.2)
 
@@ -64,15 +64,15 @@ module _ (text start : Bytes) (g : Trivia text start) (stop : begins_trivia star
   not-ended-if_nonempty pos q = omega (arith, ap length (Trivia-unique g q stop refl))
 
   -- If no token follows the trivia, the text has no first token.
-  pub no_first_token-after_trivia : ((t rest : Bytes) → start ≡ t ++ rest → IsToken t rest → ⊥)
+  pub no_first_token-if_none_after_trivia : ((t rest : Bytes) → start ≡ t ++ rest → IsToken t rest → ⊥)
       → ParsesNothing (IsFirstToken text)
-  no_first_token-after_trivia never t rest q = never t rest (Trivia-unique g q.0 stop (token_no_trivia t rest q.1)) q.1
+  no_first_token-if_none_after_trivia never t rest q = never t rest (Trivia-unique g q.0 stop (token_no_trivia t rest q.1)) q.1
 
 -- If a comment is not closed, the text has no first token.
-pub no_first_token-open_comment : (text : Bytes)
+pub no_first_token-if_comment_is_open : (text : Bytes)
     → ((start : Bytes) → begins_trivia start ≡ false → Trivia text start → ⊥)
     → ParsesNothing (IsFirstToken text)
-no_first_token-open_comment text never t rest q = never (t ++ rest) (token_no_trivia t rest q.1) q.0
+no_first_token-if_comment_is_open text never t rest q = never (t ++ rest) (token_no_trivia t rest q.1) q.0
 
 -- A text that is not only trivia and has no first token is no list of tokens.
 pub Tokens-none : (text : Bytes) → (Trivia text [] → ⊥) → ParsesNothing (IsFirstToken text) → HoldsOfNothing (Tokens text)
@@ -106,8 +106,8 @@ pub PlacedTokens-unique : (len : ℕ) (ts us : List PlacedToken) (text : Bytes)
     → PlacedTokens len text us
     → ts ≡ us
 PlacedTokens-unique len [] [] text p q = refl
-PlacedTokens-unique len [] (u ∷ us) text p q = absurd (no_first_token-trivia_only text u.text q.0 p q.1)
-PlacedTokens-unique len (t ∷ ts) [] text p q = absurd (no_first_token-trivia_only text t.text p.0 q p.1)
+PlacedTokens-unique len [] (u ∷ us) text p q = absurd (no_first_token-if_only_trivia text u.text q.0 p q.1)
+PlacedTokens-unique len (t ∷ ts) [] text p q = absurd (no_first_token-if_only_trivia text t.text p.0 q p.1)
 PlacedTokens-unique len (t ∷ ts) (u ∷ us) text p q =
     let e = IsFirstToken-unique text t.text p.0 u.text q.0 p.1 q.1 in
     let at : t.at ≡ u.at = omega (arith, p.2, q.2, ap length e.0, ap length e.1) in

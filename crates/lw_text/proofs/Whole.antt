@@ -144,11 +144,11 @@ module _ (arch : Arch) (ts a : TokenList) (initializers : List InitializerSyntax
         (e.0, u.0, rw (u.0, u.1) at p.rows, rw u.0 at p.condition)
 
     -- If the thread of an initializer is not one of the header's, the tokens are no test.
-    pub no_test-missing_thread : (names : NameTable) (made : List MadeInitializer)
+    pub no_test-if_thread_is_missing : (names : NameTable) (made : List MadeInitializer)
         → initializers ≡ map (named_initializer names) made
         → list_all (λ e. thread_exists n e.site) made ≡ false
         → HoldsOfNothing (ParsesTest arch ts)
-    no_test-missing_thread names made is none s p =
+    no_test-if_thread_is_missing names made is none s p =
         let h = ParsesTest-rows_inv s p in
         let all =
         thread_exists-all_initializers n names made
@@ -237,35 +237,35 @@ abbrev HasNoTest : Arch → Bytes → Type 0
 HasNoTest arch text = (ts : TokenList) → Tokens text ts → ParsesNoTest arch ts
 
 -- If the tokens after a text's preamble are no test, the text has no frame.
-pub no_frame-HasNoTest : (text : Bytes) (arch : Arch) (name rest : Bytes)
+pub no_frame-if_no_test : (text : Bytes) (arch : Arch) (name rest : Bytes)
     → Preamble text arch name rest
     → HasNoTest arch rest
     → HoldsOfNothing (HasFrame text)
-no_frame-HasNoTest text arch name rest preamble never frame h =
+no_frame-if_no_test text arch name rest preamble never frame h =
     let e = Preamble-unique text h.arch h.name h.rest arch name rest h.preamble preamble in
     never h.tokens (subst (λ x. Tokens x h.tokens) e.2 h.stream) h.syntax h.condition
     (subst (λ a. ParsesTest a h.tokens h.syntax) e.0 h.parts) h.proposition
 
 -- If a lexical fault ends the tokens, or there is none and they are no test, the text's tokens are no test.
-pub HasNoTest-no_tokens_or_no_parse : {F : Type 0} (arch : Arch) (o : Option F) (Q : F → Type 0) (len : ℕ) (rest : Bytes)
+pub HasNoTest-if_no_tokens_or_no_parse : {F : Type 0} (arch : Arch) (o : Option F) (Q : F → Type 0) (len : ℕ) (rest : Bytes)
     (ts : List Token)
     → MatchOption o (PlacedTokens len rest (with_spans ts)) (λ f. HoldsOfNothing (Tokens rest) × Q f)
     → IfNone o (ParsesNoTest arch (token_texts ts))
     → HasNoTest arch rest
-HasNoTest-no_tokens_or_no_parse arch None Q len rest ts stream never us other s p parts whole =
+HasNoTest-if_no_tokens_or_no_parse arch None Q len rest ts stream never us other s p parts whole =
     never s p
     (subst (λ x. ParsesTest arch x s) (Tokens-unique us (token_texts ts) rest other (read_whole len rest ts stream)) parts) whole
-HasNoTest-no_tokens_or_no_parse arch (Some f) Q len rest ts stream never us other s p parts whole = stream.0 us other
+HasNoTest-if_no_tokens_or_no_parse arch (Some f) Q len rest ts stream never us other s p parts whole = stream.0 us other
 
 -- If tokens start with none of the three quantifiers, there is none.
-pub no_quantifier-other_word : (ts : TokenList)
+pub no_quantifier-if_other_word : (ts : TokenList)
     → begins_token (codes "~") ts ≡ false
     → ((rest : TokenList) → ts ≡ codes "exists" ∷ rest → ⊥)
     → ((rest : TokenList) → ts ≡ codes "forall" ∷ rest → ⊥)
     → ParsesNothing (Quantified ts)
-no_quantifier-other_word ts no_tilde no_first no_second Exists rest f = no_first rest f
-no_quantifier-other_word ts no_tilde no_first no_second NotExists rest f = not-token_is_next (codes "~") ts _ no_tilde f
-no_quantifier-other_word ts no_tilde no_first no_second Forall rest f = no_second rest f
+no_quantifier-if_other_word ts no_tilde no_first no_second Exists rest f = no_first rest f
+no_quantifier-if_other_word ts no_tilde no_first no_second NotExists rest f = not-token_is_next (codes "~") ts _ no_tilde f
+no_quantifier-if_other_word ts no_tilde no_first no_second Forall rest f = no_second rest f
 
 -- The site of a thread that does not exist is a register.
 pub site_is_register-missing_thread : (site : MadeSite) (threads : ℕ)

@@ -32,13 +32,13 @@ module _ (arch : Arch) where
       let u = IsInitializer-unique arch ts x y (codes ";" ∷ r) (codes ";" ∷ s) p q in (u.0, cons-tail_unique u.1)
 
   -- The thread of an initializer that is not one of the threads does not exist.
-  not-ThreadExists-above_threads : (threads t r word : ℕ) (ts behind after : TokenList) (e : InitializerSyntax)
+  not-ThreadExists-if_above_threads : (threads t r word : ℕ) (ts behind after : TokenList) (e : InitializerSyntax)
       → IsInitializer arch ts (record { site = InThread t r; word = word }) behind
       → threads ≤ t
       → IsInitializer arch ts e after
       → ThreadExists threads e.site
       → ⊥
-  not-ThreadExists-above_threads threads t r word ts behind after e is high also there =
+  not-ThreadExists-if_above_threads threads t r word ts behind after e is high also there =
       let u = IsInitializer-unique arch ts (record { site = InThread t r; word = word }) e behind after is also in
       let low : t < threads = subst (λ (x : InitializerSyntax). ThreadExists threads x.site) (sym u.0) there in
       omega (arith, high, low)
@@ -58,10 +58,10 @@ module _ (arch : Arch) where
   first_bad_thread-unique threads [] [] inside rest place t r word u v more behind after p all is high q each also above =
       sym p ∙ q
   first_bad_thread-unique threads [] (y ∷ other) inside rest place t r word u v more behind after p all is high q each also above =
-      absurd (not-ThreadExists-above_threads threads t r word inside behind (codes ";" ∷ q.0) y
+      absurd (not-ThreadExists-if_above_threads threads t r word inside behind (codes ";" ∷ q.0) y
       (subst (λ l. IsInitializer arch l (record { site = InThread t r; word = word }) behind) (sym p) is) high q.1 each.0)
   first_bad_thread-unique threads (x ∷ front) [] inside rest place t r word u v more behind after p all is high q each also above =
-      absurd (not-ThreadExists-above_threads threads u v more inside after (codes ";" ∷ p.0) x
+      absurd (not-ThreadExists-if_above_threads threads u v more inside after (codes ";" ∷ p.0) x
       (subst (λ l. IsInitializer arch l (record { site = InThread u v; word = more }) after) (sym q) also) above p.1 all.0)
   first_bad_thread-unique threads (x ∷ front) (y ∷ other) inside rest place t r word u v more behind after p all is high q each also above =
       first_bad_thread-unique threads front other p.0 rest place t r word u v more behind after p.2 all.1 is high
@@ -79,7 +79,7 @@ module _ (arch : Arch) where
   not-all_threads_exist threads [] [] inside rest end t r word behind p is high block all =
       no_site (codes "}") refl arch rest end is.0 (InThread t r) (sym p ∙ block) is.1
   not-all_threads_exist threads [] (y ∷ es) inside rest end t r word behind p is high block all =
-      not-ThreadExists-above_threads threads t r word inside behind block.0 y
+      not-ThreadExists-if_above_threads threads t r word inside behind block.0 y
       (subst (λ l. IsInitializer arch l (record { site = InThread t r; word = word }) behind) (sym p) is) high block.1 all.0
   not-all_threads_exist threads (x ∷ front) [] inside rest end t r word behind p is high block all =
       no_site (codes "}") refl arch inside end p.1.0 x.site block p.1.1

@@ -67,14 +67,14 @@ length-cells_of names code n is =
     let here : 0 + length code ≡ length code = omega arith in rw (length-cells names code 0 code, here) is
 
 -- The maximum over the first `k + 1` threads is that over the first k and the next thread's number of cells.
-pub max_cell_count-one_more : {X : Type 0} (f : X → List Bytes) (threads : List X) (k : ℕ) {code : X} {height count new : ℕ}
+pub max_cell_count-push : {X : Type 0} (f : X → List Bytes) (threads : List X) (k : ℕ) {code : X} {height count new : ℕ}
     → k < length threads
     → code ≡ get_or threads k code
     → height ≡ max_cell_count (map f (take k threads))
     → count ≡ length (f code)
     → new ≡ ord_max nat_cmp height count
     → new ≡ max_cell_count (map f (take (k + 1) threads))
-max_cell_count-one_more f threads k {code} {height} {count} lt is before counted taken =
+max_cell_count-push f threads k {code} {height} {count} lt is before counted taken =
     rw (
       take_more threads k code lt,
       ← is,

@@ -17,11 +17,11 @@ joined-snoc between (first ∷ parts) part =
 module _ (between : Bytes) (parts : List Bytes) (k : ℕ) (start out : Bytes)
     (before : out ≡ start ++ joined between (take k parts)) where
   -- Writing the next part after its separator extends the first k parts to `k + 1`.
-  pub joined_prefix-one_more : (part new : Bytes)
+  pub joined_prefix-push : (part new : Bytes)
       → slice_get parts k ≡ Some part
       → new ≡ out ++ (separator k between ++ part)
       → new ≡ start ++ joined between (take (k + 1) parts)
-  joined_prefix-one_more part new is written =
+  joined_prefix-push part new is written =
       let next : k + 1 ≡ suc k = omega arith in
       let long : length (take k parts) ≡ k = omega (arith, length-take k parts, slice_get_within parts k part is) in
       rw (

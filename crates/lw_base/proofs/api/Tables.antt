@@ -198,9 +198,9 @@ insert_names-if_in_table names (n ∷ ns) h =
     ∙ insert_names-if_in_table names ns h.1
 
 -- A name of a list without duplicates is none of those before it.
-not-Contains-before : (before ns : NameTable) (n : Bytes) → IsDuplicateFree (before ++ (n ∷ ns)) → Contains before n → ⊥
-not-Contains-before [] ns n once there = let k : there.0 < 0 = there.1 in absurd (omega arith)
-not-Contains-before (b ∷ before) ns n once there = at there.0 there.1 there.2 (not-Contains-before before ns n once.1)
+not-Contains-if_before : (before ns : NameTable) (n : Bytes) → IsDuplicateFree (before ++ (n ∷ ns)) → Contains before n → ⊥
+not-Contains-if_before [] ns n once there = let k : there.0 < 0 = there.1 in absurd (omega arith)
+not-Contains-if_before (b ∷ before) ns n once there = at there.0 there.1 there.2 (not-Contains-if_before before ns n once.1)
   where
     at : (k : ℕ) → k < length (b ∷ before) → get_or (b ∷ before) k n ≡ n → (Contains before n → ⊥) → ⊥
     at zero lt e further =
@@ -213,7 +213,7 @@ insert_names-if_new : (before ns : NameTable) → IsDuplicateFree (before ++ ns)
 insert_names-if_new before [] once = sym (append-nil before)
 insert_names-if_new before (n ∷ ns) once =
     let e : before ++ (n ∷ ns) ≡ (before ++ n ∷ []) ++ ns = sym (append_assoc before (n ∷ []) ns) in
-    ap (λ (t : NameTable). insert_names t ns) (insert_name-if_new before n (not-Contains-before before ns n once))
+    ap (λ (t : NameTable). insert_names t ns) (insert_name-if_new before n (not-Contains-if_before before ns n once))
     ∙ insert_names-if_new (before ++ n ∷ []) ns (subst IsDuplicateFree e once)
     ∙ sym e
 

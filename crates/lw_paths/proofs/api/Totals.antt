@@ -141,14 +141,14 @@ module _ {S : Type 0} (language : Language S) (program : List (List S)) where
       (λ c. ((λ h. (b.exactly c).1 ((a.exactly c).0 h)), λ h. (a.exactly c).1 ((b.exactly c).0 h))) a.orders b.orders
 
   -- No test is both past a limit and within the limits.
-  pub not-LimitFaultIsTrue-within_limits : (f : ListFault)
+  pub not-LimitFaultIsTrue-if_within_limits : (f : ListFault)
       → f ≢ Memory
       → LimitFaultIsTrue language program f
       → IsWithinLimits language program
       → ⊥
-  not-LimitFaultIsTrue-within_limits TooManyItems other many within = within.0 many
-  not-LimitFaultIsTrue-within_limits TooManyOrders other many within =
+  not-LimitFaultIsTrue-if_within_limits TooManyItems other many within = within.0 many
+  not-LimitFaultIsTrue-if_within_limits TooManyOrders other many within =
       (let (n, n_is, more) = many.1 in
       let (m, m_is, less) = within.1 in
       absurd (omega (arith, IsTotalOrderCount-unique n m n_is m_is, more, less)))
-  not-LimitFaultIsTrue-within_limits Memory other many within = other refl
+  not-LimitFaultIsTrue-if_within_limits Memory other many within = other refl

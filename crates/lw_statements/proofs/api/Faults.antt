@@ -2,7 +2,7 @@
 use Rattle.lw_statements.proofs.Common.{◌≡◌, ℕ, List, subst, sym, ap, AllZip, CellCause, Memory, CellFault}
 use Rattle.lw_statements.proofs.Common.{NameTable, CellGrid, PlacedCell, TestFrame, Test, Grammar, IsGrammar}
 use Rattle.lw_statements.proofs.Common.{Column, FrameHasTest, CellFaultIsTrue, texts_of_grid, ℕ_set}
-use Rattle.lw_statements.proofs.OneFault.{no_true_fault-of_test, true_fault-unique}
+use Rattle.lw_statements.proofs.OneFault.{no_true_fault-if_test, true_fault-unique}
 
 -- Faults of the same place and cause are the same: their ghost field is a fact that has one proof.
 CellFault-equal : (f g : CellFault) → f.at ≡ g.at → f.cause ≡ g.cause → f ≡ g
@@ -36,12 +36,12 @@ module _ {Syntax Stmt : Type 0} (grammar : Grammar Syntax Stmt) (lawful : IsGram
       CellFault-equal f g one.0 one.1
 
   -- No fault is true of the cells of a test.
-  pub no_CellFault-of_test : (frame : TestFrame) (columns : List (List PlacedCell)) (f : CellFault) (test : Test Stmt)
+  pub no_CellFault-if_test : (frame : TestFrame) (columns : List (List PlacedCell)) (f : CellFault) (test : Test Stmt)
       → texts_of_grid columns ≡ frame.cells
       → FrameHasTest grammar frame test
       → (f.cause ≡ Memory → ⊥)
       → CellFaultIsTrue grammar frame.head.locs columns f
       → ⊥
-  no_CellFault-of_test frame columns f test same has known h =
-      no_true_fault-of_test grammar lawful frame.head.locs columns f.at f.cause has.threads
+  no_CellFault-if_test frame columns f test same has known h =
+      no_true_fault-if_test grammar lawful frame.head.locs columns f.at f.cause has.threads
       (subst (λ (cells : CellGrid). AllZip (Column grammar) cells has.threads) (sym same) has.says) has.bounded known h

@@ -79,16 +79,16 @@ module _ {W Form Stmt : Type 0} (spelling : Spelling W Form Stmt) where
   not-empty-is_statement (slot ∷ slots) f is h = h
 
   -- The second token of a statement is not `:`.
-  no_colon-is_statement : (ts : TokenList) (slots : List (Slot W)) (f : Filling slots)
+  no_colon-if_statement : (ts : TokenList) (slots : List (Slot W)) (f : Filling slots)
       → is_statement spelling slots ≡ true
       → Fills spelling ts slots f
       → slice_get ts 1 ≡ Some (codes ":")
       → ⊥
-  no_colon-is_statement [] slots f is h e = absurd cc
-  no_colon-is_statement (t ∷ []) slots f is h e = absurd cc
-  no_colon-is_statement (t ∷ u ∷ ts) [] f is h e = h
-  no_colon-is_statement (t ∷ u ∷ ts) (a ∷ []) f is h e = h.1
-  no_colon-is_statement (t ∷ u ∷ ts) (a ∷ b ∷ slots) f is h e =
+  no_colon-if_statement [] slots f is h e = absurd cc
+  no_colon-if_statement (t ∷ []) slots f is h e = absurd cc
+  no_colon-if_statement (t ∷ u ∷ ts) [] f is h e = h
+  no_colon-if_statement (t ∷ u ∷ ts) (a ∷ []) f is h e = h.1
+  no_colon-if_statement (t ∷ u ∷ ts) (a ∷ b ∷ slots) f is h e =
       colon_gives spelling b slots f.1.0 is
       (subst (λ (w : Bytes). Gives spelling w b f.1.0) (let same : u ≡ codes ":" = cc in same) h.1.0)
 
@@ -153,7 +153,7 @@ module _ {W Form Stmt : Type 0} (spelling : Spelling W Form Stmt) where
       some = λ ts s says none.
           not-empty-is_statement (spelling.slots_of s.form) s.filling (well_spelled s.form says.0).0
           (subst (λ (us : TokenList). Fills spelling us (spelling.slots_of s.form) s.filling) none says.1);
-      no_label = λ ts s says colon. no_colon-is_statement ts _ s.filling (well_spelled s.form says.0).0 says.1 colon;
+      no_label = λ ts s says colon. no_colon-if_statement ts _ s.filling (well_spelled s.form says.0).0 says.1 colon;
       located = λ x to s. (lawful.making x to s.form s.filling).located;
       target_is = λ x to s. (lawful.making x to s.form s.filling).target_is;
       registers = λ ts x to s says. All-from_recursion IsRegisterIndex _ (IsGiven-Fills ts x to s says).0;

@@ -3,7 +3,7 @@
 -- The arm of other words compares the word with all four names.
 use Rattle.lw_bench.proofs.Common.{refl, codes, arith, cons-head_eq, States, Compile, Schedules}
 use Rattle.lw_bench.proofs.Commands.{Gives-IsCommand_one_word, Gives-IsCommand_replay}
-use Rattle.lw_bench.proofs.Commands.{no_IsCommand-if_no_arguments, no_IsCommand-other_word}
+use Rattle.lw_bench.proofs.Commands.{not-IsCommand-if_no_arguments, not-IsCommand-if_other_word}
 use Rattle.lw_bench.proofs.command.command_of.Goals as goal
 
 pub returns-in-states : goal.returns-in-states
@@ -25,11 +25,11 @@ pub returns-in-replay : goal.returns-in-replay
 returns-in-replay c = Gives-IsCommand_replay _ _ c.in-len1-up.len_at_least c.in-replay.is c.replay_command.ensures
 
 pub returns-in_default : goal.returns-in_default
-returns-in_default c = λ task said. no_IsCommand-if_no_arguments c.args.arguments.now task c.in_default.len_below said
+returns-in_default c = λ task said. not-IsCommand-if_no_arguments c.args.arguments.now task c.in_default.len_below said
 
 pub returns-in_default-command : goal.returns-in_default-command
 returns-in_default-command c =
     let at = c.in_default-command in
     λ task said.
-    no_IsCommand-other_word c.args.arguments.now task c.in-len1-up.len_at_least at.not-states at.not-compile at.not-schedules
+    not-IsCommand-if_other_word c.args.arguments.now task c.in-len1-up.len_at_least at.not-states at.not-compile at.not-schedules
     at.not-replay said

@@ -2,8 +2,8 @@
 -- option. With two arguments the answer is that of `Protocol::from_name`; one argument or more than two, or
 -- another first word, name no protocol.
 use Rattle.lw_bench.proofs.Common.{sym, ◌∙◌, arith}
-use Rattle.lw_bench.proofs.Commands.{Gives-IsProtocolOption, no_IsProtocolOption-other_count}
-use Rattle.lw_bench.proofs.Commands.{no_IsProtocolOption-other_word}
+use Rattle.lw_bench.proofs.Commands.{Gives-IsProtocolOption, not-IsProtocolOption-if_other_count}
+use Rattle.lw_bench.proofs.Commands.{not-IsProtocolOption-if_other_word}
 use Rattle.lw_bench.proofs.command.protocol_of.Goals as goal
 
 pub returns : goal.returns
@@ -11,15 +11,15 @@ returns c = Gives-IsProtocolOption _ c.in-len2.len_at_least c.in-len2.len_below 
 
 pub returns-in_default : goal.returns-in_default
 returns-in_default c = λ p.
-    no_IsProtocolOption-other_count c.args.option.now p (λ two. omega (arith, two, c.in_default.len_below))
+    not-IsProtocolOption-if_other_count c.args.option.now p (λ two. omega (arith, two, c.in_default.len_below))
     (sym c.is_empty.ensures ∙ c.if-is_empty.false)
 
 pub returns-in_default-2 : goal.returns-in_default-2
 returns-in_default-2 c = λ p.
-    no_IsProtocolOption-other_count c.args.option.now p (λ two. omega (arith, two, c.in_default.len_at_least))
+    not-IsProtocolOption-if_other_count c.args.option.now p (λ two. omega (arith, two, c.in_default.len_at_least))
     (sym c.is_empty.ensures ∙ c.if-is_empty.false)
 
 pub returns-then-ne : goal.returns-then-ne
 returns-then-ne c = λ p.
-    no_IsProtocolOption-other_word c.args.option.now c.in-len2.len_at_least c.in-len2.len_below c.ne.result c.ne.ensures p
+    not-IsProtocolOption-if_other_word c.args.option.now c.in-len2.len_at_least c.in-len2.len_below c.ne.result c.ne.ensures p
     c.if-ne.true

@@ -1,7 +1,7 @@
 -- `film_of_events` promises the pages of all prefixes of the events. Each round appends the page of the next
--- prefix (`IsFilmOf-one_more`); after the loop the page of all events is appended (`IsFilmOf-whole`).
+-- prefix (`IsFilmOf-push`); after the loop the page of all events is appended (`IsFilmOf-whole`).
 use Rattle.lw_bench.proofs.Common.{◌∙◌, ◌≡◌, length, arith}
-use Rattle.lw_bench.proofs.FilmSteps.{IsFilmOf-one_more, IsFilmOf-whole}
+use Rattle.lw_bench.proofs.FilmSteps.{IsFilmOf-push, IsFilmOf-whole}
 use Rattle.lw_bench.proofs.films.film_of_events.Goals as goal
 
 pub loop-count-init : goal.loop-count-init
@@ -11,7 +11,7 @@ pub loop-count-preserved : goal.loop-count-preserved
 loop-count-preserved g c =
     let page = c.in_ok-push_page.ensures.pushed in
     record {
-      film = IsFilmOf-one_more _ _ _ _ _ page.0 _ page.1 c.loop-count.invariant.film page.2 page.3;
+      film = IsFilmOf-push _ _ _ _ _ page.0 _ page.1 c.loop-count.invariant.film page.2 page.3;
       within = omega (arith, c.loop-count-test.true);
     }
 

@@ -11,9 +11,9 @@ use Rattle.lw_orders.proofs.reach.reach_more.Goals.{else-not-is_disjoint}
 use Rattle.lw_orders.proofs.reach.reach_more.Goals as goal
 
 -- The item's set is disjoint from the pair's first item if and only if the item does not reach it.
-not_disjoint-is_reaches : (g : Over) (c : After-is_disjoint g)
+reaches-iff_not_disjoint : (g : Over) (c : After-is_disjoint g)
     → not c.is_disjoint.result ≡ reaches_in c.args.sets.now c.loop-item.item c.args.from
-not_disjoint-is_reaches g c =
+reaches-iff_not_disjoint g c =
     ap not
     (c.is_disjoint.ensures
     ∙ (ap (are_disjoint c.set_of-in-loop-item.result) c.only-first.ensures
@@ -30,11 +30,11 @@ loop-item-preserved g c =
           w.union.ensures j l
           ∙ (ap (λ set_of. has set_of j || has c.set_of-reached_from_to.result j) w.set_of-then-not-is_disjoint.ensures
           ∙ ap (λ set_of. reaches_in c.args.sets.now c.loop-item.item j || has set_of j) c.set_of-reached_from_to.ensures))
-          (sym (not_disjoint-is_reaches g d) ∙ ap not w.if-not-is_disjoint.true))
+          (sym (reaches-iff_not_disjoint g d) ∙ ap not w.if-not-is_disjoint.true))
       | else-not-is_disjoint w ↦
           rw w.more-is
           (IsGrowing-set_unchanged c.requires.bounded c.loop-item-test.true c.loop-item.invariant
-          (sym (not_disjoint-is_reaches g d) ∙ ap not w.if-not-is_disjoint.false))
+          (sym (reaches-iff_not_disjoint g d) ∙ ap not w.if-not-is_disjoint.false))
     ]
 
 pub returns : goal.returns

@@ -1,10 +1,10 @@
 -- `read_cell` promises that a drafted column has one cell more, or that the thread is refused. Success adds
--- labels and draft (`ColumnDrafted-one_more`). The two exits by `?` refuse the whole thread, whatever its other cells are:
+-- labels and draft (`ColumnDrafted-push`). The two exits by `?` refuse the whole thread, whatever its other cells are:
 -- its labels fail (`labels_refused`) or its statement (`statement_refused`).
 use Rattle.lw_statements.proofs.Common.{ℕ, ◌+◌, ap, arith, MatchResult-weaker, grammar_of, draft_of}
 use Rattle.lw_statements.proofs.Common.{Err-clause_known}
 use Rattle.lw_statements.proofs.api.Forms.{is_grammar}
-use Rattle.lw_statements.proofs.Drafts.{at_most_room, ColumnDrafted-one_more}
+use Rattle.lw_statements.proofs.Drafts.{at_most_room, ColumnDrafted-push}
 use Rattle.lw_statements.proofs.CellsRefused.{labels_refused, statement_refused, column_out_of_memory}
 use Rattle.lw_statements.proofs.column.read_cell.Goals as goal
 
@@ -34,7 +34,7 @@ returns g c =
     let taken = rw c.as_slice.ensures at c.in_ok-start.ensures in
     let stmt = rw c.behind-phrase.ensures.tokens at c.in_ok-stmt.ensures in
     MatchResult-weaker c.push.result c.push.ensures (λ done pushed front before drafted.
-    ColumnDrafted-one_more (grammar_of spelling) (draft_of spelling) front before c.args.locs.now c.args.column.now drafted
+    ColumnDrafted-push (grammar_of spelling) (draft_of spelling) front before c.args.locs.now c.args.column.now drafted
     (record {
       cells = c.push.new.items;
       labels = c.read_labels.new.labels;

@@ -1,11 +1,11 @@
 -- `read_labels` promises the labels at the start of a cell, or that they are refused. Each round takes a name
--- and its `:` (`LabelsRead-one_more`). A token before a `:` that is no name, or that is a label already, refuses the
+-- and its `:` (`LabelsRead-push`). A token before a `:` that is no name, or that is a label already, refuses the
 -- cell: every reading of it takes this token as a label (`Labels-continue`, `labels_twice`).
 use Rattle.lw_statements.proofs.Common.{ℕ, ◌+◌, ◌-◌, ◌<◌, ◌≤◌, sym, ap, ◌∙◌, arith, true≢false, is_some}
 use Rattle.lw_statements.proofs.Common.{btree_map_updates_str, refl, slice_get_read, subst}
 use Rattle.lw_statements.proofs.Causes.{FaultClaim-wrong, FaultClaim-Memory, FaultClaim-Twice, refusal-Memory}
 use Rattle.lw_statements.proofs.Exits.{out_of_memory}
-use Rattle.lw_statements.proofs.FrontLabels.{get-of_drop, next_within, labels_start, LabelsRead-one_more}
+use Rattle.lw_statements.proofs.FrontLabels.{get-of_drop, next_within, labels_start, LabelsRead-push}
 use Rattle.lw_statements.proofs.FrontLabels.{Labels-continue, IsAtLabel-of_token, labels_twice}
 use Rattle.lw_statements.proofs.FrontLabels.{HasDuplicateLabelAt-of_token}
 use Rattle.lw_statements.proofs.labels.read_labels.Goals as goal
@@ -29,7 +29,7 @@ pub loop-token-preserved : goal.loop-token-preserved
 loop-token-preserved g c =
     let colon = c.stands_at.ensures.0 c.loop-token-test.true in
     let within = next_within c.args.tokens.now c.loop-token.next _ colon in
-    LabelsRead-one_more _ _ _ _ _ c.loop-token.invariant _
+    LabelsRead-push _ _ _ _ _ c.loop-token.invariant _
     (slice_get_read c.args.tokens.now _ c.loop-token.next _ refl (omega arith) c.index-tokens-next.is) colon _
     (c.is_location_name.ensures.0 c.if-not-is_location_name.false)
     (ap is_some (sym c.in_ok-insert.ensures.old) ∙ sym c.is_some.ensures ∙ c.if-is_some.false)

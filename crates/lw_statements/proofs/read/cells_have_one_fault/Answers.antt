@@ -1,8 +1,8 @@
 -- Law: of a language whose spelling is lawful, at most one fault of cells is true, and none of the cells of a
--- test. Both hold for every grammar that satisfies the rule of cells (`CellFaultIsTrue-unique`, `no_CellFault-of_test`), which
+-- test. Both hold for every grammar that satisfies the rule of cells (`CellFaultIsTrue-unique`, `no_CellFault-if_test`), which
 -- that of a lawful spelling does (`is_grammar`).
 use Rattle.lw_statements.proofs.Common.{grammar_of}
-use Rattle.lw_statements.proofs.api.Faults.{CellFaultIsTrue-unique, no_CellFault-of_test}
+use Rattle.lw_statements.proofs.api.Faults.{CellFaultIsTrue-unique, no_CellFault-if_test}
 use Rattle.lw_statements.proofs.api.Forms.{is_grammar}
 use Rattle.lw_statements.proofs.read.cells_have_one_fault.Goals as goal
 
@@ -14,4 +14,4 @@ returns-clause-one_fault g c =
 pub returns-clause-none : goal.returns-clause-none
 returns-clause-none g c =
     let spelling = g.L.StatementReader.spelling in
-    no_CellFault-of_test (grammar_of spelling) (is_grammar spelling g.L.StatementReader.made c.requires.lawful)
+    no_CellFault-if_test (grammar_of spelling) (is_grammar spelling g.L.StatementReader.made c.requires.lawful)

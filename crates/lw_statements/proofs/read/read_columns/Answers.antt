@@ -1,7 +1,7 @@
 -- `read_columns` promises the statements of all threads, or a refusal. Each round reads one thread, with the
--- table that the threads before it left (`ColumnsRead-one_more`); a refused thread refuses all (`ColumnsRefused-ColumnRefused`).
+-- table that the threads before it left (`ColumnsRead-push`); a refused thread refuses all (`ColumnsRefused-ColumnRefused`).
 use Rattle.lw_statements.proofs.Common.{refl, [], take_all, grammar_of, Err-clause_known}
-use Rattle.lw_statements.proofs.Threads.{columns_out_of_memory, ColumnsRead-one_more}
+use Rattle.lw_statements.proofs.Threads.{columns_out_of_memory, ColumnsRead-push}
 use Rattle.lw_statements.proofs.Threads.{ColumnsRefused-ColumnRefused}
 use Rattle.lw_statements.proofs.api.Forms.{is_grammar}
 use Rattle.lw_statements.proofs.read.read_columns.Goals as goal
@@ -20,7 +20,7 @@ returns-in_err-stmts g c =
 pub loop-column-preserved : goal.loop-column-preserved
 loop-column-preserved g c =
     rw c.in_ok-push.ensures
-    (ColumnsRead-one_more (grammar_of g.L.StatementReader.spelling) c.args.columns.now c.loop-column.column-index
+    (ColumnsRead-push (grammar_of g.L.StatementReader.spelling) c.args.columns.now c.loop-column.column-index
     c.column-item.result c.loop-column-test.true c.column-item.is _ _ _ c.loop-column.invariant _ _
     (rw c.as_slice.ensures at c.in_ok-stmts.ensures))
 

@@ -1,9 +1,9 @@
 -- `accepted_prefix_len` promises the number of tokens that the slots accept, up to the first that its slot
 -- does not. By recursion on the slots: no slots, no tokens, a token that does not fit, or one more
--- (`IsReach-no_slots`, `IsReach-no_tokens`, `IsReach-one_more`).
+-- (`IsReach-no_slots`, `IsReach-no_tokens`, `IsReach-cons`).
 use Rattle.lw_statements.proofs.Common.{◌<◌, length, ap, true≢false, sym, ◌∙◌, rules, arith, length-map}
 use Rattle.lw_statements.proofs.Common.{Token}
-use Rattle.lw_statements.proofs.SlotTokens.{IsReach-no_slots, IsReach-no_tokens, IsReach-one_more}
+use Rattle.lw_statements.proofs.SlotTokens.{IsReach-no_slots, IsReach-no_tokens, IsReach-cons}
 use Rattle.lw_statements.proofs.SlotTokens.{IsReach-in_range}
 use Rattle.lw_statements.proofs.statement_parser.+accepted_prefix_len.Goals as goal
 
@@ -21,7 +21,7 @@ returns-then-not-can_stand g t c =
 pub returns : goal.returns
 returns g t c =
     rw (c.in-Some.ensures.cases.0, c.in-Some-split_first.ensures.cases.0)
-    (IsReach-one_more g.L.StatementReader.spelling _ c.in-Some.slot.now _ _ _ (c.can_stand.ensures.0 c.if-not-can_stand.false)
+    (IsReach-cons g.L.StatementReader.spelling _ c.in-Some.slot.now _ _ _ (c.can_stand.ensures.0 c.if-not-can_stand.false)
     c.accepted_prefix_len.ensures)
 
 pub overflow_add-result : goal.overflow_add-result

@@ -1,16 +1,16 @@
 -- `read_slots` promises to be true exactly if the tokens fill the slots, and then their bindings. By
 -- recursion on the slots. The tokens after the first are bound before it, except after a keyword, which binds
--- nothing (`AreTaken-one_more`, `AreTaken-after_keyword`).
+-- nothing (`AreTaken-cons`, `AreTaken-after_keyword`).
 use Rattle.lw_statements.proofs.Common.{length, ap, sym, ◌∙◌, true≢false, arith}
 use Rattle.lw_statements.proofs.SlotTokens.{keyword_equal-iff_Gives, AreTaken-after_keyword}
-use Rattle.lw_statements.proofs.SlotTokens.{AreTaken-one_more, AreTaken-no_slots, not-Fills-if_no_tokens}
+use Rattle.lw_statements.proofs.SlotTokens.{AreTaken-cons, AreTaken-no_slots, not-Fills-if_no_tokens}
 use Rattle.lw_statements.proofs.statement_parser.+read_slots.Goals as goal
 
 pub returns : goal.returns
 returns g t c =
     let behind = rw c.if-not-read_slots.false at c.read_slots-2.ensures in
     rw (c.in-Some.ensures.cases.0, c.in-Some-split_first.ensures.cases.0)
-    (AreTaken-one_more g.L.StatementReader.spelling _ c.in-Some.slot.now _ _ _ _ _ _ behind c.add_token.ensures)
+    (AreTaken-cons g.L.StatementReader.spelling _ c.in-Some.slot.now _ _ _ _ _ _ behind c.add_token.ensures)
 
 pub returns-in-Keyword : goal.returns-in-Keyword
 returns-in-Keyword g t c =

@@ -1,11 +1,11 @@
 -- `slot_after` promises the slot after those that accept the tokens, or that there is none. By recursion on
--- the slots: no slots (`no_slot-empty`), no tokens left (`slot_next`), or one token fewer (`slot_further`).
+-- the slots: no slots (`no_slot-if_empty`), no tokens left (`slot_next`), or one token fewer (`slot_further`).
 use Rattle.lw_statements.proofs.Common.{true≢false, sym, ◌∙◌}
-use Rattle.lw_statements.proofs.Fronts.{no_slot-empty, slot_next, slot_further}
+use Rattle.lw_statements.proofs.Fronts.{no_slot-if_empty, slot_next, slot_further}
 use Rattle.lw_statements.proofs.statement_parser.+slot_after.Goals as goal
 
 pub returns-in_default : goal.returns-in_default
-returns-in_default g t c = no_slot-empty g.L.StatementReader.spelling _ _ c.in_default.ensures.cases
+returns-in_default g t c = no_slot-if_empty g.L.StatementReader.spelling _ _ c.in_default.ensures.cases
 
 pub returns-in_default-split_first : goal.returns-in_default-split_first
 returns-in_default-split_first g t c =

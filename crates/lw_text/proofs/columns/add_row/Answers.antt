@@ -1,8 +1,8 @@
 -- `add_row` promises that each column has the row's cell of its index appended. Each round appends one cell
--- (`Filling-one_more`), at an index that is in range since a cell remains (`Filling-in_range`); at the end none
+-- (`Filling-push`), at an index that is in range since a cell remains (`Filling-in_range`); at the end none
 -- remains (`Filling-all`).
 use Rattle.lw_text.proofs.Common.{◌∙◌, length, ap, arith}
-use Rattle.lw_text.proofs.RowColumns.{Filling-none, Filling-in_range, Filling-one_more, Filling-all}
+use Rattle.lw_text.proofs.RowColumns.{Filling-none, Filling-in_range, Filling-push, Filling-all}
 use Rattle.lw_text.proofs.columns.add_row.Goals as goal
 
 pub loop-index-init : goal.loop-index-init
@@ -26,7 +26,7 @@ index_mut-requires g c =
 pub loop-index-preserved : goal.loop-index-preserved
 loop-index-preserved g c =
     let s = c.in-Some.ensures.steps in
-    let more = Filling-one_more c.loop-index.invariant.filling s.0.0 (rw s.1 at c.index_mut.ensures.value) in
+    let more = Filling-push c.loop-index.invariant.filling s.0.0 (rw s.1 at c.index_mut.ensures.value) in
     record {
       filling = rw (s.1, s.2, c.in_ok-push.ensures.ok) more;
       len = omega (arith, s.0.1, c.loop-index.invariant.len, ap length s.0.0);

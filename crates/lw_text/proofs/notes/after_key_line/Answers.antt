@@ -1,9 +1,9 @@
 -- `after_key_line` promises the rest after a line `Key=value`, or that there is none, and where it fails. It
--- fails without a key (`no_key_line-empty_key`) or without a `=` after it (`no_key_line-if_no_equals`); otherwise the line goes to its end
+-- fails without a key (`no_key_line-if_key_is_empty`) or without a `=` after it (`no_key_line-if_no_equals`); otherwise the line goes to its end
 -- (`KeyLine-made`).
 use Rattle.lw_text.proofs.Common.{◌≡◌, ◌++◌, ◌∙◌, refl, sym, first_byte_is, is_key_byte, ℕ, ap, length}
 use Rattle.lw_text.proofs.Common.{length-append, arith, nat_tests, no_equals_sign}
-use Rattle.lw_text.proofs.NoteRows.{no_key_line-empty_key, no_key_line-if_no_equals, KeyLine-made}
+use Rattle.lw_text.proofs.NoteRows.{no_key_line-if_key_is_empty, no_key_line-if_no_equals, KeyLine-made}
 use Rattle.lw_text.proofs.Preambles.{append-empty_front}
 use Rattle.lw_text.specs.TextFailures.{no_key as no_key_byte}
 use Rattle.lw_text.proofs.notes.after_key_line.Goals as goal
@@ -12,7 +12,7 @@ pub returns-then-is_empty : goal.returns-then-is_empty
 returns-then-is_empty c =
     let k = c.prefix_of_kind.ensures in
     let none : length c.prefix_of_kind.result.0.now ≡ 0 = grind (arith, nat_tests) in (
-      no_key_line-empty_key c.args.bytes.now c.prefix_of_kind.result.0.now _ k.parts k.longest none,
+      no_key_line-if_key_is_empty c.args.bytes.now c.prefix_of_kind.result.0.now _ k.parts k.longest none,
       omega arith,
       no_key_byte (ap (first_byte_is is_key_byte) (append-empty_front _ _ _ k.parts none) ∙ k.longest) refl,
     )

@@ -1,6 +1,6 @@
 -- `read_text` promises the frame of a short UTF-8 text, or that it has none and where it fails. If the
--- preamble fails there is no frame; if the tokens end early or are no test, none either (`no_frame-HasNoTest`,
--- `HasNoTest-no_tokens_or_no_parse`). The head computed in memory is the head that the text says (`resolved_head-head_of_syntax`).
+-- preamble fails there is no frame; if the tokens end early or are no test, none either (`no_frame-if_no_test`,
+-- `HasNoTest-if_no_tokens_or_no_parse`). The head computed in memory is the head that the text says (`resolved_head-head_of_syntax`).
 use Rattle.lw_text.proofs.Common.{◌≡◌, ◌≢◌, ℕ, ◌≤◌, length, sym, ap, ◌∙◌, subst, arith, All, IfSome, Option}
 use Rattle.lw_text.proofs.Common.{None, Some, MatchOption, Result, IsErrAnd, MatchResult, Fault, Memory}
 use Rattle.lw_text.proofs.Common.{MatchOption-at_none, token_texts, PlacedTokens, head_of, columns, Preamble}
@@ -12,7 +12,7 @@ use Rattle.lw_text.proofs.TokenRows.{read_whole}
 use Rattle.lw_text.proofs.CellPlaces.{HasRows-within}
 use Rattle.lw_text.proofs.RowColumns.{map-columns}
 use Rattle.lw_text.proofs.WellFormedHeads.{resolved_head-head_of_syntax, body_proposition}
-use Rattle.lw_text.proofs.Whole.{no_frame-HasNoTest, HasNoTest-no_tokens_or_no_parse}
+use Rattle.lw_text.proofs.Whole.{no_frame-if_no_test, HasNoTest-if_no_tokens_or_no_parse}
 use Rattle.lw_text.proofs.Faults.{MatchResult-weakened_error, Err-clause_known}
 use Rattle.lw_text.proofs.read.read_text.Goals as goal
 
@@ -66,9 +66,9 @@ returns-in_err-body g c = Err-clause_known _ _ _ c.from_residual-in_err-body.ens
       subst (λ t. Preamble t c.in_ok-preamble.preamble.arch c.in_ok-preamble.preamble.name.now c.parse_preamble.new.self.rest.now)
       c.new-lexer.ensures.rest c.in_ok-preamble.ensures.reads in
       λ ne.
-      no_frame-HasNoTest c.args.text.now c.in_ok-preamble.preamble.arch c.in_ok-preamble.preamble.name.now
+      no_frame-if_no_test c.args.text.now c.in_ok-preamble.preamble.arch c.in_ok-preamble.preamble.name.now
       c.parse_preamble.new.self.rest.now preamble
-      (HasNoTest-no_tokens_or_no_parse c.in_ok-preamble.preamble.arch stream.fault _ _ c.parse_preamble.new.self.rest.now
+      (HasNoTest-if_no_tokens_or_no_parse c.in_ok-preamble.preamble.arch stream.fault _ _ c.parse_preamble.new.self.rest.now
       stream.tokens (first_two _ _ _ _ stream.fault c.in_ok-stream.ensures.0) (c.in_err-body.ensures.0 ne))),
   c.in_err-body.ensures.1,
   λ ne.

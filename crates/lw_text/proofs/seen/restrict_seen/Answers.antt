@@ -1,8 +1,8 @@
 -- `restrict_seen` promises the registers and locations among the listed sites, in order, without duplicates.
--- Each round appends the registers of one thread (`registers-one_more`), and then the locations follow.
+-- Each round appends the registers of one thread (`registers-push`), and then the locations follow.
 use Rattle.lw_text.proofs.Common.{sym, refl, arith, ap, length, length-take, is_listed, most_threads, ℕ, ◌≡◌}
 use Rattle.lw_text.proofs.Common.{◌≤◌, List, filter-append, length-range_with_len, range_with_len, take}
-use Rattle.lw_text.proofs.Starts.{registers-one_more}
+use Rattle.lw_text.proofs.Starts.{registers-push}
 use Rattle.lw_text.proofs.api.Indices.{is_index}
 use Rattle.lw_text.proofs.seen.restrict_seen.Goals as goal
 
@@ -17,7 +17,7 @@ loop-cpu-preserved g c =
     let seen = is_listed c.args.sites.now in
     let at : c.cpu-item.result ≡ c.loop-cpu.cpu-index =
     is_index most_threads c.args.threads c.all.ensures refl c.loop-cpu-test.true c.cpu-item.is in
-    registers-one_more seen c.loop-cpu.seen c.see_registers.new.seen c.loop-cpu.cpu-index c.loop-cpu.invariant
+    registers-push seen c.loop-cpu.seen c.see_registers.new.seen c.loop-cpu.cpu-index c.loop-cpu.invariant
     (rw at at c.in_ok-see_registers.ensures)
 
 -- An index past the first `len` numbers is `len`.

@@ -1,10 +1,10 @@
 -- `write_header` promises the line of the threads' names. Each round writes a separator and a name
--- (`joined_prefix-one_more`), and at the end all names are written (`joined_prefix-whole`). There are at most four threads, so the
+-- (`joined_prefix-push`), and at the end all names are written (`joined_prefix-whole`). There are at most four threads, so the
 -- number is the digit of the name.
 use Rattle.lw_x86.proofs.Common.{map, codes, arith, append-nil, sym, range_with_len, decimal_digit}
 use Rattle.lw_x86.proofs.Common.{get_or-map-range_with_len, length-map-range_with_len, slice_get_read}
 use Rattle.lw_x86.proofs.Common.{thread_name, written-append}
-use Rattle.lw_x86.proofs.SeparatedTexts.{joined_prefix-one_more, joined_prefix-whole, line_written}
+use Rattle.lw_x86.proofs.SeparatedTexts.{joined_prefix-push, joined_prefix-whole, line_written}
 use Rattle.lw_x86.proofs.canonical.write_header.Goals as goal
 
 pub loop-thread-init : goal.loop-thread-init
@@ -15,7 +15,7 @@ loop-thread-preserved g c =
     let names = map thread_name (range_with_len 0 c.args.threads) in
     let k = c.loop-thread.thread-counter in
     let name = rw (decimal_digit k (omega (arith, c.loop-thread-test.true, c.requires))) at c.in_ok-write.ensures.bytes in
-    joined_prefix-one_more _ _ k _ _ c.loop-thread.invariant _ _
+    joined_prefix-push _ _ k _ _ c.loop-thread.invariant _ _
     (slice_get_read _ _ k _ (sym (length-map-range_with_len thread_name 0 _)) c.loop-thread-test.true
     (sym (get_or-map-range_with_len thread_name 0 _ k k _ c.loop-thread-test.true (omega arith))))
     (written-append _ _ _ _ _ c.in_ok-write_separator.ensures name)

@@ -1,11 +1,11 @@
 -- `write_listed` promises the line of the list of names, or nothing if the test has none. Each round writes a
--- separator and an element (`joined_prefix-one_more`); the interesting case is the empty list, which has no line
+-- separator and an element (`joined_prefix-push`); the interesting case is the empty list, which has no line
 -- (`listed_is`).
 use Rattle.lw_x86.proofs.Common.{◌≡◌, ◌++◌, ◌==◌, List, [], ◌∷◌, length, map, codes, refl, ap, ◌∙◌, false}
 use Rattle.lw_x86.proofs.Common.{sym, arith, length-map, All-from_recursion, slice_get-map, slice_get_read}
 use Rattle.lw_x86.proofs.Common.{option_map, joined, NameTable, Seen, written-append, written-equal_text}
 use Rattle.lw_x86.proofs.Common.{element_text, listed_text}
-use Rattle.lw_x86.proofs.SeparatedTexts.{joined_prefix-one_more, joined_prefix-whole, line_written}
+use Rattle.lw_x86.proofs.SeparatedTexts.{joined_prefix-push, joined_prefix-whole, line_written}
 use Rattle.lw_x86.proofs.canonical.write_listed.Goals as goal
 
 -- The list of names is not empty.
@@ -28,7 +28,7 @@ loop-number-preserved g c =
     let k = c.loop-number.number in
     let is = rw c.as_slice-listed.ensures at c.index-listed-number.is in
     let lt = rw c.as_slice-listed.ensures at c.loop-number-test.true in
-    joined_prefix-one_more (codes " ") _ k _ _ c.loop-number.invariant _ _
+    joined_prefix-push (codes " ") _ k _ _ c.loop-number.invariant _ _
     (slice_get-map (element_text head.locs) head.listed k
     ∙ ap (option_map (element_text head.locs)) (slice_get_read head.listed _ k _ refl lt is))
     (written-append _ _ _ _ _ c.in_ok-write_separator.ensures c.in_ok-write_element.ensures)

@@ -1,7 +1,7 @@
 -- `height` promises the greatest number of cells of a thread. Each round takes the maximum with one more
--- thread (`max_cell_count-one_more`), whose number of cells is what `count_cells` returns (`length-cells_of`).
+-- thread (`max_cell_count-push`), whose number of cells is what `count_cells` returns (`length-cells_of`).
 use Rattle.lw_x86.proofs.Common.{◌<◌, length, arith, ap, cells_of, take_all}
-use Rattle.lw_x86.proofs.CellLists.{length-cells_of, max_cell_count-one_more}
+use Rattle.lw_x86.proofs.CellLists.{length-cells_of, max_cell_count-push}
 use Rattle.lw_x86.proofs.rows.height.Goals as goal
 
 pub loop-code-preserved : goal.loop-code-preserved
@@ -13,7 +13,7 @@ loop-code-preserved g c =
     let lt : c.loop-code.code-index < length program.threads =
     omega (arith, c.loop-code-test.true, ap length c.as_slice-code-items.ensures) in
     let is = rw c.as_slice-code-items.ensures at c.code-item.is in
-    max_cell_count-one_more (cells_of program.head.locs) program.threads c.loop-code.code-index lt is c.loop-code.invariant
+    max_cell_count-push (cells_of program.head.locs) program.threads c.loop-code.code-index lt is c.loop-code.invariant
     counted c.max-height.ensures
 
 pub returns : goal.returns

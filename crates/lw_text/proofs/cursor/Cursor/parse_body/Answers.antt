@@ -1,6 +1,6 @@
 -- `parse_body` promises the parts of a test that the tokens say, or that they say none, and where they fail.
 -- Success puts the parts together (`HasSyntax-of_parts`). For each part that fails, the tokens are no test, since
--- what precedes it is read in one way only (`no_test-if_no_header`, `no_test-missing_thread`, `no_test-if_no_rows`, `no_test-if_no_condition`).
+-- what precedes it is read in one way only (`no_test-if_no_header`, `no_test-if_thread_is_missing`, `no_test-if_no_rows`, `no_test-if_no_condition`).
 use Rattle.lw_text.proofs.Common.{[], refl, sym, map, arith, subst, length-map, Header, Block}
 use Rattle.lw_text.proofs.Common.{named_initializer, cells_texts, with_spans, remaining, remaining_texts}
 use Rattle.lw_text.proofs.Common.{FailsInCondition, in_block, in_header, no_such_thread, in_rows}
@@ -10,7 +10,7 @@ use Rattle.lw_text.proofs.Lists.{IsSuffix-join}
 use Rattle.lw_text.proofs.api.Places.{texts_placed}
 use Rattle.lw_text.proofs.Bodies.{HasSyntax-of_parts}
 use Rattle.lw_text.proofs.Whole.{names_of_initializers, HasRoomFor-initial_block, no_test-if_no_header}
-use Rattle.lw_text.proofs.Whole.{no_test-missing_thread, no_test-if_no_rows, no_test-if_no_condition}
+use Rattle.lw_text.proofs.Whole.{no_test-if_thread_is_missing, no_test-if_no_rows, no_test-if_no_condition}
 use Rattle.lw_text.proofs.Whole.{header_some, Rows-even, ThreadExists-all_initializers}
 use Rattle.lw_text.proofs.Whole.{site_is_register-missing_thread, ReadsBlock-ParsedBlock}
 use Rattle.lw_text.proofs.Failures.{Fails-later, BeginInitializers-at}
@@ -45,7 +45,7 @@ returns-in_err-check_threads g c =
     let thread = site_is_register-missing_thread lost.1.site c.in_ok-threads.threads lost.4 in
     Err-clause_known _ _ _ c.from_residual-in_err-check_threads.ensures.1 (λ ne. (
       λ s f p whole.
-          no_test-missing_thread c.args.arch _ _ _ c.in_ok-initializers.ensures.parsed _ _ c.in_ok-threads.ensures.0
+          no_test-if_thread_is_missing c.args.arch _ _ _ c.in_ok-initializers.ensures.parsed _ _ c.in_ok-threads.ensures.0
           c.parse_block.new.locs _ refl (rw c.as_slice.ensures at c.in_err-check_threads.ensures.err) s p,
       record {
         rest = begins.rest;

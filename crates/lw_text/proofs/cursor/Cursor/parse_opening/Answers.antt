@@ -1,12 +1,12 @@
 -- `parse_opening` promises a terminal that begins a part, or that there is none with room, and where it
 -- fails. Without a keyword it can only be an atom: a site and a value. A site without a value begins no
--- terminal (`no_terminal-site_without_value`).
+-- terminal (`no_terminal-if_site_has_no_value`).
 use Rattle.lw_text.proofs.Common.{◌≤◌, length, NameTable, ◌≡◌, ◌∷◌, [], Some, refl, sym, ap, subst}
 use Rattle.lw_text.proofs.Common.{with_sites, Atom, IsAtom, sites_in, IsSuffix, remaining, remaining_texts}
 use Rattle.lw_text.proofs.Common.{FailsInSite, in_site, in_value, Condition}
 use Rattle.lw_text.proofs.Lists.{IsSuffix-join}
 use Rattle.lw_text.proofs.Failures.{Fails-later}
-use Rattle.lw_text.proofs.TerminalLists.{no_terminal-site_without_value}
+use Rattle.lw_text.proofs.TerminalLists.{no_terminal-if_site_has_no_value}
 use Rattle.lw_text.proofs.Faults.{Err-clause_known}
 use Rattle.lw_text.proofs.cursor.Cursor.parse_opening.Goals as goal
 
@@ -35,7 +35,7 @@ returns-in_err-word g c =
     let leaves = subst (λ x. IsSuffix (remaining x) (remaining c.parse_site.new.self)) same c.in_ok-site.ensures.leaves in
     Err-clause_known _ _ _ c.from_residual-in_err-word.ensures.1 (λ ne. (
       λ s rest terminal begins few.
-          no_terminal-site_without_value c.args.arch c.args.threads _ (remaining_texts c.parse_site.new.self) _ stands
+          no_terminal-if_site_has_no_value c.args.arch c.args.threads _ (remaining_texts c.parse_site.new.self) _ stands
           c.in_err-word.ensures.0 s rest terminal,
       Fails-later leaves (λ rest cause w. (
         c.in_default.ensures.words,

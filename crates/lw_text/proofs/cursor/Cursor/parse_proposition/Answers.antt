@@ -1,5 +1,5 @@
 -- `parse_proposition` promises the proposition that all remaining tokens are, or that they are none, and
--- where they fail. Each round adds a terminal (`TerminalsRead-one_more`). At the end the state has a result or is
+-- where they fail. Each round adds a terminal (`TerminalsRead-push`). At the end the state has a result or is
 -- incomplete (`ParsedProposition-at_end`, `NoProposition-open`). If no terminal fits, the tokens are no proposition,
 -- whatever follows (`NoProposition-no_terminal`).
 use Rattle.lw_text.proofs.Common.{ℕ, ◌+◌, ◌≤◌, ◌∙◌, [], append-nil, drop_all, refl, sym, ap, subst, arith}
@@ -8,10 +8,10 @@ use Rattle.lw_text.proofs.Common.{FailsInProposition, incomplete, BeginsAt, plac
 use Rattle.lw_text.proofs.Lists.{IsSuffix-join}
 use Rattle.lw_text.proofs.Failures.{Fails-later}
 use Rattle.lw_text.proofs.PropositionPlaces.{incomplete_place, HasRoomForNode-by_test}
-use Rattle.lw_text.proofs.Texts.{no_tokens-past_last, tokens_remain-before_last}
+use Rattle.lw_text.proofs.Texts.{no_tokens-if_past_last, tokens_remain-before_last}
 use Rattle.lw_text.proofs.TerminalLists.{IsTerminal-shorter}
 use Rattle.lw_text.proofs.PropositionCases.{TerminalsRead-none, ParsedProposition-at_end, NoProposition-open}
-use Rattle.lw_text.proofs.PropositionCases.{NoProposition-no_terminal, TerminalsRead-one_more}
+use Rattle.lw_text.proofs.PropositionCases.{NoProposition-no_terminal, TerminalsRead-push}
 use Rattle.lw_text.proofs.PropositionCases.{IsDuplicateFree-names, node_count_at_most, Fails-after_terminal}
 use Rattle.lw_text.proofs.cursor.Cursor.parse_proposition.Goals as goal
 
@@ -25,7 +25,7 @@ refusal-requires g c = of_reader
 pub returns-then-self : goal.returns-then-self
 returns-then-self g c =
     let read = c.terminals.invariant.read in
-    let gone = no_tokens-past_last c.terminals.self.tokens.now c.terminals.self.next (omega (arith, c.if-self.true)) in
+    let gone = no_tokens-if_past_last c.terminals.self.tokens.now c.terminals.self.next (omega (arith, c.if-self.true)) in
     MatchResult-weaker c.finish-prop.result c.finish-prop.ensures (λ prop is. ParsedProposition-at_end read gone prop is)
     (λ f lost ne.
     let none = lost ne in
@@ -70,7 +70,7 @@ terminals-preserved g c =
     node_count_at_most c.in-Ok.ensures.0 c.terminals.nodes c.terminals.invariant.read.within_node_limit c.in-Ok.ensures.3 in
     record {
       read =
-          TerminalsRead-one_more c.in-Ok.ensures.0 c.terminals.invariant.read c.requires.once c.in-Ok.ensures.1 _ counts
+          TerminalsRead-push c.in-Ok.ensures.0 c.terminals.invariant.read c.requires.once c.in-Ok.ensures.1 _ counts
           (subst (λ (n : ℕ). n ≤ 256) (sym counts) room);
       leaves = IsSuffix-join c.terminals.invariant.leaves c.in-Ok.ensures.0.leaves;
       fails = λ rest cause w.

@@ -1,9 +1,9 @@
 -- `parse_quantifier` promises the quantifier that is next, or that there is none, and where it fails. If the
--- first token is none of the three words, no rule applies (`no_quantifier-other_word`); after `~` only `exists` may
+-- first token is none of the three words, no rule applies (`no_quantifier-if_other_word`); after `~` only `exists` may
 -- follow.
 use Rattle.lw_text.proofs.Common.{◌∷◌, ◌∙◌, [], ap, codes, rules, subst, remaining_texts, FailsBefore}
 use Rattle.lw_text.proofs.Common.{no_exists, Condition}
-use Rattle.lw_text.proofs.Whole.{no_quantifier-other_word}
+use Rattle.lw_text.proofs.Whole.{no_quantifier-if_other_word}
 use Rattle.lw_text.proofs.Lists.{IsSuffix-join}
 use Rattle.lw_text.proofs.Failures.{Fails-later, FailsBefore-more}
 use Rattle.lw_text.specs.Failures.{no_quantifier as no_quantifier_word}
@@ -22,7 +22,7 @@ returns-in_err-expect_either c =
     let kept = ap remaining_texts (c.accept.ensures.kept c.if-accept.false) in
     let other = c.accept.ensures.other c.if-accept.false in
     Err-clause_known _ _ _ c.from_residual-in_err-expect_either.ensures.1 (
-      no_quantifier-other_word _ other (rw kept at c.in_err-expect_either.ensures.0)
+      no_quantifier-if_other_word _ other (rw kept at c.in_err-expect_either.ensures.0)
           (rw kept at c.in_err-expect_either.ensures.1),
       Fails-later c.accept.ensures.leaves (λ rest cause w.
           no_quantifier_word (FailsBefore-more _ (codes "exists" ∷ codes "forall" ∷ []) Condition _ rest cause other

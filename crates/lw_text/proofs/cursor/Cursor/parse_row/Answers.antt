@@ -1,14 +1,14 @@
 -- `parse_row` promises the cells of a row, or that there is no row of this many cells, and where it fails.
--- Each round reads a cell and its mark (`CellsRead-one_more`); a `;` closes the row (`row_complete-CellsRead`). A row with
--- another number of cells is none (`no_row-wrong_count`).
+-- Each round reads a cell and its mark (`CellsRead-push`); a `;` closes the row (`row_complete-CellsRead`). A row with
+-- another number of cells is none (`no_row-if_count_differs`).
 use Rattle.lw_text.proofs.Common.{◌≡◌, [], ◌∷◌, ◌∙◌, append-nil, refl, ap, sym, length, arith, length-append}
 use Rattle.lw_text.proofs.Common.{length-map, RowCells, cell_texts, cells_texts, remaining, remaining_texts}
 use Rattle.lw_text.proofs.Common.{no_end, ragged}
 use Rattle.lw_text.proofs.Lists.{IsSuffix-join}
 use Rattle.lw_text.proofs.Texts.{is_text}
 use Rattle.lw_text.proofs.Faults.{Err-clause_known, MatchResult-Memory_error}
-use Rattle.lw_text.proofs.Cells.{no_cells-if_no_mark, no_row-wrong_count}
-use Rattle.lw_text.proofs.CellPlaces.{CellsRead-one_more, row_complete-CellsRead}
+use Rattle.lw_text.proofs.Cells.{no_cells-if_no_mark, no_row-if_count_differs}
+use Rattle.lw_text.proofs.CellPlaces.{CellsRead-push, row_complete-CellsRead}
 use Rattle.lw_text.proofs.cursor.Cursor.parse_row.Goals as goal
 
 pub returns-in_err-mark : goal.returns-in_err-mark
@@ -34,7 +34,7 @@ returns-then-eq g c =
     let other : length (cells_texts c.push.new.self) ≡ c.args.threads → ⊥ =
     λ e. c.if-len-threads.false (omega (arith, c.len.ensures, length-map c.push.new.self cell_texts, e)) in
     λ _. (
-      no_row-wrong_count (remaining_texts c.args.self.now) (remaining_texts c.parse_cell.new.self) _ line c.args.threads other,
+      no_row-if_count_differs (remaining_texts c.args.self.now) (remaining_texts c.parse_cell.new.self) _ line c.args.threads other,
       record {
         rest = c.in_ok-mark.mark ∷ remaining c.parse_cell.new.self;
         suffix = IsSuffix-join c.cells.invariant.leaves (c.parse_cell.new.cell, c.in_ok-mark.ensures.parts);
@@ -66,7 +66,7 @@ cells-smaller g c = omega (
 
 pub cells-preserved : goal.cells-preserved
 cells-preserved g c = rw c.in_ok-push.ensures.ok (record {
-  read = CellsRead-one_more c.cells.invariant.read c.in_ok-mark.ensures (sym c.eq.ensures ∙ c.if-eq.false);
+  read = CellsRead-push c.cells.invariant.read c.in_ok-mark.ensures (sym c.eq.ensures ∙ c.if-eq.false);
   leaves =
       IsSuffix-join c.cells.invariant.leaves
       (IsSuffix-join (c.parse_cell.new.cell, c.in_ok-mark.ensures.parts) (c.in_ok-mark.mark ∷ [], refl));

@@ -1,15 +1,15 @@
 -- `parse_rows` promises all rows up to a token that ends them, or that there are none, and where they fail.
--- Each round reads a row (`Rows-one_more`), unless the next token ends the rows (`Rows-at_stop`), 64 have been read
--- (`no_rows-too_many`) or no row follows (`no_rows-if_no_row`).
+-- Each round reads a row (`Rows-push`), unless the next token ends the rows (`Rows-at_stop`), 64 have been read
+-- (`no_rows-if_too_many`) or no row follows (`no_rows-if_no_row`).
 use Rattle.lw_text.proofs.Common.{◌≡◌, ◌<◌, ◌∷◌, [], ◌∙◌, refl, subst, ap, sym, length, arith, length-append}
 use Rattle.lw_text.proofs.Common.{map_push, length-map, cells_texts, remaining_texts, FailsInRows}
 use Rattle.lw_text.proofs.Common.{too_many_rows, in_row, in_rows_after}
 use Rattle.lw_text.proofs.Lists.{IsSuffix-join}
 use Rattle.lw_text.proofs.Failures.{Fails-here, Fails-later}
 use Rattle.lw_text.proofs.Faults.{Err-clause_known, MatchResult-Memory_error}
-use Rattle.lw_text.proofs.Cells.{Row-shorter, Rows-at_stop, Rows-one_more, no_rows-if_no_row}
-use Rattle.lw_text.proofs.Cells.{no_rows-too_many}
-use Rattle.lw_text.proofs.CellPlaces.{RowsFrom-one_more}
+use Rattle.lw_text.proofs.Cells.{Row-shorter, Rows-at_stop, Rows-push, no_rows-if_no_row}
+use Rattle.lw_text.proofs.Cells.{no_rows-if_too_many}
+use Rattle.lw_text.proofs.CellPlaces.{RowsFrom-push}
 use Rattle.lw_text.proofs.cursor.Cursor.parse_rows.Goals as goal
 
 pub returns-then-at_stop : goal.returns-then-at_stop
@@ -25,7 +25,7 @@ returns-then-len-eq-MAX_ROWS g c =
     let full : length c.rows.rows ≡ 64 = omega (arith, c.if-len-eq-MAX_ROWS.true, c.len.ensures) in
     let more = sym c.at_stop.ensures ∙ c.if-at_stop.false in
     λ _. (
-      no_rows-too_many c.args.threads _ _ _ c.rows.invariant.passed more
+      no_rows-if_too_many c.args.threads _ _ _ c.rows.invariant.passed more
           (omega (arith, c.if-len-eq-MAX_ROWS.true, c.len.ensures, length-map c.rows.rows cells_texts)),
       Fails-later {Later = λ ts rest cause. FailsInRows c.args.threads rest cause (length c.rows.rows) ts} c.rows.invariant.leaves
           c.rows.invariant.fails
@@ -48,9 +48,9 @@ pub rows-preserved : goal.rows-preserved
 rows-preserved g c = record {
   passed =
       rw (c.in_ok-push.ensures.ok, map_push cells_texts c.rows.rows)
-      (Rows-one_more c.args.threads _ _ _ c.rows.invariant.passed _ _ (sym c.at_stop.ensures ∙ c.if-at_stop.false)
+      (Rows-push c.args.threads _ _ _ c.rows.invariant.passed _ _ (sym c.at_stop.ensures ∙ c.if-at_stop.false)
       c.in_ok-parse_row.ensures.0);
-  cut = rw c.in_ok-push.ensures.ok (RowsFrom-one_more _ _ _ c.rows.rows _ c.rows.invariant.cut c.in_ok-parse_row.ensures.1);
+  cut = rw c.in_ok-push.ensures.ok (RowsFrom-push _ _ _ c.rows.rows _ c.rows.invariant.cut c.in_ok-parse_row.ensures.1);
   bounded = omega (
     arith,
     ap length c.in_ok-push.ensures.ok,

@@ -4,10 +4,10 @@
 use Rattle.lw_text.proofs.Common.{◌∷◌, [], ◌∙◌, inl, inr, refl, sym, ap, subst, arith, codes}
 use Rattle.lw_text.proofs.Common.{MatchResult-weaker, remaining, remaining_texts, ParsedSite, in_name}
 use Rattle.lw_text.proofs.Common.{in_brackets, no_thread, in_register, BeginsAt}
-use Rattle.lw_text.proofs.Atoms.{no_site-empty}
+use Rattle.lw_text.proofs.Atoms.{no_site-if_empty}
 use Rattle.lw_text.proofs.Lists.{IsSuffix-join}
 use Rattle.lw_text.proofs.Texts.{is_text, not-equal-if_bytes_differ}
-use Rattle.lw_text.proofs.Sites.{location_site_parsed, allowed_thread, not-ThreadAllowed-above_threads}
+use Rattle.lw_text.proofs.Sites.{location_site_parsed, allowed_thread, not-ThreadAllowed-if_above_threads}
 use Rattle.lw_text.proofs.Sites.{no_site-if_no_location_in_brackets, thread_refused, no_site-if_no_register}
 use Rattle.lw_text.proofs.Sites.{no_site-if_no_location}
 use Rattle.lw_text.proofs.Faults.{Err-clause_known}
@@ -31,7 +31,7 @@ pub returns-in_err-first : goal.returns-in_err-first
 returns-in_err-first g c =
     let none = c.in_err-first.ensures.err in
     Err-clause_known _ _ _ c.from_residual.ensures.1 (λ ne. (
-      λ s rest p there few. no_site-empty c.args.arch (remaining_texts c.args.self.now) rest s none p,
+      λ s rest p there few. no_site-if_empty c.args.arch (remaining_texts c.args.self.now) rest s none p,
       Fails-here c.args.self.now _ (BeginsAt-nil _ _ c.in_err-first.ensures.fails.0 c.in_err-first.ensures.fails.1)
           (in_name (IfFirst-nil _ _ none) (refl, IfFirst-nil _ _ none)),
     ))
@@ -63,7 +63,7 @@ returns-then-not-is_allowed g c = λ ne.
           there,
       Fails-here c.args.self.now _ (BeginsAt-cons _ _ _ c.in_ok-first.ensures.token)
           (no_thread _ _ c.in_ok-first.ensures.ok refl c.in-Some.ensures
-          (λ r. not-ThreadAllowed-above_threads c.args.threads _ r refused) refl),
+          (λ r. not-ThreadAllowed-if_above_threads c.args.threads _ r refused) refl),
     )
 
 pub returns-in-Some : goal.returns-in-Some

@@ -1,11 +1,11 @@
 -- `next` promises the next token with its offset, or that only trivia is left, or where the text fails. The
 -- token begins where the trivia stops, so it is unique. An open comment leaves no start of a token
--- (`no_first_token-open_comment`).
+-- (`no_first_token-if_comment_is_open`).
 use Rattle.lw_text.proofs.Common.{◌<◌, arith, ap, subst, length, length-append, Trivia, [], refl, nat_tests}
 use Rattle.lw_text.proofs.Common.{open_comment, in_token}
 use Rattle.lw_text.proofs.TriviaLemmas.{Trivia-shorter}
-use Rattle.lw_text.proofs.TokenRows.{not-ended-if_nonempty, no_first_token-after_trivia}
-use Rattle.lw_text.proofs.TokenRows.{no_first_token-open_comment}
+use Rattle.lw_text.proofs.TokenRows.{not-ended-if_nonempty, no_first_token-if_none_after_trivia}
+use Rattle.lw_text.proofs.TokenRows.{no_first_token-if_comment_is_open}
 use Rattle.lw_text.proofs.lexer.Lexer.next.Goals as goal
 
 pub overflow_sub-at : goal.overflow_sub-at
@@ -38,7 +38,7 @@ returns-in-Ok-clause-reads c =
 pub returns-in_default-clause-reads : goal.returns-in_default-clause-reads
 returns-in_default-clause-reads c = (
   c.in_default.ensures.none [] refl,
-  no_first_token-open_comment c.args.self.now.rest.now c.in_default.ensures.none,
+  no_first_token-if_comment_is_open c.args.self.now.rest.now c.in_default.ensures.none,
   omega arith,
   record { rest = []; place = omega arith; way = open_comment c.in_default.ensures.none refl refl },
 )
@@ -47,7 +47,7 @@ pub returns-in-Err-clause-reads : goal.returns-in-Err-clause-reads
 returns-in-Err-clause-reads c = (
   not-ended-if_nonempty c.args.self.now.rest.now c.in-Some.start.now c.in-Some.ensures.found c.in-Some.ensures.stops
       (grind (arith, nat_tests)),
-  no_first_token-after_trivia c.args.self.now.rest.now c.in-Some.start.now c.in-Some.ensures.found c.in-Some.ensures.stops
+  no_first_token-if_none_after_trivia c.args.self.now.rest.now c.in-Some.start.now c.in-Some.ensures.found c.in-Some.ensures.stops
       c.in-Err.ensures.none,
   omega arith,
   record {

@@ -7,7 +7,7 @@ use Rattle.lw_text.proofs.Common.{other_keyword}
 use Rattle.lw_text.proofs.Faults.{Err-clause_known}
 use Rattle.lw_text.proofs.Failures.{FailsFrom-later}
 use Rattle.lw_text.proofs.Preambles.{no_preamble-if_no_name, no_preamble-if_no_notes}
-use Rattle.lw_text.proofs.TokenRows.{no_first_token-trivia_only, IsFirstToken-unique}
+use Rattle.lw_text.proofs.TokenRows.{no_first_token-if_only_trivia, IsFirstToken-unique}
 use Rattle.lw_text.proofs.lexer.Lexer.parse_preamble.Goals as goal
 
 pub returns-in_err-name : goal.returns-in_err-name
@@ -47,7 +47,7 @@ returns-in-Err c =
 pub returns-in_default-clause-reads : goal.returns-in_default-clause-reads
 returns-in_default-clause-reads c =
     let here = rw c.in_default.is at c.in_ok-token.ensures.reads in (
-      λ arch name rest h. no_first_token-trivia_only _ (arch_keyword arch) h.0 here h.2,
+      λ arch name rest h. no_first_token-if_only_trivia _ (arch_keyword arch) h.0 here h.2,
       omega (arith, ap length c.in_ok-token.ensures.same),
       record { rest = []; place = omega (arith, ap length c.in_ok-token.ensures.same); way = no_keyword here refl refl },
     )
