@@ -1,4 +1,4 @@
+mod ByHand
 mod Classes
 mod Rooms
 mod Taken
-mod Walks

@@ -21,7 +21,7 @@ use Rattle.lw_arena.specs.Ownership.{units, memory, block_token}
 use Rattle.lw_arena.specs.contracts.block.Block as block
 use Rattle.lw_arena.proofs.Classes.{FitsClass-of_size, block_units-positive}
 use Rattle.lw_arena.proofs.Rooms.{room-of_type, memory-of_room, goal-of_memory}
-use Rattle.lw_arena.proofs.Walks.{point_val, point_own, point_own-only_point_val}
+use Rattle.lw_arena.proofs.ByHand.{pointer_struct, owns_pointer_struct, pointer_struct-if_owned}
 
 -- The type of the result of `take`: a block, or none.
 abbrev pub TakeResult : RattleType
@@ -67,14 +67,14 @@ block_token-of_room {𝓤 = 𝓤} 𝓛 τ b o n sized small =
 module _ {M : Type 1} {𝓤 : Ura M} {𝓛 : Logic 𝓤} {K : Type 0} {Γ : List (Item 𝓤)} {G : Goal 𝓤 𝓛.H} where
   -- A goal about the result of `take` holds if it holds when that is a block in memory, and when it is none.
   pub goal-of_take_result : K → (n a : ℕ) (x : TakeResult.Denot) (v : Val) → TakeEnsures n a x
-      → ((b o : ℕ) → n < 2 ^ 63 → v ≡ live 1 (vcons (point_val (block_ptr b o)) vnil) → Seq K 𝓛 (‵ (froom (units (block_units n)) b o) ∷ Γ) G)
+      → ((b o : ℕ) → n < 2 ^ 63 → v ≡ live 1 (vcons (pointer_struct (block_ptr b o)) vnil) → Seq K 𝓛 (‵ (froom (units (block_units n)) b o) ∷ Γ) G)
       → (v ≡ live 0 vnil → Seq K 𝓛 Γ G) → Seq K 𝓛 (‵ (TakeResult.own_val x (v ∷ [])) ∷ Γ) G
   goal-of_take_result t n a None v said some none =
       fpick t (λ us. fsplit t $ feq_l t (λ is. fpick t (λ vss. fsplit t $ feq_l t (λ are. drop t $
       none (ap only is ∙ ap (λ (ws : List Val). live 0 (of_list ws)) are)))))
   goal-of_take_result t n a (Some x) v said some none =
       fpick t (λ us. fsplit t $ feq_l t (λ is. fpick t (λ vss. fsplit t $ feq_l t (λ are. fsplit t $ move t (1 ∷ []) $ drop t $ fsplit t $
-      pure_l t (point_own x.at vss.0) (λ s.
+      pure_l t (owns_pointer_struct x.at vss.0) (λ s.
       rewrite t 0 (λ (k : ℕ). ‵ (memory k x.at)) said.0 refl $ goal-of_memory t (block_units n) x.at (block_units-positive n) (λ b o lies.
-      some b o said.1 (ap only is ∙ ap (λ (ws : List Val). live 1 (of_list ws)) (are ∙ ap (λ (ws : List Val). ws ++ []) (point_own-only_point_val x.at vss.0 s))
-      ∙ (λ i. live 1 (vcons (point_val (lies i)) vnil)))))))))
+      some b o said.1 (ap only is ∙ ap (λ (ws : List Val). live 1 (of_list ws)) (are ∙ ap (λ (ws : List Val). ws ++ []) (pointer_struct-if_owned x.at vss.0 s))
+      ∙ (λ i. live 1 (vcons (pointer_struct (lies i)) vnil)))))))))

@@ -1,6 +1,6 @@
 //! Changes of a location's word.
 ghost use Rattle.std.specs.Prelude.{◌≡◌};
-ghost use Rattle.lw_base.specs.Changes as table;
+ghost use Rattle.lw_base.specs.Changes as changes;
 
 use crate::indices::Word;
 
@@ -16,7 +16,7 @@ pub enum Change {
 impl Change {
     /// Returns the word after the change.
     pub fn word_after(self, old: Word) -> Word
-        ensures { result ≡ table.changed_word self old }
+        ensures { result ≡ changes.changed_word self old }
     {
         match self {
             Change::Put(word) => word,

@@ -1,4 +1,5 @@
-//! Schedules: events separated by blanks.
+//! Schedules: events separated by blanks; and the laws of their texts.
+//! A law is a function without a result, whose contract states the law. A proof uses the law by calling the function.
 ghost use Rattle.std.specs.Prelude.{◌≡◌, ◌≢◌, ◌<◌, ◌≤◌, List, [], ◌∷◌, ◌++◌, length, MatchOption, IfOk, IfErr, OnOk};
 ghost use Rattle.std.specs.List.{AllByRecursion};
 ghost use Rattle.std.specs.String.{string_bytes};

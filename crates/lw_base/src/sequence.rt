@@ -1,7 +1,7 @@
 //! The list type of the workbench. A contract sees it as the list of its items.
 ghost use Rattle.std.specs.Prelude.{◌≡◌, [], ◌∷◌, ◌++◌, ◌<◌, ◌==◌, length, slice_get, slice_set, IfOk, IfErr, OnOk, OnErr, option_copied};
 ghost use Rattle.std.specs.Cmp.Lexicographic.{pointwise, slice_cmp, slice_partial_cmp, lists_equiv, lists_agrees, lists_total, lists_ties, lists_po, lists_per};
-ghost use Rattle.std.specs.Hash as fed;
+ghost use Rattle.std.specs.Hash as hash;
 ghost use Rattle.std.specs.Hash.{items_Alike};
 
 use std::alloc::{AllocError, AllocFailed, Allocator, Global};
@@ -171,7 +171,7 @@ impl<T: Ord, A: Allocator> Ord for Sequence<T, A> {
 }
 
 impl<T: Hash, A: Allocator> Hash for Sequence<T, A> {
-    ghost hash_input = { fed.slice T.hash_input };
+    ghost hash_input = { hash.slice T.hash_input };
 
     ghost respects_eq = { (items_Alike (record { fed = T.respects_eq })).fed };
 

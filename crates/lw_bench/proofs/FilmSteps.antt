@@ -5,8 +5,7 @@ use Rattle.lw_bench.proofs.Common.{codes, sym, subst, arith, Bytes, Event, End, 
 use Rattle.lw_bench.proofs.Common.{LitmusTest, head_of_test, IsPageOf, IsFilmOf}
 
 -- Appending the page of the prefix of n events extends the film of the first n prefixes to `n + 1`.
-pub IsFilmOf-push : (protocol : Protocol) (test : LitmusTest) (events : List Event) (n : ℕ) (before page new : Bytes)
-    (end : End)
+pub IsFilmOf-push : (protocol : Protocol) (test : LitmusTest) (events : List Event) (n : ℕ) (before page new : Bytes) (end : End)
     → IsFilmOf protocol test events n before
     → IsPageOf protocol test (take n events) page end
     → new ≡ before ++ (page ++ codes "\n")

@@ -1,4 +1,5 @@
-//! A test of either language, and reading it.
+//! A test of either language, reading it, and the laws of its texts.
+//! A law is a function without a result, whose contract states the law. A proof uses the law by calling the function.
 ghost use Rattle.std.specs.Prelude.{◌≡◌, ◌≤◌, IfOk, IfErr};
 ghost use Rattle.lw_base.specs.Types.{Bytes};
 ghost use Rattle.lw_base.specs.Heads.{head_of};

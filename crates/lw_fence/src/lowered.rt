@@ -1,6 +1,6 @@
 //! The lowering of one statement to at most two instructions.
 ghost use Rattle.std.specs.Prelude.{◌≡◌, ◌≤◌, ◌++◌, length, slice_index, OnOk};
-ghost use Rattle.lw_fence.specs.Compiling as table;
+ghost use Rattle.lw_fence.specs.Compiling as compiling;
 
 use lw_base::{Operand, Reg, Sequence, Word};
 use lw_litmus::{Instr, Stmt};
@@ -17,7 +17,7 @@ impl Lowered {
     /// Lowers a statement, with a fence or without, by a table `starts` of each statement's first instruction. The
     /// length does not depend on the table; a target that the table does not have yet becomes 0.
     pub(crate) fn of(stmt: &Stmt, fence: bool, starts: &[usize]) -> Lowered
-        ensures { result ≡ table.lowered starts.now fence stmt.now }
+        ensures { result ≡ compiling.lowered starts.now fence stmt.now }
     {
         match *stmt {
             Stmt::Store { loc, val } => Lowered::One(Instr::Store { loc, val }),
@@ -47,7 +47,7 @@ impl Lowered {
 
     /// Returns the instruction, after a fence if `fence` is set.
     fn fenced(fence: bool, last: Instr) -> Lowered
-        ensures { result ≡ table.with_fence_if fence last }
+        ensures { result ≡ compiling.with_fence_if fence last }
     {
         if fence {
             Lowered::Two(Instr::Mfence, last)
@@ -58,7 +58,7 @@ impl Lowered {
 
     /// Returns the instruction, after a move from `src` to `dst` if they differ.
     fn moved(dst: Reg, src: Reg, last: Instr) -> Lowered
-        ensures { result ≡ table.with_move_if dst src last }
+        ensures { result ≡ compiling.with_move_if dst src last }
     {
         if dst == src {
             return Lowered::One(last);
@@ -72,7 +72,7 @@ impl Lowered {
 
     /// Lowers a sum. If the destination is the right operand, the left operand is added to it.
     fn summed(dst: Reg, left: Reg, right: Operand) -> Lowered
-        ensures { result ≡ table.lower_sum dst left right }
+        ensures { result ≡ compiling.lower_sum dst left right }
     {
         if right == Operand::Register(dst) {
             let val = Operand::Register(left);
@@ -90,7 +90,7 @@ impl Lowered {
 
     /// Returns the number of instructions.
     pub(crate) fn len(&self) -> usize
-        ensures result_is { result ≡ length (table.instrs_of self.now) }
+        ensures result_is { result ≡ length (compiling.instrs_of self.now) }
         ensures bounded { result ≤ 2 }
     {
         match self {
@@ -104,7 +104,7 @@ impl Lowered {
         self,
         instrs: &mut Sequence<Instr, A>,
     ) -> Result<(), AllocFailed<Instr>>
-        ensures { OnOk result (instrs.new ≡ instrs.old ++ table.instrs_of self) }
+        ensures { OnOk result (instrs.new ≡ instrs.old ++ compiling.instrs_of self) }
     {
         match self {
             Lowered::One(last) => instrs.push(last),
@@ -118,7 +118,7 @@ impl Lowered {
 
 /// Returns the instruction that sets the zero flag if a register has a word.
 fn compared(reg: Reg, num: Word) -> Instr
-    ensures { result ≡ table.lower_compare reg num }
+    ensures { result ≡ compiling.lower_compare reg num }
 {
     Instr::Cmp {
         reg,

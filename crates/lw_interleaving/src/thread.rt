@@ -1,7 +1,7 @@
 //! The state of one thread of a source test, and the effect of an operation on it.
 ghost use Rattle.std.specs.Prelude.{◌≡◌, ◌+◌, ◌<◌, ◌^◌, length, nat_le};
 ghost use Rattle.lw_base.specs.Changes.{wrapping_sum};
-ghost use Rattle.lw_interleaving.specs.Statements as table;
+ghost use Rattle.lw_interleaving.specs.Statements as statements;
 ghost use Rattle.lw_interleaving.specs.Statements.{words_after};
 ghost use Rattle.lw_litmus.specs.WellFormed.{IsWellFormedOperation};
 
@@ -33,21 +33,21 @@ impl Thread {
     )
         requires operation { IsWellFormedOperation (length words.old) operation }
         requires room { self.old.position + 1 < 2 ^ 64 }
-        ensures thread { self.new ≡ table.thread_after operation self.old words.old }
+        ensures thread { self.new ≡ statements.thread_after operation self.old words.old }
         ensures words { words.new ≡ words_after operation self.old words.old }
     {
         match operation {
             Operation::Set { dst, val } => {
                 let word = val.value(&self.regs);
-                self.get(dst, word);
+                self.advance_with_register(dst, word);
             }
             Operation::Sum { dst, left, right } => {
                 let sum = wrapping_sum(self.regs[left.index()], right.value(&self.regs));
-                self.get(dst, sum);
+                self.advance_with_register(dst, sum);
             }
             Operation::Load { dst, loc } => {
                 let word = words.as_slice()[loc.index()];
-                self.get(dst, word);
+                self.advance_with_register(dst, word);
             }
             Operation::Store { loc, val } => {
                 words.set(loc.index(), val.value(&self.regs));
@@ -56,7 +56,7 @@ impl Thread {
             Operation::Swap { dst, loc, src } => {
                 let word = words.as_slice()[loc.index()];
                 words.set(loc.index(), self.regs[src.index()]);
-                self.get(dst, word);
+                self.advance_with_register(dst, word);
             }
             Operation::FetchAdd(dst, loc, val) => {
                 let word = words.as_slice()[loc.index()];
@@ -74,15 +74,15 @@ impl Thread {
     /// Advances to the next statement.
     fn advance(&mut self)
         requires { self.old.position + 1 < 2 ^ 64 }
-        ensures { self.new ≡ table.advance self.old }
+        ensures { self.new ≡ statements.advance self.old }
     {
         self.position += 1;
     }
 
     /// Writes a word to a register and advances.
-    fn get(&mut self, dst: Reg, word: Word)
+    fn advance_with_register(&mut self, dst: Reg, word: Word)
         requires { self.old.position + 1 < 2 ^ 64 }
-        ensures { self.new ≡ table.advance_with_register self.old dst word }
+        ensures { self.new ≡ statements.advance_with_register self.old dst word }
     {
         self.regs[dst.index()] = word;
         self.position += 1;
@@ -91,10 +91,10 @@ impl Thread {
     /// Writes a word to a register, if one is named, and advances.
     fn advance_with_register_if_some(&mut self, dst: Option<Reg>, word: Word)
         requires { self.old.position + 1 < 2 ^ 64 }
-        ensures { self.new ≡ table.advance_with_register_if_some self.old dst word }
+        ensures { self.new ≡ statements.advance_with_register_if_some self.old dst word }
     {
         match dst {
-            Some(dst) => self.get(dst, word),
+            Some(dst) => self.advance_with_register(dst, word),
             None => self.advance(),
         }
     }
@@ -102,7 +102,7 @@ impl Thread {
     /// Jumps to the target if the guard holds, and advances otherwise.
     fn jump(&mut self, holds: bool, to: usize)
         requires { self.old.position + 1 < 2 ^ 64 }
-        ensures { self.new ≡ table.jump_or_advance self.old holds to }
+        ensures { self.new ≡ statements.jump_or_advance self.old holds to }
     {
         self.position = if holds { to } else { self.position + 1 };
     }

@@ -1,5 +1,5 @@
-//! The law of what is asked of tests.
-//! A law is a function without a result, whose contract is the law; who needs it calls the function.
+//! The law that well-formed tests are well-scoped. A law is a function without a result, whose contract states the law. A proof uses the law
+//! by calling the function.
 ghost use Rattle.lw_litmus.specs.Tests.{SourceTest, X86Test};
 ghost use Rattle.lw_litmus.specs.WellFormedTests.{IsWellFormedSource, IsWellFormedProgram};
 ghost use Rattle.lw_litmus.specs.WellScopedTests.{IsWellScopedSource, IsWellScopedProgram};

@@ -1,6 +1,6 @@
 //! The operations of statements and instructions, in either language.
 ghost use Rattle.std.specs.Prelude.{◌≡◌};
-ghost use Rattle.lw_litmus.specs.Operations as table;
+ghost use Rattle.lw_litmus.specs.Operations as operations;
 
 use lw_base::{Change, Loc, Operand, REGISTERS, Reg, Word};
 
@@ -46,7 +46,7 @@ pub enum Guard {
 impl Guard {
     /// Returns whether the guard holds, for these registers and this zero flag.
     pub fn holds(&self, regs: &[Word; REGISTERS], zero_flag: bool) -> bool
-        ensures { result ≡ table.guard_holds self.now regs.now zero_flag }
+        ensures { result ≡ operations.guard_holds self.now regs.now zero_flag }
     {
         match self {
             Guard::Always => true,
@@ -61,7 +61,7 @@ impl Guard {
 impl Operation {
     /// Returns the location that the operation reads or writes, if it accesses one.
     pub fn location(&self) -> Option<Loc>
-        ensures { result ≡ table.location_of self.now }
+        ensures { result ≡ operations.location_of self.now }
     {
         match self {
             Operation::Store { loc, .. } | Operation::Load { loc, .. } => Some(*loc),
@@ -73,7 +73,7 @@ impl Operation {
     /// Returns how the operation changes its location's word, for these registers. Returns `None` if it does not
     /// write.
     pub fn change(&self, regs: &[Word; REGISTERS]) -> Option<Change>
-        ensures { result ≡ table.written_change self.now regs.now }
+        ensures { result ≡ operations.written_change self.now regs.now }
     {
         match self {
             Operation::Store { val, .. } => Some(Change::Put(val.value(regs))),
@@ -85,35 +85,35 @@ impl Operation {
 
     /// Returns whether it is a plain store, which x86 puts into the store buffer.
     pub fn is_store(&self) -> bool
-        ensures { result ≡ table.is_store self.now }
+        ensures { result ≡ operations.is_store self.now }
     {
         matches!(self, Operation::Store { .. })
     }
 
     /// Returns whether it is an atomic read-modify-write.
     pub fn is_locked(&self) -> bool
-        ensures { result ≡ table.is_locked self.now }
+        ensures { result ≡ operations.is_locked self.now }
     {
         matches!(self, Operation::Swap { .. } | Operation::FetchAdd(..))
     }
 
     /// Returns whether it writes its location.
     pub fn writes(&self) -> bool
-        ensures { result ≡ table.writes self.now }
+        ensures { result ≡ operations.writes self.now }
     {
         self.is_store() || self.is_locked()
     }
 
     /// Returns whether x86 executes it only if the store buffer is empty.
     pub fn waits(&self) -> bool
-        ensures { result ≡ table.needs_empty_buffer self.now }
+        ensures { result ≡ operations.needs_empty_buffer self.now }
     {
         matches!(self, Operation::Fence) || self.is_locked()
     }
 
     /// Returns the target of a branch. Returns `None` for any other operation.
     pub fn target(&self) -> Option<usize>
-        ensures { result ≡ table.branch_target self.now }
+        ensures { result ≡ operations.branch_target self.now }
     {
         match self {
             Operation::Branch { to, .. } => Some(*to),
@@ -123,7 +123,7 @@ impl Operation {
 
     /// Returns whether control can pass to the next statement: always, except after an unconditional branch.
     pub fn falls_through(&self) -> bool
-        ensures { result ≡ table.falls_through self.now }
+        ensures { result ≡ operations.falls_through self.now }
     {
         !matches!(
             self,

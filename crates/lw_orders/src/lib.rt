@@ -27,10 +27,10 @@ mod item_set;
 mod items;
 mod laws;
 mod limits;
-mod low_items;
 mod order;
 mod orders;
 mod reach;
+mod small_item_set;
 
 pub use items::{Items, count};
 pub use laws::{

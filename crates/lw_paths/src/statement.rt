@@ -1,21 +1,21 @@
 //! What the statements of a language mean for orders: a store to a store buffer takes effect by its drain, everything
 //! else by itself.
 ghost use Rattle.std.specs.Prelude.{◌≡◌};
-ghost use Rattle.lw_paths.specs.Items as table;
+ghost use Rattle.lw_paths.specs.Items as items;
 
 use lw_base::Loc;
 use lw_litmus::Statement;
 
 /// Returns whether it is a store to a store buffer, so that its drain is an item.
 pub(crate) fn is_drained<S: Statement>(stmt: &S) -> bool
-    ensures { result ≡ table.is_drained S.language stmt.now }
+    ensures { result ≡ items.is_drained S.language stmt.now }
 {
     S::is_buffered() && stmt.operation().is_store()
 }
 
 /// Returns the location that the statement itself reads or writes.
 pub(crate) fn accesses<S: Statement>(stmt: &S) -> Option<Loc>
-    ensures { result ≡ table.accessed_by_statement S.language stmt.now }
+    ensures { result ≡ items.accessed_by_statement S.language stmt.now }
 {
     if is_drained(stmt) {
         return None;
@@ -25,7 +25,7 @@ pub(crate) fn accesses<S: Statement>(stmt: &S) -> Option<Loc>
 
 /// Returns the location that the drain of its entry writes, if it has one.
 pub(crate) fn drains<S: Statement>(stmt: &S) -> Option<Loc>
-    ensures { result ≡ table.drained_location S.language stmt.now }
+    ensures { result ≡ items.drained_location S.language stmt.now }
 {
     if is_drained(stmt) {
         return stmt.operation().location();
@@ -35,7 +35,7 @@ pub(crate) fn drains<S: Statement>(stmt: &S) -> Option<Loc>
 
 /// Returns whether it needs all earlier entries drained.
 pub(crate) fn waits<S: Statement>(stmt: &S) -> bool
-    ensures { result ≡ table.statement_needs_empty_buffer S.language stmt.now }
+    ensures { result ≡ items.statement_needs_empty_buffer S.language stmt.now }
 {
     S::is_buffered() && stmt.operation().waits()
 }

@@ -1,6 +1,6 @@
 //! The verdict on a test's condition, and the observation.
 ghost use Rattle.std.specs.Prelude.{◌≡◌};
-ghost use Rattle.lw_report.specs.Judgement as told;
+ghost use Rattle.lw_report.specs.Judgement as judgement;
 ghost use Rattle.lw_report.specs.Reports.{kind_text, verdict_text, observation_text, claim_line};
 
 use lw_base::Quant;
@@ -47,7 +47,7 @@ pub(crate) struct Counts {
 
 /// Returns the verdict, from the claim on the states that were counted.
 pub(crate) fn verdict_of(claim: Claim, quant: Quant, counts: Counts) -> Verdict
-    ensures { result ≡ told.verdict_of claim quant counts.positive counts.negative }
+    ensures { result ≡ judgement.verdict_of claim quant counts.positive counts.negative }
 {
     match (claim, quant) {
         (Claim::Exact, Quant::Exists) if counts.positive == 0 => Verdict::No,
@@ -67,7 +67,7 @@ pub(crate) fn verdict_of(claim: Claim, quant: Quant, counts: Counts) -> Verdict
 
 /// Returns the observation, from the claim on the states that were counted.
 pub(crate) fn observation_of(claim: Claim, counts: Counts) -> Observation
-    ensures { result ≡ told.observation_of claim counts.positive counts.negative }
+    ensures { result ≡ judgement.observation_of claim counts.positive counts.negative }
 {
     match (claim, counts.positive, counts.negative) {
         (Claim::Exact, 0, _) => Observation::Never,

@@ -6,7 +6,7 @@ ghost use Rattle.lw_base.specs.Heads.{head_of};
 ghost use Rattle.lw_base.specs.Limits.{most_threads};
 ghost use Rattle.lw_base.specs.WellFormed.{MentionsLocationsBelow};
 ghost use Rattle.lw_base.specs.Propositions.{formula_of};
-ghost use Rattle.lw_report.specs.Judgement as told;
+ghost use Rattle.lw_report.specs.Judgement as judgement;
 ghost use Rattle.lw_report.specs.Judgement.{positive, negative};
 ghost use Rattle.lw_report.specs.inner.Labels.{labels};
 ghost use Rattle.lw_report.specs.Reports.{title_line, state_line, count_line, observation_line, claim_line, judgement_lines, report_text};
@@ -20,7 +20,7 @@ use std::alloc::{AllocError, Allocator};
 
 /// Returns the verdict on a head's condition, for these states and the claim on them. Does not allocate.
 pub fn verdict<A: Allocator>(head: &Head<A>, states: &States<A>, claim: Claim) -> Verdict
-    ensures { result ≡ told.verdict_of claim head.now.quant (positive (map projection_of states.now)) (negative (map projection_of states.now)) }
+    ensures { result ≡ judgement.verdict_of claim head.now.quant (positive (map projection_of states.now)) (negative (map projection_of states.now)) }
 {
     verdict_of(claim, head.quant, counts_of(states.as_slice()))
 }

@@ -19,13 +19,13 @@
 #![tactic(auto)]
 
 mod accesses;
-mod buffer;
 mod collect;
 mod fault;
 mod invisible;
 mod laws;
 mod list;
 mod observed;
+mod queue;
 mod run;
 mod search;
 mod states;

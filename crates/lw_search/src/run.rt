@@ -2,7 +2,7 @@
 ghost use Rattle.std.specs.Prelude.{◌≡◌, true, false};
 ghost use Rattle.lw_search.specs.inner.StateKeys.{event_of};
 
-use crate::buffer::Queue;
+use crate::queue::Queue;
 use lw_base::{Cpu, Event};
 use std::marker::Model;
 

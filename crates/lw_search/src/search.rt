@@ -14,8 +14,8 @@ ghost use Rattle.lw_search.specs.inner.ThreadStates.{ActResult};
 ghost use Rattle.lw_search.specs.inner.Transitions.{AppendsRows, AreTransitions, CopiesRow, IsTransition, TakesEvent};
 
 use crate::accesses::{Conflicts, Outlooks};
-use crate::buffer::Queue;
 use crate::invisible::settle;
+use crate::queue::Queue;
 use crate::run::{Run, RunEvent};
 use crate::states::{StateKey, StateTable};
 use crate::tables::{Tables, row_number};

@@ -11,7 +11,7 @@ ghost use Rattle.lw_tso.specs.Machines.{EffectTransition};
 ghost use Rattle.lw_litmus.specs.declared.operation.Operation.TheVariants as Operation;
 ghost use Rattle.lw_search.specs.inner.ThreadStates.{ActResult, RefusesStep};
 
-use crate::buffer::{Queue, newest_in};
+use crate::queue::{Queue, newest_in};
 use crate::search::instr_at;
 use lw_base::{Loc, Operand, REGISTERS, Reg, Sequence, Word};
 use lw_litmus::{Instr, Operation, Statement};

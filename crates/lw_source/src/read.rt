@@ -1,4 +1,5 @@
-//! Reading a source test from its frame.
+//! Reading a source test from its frame, and the laws of its texts.
+//! A law is a function without a result, whose contract states the law. A proof uses the law by calling the function.
 ghost use Rattle.std.specs.Prelude.{◌≡◌, ◌≢◌, ◌≤◌, List, IfOk, IfErr};
 ghost use Rattle.lw_base.specs.NoParse.{HoldsOfNothingOrOutOfMemory};
 ghost use Rattle.lw_base.specs.declared.head.Arch.TheVariants as arch;

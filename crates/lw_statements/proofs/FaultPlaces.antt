@@ -330,10 +330,10 @@ module _ {Syntax Stmt A : Type 0} (grammar : Grammar Syntax Stmt) (front rest : 
           }),
         )
         IsSurplus_or_IsNinth (inr (room_there, c)) = (
-          token_position c.place c.token c.token_at c.ninth.0,
+          token_position c.place c.token c.token_at c.overflow.0,
           inr (record {
             mid = token_texts (take c.place (drop next cell.tokens));
-            read = IsReadTo-token c.place c.token c.token_at c.ninth.0;
+            read = IsReadTo-token c.place c.token c.token_at c.overflow.0;
             no_label = no_label_at_token c.place c.token c.token_at;
             has_room = room_there;
             begun = λ some. record {
@@ -341,9 +341,9 @@ module _ {Syntax Stmt A : Type 0} (grammar : Grammar Syntax Stmt) (front rest : 
               begins = BeginsFitting-table_after _ (c.begun (front_not_empty-index_nonzero c.place some));
             };
             is_location = c.location;
-            full = ap length (table_after_syntaxes names others behind threads others_say grown) ∙ c.ninth.2;
+            full = ap length (table_after_syntaxes names others behind threads others_say grown) ∙ c.overflow.2;
             new = λ there.
-                c.ninth.3 (subst (λ (ns : NameTable). Contains ns c.token.text.now)
+                c.overflow.3 (subst (λ (ns : NameTable). Contains ns c.token.text.now)
                 (table_after_syntaxes names others behind threads others_say grown) there);
           }),
         )

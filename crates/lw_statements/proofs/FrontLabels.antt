@@ -22,17 +22,18 @@ pub get_text : (tokens : List Token) (k : ℕ) (t : Token)
 get_text tokens k t is = slice_get-map (λ u. u.text.now) tokens k ∙ ap (option_map (λ u. u.text.now)) is
 
 -- The text at index j after the first k is the text at index `k + j`.
-get_drop : (ts : TokenList) (k j : ℕ) → slice_get (drop k ts) j ≡ slice_get ts (k + j)
-get_drop [] zero j = refl
-get_drop [] (suc k) j = refl
-get_drop (x ∷ ts) zero j = let e : j ≡ zero + j = omega arith in ap (slice_get (x ∷ ts)) e
-get_drop (x ∷ ts) (suc k) j = let e : suc (k + j) ≡ suc k + j = omega arith in get_drop ts k j ∙ ap (slice_get (x ∷ ts)) e
+get-drop_texts : (ts : TokenList) (k j : ℕ) → slice_get (drop k ts) j ≡ slice_get ts (k + j)
+get-drop_texts [] zero j = refl
+get-drop_texts [] (suc k) j = refl
+get-drop_texts (x ∷ ts) zero j = let e : j ≡ zero + j = omega arith in ap (slice_get (x ∷ ts)) e
+get-drop_texts (x ∷ ts) (suc k) j =
+    let e : suc (k + j) ≡ suc k + j = omega arith in get-drop_texts ts k j ∙ ap (slice_get (x ∷ ts)) e
 
 -- The text at index j of the tokens after the first k is the text at index `k + j` of all.
-pub get-of_drop : (tokens : List Token) (k j : ℕ)
+pub get-drop_tokens : (tokens : List Token) (k j : ℕ)
     → slice_get (token_texts (drop k tokens)) j ≡ slice_get (token_texts tokens) (k + j)
-get-of_drop tokens k j =
-    ap (λ (ts : TokenList). slice_get ts j) (sym (drop-map (λ t. t.text.now) k tokens)) ∙ get_drop (token_texts tokens) k j
+get-drop_tokens tokens k j =
+    ap (λ (ts : TokenList). slice_get ts j) (sym (drop-map (λ t. t.text.now) k tokens)) ∙ get-drop_texts (token_texts tokens) k j
 
 -- If there is a token at the index `next + 1`, there are at least `next + 2` tokens.
 pub next_within : (tokens : List Token) (next : ℕ) (w : Bytes)
@@ -245,8 +246,8 @@ module _ (tokens : List Token) (to : ℕ) (labels : LabelMap) (next : ℕ) (now 
         let here : next ≡ next + 0 = omega arith in
         let go =
         Labels-next rest mid cut.0 token.text.now
-        (get-of_drop tokens next 0 ∙ ap (slice_get (token_texts tokens)) (sym here) ∙ get_text tokens next token is)
-        (get-of_drop tokens next 1 ∙ colon) cut.2 none in
+        (get-drop_tokens tokens next 0 ∙ ap (slice_get (token_texts tokens)) (sym here) ∙ get_text tokens next token is)
+        (get-drop_tokens tokens next 1 ∙ colon) cut.2 none in
         (go.0, cut.1 ∙ ap (λ (ns : List Bytes). read.names ++ ns) go.1, go.2)
 
     -- The token is in the place of a label.

@@ -164,7 +164,7 @@ module _ {W Form Stmt : Type 0} (spelling : Spelling W Form Stmt) where
               let same : s ≡ said = (is_grammar _ _ lawful).deterministic (token_texts tokens) s said fits.0 (there, fills) in
               h.refused.none known (is.1, rw (same, is.0) at fits.1);
           cause =
-              FaultClaim-weakened (λ c none. absurd none) (λ none. absurd none) (λ ninth. record {
+              FaultClaim-weakened (λ c none. absurd none) (λ none. absurd none) (λ overflow. record {
                 place = h.index;
                 token = h.token;
                 token_at = h.token_at;
@@ -173,7 +173,7 @@ module _ {W Form Stmt : Type 0} (spelling : Spelling W Form Stmt) where
                     (list_all-get _ spelling.forms there.0 form lawful.names there.1 there.2) after;
                 location =
                     location_after _ made lawful form (token_texts (take h.index tokens)) h.token.text.now there after is.1;
-                ninth = ninth;
+                overflow = overflow;
               }) h.refused.cause;
           place = λ len lies. h.refused.place len (All-get (λ t. t.at ≤ len) tokens _ h.token h.token_at lies.0);
         }
@@ -202,7 +202,7 @@ module _ {W Form Stmt : Type 0} (spelling : Spelling W Form Stmt) where
             fitting_before spelling names table form _ there
             (list_all-get _ spelling.forms there.0 form lawful.names there.1 there.2) after;
         location = location_after spelling made lawful form _ n.token.text.now there after loc;
-        ninth = (refl, loc, n.full, n.new);
+        overflow = (refl, loc, n.full, n.new);
       })
 
   -- Tokens that fill no form say no statement that fits.

@@ -16,7 +16,7 @@ ghost use Rattle.lw_statements.specs.inner.Tokens.{IsOverflowName, AllEndBefore}
 ghost use Rattle.lw_statements.specs.Grammars.{CanBegin, IsBeforeRegister};
 ghost use Rattle.lw_statements.specs.Spellings.{grammar_of, SlotValue, Gives, Filling, Fills};
 ghost use Rattle.lw_statements.specs.Bindings.{CanStand, BeginsWith};
-ghost use Rattle.lw_statements.specs.Bindings as drafts;
+ghost use Rattle.lw_statements.specs.Bindings as bindings;
 ghost use Rattle.lw_statements.specs.Bindings.{bind_slot, bindings_of, draft_of, IsNameAmong, IsDrafted, IsNotDrafted, IsOverflowSlot, IsReach, IsLongestFront, IsSlotAfter, IsLocationSlot, IsRegisterSlot, HasNext, HasSlotAfter, IsFirstRejected, IsSpelling};
 ghost use Rattle.lw_statements.specs.inner.Reading.{StatementRead, StatementFaultIsTrue, StatementRefused};
 
@@ -42,7 +42,7 @@ pub(crate) struct SlotBindings {
 
 /// Returns the bindings of no tokens: no operand, no name and no label.
 fn no_bindings() -> SlotBindings
-    ensures { result ≡ drafts.no_bindings }
+    ensures { result ≡ bindings.no_bindings }
 {
     SlotBindings {
         operands: Operands {
@@ -61,7 +61,7 @@ fn no_bindings() -> SlotBindings
 /// Binds a token as the first register. Returns `None` if the token is no register.
 fn with_register(found: SlotBindings, arch: Arch, token: &Token<'_>) -> Option<SlotBindings>
     ensures { MatchOption result ((r : ℕ) → IsRegisterName arch token.now.text.now r → ⊥)
-        (λ all. (r : ℕ) × IsRegisterName arch token.now.text.now r × (all ≡ drafts.with_register r found)) }
+        (λ all. (r : ℕ) × IsRegisterName arch token.now.text.now r × (all ≡ bindings.with_register r found)) }
 {
     let reg = reg_from_name(arch, token.text)?;
     let operands = Operands {
@@ -75,7 +75,7 @@ fn with_register(found: SlotBindings, arch: Arch, token: &Token<'_>) -> Option<S
 /// Binds a token as a register or number. Returns `None` if the token is neither.
 fn with_value(found: SlotBindings, arch: Arch, token: &Token<'_>) -> Option<SlotBindings>
     ensures { MatchOption result ((v : Operand) → IsOperand arch token.now.text.now v → ⊥)
-        (λ all. (v : Operand) × IsOperand arch token.now.text.now v × (all ≡ drafts.with_value v found)) }
+        (λ all. (v : Operand) × IsOperand arch token.now.text.now v × (all ≡ bindings.with_value v found)) }
 {
     let val = operand(arch, token)?;
     let operands = Operands {
@@ -88,7 +88,7 @@ fn with_value(found: SlotBindings, arch: Arch, token: &Token<'_>) -> Option<Slot
 /// Binds a token as a number. Returns `None` if the token is none.
 fn with_number(found: SlotBindings, token: &Token<'_>) -> Option<SlotBindings>
     ensures { MatchOption result ((n : ℕ) → IsNumber token.now.text.now n → ⊥)
-        (λ all. (n : ℕ) × IsNumber token.now.text.now n × (all ≡ drafts.with_number n found)) }
+        (λ all. (n : ℕ) × IsNumber token.now.text.now n × (all ≡ bindings.with_number n found)) }
 {
     let num = token.number()?;
     let operands = Operands {
@@ -122,7 +122,7 @@ fn with_token<L: StatementReader>(
 /// Records this token's index as that of the location. Returns `None` if the token cannot name one.
 fn with_name(found: SlotBindings, token: &Token<'_>, index: usize) -> Option<SlotBindings>
     ensures { MatchOption result (IsLocationName token.now.text.now → ⊥)
-        (λ all. IsLocationName token.now.text.now × (all ≡ drafts.with_name_at index found)) }
+        (λ all. IsLocationName token.now.text.now × (all ≡ bindings.with_name_at index found)) }
 {
     if !is_location_name(token.text) {
         return None;
@@ -136,7 +136,7 @@ fn with_name(found: SlotBindings, token: &Token<'_>, index: usize) -> Option<Slo
 /// Records this token's index as that of the label. Returns `None` if the token cannot name one.
 fn with_label(found: SlotBindings, token: &Token<'_>, index: usize) -> Option<SlotBindings>
     ensures { MatchOption result (IsLocationName token.now.text.now → ⊥)
-        (λ all. IsLocationName token.now.text.now × (all ≡ drafts.with_label_at index found)) }
+        (λ all. IsLocationName token.now.text.now × (all ≡ bindings.with_label_at index found)) }
 {
     if !is_location_name(token.text) {
         return None;
@@ -203,7 +203,7 @@ fn read_slots<L: StatementReader>(
     found: &mut SlotBindings,
 ) -> bool
     requires bounded { index + length slots.now < 2 ^ 64 }
-    requires nothing { found.old ≡ drafts.no_bindings }
+    requires nothing { found.old ≡ bindings.no_bindings }
     ensures { MatchBool result
         ((f : Filling slots.now) × Fills L.spelling (token_texts tokens.now) slots.now f × (found.new ≡ bindings_of index slots.now f))
         ((f : Filling slots.now) → Fills L.spelling (token_texts tokens.now) slots.now f → ⊥) }
@@ -307,7 +307,7 @@ fn draft<F: Copy + Drop, A: Allocator + Copy>(
 
 /// Returns the draft of a statement of this form, on this location, if it has one.
 fn draft_on<F>(form: F, found: SlotBindings, loc: Option<Loc>) -> Draft<F>
-    ensures { result ≡ drafts.draft_on form loc found }
+    ensures { result ≡ bindings.draft_on form loc found }
 {
     Draft {
         form,
@@ -376,11 +376,11 @@ fn overflows<W: Copy + Drop, A: Allocator>(
     if !takes_location(slot) {
         return false;
     }
-    is_ninth(token, locs)
+    lacks_room_for(locs, token)
 }
 
-/// Returns whether the token names a location that the table does not have and has no room for.
-fn is_ninth<A: Allocator>(token: &Token<'_>, locs: &LocNames<A>) -> bool
+/// Returns whether the table is full and does not have the token's text.
+fn lacks_room_for<A: Allocator>(locs: &LocNames<A>, token: &Token<'_>) -> bool
     ensures { IsTrue result ↔ ((length locs.now ≡ most_locations) × (Contains locs.now token.now.text.now → ⊥)) }
 {
     if locs.len() != MAX_LOCATIONS {

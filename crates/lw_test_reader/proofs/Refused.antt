@@ -1,5 +1,5 @@
 -- What the bodies of the refusing allocator share: a `&` to it is a `&` to each of its fields, and its count at a call.
--- Assumes `Logic`.
+-- Each lemma holds in every model `𝓛` of the toolchain's separation logic (`Logic`). The file `Rooms` of lw_arena says how such proofs are read.
 --     Whole, Counts                    the rows of the allocator and of its count
 --     inner_at, count_at               where its two fields lie
 --     fields                           a `&` to it is a `&` to the allocator inside and one to the count

@@ -17,9 +17,9 @@ use Rattle.lw_text.proofs.api.Numbers.{number_first}
 use Rattle.lw_text.proofs.NameRuns.{IsLongestPrefix-unique, run_front, symbol_front, token_no_trivia}
 use Rattle.lw_text.proofs.NameRuns.{token_nonempty}
 use Rattle.lw_text.proofs.NoteRows.{Quoted-front, Quoted-open, KeyLine-front, no_key_line-if_no_equals}
-use Rattle.lw_text.proofs.NoteRows.{no_note-if_neither_kind, no_note-if_quote_is_unclosed, Note-unique, note_no_trivia}
-use Rattle.lw_text.proofs.NoteRows.{block_no_trivia, Notes-note_inv, Notes-trivia_first, key_front}
-use Rattle.lw_text.proofs.NoteRows.{Without-of_all}
+use Rattle.lw_text.proofs.NoteRows.{no_note-if_neither_kind, no_note-if_quote_is_unclosed, Note-unique}
+use Rattle.lw_text.proofs.NoteRows.{note_no_trivia, block_no_trivia, Notes-note_inv, Notes-trivia_first}
+use Rattle.lw_text.proofs.NoteRows.{key_front, Without-of_all}
 use Rattle.lw_text.proofs.Preambles.{graphic_no_blank, ParsesTestName-parts, ParsesTestName-unique}
 use Rattle.lw_text.proofs.Preambles.{arch_keyword-unique}
 use Rattle.lw_text.proofs.TokenRows.{IsFirstToken-unique, no_first_token-if_only_trivia}
@@ -381,7 +381,8 @@ pub not-FailsInPreamble-if_parsed : (text r rest name : Bytes) (arch : Arch) (c 
     → Preamble text arch name rest
     → ⊥
 not-FailsInPreamble-if_parsed text r rest name arch c (in_keyword p) is = not-FailsInFirstToken-if_parsed text r _ is.0 c p is.2
-not-FailsInPreamble-if_parsed text r rest name arch c (no_keyword end at p) is = no_first_token-if_only_trivia text _ is.0 end is.2
+not-FailsInPreamble-if_parsed text r rest name arch c (no_keyword end at p) is =
+    no_first_token-if_only_trivia text _ is.0 end is.2
 not-FailsInPreamble-if_parsed text r rest name arch c (other_keyword t after first at other p) is =
     other arch (first_token-is_keyword text t after is.0 arch first is.2)
 not-FailsInPreamble-if_parsed text r rest name arch c (in_test_name language after first p) is =

@@ -40,8 +40,8 @@ pub use Rattle.lw_base.proofs.Common.{IsWellFormedHead, IsWordNumber, MentionsOn
 pub use Rattle.lw_base.proofs.Common.{ParsesNothing, Reg_is, TestHead, TokenList, Word_is, Yes, all_registers}
 pub use Rattle.lw_base.proofs.Common.{arch_keyword, assignment, contains_name, first_byte_is, formula_of}
 pub use Rattle.lw_base.proofs.Common.{head_of, insert_name, insert_names, is_binary, is_blank, is_key_byte}
-pub use Rattle.lw_base.proofs.Common.{is_name_byte, is_or, is_reserved, is_space, locations, most_threads}
-pub use Rattle.lw_base.proofs.Common.{nodes, parenthesized, parenthesized_if, position_of_name}
+pub use Rattle.lw_base.proofs.Common.{is_name_byte, is_or, is_reserved, is_space, locations, most_locations}
+pub use Rattle.lw_base.proofs.Common.{most_threads, nodes, parenthesized, parenthesized_if, position_of_name}
 pub use Rattle.lw_base.proofs.Common.{proposition_text, quantifier_text, register_name, registers, seen_eq}
 pub use Rattle.lw_base.proofs.Common.{site_text, thread_registers}
 pub use Rattle.lw_base.proofs.api.Blanks.{byte_eq-sound, is_blank-passes, list_all-member, name_ascii}

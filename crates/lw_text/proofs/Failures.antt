@@ -24,8 +24,8 @@ pub Fails-later : {Way Later : TokenList → TokenList → TextCause → Type 0}
     → Way (remaining_texts before) rest cause)
     → Fails after Later f
     → Fails before Way f
-Fails-later leaves way h =
-    record { rest = h.rest; suffix = IsSuffix-join leaves h.suffix; place = h.place; way = way (token_texts h.rest) _ h.way }
+Fails-later advances way h =
+    record { rest = h.rest; suffix = IsSuffix-join advances h.suffix; place = h.place; way = way (token_texts h.rest) _ h.way }
 
 -- P holds of the first of the tokens, which is this one.
 pub IfFirst-cons : (P : Bytes → Type 0) (ts l : TokenList) (t : Bytes) → ts ≡ t ∷ l → P t → IfFirst P ts

@@ -38,14 +38,14 @@ pub location_site_parsed : {arch : Arch} {threads : Option ℕ} {before after : 
     → (remaining_texts before ≡ t ∷ remaining_texts after)
     ⊎ (remaining_texts before ≡ codes "[" ∷ t ∷ codes "]" ∷ remaining_texts after)
     → ParsedSite arch threads before after names table (made.Location loc)
-location_site_parsed {arch} {threads} {before} {after} {names} {table} {loc} {t} made leaves e =
+location_site_parsed {arch} {threads} {before} {after} {names} {table} {loc} {t} made advances e =
     let same = sym (site_by_name-at table loc t made.1) in
     record {
       parsed = subst (λ s. IsSite arch (remaining_texts before) s (remaining_texts after)) same (made.0, e);
       threads_exist = allowed_location threads _;
       names_are = made.2 ∙ ap (λ s. with_sites names (s ∷ [])) same;
       within = slice_get_within table loc t made.1;
-      leaves = leaves;
+      advances = advances;
       bounded = made.3;
     }
 

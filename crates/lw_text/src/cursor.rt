@@ -82,7 +82,7 @@ impl<'t, 'a> Cursor<'t, 'a> {
         requires { IsParserCause cause }
         ensures ok { OnOk result (remaining_texts self.old ≡ text.now ∷ remaining_texts self.new) }
         ensures err { OnErr result ((rest : TokenList) → remaining_texts self.old ≡ text.now ∷ rest → ⊥) }
-        ensures leaves { OnOk result (AdvancesTo self.old self.new) }
+        ensures advances { OnOk result (AdvancesTo self.old self.new) }
         ensures fails { IfErr result (Fails self.old (FailsBefore (text.now ∷ []) cause)) }
     {
         if self.accept(text) {
@@ -106,7 +106,7 @@ impl<'t, 'a> Cursor<'t, 'a> {
         ensures taken { result ≡ true → remaining_texts self.old ≡ text.now ∷ remaining_texts self.new }
         ensures other { result ≡ false → begins_token text.now (remaining_texts self.old) ≡ false }
         ensures kept { result ≡ false → self.new ≡ self.old }
-        ensures leaves { AdvancesTo self.old self.new }
+        ensures advances { AdvancesTo self.old self.new }
     {
         if self.is_next(text) {
             self.next += 1;

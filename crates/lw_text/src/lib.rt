@@ -38,7 +38,8 @@ pub use fault::{TextCause, TextFault};
 pub use frame::Frame;
 pub use read::{
     a_text_fails_at_one_place, a_text_has_its_cells_once, a_text_has_one_frame,
-    a_text_with_a_frame_does_not_fail, read_frame, tokens_are_slices, what_a_frame_keeps,
+    a_text_with_a_frame_does_not_fail, heads_of_frames_are_well_formed, read_frame,
+    tokens_are_slices,
 };
 pub use token::Token;
 pub use token_kind::TokenKind;

@@ -1,4 +1,5 @@
 //! Reading a text's frame, and the laws of frames.
+//! A law is a function without a result, whose contract states the law. A proof uses the law by calling the function.
 ghost use Rattle.std.specs.Prelude.{ℕ, ◌≡◌, ◌≢◌, ◌<◌, ◌≤◌, List, length, Err, MatchResult, IfOk, IfErr};
 ghost use Rattle.std.specs.Str.{IsUtf8, IsValidUpTo};
 ghost use Rattle.std.specs.Str.Lossy.{utf8_valid_len};
@@ -97,7 +98,7 @@ pub fn tokens_are_slices()
 {}
 
 /// States that the head of a text's frame is well-formed.
-pub fn what_a_frame_keeps()
+pub fn heads_of_frames_are_well_formed()
     ensures { (text : Bytes) (f : TestFrame) → HasFrame text f → IsWellFormedHead f.head }
 {}
 

@@ -168,7 +168,7 @@ impl<'t, 'a> Cursor<'t, 'a> {
     }
 }
 
-/// Returns the atom that a register or a location has this word.
+/// Returns the atom `site=word`, which is true if the register or location has this word.
 fn atom_at(site: Site, word: Word) -> Atom
     requires { resolved_of.thread_exists MAX_THREADS site ≡ true }
     ensures syntax { (names : NameTable) → named_atom names result ≡ Holds (site_by_name names site) word }

@@ -1,6 +1,6 @@
 //! Store buffers: the words that a processor has stored and that are not in memory yet.
 ghost use Rattle.std.specs.Prelude.{◌≡◌, ◌<◌, ◌≤◌, ◌==◌, [], ◌∷◌, ◌++◌, length, drop, slice_get, Some, None, IfOk};
-ghost use Rattle.lw_tso.specs.Processors as table;
+ghost use Rattle.lw_tso.specs.Processors as processors;
 
 use circular_buffer::HeapCircularBuffer;
 use lw_base::{Loc, Word};
@@ -83,7 +83,7 @@ impl<A: Allocator> StoreBuffer<A> {
 
     /// Returns the newest buffered word for a location, if there is one.
     pub(crate) fn newest(&self, loc: Loc) -> Option<Word>
-        ensures { result ≡ table.newest_buffered self.now.entries loc }
+        ensures { result ≡ processors.newest_buffered self.now.entries loc }
     {
         newest_in(&self.ring, loc)
     }
@@ -91,7 +91,7 @@ impl<A: Allocator> StoreBuffer<A> {
 
 /// Returns the newest word for a location in a ring of entries, searching from the newest entry.
 fn newest_in<A: Allocator>(ring: &HeapCircularBuffer<(Loc, Word), A>, loc: Loc) -> Option<Word>
-    ensures { result ≡ table.newest_buffered ring.now.items loc }
+    ensures { result ≡ processors.newest_buffered ring.now.items loc }
 {
     for index in (0..ring.len()).rev() {
         let (at, word) = *ring.get(index).unwrap();

@@ -6,7 +6,6 @@ ghost use Rattle.lw_base.specs.Changes.{wrapping_sum};
 ghost use Rattle.lw_memory.specs.Memory.{memory_of};
 ghost use Rattle.lw_litmus.specs.Operations.{location_of, is_store, guard_holds};
 ghost use Rattle.lw_base.specs.Threads.{operand_value};
-ghost use Rattle.lw_tso.specs.Processors as table;
 ghost use Rattle.lw_tso.specs.Processors.{initial_processor, advance_processor, set_register, set_zero_flag, enqueue_store, jump_or_advance_processor};
 ghost use Rattle.lw_tso.specs.EventEffects.{operation_effect, drain_effect};
 ghost use Rattle.lw_tso.specs.Machines.{EffectTransition};
@@ -84,7 +83,7 @@ impl<A: Allocator> Processor<A> {
         ensures room { self.new.buffer.room ≡ self.old.buffer.room }
     {
         match operation {
-            Operation::Set { dst, val } => self.go_on_with(dst, self.value(val)),
+            Operation::Set { dst, val } => self.advance_with_register(dst, self.value(val)),
             Operation::Sum { dst, left, right } => self.add(dst, left, self.value(right)),
             Operation::Compare { reg, val } => self.compare(reg, self.value(val)),
             Operation::Store { loc, val } => self.store(loc, self.value(val)),
@@ -125,7 +124,7 @@ impl<A: Allocator> Processor<A> {
     }
 
     /// Writes a word to a register and advances.
-    fn go_on_with(&mut self, reg: Reg, word: Word)
+    fn advance_with_register(&mut self, reg: Reg, word: Word)
         requires { self.old.position + 1 < 2 ^ 64 }
         ensures processor { processor_of self.new ≡ advance_processor (set_register (processor_of self.old) reg word) }
         ensures buffer { self.new.buffer ≡ self.old.buffer }
@@ -146,8 +145,8 @@ impl<A: Allocator> Processor<A> {
         ensures buffer { self.new.buffer ≡ self.old.buffer }
     {
         match self.buffer.newest(loc) {
-            Some(word) => self.go_on_with(reg, word),
-            None => self.go_on_with(reg, memory.load(cpu, loc)),
+            Some(word) => self.advance_with_register(reg, word),
+            None => self.advance_with_register(reg, memory.load(cpu, loc)),
         }
     }
 
@@ -161,7 +160,7 @@ impl<A: Allocator> Processor<A> {
     {
         let sum = self.regs[left.index()].wrapping_add(word);
         self.zero_flag = sum == 0;
-        self.go_on_with(dst, sum);
+        self.advance_with_register(dst, sum);
     }
 
     /// Sets the zero flag if a register has this word, clears it otherwise, and advances.
@@ -206,7 +205,7 @@ impl<A: Allocator> Processor<A> {
             return Err(Stop::SwapWaits);
         }
         let word = self.regs[src.index()];
-        self.go_on_with(dst, memory.update(cpu, loc, Change::Put(word)));
+        self.advance_with_register(dst, memory.update(cpu, loc, Change::Put(word)));
         Ok(())
     }
 

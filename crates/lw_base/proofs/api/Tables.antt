@@ -114,9 +114,9 @@ index-of_pushed_name None p at n is e few same = absurd (is (omega arith))
 index-of_pushed_name (Some loc) p at n is e few same = let h : loc ≡ at = cc in sym h ∙ is.1 ∙ e
 
 -- A location results from any index below eight.
-pub IsSome-if_below_eight : (o : Option ℕ) (p n : ℕ) → SomeIff o (p < 8) p → p ≡ n → n < 8 → IsSome o
-IsSome-if_below_eight None p n is e few = absurd (is (omega arith))
-IsSome-if_below_eight (Some loc) p n is e few = refl
+pub IsSome-if_table_has_room : (o : Option ℕ) (p n : ℕ) → SomeIff o (p < 8) p → p ≡ n → n < 8 → IsSome o
+IsSome-if_table_has_room None p n is e few = absurd (is (omega arith))
+IsSome-if_table_has_room (Some loc) p n is e few = refl
 
 -- Equal texts compare equal.
 bytes_eq-true : (a b : Bytes) → a ≡ b → bytes_eq a b ≡ true

@@ -170,7 +170,7 @@ module _ {Syntax Stmt : Type 0} (grammar : Grammar Syntax Stmt) where
     pub token_at : slice_get tokens place ≡ Some token
     pub begun : place ≢ 0 → BeginsFitting grammar names (token_texts (take place tokens))
     pub location : IsLocationAfter grammar (token_texts (take place tokens)) token.text.now
-    pub ninth : IsOverflowName names token at
+    pub overflow : IsOverflowName names token at
 
   -- The tokens of a statement are wrong at this place, for this cause.
   abbrev pub WrongIn : List Token → ℕ → NameTable → ℕ → CellCause → Type 0

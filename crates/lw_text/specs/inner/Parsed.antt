@@ -43,7 +43,7 @@ pub record ParsedSite (arch : Arch) (threads : Option ℕ) (before after : Curso
   pub threads_exist : ThreadAllowed threads (site_by_name table s)
   pub names_are : table ≡ with_sites names (site_by_name table s ∷ [])
   pub within : IsIn table s
-  pub leaves : AdvancesTo before after
+  pub advances : AdvancesTo before after
   pub bounded : length table ≤ most_locations
 
 -- A terminal of a proposition was parsed; its site's name was inserted into the table.
@@ -51,7 +51,7 @@ pub record ParsedTerminal (arch : Arch) (threads : ℕ) (before after : Cursor) 
   pub parsed : IsTerminal arch threads (remaining_texts before) (named_terminal table s) (remaining_texts after)
   pub names_are : table ≡ with_sites names (sites_in (named_terminal table s ∷ []))
   pub within : TerminalIn table s
-  pub leaves : AdvancesTo before after
+  pub advances : AdvancesTo before after
 
 -- After the initializers in front, each with its `;`, the initializer begins at its place among the remaining tokens, if its site is a
 -- register.
@@ -77,7 +77,7 @@ pub record ParsedBlock (arch : Arch) (before after : Cursor) (names table : Name
   pub parsed : Block arch (remaining_texts before) (map (named_initializer table) es) (remaining_texts after)
   pub names_are : table ≡ with_sites names (map (λ e. site_by_name table e.site) es)
   pub within : All (λ e. IsIn table e.site) es
-  pub leaves : AdvancesTo before after
+  pub advances : AdvancesTo before after
   pub places : BeginInitializers arch before [] es
   pub bounded : length table ≤ most_locations
 
@@ -87,7 +87,7 @@ pub record ParsedNameList (arch : Arch) (threads : ℕ) (before after : Cursor) 
   pub threads_exist : AllByRecursion (ThreadExists threads) (map (site_by_name table) ss)
   pub names_are : table ≡ with_sites names (map (site_by_name table) ss)
   pub within : All (IsIn table) ss
-  pub leaves : AdvancesTo before after
+  pub advances : AdvancesTo before after
   pub bounded : length table ≤ most_locations
 
 -- The terminals are a proposition with the formula p, of not too many nodes, and the table has room for their names.

@@ -2,7 +2,7 @@
 -- through the first items of `Loc::all()`, so the item at an index is that index (`is_index`); `AllWritten`
 -- says what has been written.
 use Rattle.lw_bench.proofs.Common.{◌≤◌, codes, length, slice_get, refl, sym, ap, ◌∙◌, arith, length-take}
-use Rattle.lw_bench.proofs.Common.{is_index, named, letter}
+use Rattle.lw_bench.proofs.Common.{is_index, named, letter, most_locations}
 use Rattle.lw_bench.proofs.Pages.{AllWritten-step, AllWritten-of_every, AllWritten-newline}
 use Rattle.lw_bench.proofs.Pages.{processor_title-append}
 use Rattle.lw_bench.proofs.page.write_cache_line.Goals as goal
@@ -12,14 +12,14 @@ loop-loc-init g c = record { left = refl }
 
 pub loop-loc-preserved : goal.loop-loc-preserved
 loop-loc-preserved g c =
-    let is = is_index 8 _ c.all.ensures refl c.loop-loc-test.true c.loc-item.is in
+    let is = is_index most_locations _ c.all.ensures refl c.loop-loc-test.true c.loc-item.is in
     let held = c.state_of.ensures.letter ∙ ap (g.M.MemorySystem.state c.args.memory.now c.args.cpu) is in
     AllWritten-step c.loop-loc.invariant _ _ _ (ap (slice_get c.args.locs.now) (sym is) ∙ c.name.ensures)
     (ap (λ s. named (λ _. letter s) 0 c.name.result.now) held) c.in_ok-write_line_state.ensures
 
 pub returns : goal.returns
 returns g c =
-    let table : length c.args.locs.now ≤ 8 = c.len.ensures.table.bounded in
+    let table : length c.args.locs.now ≤ most_locations = c.len.ensures.table.bounded in
     let whole : length c.args.locs.now ≤ c.loop-loc.loc-index =
     omega (
       arith,
@@ -35,12 +35,12 @@ returns g c =
 
 pub name-requires : goal.name-requires
 name-requires g c =
-    let is = is_index 8 _ c.all.ensures refl c.loop-loc-test.true c.loc-item.is in
+    let is = is_index most_locations _ c.all.ensures refl c.loop-loc-test.true c.loc-item.is in
     omega (arith, is, c.loop-loc-test.true, length-take c.len.result c.all.result, c.len.ensures.len)
 
 pub state_of-requires : goal.state_of-requires
 state_of-requires g c =
-    let is = is_index 8 _ c.all.ensures refl c.loop-loc-test.true c.loc-item.is in
+    let is = is_index most_locations _ c.all.ensures refl c.loop-loc-test.true c.loc-item.is in
     record {
       cpu = c.requires.cpu;
       loc = omega (arith, is, c.loop-loc-test.true, length-take c.len.result c.all.result, c.len.ensures.len, c.requires.words);

@@ -2,7 +2,7 @@
 -- of `Loc::all()`, so the item at an index is that index (`is_index`); `AllWritten` says what has been
 -- written.
 use Rattle.lw_bench.proofs.Common.{◌≤◌, codes, decimal, length, slice_get, slice_index, refl, sym, ap, ◌∙◌}
-use Rattle.lw_bench.proofs.Common.{arith, length-take, is_index, named}
+use Rattle.lw_bench.proofs.Common.{arith, length-take, is_index, named, most_locations}
 use Rattle.lw_bench.proofs.Pages.{AllWritten-step, AllWritten-of_every, AllWritten-newline}
 use Rattle.lw_bench.proofs.page.write_memory.Goals as goal
 
@@ -11,14 +11,14 @@ loop-loc-init g c = record { left = refl }
 
 pub loop-loc-preserved : goal.loop-loc-preserved
 loop-loc-preserved g c =
-    let is = is_index 8 _ c.all.ensures refl c.loop-loc-test.true c.loc-item.is in
+    let is = is_index most_locations _ c.all.ensures refl c.loop-loc-test.true c.loc-item.is in
     let word = c.word_in_memory.ensures.word ∙ ap (slice_index (g.M.MemorySystem.memory c.args.memory.now)) is in
     AllWritten-step c.loop-loc.invariant _ _ _ (ap (slice_get c.args.locs.now) (sym is) ∙ c.name.ensures)
     (ap (λ w. named (λ _. decimal w) 0 c.name.result.now) word) c.in_ok-write_assignment.ensures
 
 pub returns : goal.returns
 returns g c =
-    let table : length c.args.locs.now ≤ 8 = c.len.ensures.table.bounded in
+    let table : length c.args.locs.now ≤ most_locations = c.len.ensures.table.bounded in
     let whole : length c.args.locs.now ≤ c.loop-loc.loc-index =
     omega (
       arith,
@@ -33,13 +33,13 @@ returns g c =
 
 pub name-requires : goal.name-requires
 name-requires g c =
-    let is = is_index 8 _ c.all.ensures refl c.loop-loc-test.true c.loc-item.is in
+    let is = is_index most_locations _ c.all.ensures refl c.loop-loc-test.true c.loc-item.is in
     omega (arith, is, c.loop-loc-test.true, length-take c.len.result c.all.result, c.len.ensures.len)
 
 pub word_in_memory-requires : goal.word_in_memory-requires
 word_in_memory-requires g c = omega (
   arith,
-  (is_index 8 _ c.all.ensures refl c.loop-loc-test.true c.loc-item.is),
+  (is_index most_locations _ c.all.ensures refl c.loop-loc-test.true c.loc-item.is),
   c.loop-loc-test.true,
   length-take c.len.result c.all.result,
   c.len.ensures.len,

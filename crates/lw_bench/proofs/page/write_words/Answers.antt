@@ -2,7 +2,7 @@
 -- of `Loc::all()`, so the item at an index is that index (`is_index`); there is a word for each name by the
 -- contract's premise.
 use Rattle.lw_bench.proofs.Common.{◌≤◌, decimal, length, slice_get, slice_index, refl, sym, ap, ◌∙◌, arith}
-use Rattle.lw_bench.proofs.Common.{length-take, is_index, named}
+use Rattle.lw_bench.proofs.Common.{length-take, is_index, named, most_locations}
 use Rattle.lw_bench.proofs.Pages.{AllWritten-step, AllWritten-of_every, AllWritten-newline}
 use Rattle.lw_bench.proofs.page.write_words.Goals as goal
 
@@ -11,14 +11,14 @@ loop-loc-init g c = record { left = refl }
 
 pub loop-loc-preserved : goal.loop-loc-preserved
 loop-loc-preserved g c =
-    let is = is_index 8 _ c.all.ensures refl c.loop-loc-test.true c.loc-item.is in
+    let is = is_index most_locations _ c.all.ensures refl c.loop-loc-test.true c.loc-item.is in
     AllWritten-step c.loop-loc.invariant c.name.result.now _ _ (ap (slice_get c.args.locs.now) (sym is) ∙ c.name.ensures)
     (ap (λ k. named (λ _. decimal (slice_index c.args.words.now k)) 0 c.name.result.now) (c.index.ensures.value ∙ is))
     c.in_ok-write_assignment.ensures
 
 pub returns : goal.returns
 returns g c =
-    let table : length c.args.locs.now ≤ 8 = c.len.ensures.table.bounded in
+    let table : length c.args.locs.now ≤ most_locations = c.len.ensures.table.bounded in
     let whole : length c.args.locs.now ≤ c.loop-loc.loc-index =
     omega (
       arith,
@@ -33,12 +33,12 @@ returns g c =
 
 pub name-requires : goal.name-requires
 name-requires g c =
-    let is = is_index 8 _ c.all.ensures refl c.loop-loc-test.true c.loc-item.is in
+    let is = is_index most_locations _ c.all.ensures refl c.loop-loc-test.true c.loc-item.is in
     omega (arith, is, c.loop-loc-test.true, length-take c.len.result c.all.result, c.len.ensures.len)
 
 pub bounds-words-index : goal.bounds-words-index
 bounds-words-index g c =
-    let is = is_index 8 _ c.all.ensures refl c.loop-loc-test.true c.loc-item.is in
+    let is = is_index most_locations _ c.all.ensures refl c.loop-loc-test.true c.loc-item.is in
     omega (
       arith,
       is,

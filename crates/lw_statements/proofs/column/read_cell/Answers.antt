@@ -34,8 +34,7 @@ returns g c =
     let taken = rw c.as_slice.ensures at c.in_ok-start.ensures in
     let stmt = rw c.behind-phrase.ensures.tokens at c.in_ok-stmt.ensures in
     MatchResult-weaker c.push.result c.push.ensures (λ done pushed front before drafted.
-    ColumnDrafted-push (grammar_of spelling) (draft_of spelling) front before c.args.locs.now c.args.column.now drafted
-    (record {
+    ColumnDrafted-push (grammar_of spelling) (draft_of spelling) front before c.args.locs.now c.args.column.now drafted (record {
       cells = c.push.new.items;
       labels = c.read_labels.new.labels;
       count = c.args.column.now.count + c.statement_count.result;

@@ -1,11 +1,12 @@
 -- `read_labels` promises the labels at the start of a cell, or that they are refused. Each round takes a name
 -- and its `:` (`LabelsRead-push`). A token before a `:` that is no name, or that is a label already, refuses the
--- cell: every reading of it takes this token as a label (`Labels-continue`, `labels_twice`).
+-- cell: every reading of it takes this token as a label (`Labels-continue`, `labels_twice`). The loop ends before a token that no `:` follows:
+-- no label is left (`stops`).
 use Rattle.lw_statements.proofs.Common.{ℕ, ◌+◌, ◌-◌, ◌<◌, ◌≤◌, sym, ap, ◌∙◌, arith, true≢false, is_some}
 use Rattle.lw_statements.proofs.Common.{btree_map_updates_str, refl, slice_get_read, subst}
 use Rattle.lw_statements.proofs.Causes.{FaultClaim-wrong, FaultClaim-Memory, FaultClaim-Twice, refusal-Memory}
 use Rattle.lw_statements.proofs.Exits.{out_of_memory}
-use Rattle.lw_statements.proofs.FrontLabels.{get-of_drop, next_within, labels_start, LabelsRead-push}
+use Rattle.lw_statements.proofs.FrontLabels.{get-drop_tokens, next_within, labels_start, LabelsRead-push}
 use Rattle.lw_statements.proofs.FrontLabels.{Labels-continue, IsAtLabel-of_token, labels_twice}
 use Rattle.lw_statements.proofs.FrontLabels.{HasDuplicateLabelAt-of_token}
 use Rattle.lw_statements.proofs.labels.read_labels.Goals as goal
@@ -74,6 +75,6 @@ pub returns : goal.returns
 returns g c = record {
   read = c.loop-token.invariant;
   stops = λ at.
-      true≢false (sym (c.stands_at.ensures.1 (sym (get-of_drop c.args.tokens.now c.loop-token.next 1) ∙ at))
+      true≢false (sym (c.stands_at.ensures.1 (sym (get-drop_tokens c.args.tokens.now c.loop-token.next 1) ∙ at))
       ∙ c.loop-token-test.false);
 }

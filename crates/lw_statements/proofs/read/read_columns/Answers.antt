@@ -20,9 +20,8 @@ returns-in_err-stmts g c =
 pub loop-column-preserved : goal.loop-column-preserved
 loop-column-preserved g c =
     rw c.in_ok-push.ensures
-    (ColumnsRead-push (grammar_of g.L.StatementReader.spelling) c.args.columns.now c.loop-column.column-index
-    c.column-item.result c.loop-column-test.true c.column-item.is _ _ _ c.loop-column.invariant _ _
-    (rw c.as_slice.ensures at c.in_ok-stmts.ensures))
+    (ColumnsRead-push (grammar_of g.L.StatementReader.spelling) c.args.columns.now c.loop-column.column-index c.column-item.result
+    c.loop-column-test.true c.column-item.is _ _ _ c.loop-column.invariant _ _ (rw c.as_slice.ensures at c.in_ok-stmts.ensures))
 
 pub returns-in_err-push : goal.returns-in_err-push
 returns-in_err-push g c =

@@ -2,8 +2,8 @@
 -- recursion on the slots. The tokens after the first are bound before it, except after a keyword, which binds
 -- nothing (`AreTaken-cons`, `AreTaken-after_keyword`).
 use Rattle.lw_statements.proofs.Common.{length, ap, sym, ◌∙◌, true≢false, arith}
-use Rattle.lw_statements.proofs.SlotTokens.{keyword_equal-iff_Gives, AreTaken-after_keyword}
-use Rattle.lw_statements.proofs.SlotTokens.{AreTaken-cons, AreTaken-no_slots, not-Fills-if_no_tokens}
+use Rattle.lw_statements.proofs.SlotTokens.{keyword_equal-iff_Gives, AreTaken-after_keyword, AreTaken-cons}
+use Rattle.lw_statements.proofs.SlotTokens.{AreTaken-no_slots, not-Fills-if_no_tokens}
 use Rattle.lw_statements.proofs.statement_parser.+read_slots.Goals as goal
 
 pub returns : goal.returns

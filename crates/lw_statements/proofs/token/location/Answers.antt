@@ -1,5 +1,5 @@
 -- `location` promises the index of the token's location, or that there is no room for it. If the table has no
--- room, it is full and does not have the name (`is_ninth`); a refused allocation has no place.
+-- room, it is full and does not have the name (`full_and_new-if_no_room`); a refused allocation has no place.
 use Rattle.lw_statements.proofs.Common.{◌≡◌, ◌<◌, ◌≤◌, [], ◌∷◌, length, length-append, refl, sym, ap, arith}
 use Rattle.lw_statements.proofs.Common.{Contains, slice_get_read, insert_name, Bytes, NameTable}
 use Rattle.lw_statements.proofs.Common.{insert_name-if_in_table, insert_name-if_new}
@@ -7,12 +7,12 @@ use Rattle.lw_statements.proofs.Exits.{out_of_memory}
 use Rattle.lw_statements.proofs.Causes.{FaultClaim-Memory, FaultClaim-TooMany, refusal-Memory}
 use Rattle.lw_statements.proofs.token.location.Goals as goal
 
--- The table is full and does not have the name.
-is_ninth : (names : NameTable) (n : Bytes)
+-- If inserting a name makes the table longer than it may be, the table is full and does not have the name.
+full_and_new-if_no_room : (names : NameTable) (n : Bytes)
     → length names ≤ 8
     → 8 < length (insert_name names n)
     → (length names ≡ 8) × (Contains names n → ⊥)
-is_ninth names n few many =
+full_and_new-if_no_room names n few many =
     let fresh : Contains names n → ⊥ = λ h.
     let at = slice_get_read names (length names) h.0 n refl h.1 (sym h.2) in
     omega (arith, few, many, ap length (insert_name-if_in_table names n h.0 at)) in
@@ -28,7 +28,7 @@ returns-in-Some g c = record {
 pub returns-in-None : goal.returns-in-None
 returns-in-None g c =
     let full = rw c.in-None.is at c.in_ok-loc.ensures.index in
-    let n = is_ninth _ _ c.len-known.ensures.table.bounded full in
+    let n = full_and_new-if_no_room _ _ c.len-known.ensures.table.bounded full in
     record {
       none = λ known (loc, few). omega (arith, few, full);
       cause = FaultClaim-TooMany (refl, c.requires, n.0, n.1);

@@ -4,7 +4,8 @@
 use Rattle.lw_text.proofs.Common.{ℕ, inl, inr, ap, length, length-append, arith, ◌==◌, MatchResult-weaker}
 use Rattle.lw_text.proofs.Common.{first_byte_is, ◌≡◌, ◌++◌, ◌∙◌, false, sym, subst, AllByRecursion, All-mono}
 use Rattle.lw_text.proofs.Common.{append-nil, not-true, in_key_line, open_quote}
-use Rattle.lw_text.proofs.NoteRows.{no_note-if_neither_kind, no_note-if_quote_is_unclosed, Quoted-made, Quoted-open}
+use Rattle.lw_text.proofs.NoteRows.{no_note-if_neither_kind, no_note-if_quote_is_unclosed, Quoted-made}
+use Rattle.lw_text.proofs.NoteRows.{Quoted-open}
 use Rattle.lw_text.proofs.notes.after_note.Goals as goal
 
 pub returns-in_default : goal.returns-in_default

@@ -1,6 +1,9 @@
--- `read_text` promises the frame of a short UTF-8 text, or that it has none and where it fails. If the
--- preamble fails there is no frame; if the tokens end early or are no test, none either (`no_frame-if_no_test`,
--- `HasNoTest-if_no_tokens_or_no_parse`). The head computed in memory is the head that the text says (`resolved_head-head_of_syntax`).
+-- `read_text` promises the frame of a short UTF-8 text, or that it has none and where it fails. Each exit with a fault gives three things, in
+-- this order: the text has no frame; the place is within the text; the text fails there, for this cause (`in_preamble`, or
+-- `in_body` with `body_fails`). At `in_err-stream` and at `in_err-finish` memory ran out, and there is nothing more to show (`no_memory`).
+-- If the tokens end early or are no test, the text has no frame by `no_frame-if_no_test` and `HasNoTest-if_no_tokens_or_no_parse`. In
+-- each answer `whole` says that the lexer's text is the argument. The head computed in memory is the head that the text says
+-- (`resolved_head-head_of_syntax`).
 use Rattle.lw_text.proofs.Common.{◌≡◌, ◌≢◌, ℕ, ◌≤◌, length, sym, ap, ◌∙◌, subst, arith, All, IfSome, Option}
 use Rattle.lw_text.proofs.Common.{None, Some, MatchOption, Result, IsErrAnd, MatchResult, Fault, Memory}
 use Rattle.lw_text.proofs.Common.{MatchOption-at_none, token_texts, PlacedTokens, head_of, columns, Preamble}
@@ -60,33 +63,26 @@ body-read-requires-clause-fault g c =
     some_within _ _ _ c.in_ok-stream.stream.fault c.in_ok-stream.ensures.0 (λ f h. omega (arith, h.1, ap length whole))
 
 pub returns-in_err-body : goal.returns-in_err-body
-returns-in_err-body g c = Err-clause_known _ _ _ c.from_residual-in_err-body.ensures.1 (
-  (let stream = c.in_ok-stream.stream in
-      let preamble =
-      subst (λ t. Preamble t c.in_ok-preamble.preamble.arch c.in_ok-preamble.preamble.name.now c.parse_preamble.new.self.rest.now)
-      c.new-lexer.ensures.rest c.in_ok-preamble.ensures.reads in
+returns-in_err-body g c =
+    let arch = c.in_ok-preamble.preamble.arch in
+    let name = c.in_ok-preamble.preamble.name.now in
+    let rest = c.parse_preamble.new.self.rest.now in
+    let stream = c.in_ok-stream.stream in
+    let whole = c.in_ok-preamble.ensures.same ∙ c.new-lexer.ensures.text in
+    let preamble = subst (λ t. Preamble t arch name rest) c.new-lexer.ensures.rest c.in_ok-preamble.ensures.reads in
+    let tokens_or_stop =
+    subst (λ t.
+    MatchOption stream.fault (PlacedTokens (length t) rest (with_spans stream.tokens))
+    (λ g. HoldsOfNothing (Tokens rest) × (g.at ≤ length t) × StopsAt (length t) rest (with_spans stream.tokens) g.at g.cause))
+    whole c.in_ok-stream.ensures.0 in
+    Err-clause_known _ _ _ c.from_residual-in_err-body.ensures.1 (
       λ ne.
-      no_frame-if_no_test c.args.text.now c.in_ok-preamble.preamble.arch c.in_ok-preamble.preamble.name.now
-      c.parse_preamble.new.self.rest.now preamble
-      (HasNoTest-if_no_tokens_or_no_parse c.in_ok-preamble.preamble.arch stream.fault _ _ c.parse_preamble.new.self.rest.now
-      stream.tokens (first_two _ _ _ _ stream.fault c.in_ok-stream.ensures.0) (c.in_err-body.ensures.0 ne))),
-  c.in_err-body.ensures.1,
-  λ ne.
-      let whole = c.in_ok-preamble.ensures.same ∙ c.new-lexer.ensures.text in
-      in_body c.in_ok-preamble.preamble.arch c.in_ok-preamble.preamble.name.now c.parse_preamble.new.self.rest.now
-      (subst
-      (λ t. Preamble t c.in_ok-preamble.preamble.arch c.in_ok-preamble.preamble.name.now c.parse_preamble.new.self.rest.now)
-      c.new-lexer.ensures.rest c.in_ok-preamble.ensures.reads)
-      (body_fails
-      (subst
-      (λ t.
-      MatchOption c.in_ok-stream.stream.fault
-      (PlacedTokens (length t) c.parse_preamble.new.self.rest.now (with_spans c.in_ok-stream.stream.tokens)) (λ g.
-      HoldsOfNothing (Tokens c.parse_preamble.new.self.rest.now)
-      × (g.at ≤ length t)
-      × StopsAt (length t) c.parse_preamble.new.self.rest.now (with_spans c.in_ok-stream.stream.tokens) g.at g.cause)) whole
-      c.in_ok-stream.ensures.0) (c.in_err-body.ensures.2 ne)),
-)
+          no_frame-if_no_test c.args.text.now arch name rest preamble
+          (HasNoTest-if_no_tokens_or_no_parse arch stream.fault _ _ rest stream.tokens
+          (first_two _ _ _ _ stream.fault c.in_ok-stream.ensures.0) (c.in_err-body.ensures.0 ne)),
+      c.in_err-body.ensures.1,
+      λ ne. in_body arch name rest preamble (body_fails tokens_or_stop (c.in_err-body.ensures.2 ne)),
+    )
 
 pub finish-requires-clause-within : goal.finish-requires-clause-within
 finish-requires-clause-within g c =

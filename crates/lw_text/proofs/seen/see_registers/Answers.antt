@@ -13,5 +13,5 @@ loop-reg-preserved g c =
     ∙ ap (λ l. get_or l i c.reg-item.result) c.all.ensures
     ∙ get_or-range_with_len 0 registers i _ c.loop-reg-test.true
     ∙ zero-add i in
-    filtered_seen-push (is_listed c.args.sites.now) c.args.seen.now c.loop-reg.seen c.see.new.seen
-    (λ r. Register c.args.cpu r) i c.loop-reg.invariant (rw (c.index.ensures.value, ← c.reg-item.is, at) at c.in_ok-see.ensures)
+    filtered_seen-push (is_listed c.args.sites.now) c.args.seen.now c.loop-reg.seen c.see.new.seen (λ r. Register c.args.cpu r) i
+    c.loop-reg.invariant (rw (c.index.ensures.value, ← c.reg-item.is, at) at c.in_ok-see.ensures)

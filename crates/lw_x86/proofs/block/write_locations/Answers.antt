@@ -3,7 +3,7 @@
 -- remain (`numbers_written-push`), and at the end none remains (`numbers_written-all`).
 use Rattle.lw_x86.proofs.Common.{◌<◌, ◌≤◌, ◌∙◌, ◌++◌, length, ap, refl, sym, arith, length-take, string_bytes}
 use Rattle.lw_x86.proofs.Common.{head_of, is_index, numbers_written-push, numbers_written-all, ℕ, ◌≡◌, List}
-use Rattle.lw_x86.proofs.Common.{get_or, range_with_len, take}
+use Rattle.lw_x86.proofs.Common.{get_or, range_with_len, take, most_locations}
 use Rattle.lw_x86.proofs.BlockTexts.{location_initializer, initializer_texts-locations}
 use Rattle.lw_x86.proofs.block.write_locations.Goals as goal
 
@@ -14,12 +14,13 @@ below_len : (len : ℕ) {k x : ℕ} {all xs : List ℕ}
     → k < length xs
     → x ≡ get_or xs k x
     → x < len
-below_len len {all = all} e f here at = rw (is_index 8 len e f here at) (omega (arith, here, ap length f, length-take len all))
+below_len len {all = all} e f here at =
+    rw (is_index most_locations len e f here at) (omega (arith, here, ap length f, length-take len all))
 
 pub loop-loc-preserved : goal.loop-loc-preserved
 loop-loc-preserved g c =
     let names = length c.args.head.now.locs in
-    let is = is_index 8 _ c.all.ensures refl c.loop-loc-test.true c.loc-item.is in
+    let is = is_index most_locations _ c.all.ensures refl c.loop-loc-test.true c.loc-item.is in
     let within : c.loop-loc.loc-index < names =
     omega (arith, c.loop-loc-test.true, length-take c.len.result c.all.result, c.len.ensures.len) in
     numbers_written-push (location_initializer (head_of c.args.head.now)) names c.loop-loc.loc-index _ _ c.loop-loc.invariant _

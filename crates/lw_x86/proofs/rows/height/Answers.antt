@@ -13,8 +13,8 @@ loop-code-preserved g c =
     let lt : c.loop-code.code-index < length program.threads =
     omega (arith, c.loop-code-test.true, ap length c.as_slice-code-items.ensures) in
     let is = rw c.as_slice-code-items.ensures at c.code-item.is in
-    max_cell_count-push (cells_of program.head.locs) program.threads c.loop-code.code-index lt is c.loop-code.invariant
-    counted c.max-height.ensures
+    max_cell_count-push (cells_of program.head.locs) program.threads c.loop-code.code-index lt is c.loop-code.invariant counted
+    c.max-height.ensures
 
 pub returns : goal.returns
 returns g c =

@@ -16,8 +16,8 @@ write_cell-requires g c =
 pub loop-index-preserved : goal.loop-index-preserved
 loop-index-preserved g c =
     let cell = rw c.as_slice.ensures at c.in_ok-write_cell.ensures in
-    joined_prefix-push (codes " | ") (row_at (map (cells_of c.args.names.now) c.args.threads.now) c.args.row)
-    c.loop-index.index _ _ c.loop-index.invariant _ _
+    joined_prefix-push (codes " | ") (row_at (map (cells_of c.args.names.now) c.args.threads.now) c.args.row) c.loop-index.index _
+    _ c.loop-index.invariant _ _
     (row_at-get c.args.names.now c.args.threads.now c.args.row c.loop-index.index c.index-threads-index.result
     c.loop-index-test.true c.index-threads-index.is) (written-append _ _ _ _ _ c.in_ok-write_separator.ensures cell)
 

@@ -1,4 +1,5 @@
--- `allocate` returns a block as room for the requested type, with the right to give it back. Assumes `Logic`.
+-- `allocate` returns a block as room for the requested type, with the right to give it back.
+-- `Rooms` says how such a proof is read.
 use Rattle.std.proofs.Common.{◌≡◌, true, false, List, [], ◌∷◌, ◌++◌, refl, subst, lit<, w64, Ok, Err}
 use mir.Syntax.{Ty, Fn}
 use mir.Val.{Val, vint, vptr}
@@ -25,10 +26,10 @@ use denote.Triple.Walked.{Stays, stay_dropped, walk_of, Goes-dropped}
 use Rattle.std.proofs.alloc.Calls.{Answer, answer_val, Answer-Ok, Answer-err}
 use Rattle.std.proofs.alloc.Shapes.{after, head, arm_body}
 use Rattle.std.proofs.raw_atomic.Calls.{fm}
-use Rattle.std.proofs.raw_atomic.Walks.{proved_at, leaves}
+use Rattle.std.proofs.raw_atomic.ByHand.{proved_at, leaves}
 use Rattle.lw_arena.specs.Ownership.{block_token}
 use Rattle.lw_arena.proofs.Taken.{TakeResult, TakeEnsures, goal-of_take_result, block_token-of_room}
-use Rattle.lw_arena.proofs.Walks.{slot_of_index, then_runs}
+use Rattle.lw_arena.proofs.ByHand.{slot_of_index, then_runs}
 use Rattle.lw_arena.specs.contracts.arena.Arena.take as callee
 use Rattle.lw_arena.specs.contracts.arena.Arena.take.Key as take_key
 use Rattle.lw_arena.proofs.arena.Arena.take.Met.{met as takes}

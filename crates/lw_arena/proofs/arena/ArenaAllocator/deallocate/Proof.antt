@@ -1,4 +1,5 @@
--- `deallocate` turns the room back into a block, and adds it to a list of spare blocks. Assumes `Logic`.
+-- `deallocate` turns the room back into a block, and adds it to a list of spare blocks.
+-- `Rooms` says how such a proof is read.
 use Rattle.std.proofs.Common.{◌≡◌, ◌^◌, ◌<◌, List, [], ◌∷◌, ◌++◌, refl, sym, ap, ◌∙◌, arith, w64}
 use mir.Syntax.{Ty, Fn}
 use mir.Val.{Val, vint, vptr, vunit}
@@ -25,10 +26,10 @@ use denote.Triple.Call.{calls_at}
 use denote.Triple.Clauses.{Lasts, lasts}
 use denote.Triple.Walked.{Stays, stay_dropped, walk_of, Goes-dropped}
 use Rattle.std.proofs.raw_atomic.Calls.{fm}
-use Rattle.std.proofs.raw_atomic.Walks.{proved_at, leaves}
+use Rattle.std.proofs.raw_atomic.ByHand.{proved_at, leaves}
 use Rattle.lw_arena.specs.Sizes.{block_units}
 use Rattle.lw_arena.specs.Ownership.{memory, block_token}
-use Rattle.lw_arena.proofs.Walks.{slot_of_index, point_val, point_own, point_own-always, Good-pointer, Good-point_val}
+use Rattle.lw_arena.proofs.ByHand.{slot_of_index, pointer_struct, owns_pointer_struct, owns_pointer_struct-always, Good-pointer, Good-pointer_struct}
 use Rattle.lw_arena.specs.contracts.arena.Arena.give as callee
 use Rattle.lw_arena.proofs.arena.Arena.give.Met.{met as gives}
 use Rattle.lw_arena.specs.contracts.block.Block as block
@@ -91,11 +92,11 @@ deallocate_spec 𝓤 𝓛 𝓜 𝓡 wired =
     (λ i. are.0.0 i ++ (are.1.0 i ++ (are.1.1.0.0 i ++ (are.1.1.1.0.0 i ++ [])))) refl $
     enter ! C Λ fn (me ∷ ptr_val p ∷ vint w64 n ∷ vint w64 al ∷ []) Post $
     alloc_all ! (λ l. pass_all ! refl ((tt, tt), (Good-pointer p, ((tt, record { fits = are.1.1.0.1 }), ((tt, record { fits = are.1.1.1.0.1 }), tt)))) $
-    sets ! (agg ! (and_then ! (get ! refl) (no_more !))) refl (Good-point_val p) $
+    sets ! (agg ! (and_then ! (get ! refl) (no_more !))) refl (Good-pointer_struct p) $
     let x : (block.the_row).Denot = record { at = p; units = k } in
     let Goes : Type 0 = (k ≡ block_units n) × (n < 2 ^ 63) in
-    let y : call.Ghost = ((z.0.0, z.0.1, z.0.2, (a.0, (x, (n, tt))), (me ∷ [], (point_val p ∷ [], (vint w64 n ∷ [], tt)))), tt) in
-    use0 𝓛 (‵ (point_own p (point_val p ∷ []))) (point_own-always 𝓛 p) $ fjoin ! $
+    let y : call.Ghost = ((z.0.0, z.0.1, z.0.2, (a.0, (x, (n, tt))), (me ∷ [], (pointer_struct p ∷ [], (vint w64 n ∷ [], tt)))), tt) in
+    use0 𝓛 (‵ (owns_pointer_struct p (pointer_struct p ∷ []))) (owns_pointer_struct-always 𝓛 p) $ fjoin ! $
     nothing ! $ flt_i ! n (2 ^ 64) are.1.1.0.1 $ feq_i ! (List Val) (vint w64 n ∷ []) (vint w64 n ∷ []) refl $ fjoin ! $ fjoin ! $
     move ! (1 ∷ 0 ∷ []) $ fjoin ! $ move ! (1 ∷ []) $ feq_i ! (List Val) (me ∷ []) (me ∷ []) refl $ fjoin ! $ fjoin ! $ move ! (1 ∷ 0 ∷ []) $ join ! $
     use0 𝓛 (raw (fact 𝓤 Goes)) (fact_i 𝓤 Goes (emp 𝓤) (ap block_units same, omega arith)) $ move ! (1 ∷ 0 ∷ []) $ join ! $

@@ -1,4 +1,5 @@
--- `cut` advances the pointer by the units in front. Assumes `Logic`.
+-- `cut` advances the pointer by the units in front.
+-- `Rooms` says how such a proof is read.
 use Rattle.std.proofs.Common.{◌≡◌, ℕ, ◌+◌, ◌-◌, ◌*◌, ◌^◌, ◌<◌, ◌≤◌, List, [], ◌∷◌, ◌++◌, refl, ap, ◌∙◌, arith, w64}
 use mir.Syntax.{Fn}
 use mir.Val.{Val, vint, vptr}
@@ -20,10 +21,10 @@ use denote.Triple.Entry.{alive}
 use denote.Triple.Walked.{Stays, stay_dropped, walk_of, Goes-dropped}
 use Rattle.std.proofs.alloc.Calls.{Goes-blank}
 use Rattle.std.proofs.alloc.Shapes.{after}
-use Rattle.std.proofs.raw_atomic.Walks.{proved_at, leaves}
+use Rattle.std.proofs.raw_atomic.ByHand.{proved_at, leaves}
 use Rattle.lw_arena.specs.Ownership.{units, memory}
 use Rattle.lw_arena.proofs.Rooms.{room-split, memory-of_room, goal-of_memory}
-use Rattle.lw_arena.proofs.Walks.{slot_of_index, point_val, point_own, point_own-only_point_val, point_own-always, pair_val, own_pair}
+use Rattle.lw_arena.proofs.ByHand.{slot_of_index, pointer_struct, owns_pointer_struct, pointer_struct-if_owned, owns_pointer_struct-always, pair_val, own_pair}
 use Rattle.lw_arena.specs.contracts.block.Block as block
 use Rattle.lw_arena.specs.contracts.block.Block.cut.{ended, clauses}
 use Rattle.lw_arena.specs.contracts.block.Block.cut.Key.{name as key}
@@ -67,8 +68,8 @@ cut_spec 𝓤 𝓛 𝓜 𝓡 wired =
     rewrite ! 0 (λ (k : ℕ). ‵ (froom (units k) b o)) sum refl $
     use1 𝓛 (‵ (froom (units n) b o) ⊛ ‵ (froom (units left) b (o + n * 16))) (room-split 𝓛 n left b o) $ split ! $
     regoal ! (λ (us : List Val). prop (WpFn 𝓤 H C Λ fn us Post))
-    (λ i. (point_own-only_point_val x.at vss.0 are.0.0 ∙ ap (λ (p : Ptr). point_val p ∷ []) lies) i ++ (are.1.0.0 i ++ [])) refl $
-    enter ! C Λ fn (point_val front ∷ vint w64 n ∷ []) Post $
+    (λ i. (pointer_struct-if_owned x.at vss.0 are.0.0 ∙ ap (λ (p : Ptr). pointer_struct p ∷ []) lies) i ++ (are.1.0.0 i ++ [])) refl $
+    enter ! C Λ fn (pointer_struct front ∷ vint w64 n ∷ []) Post $
     alloc_all ! (λ l. pass_all ! refl ((tt, (tt, tt)), ((tt, record { fits = are.1.0.1 }), tt)) $ let E : Env 𝓤 𝓛.H = env fn.locals l in
     -- [the units in front; those after them; the token]
     sets ! (of_opd ! (get_in ! (fld ! refl (stop !)) (sub ! 0 refl (whole !)))) refl (tt, tt) $
@@ -84,12 +85,12 @@ cut_spec 𝓤 𝓛 𝓜 𝓡 wired =
     let y : (block.the_row).Denot = record { at = front; units = n } in
     let w : (block.the_row).Denot = record { at = behind; units = left } in
     use1 𝓛 (‵ (memory n front)) (memory-of_room 𝓛 n b o) $
-    use0 𝓛 (‵ (point_own front (point_val front ∷ []))) (point_own-always 𝓛 front) $ fjoin ! $
+    use0 𝓛 (‵ (owns_pointer_struct front (pointer_struct front ∷ []))) (owns_pointer_struct-always 𝓛 front) $ fjoin ! $
     move ! (1 ∷ []) $ use1 𝓛 (‵ (memory left behind)) (memory-of_room 𝓛 left b (o + n * 16)) $
-    use0 𝓛 (‵ (point_own behind (point_val behind ∷ []))) (point_own-always 𝓛 behind) $ fjoin ! $
+    use0 𝓛 (‵ (owns_pointer_struct behind (pointer_struct behind ∷ []))) (owns_pointer_struct-always 𝓛 behind) $ fjoin ! $
     move ! (1 ∷ 0 ∷ []) $
-    use2 𝓛 (‵ ((Tuple (block.the_row ∷ block.the_row ∷ [])).own_val (y, w) (pair_val (point_val front) (point_val behind) ∷ [])))
-    (own_pair 𝓛 block.the_row block.the_row y w (point_val front) (point_val behind)) $
+    use2 𝓛 (‵ ((Tuple (block.the_row ∷ block.the_row ∷ [])).own_val (y, w) (pair_val (pointer_struct front) (pointer_struct behind) ∷ [])))
+    (own_pair 𝓛 block.the_row block.the_row y w (pointer_struct front) (pointer_struct behind)) $
     use0 𝓛 (raw (fact 𝓤 ((n ≡ n) × (left + n ≡ x.units)))) (fact_i 𝓤 ((n ≡ n) × (left + n ≡ x.units)) (emp 𝓤) (refl, omega arith)) $
     nothing ! $ nothing ! $ fjoin ! $ nothing ! $ fjoin ! $ move ! (3 ∷ 0 ∷ 2 ∷ 1 ∷ []) $
-    by ! (leaves 𝓛 ended stays c z (pair_val (point_val front) (point_val behind)) (y, w) (tt, (tt, tt)) (tt, (tt, tt)))))))
+    by ! (leaves 𝓛 ended stays c z (pair_val (pointer_struct front) (pointer_struct behind)) (y, w) (tt, (tt, tt)) (tt, (tt, tt)))))))

@@ -1,4 +1,5 @@
--- `kept` takes a block of another allocator, and gives up the right to give it back, so that it is lent for good. Assumes `Logic`.
+-- `kept` takes a block of another allocator, and gives up the right to give it back, so that it is lent for good.
+-- `Rooms` says how such a proof is read.
 use Rattle.std.proofs.Common.{◌≡◌, ℕ, ◌*◌, ◌^◌, ◌<◌, List, [], ◌∷◌, ◌++◌, None, Some, refl, lit<, w64, arith}
 use mir.Syntax.{Ty, Fn, Args, a_type, dcons, dnil}
 use mir.Val.{Val, vint, vptr, vcons, vnil}
@@ -27,10 +28,10 @@ use Rattle.std.proofs.alloc.Calls.{Al, seen, Takes, at_takes, Answered, Takes-go
 use Rattle.std.proofs.alloc.Shapes.{after, head, arm_body}
 use Rattle.std.proofs.option.Made.{Some-of, none_of}
 use Rattle.std.proofs.raw_atomic.Calls.{fm}
-use Rattle.std.proofs.raw_atomic.Walks.{proved_at, leaves}
+use Rattle.std.proofs.raw_atomic.ByHand.{proved_at, leaves}
 use Rattle.lw_arena.specs.Ownership.{units, memory}
 use Rattle.lw_arena.proofs.Rooms.{memory-of_room}
-use Rattle.lw_arena.proofs.Walks.{slot_of_index, then_runs, point_val, point_own, point_own-always}
+use Rattle.lw_arena.proofs.ByHand.{slot_of_index, then_runs, pointer_struct, owns_pointer_struct, owns_pointer_struct-always}
 use Rattle.lw_arena.specs.contracts.block.Block as block
 use Rattle.lw_arena.specs.contracts.block.Block.kept.{ended, clauses}
 use Rattle.lw_arena.specs.contracts.block.Block.kept.Key.{name as key}
@@ -99,11 +100,11 @@ kept_spec 𝓤 𝓛 𝓜 𝓡 wired A L g d dd met md =
     let p : Ptr = block_ptr b o in
     let x : (block.the_row).Denot = record { at = p; units = n } in
     use1 𝓛 (‵ (memory n p)) (memory-of_room 𝓛 n b o) $
-    use0 𝓛 (‵ (point_own p (point_val p ∷ []))) (point_own-always 𝓛 p) $ fjoin ! $
-    use1 𝓛 (‵ (Out.own_val (Some x) (live 1 (vcons (point_val p) vnil) ∷ []))) (Some-of 𝓛 block.the_row x (point_val p)) $
+    use0 𝓛 (‵ (owns_pointer_struct p (pointer_struct p ∷ []))) (owns_pointer_struct-always 𝓛 p) $ fjoin ! $
+    use1 𝓛 (‵ (Out.own_val (Some x) (live 1 (vcons (pointer_struct p) vnil) ∷ []))) (Some-of 𝓛 block.the_row x (pointer_struct p)) $
     use0 𝓛 (raw (fact 𝓤 (n ≡ n))) (fact_i 𝓤 (n ≡ n) (emp 𝓤) refl) $
     nothing ! $ nothing ! $ fjoin ! $ nothing ! $ fjoin ! $ keep ! (4 ∷ 0 ∷ 2 ∷ 1 ∷ []) $
-    by ! (leaves 𝓛 T stays c z (live 1 (vcons (point_val p) vnil)) (Some x) (tt, (tt, tt)) (tt, (tt, tt))))
+    by ! (leaves 𝓛 T stays c z (live 1 (vcons (pointer_struct p) vnil)) (Some x) (tt, (tt, tt)) (tt, (tt, tt))))
     (λ is. join ! $ lands_as ! is refl (tt, (record { fits = lit< tt }, (tt, tt))) $
     first ! $ switches_on ! (get_tag ! (vrt ! refl (fld ! refl (stop !))) (whole !)) $
     exec ! C Λ E (arm_body 1 (head (after 2 fn.body))) (then_runs 𝓛 C Λ E (after 3 fn.body) (at_ret E Post)) $

@@ -1,4 +1,5 @@
--- `new` makes an empty list: it has no block, so it needs no memory. Assumes `Logic`.
+-- `new` makes an empty list: it has no block, so it needs no memory.
+-- `Rooms` says how such a proof is read.
 use Rattle.std.proofs.Common.{◌≡◌, List, [], ◌∷◌, ◌++◌, refl, lit<, w64}
 use mir.Syntax.{Fn}
 use mir.Val.{Val, vint}
@@ -17,8 +18,8 @@ use denote.Signature.{types_at}
 use denote.Steps.{nothing}
 use denote.Triple.Entry.{alive}
 use denote.Triple.Walked.{Stays, stay_dropped, walk_of, Goes-dropped}
-use Rattle.std.proofs.raw_atomic.Walks.{proved_at, leaves}
-use Rattle.lw_arena.proofs.Walks.{slot_of_index, point_val, point_own, point_own-always}
+use Rattle.std.proofs.raw_atomic.ByHand.{proved_at, leaves}
+use Rattle.lw_arena.proofs.ByHand.{slot_of_index, pointer_struct, owns_pointer_struct, owns_pointer_struct-always}
 use Rattle.lw_arena.specs.contracts.shelf.SpareList as list
 use Rattle.lw_arena.specs.contracts.shelf.SpareList.new.{ended, clauses}
 use Rattle.lw_arena.specs.contracts.shelf.SpareList.new.Key.{name as key}
@@ -51,7 +52,7 @@ new_spec 𝓤 𝓛 𝓜 𝓡 wired =
     enter ! C Λ fn (vint w64 n ∷ []) Post $ alloc_all ! (λ l. pass_all ! refl ((tt, record { fits = are.0.1 }), tt) $
     sets ! (agg ! (and_then ! (lit ! tt) (no_more !))) refl (tt, (record { fits = lit< tt }, tt)) $
     returns ! (look_at ! 0 refl) $ free_all ! refl $
-    nothing ! $ use0 𝓛 (‵ (point_own null_ptr (point_val null_ptr ∷ []))) (point_own-always 𝓛 null_ptr) $ fjoin ! $
+    nothing ! $ use0 𝓛 (‵ (owns_pointer_struct null_ptr (pointer_struct null_ptr ∷ []))) (owns_pointer_struct-always 𝓛 null_ptr) $ fjoin ! $
     use0 𝓛 (raw (fact 𝓤 Said)) (fact_i 𝓤 Said (emp 𝓤) (refl, refl)) $
     nothing ! $ nothing ! $ fjoin ! $ move ! (3 ∷ 0 ∷ 2 ∷ 1 ∷ []) $
-    by ! (leaves 𝓛 ended stays c z (point_val null_ptr) y (tt, tt) (tt, tt))))
+    by ! (leaves 𝓛 ended stays c z (pointer_struct null_ptr) y (tt, tt) (tt, tt))))

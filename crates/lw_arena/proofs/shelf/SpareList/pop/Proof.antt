@@ -1,4 +1,5 @@
--- `pop` reads the node, and returns the whole block. Assumes `Logic`.
+-- `pop` reads the node, and returns the whole block.
+-- `Rooms` says how such a proof is read.
 use Rattle.std.proofs.Common.{◌≡◌, ℕ, zero, suc, ◌+◌, ◌≤◌, List, [], ◌∷◌, ◌++◌, refl, ap, ◌∙◌, arith}
 use seplogic.Ra.Ura.{Ura}
 use mir.Syntax.{Fn}
@@ -24,10 +25,10 @@ use denote.Triple.Walked.{Stays, stay_dropped, walk_of}
 use Rattle.std.proofs.alloc.Calls.{Goes-blank}
 use Rattle.std.proofs.alloc.Shapes.{after}
 use Rattle.std.proofs.ResultValues.{and_tt}
-use Rattle.std.proofs.raw_atomic.Walks.{proved_at, leaves}
+use Rattle.std.proofs.raw_atomic.ByHand.{proved_at, leaves}
 use Rattle.lw_arena.specs.Ownership.{units, memory, node_type, node_val, link, chain}
 use Rattle.lw_arena.proofs.Rooms.{memory-of_room}
-use Rattle.lw_arena.proofs.Walks.{slot_of_index, point_val, point_own, point_own-only_point_val, point_own-always, Good-pointer, Good-point_val, pair_val, own_pair}
+use Rattle.lw_arena.proofs.ByHand.{slot_of_index, pointer_struct, owns_pointer_struct, pointer_struct-if_owned, owns_pointer_struct-always, Good-pointer, Good-pointer_struct, pair_val, own_pair}
 use Rattle.lw_arena.specs.contracts.block.Block as block
 use Rattle.lw_arena.specs.contracts.shelf.SpareList as list
 use Rattle.lw_arena.specs.contracts.shelf.SpareList.pop.{ended, clauses}
@@ -72,8 +73,8 @@ pop_spec 𝓤 𝓛 𝓜 𝓡 wired =
     let here : Ptr = block_ptr b o in
     let Said : Type 0 = (k ≡ k) × (k ≡ k) × (m + 1 ≡ l.count) in
     regoal ! (λ (us : List Val). prop (WpFn 𝓤 H C Λ fn us Post))
-    (λ i. (point_own-only_point_val l.first vss.0 are.0.0 ∙ ap (λ (p : Ptr). point_val p ∷ []) lies) i ++ []) refl $
-    enter ! C Λ fn (point_val here ∷ []) Post $
+    (λ i. (pointer_struct-if_owned l.first vss.0 are.0.0 ∙ ap (λ (p : Ptr). pointer_struct p ∷ []) lies) i ++ []) refl $
+    enter ! C Λ fn (pointer_struct here ∷ []) Post $
     alloc_all ! (λ d. pass_all ! refl ((tt, (tt, tt)), tt) $ let E : Env 𝓤 𝓛.H = env fn.locals d in
     -- [the node; the rest of its block; the other blocks; the token]
     sets ! (of_opd ! (get_in ! (fld ! refl (stop !)) (sub ! 0 refl (whole !)))) refl (tt, tt) $
@@ -83,19 +84,19 @@ pop_spec 𝓤 𝓛 𝓜 𝓡 wired =
     sets ! (of_opd ! (get ! refl)) refl (Good-pointer next) $
     sets ! (of_opd ! (get ! refl)) refl (tt, tt) $
     sets ! (agg ! (and_then ! (get ! refl) (no_more !))) refl (tt, (tt, tt)) $
-    sets ! (agg ! (and_then ! (get ! refl) (no_more !))) refl (Good-point_val next) $
+    sets ! (agg ! (and_then ! (get ! refl) (no_more !))) refl (Good-pointer_struct next) $
     sets ! (agg ! (and_then ! (get ! refl) (and_then ! (get ! refl) (no_more !)))) refl
-    (and_tt _ ((Good-point_val next).0), ((tt, tt), ((Good-point_val next).1, tt))) $
+    (and_tt _ ((Good-pointer_struct next).0), ((tt, tt), ((Good-pointer_struct next).1, tt))) $
     returns ! (look_at ! 0 refl) $ free_all ! refl $
     let y : (block.the_row).Denot = record { at = here; units = k } in
     let w : (list.the_row).Denot = record { first = next; units = k; count = m } in
     use1 𝓛 (‵ (froom node_type b o)) (𝓛.laws.at_room node_type b o (node_val next)) $
     use2 𝓛 (‵ (froom (units k) b o)) (apply∗ 𝓤 (H.room node_type b o) (H.room (units k) b o)) $
     use1 𝓛 (‵ (memory k here)) (memory-of_room 𝓛 k b o) $
-    use0 𝓛 (‵ (point_own here (point_val here ∷ []))) (point_own-always 𝓛 here) $ fjoin ! $ move ! (1 ∷ []) $
-    use0 𝓛 (‵ (point_own next (point_val next ∷ []))) (point_own-always 𝓛 next) $ fjoin ! $ move ! (1 ∷ 0 ∷ []) $
-    use2 𝓛 (‵ ((Tuple (block.the_row ∷ list.the_row ∷ [])).own_val (y, w) (pair_val (point_val here) (point_val next) ∷ [])))
-    (own_pair 𝓛 block.the_row list.the_row y w (point_val here) (point_val next)) $
+    use0 𝓛 (‵ (owns_pointer_struct here (pointer_struct here ∷ []))) (owns_pointer_struct-always 𝓛 here) $ fjoin ! $ move ! (1 ∷ []) $
+    use0 𝓛 (‵ (owns_pointer_struct next (pointer_struct next ∷ []))) (owns_pointer_struct-always 𝓛 next) $ fjoin ! $ move ! (1 ∷ 0 ∷ []) $
+    use2 𝓛 (‵ ((Tuple (block.the_row ∷ list.the_row ∷ [])).own_val (y, w) (pair_val (pointer_struct here) (pointer_struct next) ∷ [])))
+    (own_pair 𝓛 block.the_row list.the_row y w (pointer_struct here) (pointer_struct next)) $
     use0 𝓛 (raw (fact 𝓤 Said)) (fact_i 𝓤 Said (emp 𝓤) (refl, refl, omega arith)) $
     nothing ! $ nothing ! $ fjoin ! $ move ! (3 ∷ 0 ∷ 2 ∷ 1 ∷ []) $
-    by ! (leaves 𝓛 ended stays c z (pair_val (point_val here) (point_val next)) (y, w) (tt, tt) (tt, tt))))))
+    by ! (leaves 𝓛 ended stays c z (pair_val (pointer_struct here) (pointer_struct next)) (y, w) (tt, tt) (tt, tt))))))

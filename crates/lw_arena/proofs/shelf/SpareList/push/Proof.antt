@@ -1,4 +1,5 @@
--- `push` writes a node at the start of the block. Assumes `Logic`.
+-- `push` writes a node at the start of the block.
+-- `Rooms` says how such a proof is read.
 use Rattle.std.proofs.Common.{◌≡◌, ℕ, suc, ◌+◌, ◌≤◌, List, [], ◌∷◌, ◌++◌, refl, ap, ◌∙◌, arith}
 use mir.Syntax.{Ty, Fn}
 use mir.Val.{Val}
@@ -21,10 +22,10 @@ use denote.Triple.Entry.{alive}
 use denote.Triple.Walked.{Stays, stay_dropped, walk_of}
 use Rattle.std.proofs.alloc.Calls.{Goes-blank}
 use Rattle.std.proofs.alloc.Shapes.{after}
-use Rattle.std.proofs.raw_atomic.Walks.{proved_at, leaves}
+use Rattle.std.proofs.raw_atomic.ByHand.{proved_at, leaves}
 use Rattle.lw_arena.specs.Ownership.{units, memory, node_type, node_val, link, chain}
 use Rattle.lw_arena.proofs.Rooms.{room-of_type, goal-of_memory}
-use Rattle.lw_arena.proofs.Walks.{slot_of_index, point_val, point_own, point_own-only_point_val, point_own-always, Good-pointer, Good-point_val}
+use Rattle.lw_arena.proofs.ByHand.{slot_of_index, pointer_struct, owns_pointer_struct, pointer_struct-if_owned, owns_pointer_struct-always, Good-pointer, Good-pointer_struct}
 use Rattle.lw_arena.specs.contracts.shelf.Node as header
 use Rattle.lw_arena.specs.contracts.shelf.SpareList as list
 use Rattle.lw_arena.specs.contracts.shelf.SpareList.push.{ended, clauses}
@@ -75,15 +76,15 @@ push_spec 𝓤 𝓛 𝓜 𝓡 wired =
     (room-of_type 𝓛 node_type k b o (omega arith) tt) $ split ! $
     use1 𝓛 (‵ (froom named_node b o)) (𝓛.laws.raw-room named_node b o) $
     regoal ! (λ (us : List Val). prop (WpFn 𝓤 H C Λ fn us Post))
-    (λ i. point_own-only_point_val l.first vss.0 are.0.0 i ++ ((point_own-only_point_val x.at vss.1.0 are.1.0.0 ∙ ap (λ (p : Ptr). point_val p ∷ []) lies) i ++ [])) refl $
-    enter ! C Λ fn (point_val l.first ∷ point_val here ∷ []) Post $
-    alloc_all ! (λ m. pass_all ! refl (Good-point_val l.first, ((tt, (tt, tt)), tt)) $ let E : Env 𝓤 𝓛.H = env fn.locals m in
+    (λ i. pointer_struct-if_owned l.first vss.0 are.0.0 i ++ ((pointer_struct-if_owned x.at vss.1.0 are.1.0.0 ∙ ap (λ (p : Ptr). pointer_struct p ∷ []) lies) i ++ [])) refl $
+    enter ! C Λ fn (pointer_struct l.first ∷ pointer_struct here ∷ []) Post $
+    alloc_all ! (λ m. pass_all ! refl (Good-pointer_struct l.first, ((tt, (tt, tt)), tt)) $ let E : Env 𝓤 𝓛.H = env fn.locals m in
     sets ! (of_opd ! (get_in ! (fld ! refl (stop !)) (sub ! 0 refl (whole !)))) refl (Good-pointer l.first) $
     sets ! (of_opd ! (get_in ! (fld ! refl (stop !)) (sub ! 0 refl (whole !)))) refl (tt, tt) $
     sets ! (of_opd ! (get ! refl)) refl (tt, tt) $
     first ! $ blocks ! $
-    sets ! (agg ! (and_then ! (get ! refl) (no_more !))) refl (Good-point_val l.first) $
-    assigns_last ! (of_opd ! (get ! refl)) (through ! refl (stop !)) (init ! 0 refl (Good-point_val l.first)) $
+    sets ! (agg ! (and_then ! (get ! refl) (no_more !))) refl (Good-pointer_struct l.first) $
+    assigns_last ! (of_opd ! (get ! refl)) (through ! refl (stop !)) (init ! 0 refl (Good-pointer_struct l.first)) $
     exec ! C Λ E (after 4 fn.body) (at_ret E Post) $
     sets ! (agg ! (and_then ! (get ! refl) (no_more !))) refl (tt, (tt, tt)) $
     returns ! (look_at ! 0 refl) $ free_all ! refl $
@@ -91,7 +92,7 @@ push_spec 𝓤 𝓛 𝓜 𝓡 wired =
     use1 𝓛 (‵ (fat full_share node_type b o (node_val l.first))) (𝓛.laws.at_raw full_share named_node b o (node_val l.first)) $
     fjoin ! $ fjoin ! $ fpack ! Ptr (λ next. fsep (link k here next) (chain k l.count next)) l.first $
     let y : (list.the_row).Denot = record { first = here; units = k; count = suc l.count } in
-    use0 𝓛 (‵ (point_own here (point_val here ∷ []))) (point_own-always 𝓛 here) $ fjoin ! $
+    use0 𝓛 (‵ (owns_pointer_struct here (pointer_struct here ∷ []))) (owns_pointer_struct-always 𝓛 here) $ fjoin ! $
     use0 𝓛 (raw (fact 𝓤 Said)) (fact_i 𝓤 Said (emp 𝓤) (refl, omega arith)) $
     nothing ! $ nothing ! $ fjoin ! $ nothing ! $ fjoin ! $ move ! (3 ∷ 0 ∷ 2 ∷ 1 ∷ []) $
-    by ! (leaves 𝓛 ended stays c z (point_val here) y (tt, (tt, tt)) (tt, (tt, tt)))))))
+    by ! (leaves 𝓛 ended stays c z (pointer_struct here) y (tt, (tt, tt)) (tt, (tt, tt)))))))

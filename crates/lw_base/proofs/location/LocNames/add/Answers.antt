@@ -3,7 +3,7 @@
 -- (`index-of_pushed_name`).
 use Rattle.lw_base.proofs.Common.{sym, ◌∙◌, ap, ◌++◌, ◌∷◌, [], arith, length, string_bytes, length-map}
 use Rattle.lw_base.proofs.api.Tables.{map_names-push, IsNameTable-push, index-of_pushed_name}
-use Rattle.lw_base.proofs.api.Tables.{IsSome-if_below_eight}
+use Rattle.lw_base.proofs.api.Tables.{IsSome-if_table_has_room}
 use Rattle.lw_base.proofs.location.LocNames.add.Goals as goal
 
 pub invariant_of-self : goal.invariant_of-self
@@ -39,7 +39,7 @@ unwrap-requires g c =
     ∙ c.self.inside.names.ok.0
     ∙ sym (length-map c.self.inside.names.items string_bytes)
     ∙ ap length c.self.view_is in
-    IsSome-if_below_eight c.new.result c.len-index.result _ c.new.ensures count c.requires.bounded
+    IsSome-if_table_has_room c.new.result c.len-index.result _ c.new.ensures count c.requires.bounded
 
 pub overflow_cast-index : goal.overflow_cast-index
 overflow_cast-index g c =

@@ -1,7 +1,7 @@
 -- The proof by hand of `Refusing::allocate`, against the contract that the trait `Allocator` states for every
 -- allocator. `walk` goes through the body: it calls `refuse_next`, and then either returns `Err` (`Post-null`)
--- or calls the inner allocator, whose block and its token become those of the whole (`Post-block`). Assumes
--- `Logic`.
+-- or calls the inner allocator, whose block and its token become those of the whole (`Post-block`).
+-- `Refused` says how such a proof is read.
 use Rattle.lw_test_reader.proofs.Steps.{ℕ, ◌^◌, ◌<◌, ◌≡◌, Bool, true, false, List, [], ◌∷◌, Ok, Err, refl, w64, Bor, Ura}
 use Rattle.lw_test_reader.proofs.Steps.{Ty, Fn, a_type, dnil, dcons, Val, vint, vptr, vbool, inst_fn, SProp, ent}
 use Rattle.lw_test_reader.proofs.Steps.{Lft, Share, ftrue, flft, froom, Memory, size, align, capped, Routine, WpFn, Tables, Logic}

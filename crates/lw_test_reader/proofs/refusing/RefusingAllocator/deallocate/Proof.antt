@@ -1,6 +1,7 @@
 -- The proof by hand of `Refusing::deallocate`, against the contract that the trait `Allocator` states for
 -- every allocator. `walk` goes through the body: the block and its token go to the inner allocator, and
--- nothing is counted. The null pointer never comes here, for no token belongs to it. Assumes `Logic`.
+-- nothing is counted. The null pointer never comes here, for no token belongs to it.
+-- `Refused` says how such a proof is read.
 use Rattle.lw_test_reader.proofs.Steps.{◌≡◌, ℕ, ◌^◌, ◌<◌, List, [], ◌∷◌, refl, w64, Bor, Ura, Ty, Fn, a_type, dnil, dcons, Val}
 use Rattle.lw_test_reader.proofs.Steps.{vint, vptr, vunit, inst_fn, SProp, ent, never_e, Lft, Share, Fml, ftrue, ffalse}
 use Rattle.lw_test_reader.proofs.Steps.{fsep, flft, froom, Memory, size, align, capped, Routine, WpFn, Tables, Logic, Item, ⋆}

@@ -1,6 +1,7 @@
 -- The proof by hand of `Refusing::shrink`, against the contract that the trait `Allocator` states for every
 -- allocator. `walk` goes through the body: it calls the inner allocator, whose result is returned as it is
--- (`leave`), for a shrink is no growth and is not counted. Assumes `Logic`.
+-- (`leave`), for a shrink is no growth and is not counted.
+-- `Refused` says how such a proof is read.
 use Rattle.lw_test_reader.proofs.Steps.{◌≡◌, ℕ, ◌^◌, ◌<◌, Bool, List, [], ◌∷◌, refl, sym, subst, T, w64, Bor, Ura, Fn, a_type}
 use Rattle.lw_test_reader.proofs.Steps.{dnil, dcons, Val, vint, vptr, has_ty, WT, inst_fn, SProp, ent, never_e, Lft, Share, Fml}
 use Rattle.lw_test_reader.proofs.Steps.{ftrue, flft, Memory, Routine, WpFn, Tables, Logic, Item, ⋆, ‵, raw, ◌⊛◌, some, later}

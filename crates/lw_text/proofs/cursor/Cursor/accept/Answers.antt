@@ -8,6 +8,6 @@ pub returns-then-is_next-clause-taken : goal.returns-then-is_next-clause-taken
 returns-then-is_next-clause-taken c =
     λ _. (word_next c.args.self.now.tokens.now c.args.self.now.next c.args.text.now (sym c.is_next.ensures ∙ c.if-is_next.true)).1
 
-pub returns-then-is_next-clause-leaves : goal.returns-then-is_next-clause-leaves
-returns-then-is_next-clause-leaves c =
+pub returns-then-is_next-clause-advances : goal.returns-then-is_next-clause-advances
+returns-then-is_next-clause-advances c =
     (word_next c.args.self.now.tokens.now c.args.self.now.next c.args.text.now (sym c.is_next.ensures ∙ c.if-is_next.true)).2

@@ -28,7 +28,7 @@ returns-in_err-expect g c = Err-clause_known _ _ _ c.from_residual.ensures.1 (λ
 pub initializers-init : goal.initializers-init
 initializers-init g c = rw c.new-initializers.ensures (record {
   read = Read-none (initializer_kind c.args.arch) c.args.locs.now (remaining_texts c.args.self.now) _ c.in_ok-expect.ensures.ok;
-  leaves = c.in_ok-expect.ensures.leaves;
+  advances = c.in_ok-expect.ensures.advances;
   places = tt;
   bounded = c.len-known.ensures.table.bounded;
   fails = λ rest cause w. in_initializers c.in_ok-expect.ensures.ok w;
@@ -41,7 +41,7 @@ returns-then-accept g c =
       parsed = whole.whole;
       names_are = whole.names_are;
       within = whole.within;
-      leaves = IsSuffix-join c.initializers.invariant.leaves c.accept.ensures.leaves;
+      advances = IsSuffix-join c.initializers.invariant.advances c.accept.ensures.advances;
       places = c.initializers.invariant.places;
       bounded = c.initializers.invariant.bounded;
     }
@@ -65,11 +65,11 @@ entry_read g c = record {
 }
 
 -- What remains after the initializer and its mark is a suffix of the text.
-leaves : (g : Over) (c : In_ok-expect_either g) → IsSuffix (remaining c.args.self.now) (remaining c.expect_either.new.self)
-leaves g c =
-    IsSuffix-join c.initializers.invariant.leaves
-    (IsSuffix-join c.accept.ensures.leaves
-    (IsSuffix-join c.in_ok-site.ensures.leaves (IsSuffix-join c.in_ok-word.ensures.1 c.in_ok-expect_either.ensures.1)))
+advances : (g : Over) (c : In_ok-expect_either g) → IsSuffix (remaining c.args.self.now) (remaining c.expect_either.new.self)
+advances g c =
+    IsSuffix-join c.initializers.invariant.advances
+    (IsSuffix-join c.accept.ensures.advances
+    (IsSuffix-join c.in_ok-site.ensures.advances (IsSuffix-join c.in_ok-word.ensures.1 c.in_ok-expect_either.ensures.1)))
 
 -- An initializer that fails makes the block fail.
 element_fails : (g : Over) (c : After-parse_site g) (rest : TokenList) (cause : TextCause)
@@ -81,8 +81,8 @@ element_fails g c rest cause w =
     (subst (λ ts. FailsInAssignment c.args.arch None c.initializers.locs Unexpected ts rest cause) (kept g c) w))
 
 -- What remains before an initializer is a suffix of the text.
-leaves_before : (g : Over) (c : After-parse_site g) → IsSuffix (remaining c.args.self.now) (remaining c.accept.new.self)
-leaves_before g c = IsSuffix-join c.initializers.invariant.leaves c.accept.ensures.leaves
+advances_before : (g : Over) (c : After-parse_site g) → IsSuffix (remaining c.args.self.now) (remaining c.accept.new.self)
+advances_before g c = IsSuffix-join c.initializers.invariant.advances c.accept.ensures.advances
 
 -- The initializer that was read begins at its place, after those before.
 begins : (g : Over) (c : In_ok-word g)
@@ -102,7 +102,7 @@ begins g c =
           (ParsesMany (λ ts e next. IsInitializer c.args.arch ts e (codes ";" ∷ next)) read.start
           (map (named_initializer c.initializers.locs) c.initializers.initializers)) (sym same)
           (Listing-joined (IsInitializer c.args.arch) semicolon brace _ read.start _ read.listing);
-      suffix = IsSuffix-join c.initializers.invariant.leaves c.accept.ensures.leaves;
+      suffix = IsSuffix-join c.initializers.invariant.advances c.accept.ensures.advances;
       place = c.place-at.ensures;
       parsed = λ t r e. (
         remaining_texts c.parse_site.new.self,
@@ -121,7 +121,7 @@ returns-in_err-site g c =
     let lost = c.in_err-site.ensures ne in (
       initializers_fault c.args.arch c.initializers.invariant.read (c.accept.ensures.other c.if-accept.false)
           (λ e back initializer some. (rw same at lost.0) e.site initializer.0 initializer.1 tt some),
-      Fails-later (leaves_before g d) (λ rest cause w. element_fails g d rest cause (in_site w)) lost.1,
+      Fails-later (advances_before g d) (λ rest cause w. element_fails g d rest cause (in_site w)) lost.1,
     ))
 
 pub returns-in_err-word : goal.returns-in_err-word
@@ -133,7 +133,7 @@ returns-in_err-word g c =
           (λ e back initializer some.
           no_initializer-if_no_value c.args.arch _ _ _ (rw same at c.in_ok-site.ensures.parsed) c.in_err-word.ensures.0 e back
           initializer),
-      Fails-later (IsSuffix-join (leaves_before g d) c.in_ok-site.ensures.leaves) (λ rest cause w.
+      Fails-later (IsSuffix-join (advances_before g d) c.in_ok-site.ensures.advances) (λ rest cause w.
           element_fails g d rest cause
           (in_value _ c.in_ok-site.ensures.parsed c.in_ok-site.ensures.threads_exist
           (subst (λ (table : NameTable). length table ≤ 8) c.in_ok-site.ensures.names_are c.in_ok-site.ensures.bounded) w))
@@ -149,8 +149,8 @@ returns-in_err-expect_either g c =
           no_list-if_no_separator c.initializers.invariant.read _ _ initializer.parsed c.in_err-expect_either.ensures.1
           c.in_err-expect_either.ensures.0 es rest block,
       Fails-later
-          (IsSuffix-join (leaves_before g d.After-parse_site) (IsSuffix-join c.in_ok-site.ensures.leaves c.in_ok-word.ensures.1))
-          (λ rest cause w.
+          (IsSuffix-join (advances_before g d.After-parse_site)
+          (IsSuffix-join c.in_ok-site.ensures.advances c.in_ok-word.ensures.1)) (λ rest cause w.
           c.initializers.invariant.fails rest cause
           (no_mark (c.accept.ensures.other c.if-accept.false) initializer.parsed
           (subst (λ (table : NameTable). length table ≤ 8) initializer.grows c.in_ok-site.ensures.bounded) w))
@@ -167,7 +167,7 @@ returns-then-branch g c =
       parsed = whole.whole;
       names_are = whole.names_are;
       within = whole.within;
-      leaves = leaves g d.In_ok-expect_either;
+      advances = advances g d.In_ok-expect_either;
       places = BeginInitializers-push _ _ [] _ _ c.initializers.invariant.places (begins g d.In_ok-word);
       bounded = c.in_ok-site.ensures.bounded;
     })
@@ -192,7 +192,7 @@ initializers-preserved g c =
       read =
           Read-separator c.initializers.invariant.read (entry_read g d.In_ok-word) (remaining_texts c.expect_either.new.self)
           mark;
-      leaves = leaves g d.In_ok-expect_either;
+      advances = advances g d.In_ok-expect_either;
       places = BeginInitializers-push _ _ [] _ _ c.initializers.invariant.places (begins g d.In_ok-word);
       bounded = c.in_ok-site.ensures.bounded;
       fails = λ rest cause w.

@@ -10,7 +10,7 @@ use Rattle.lw_text.proofs.cursor.Cursor.parse_block.Given as goal
 abbrev pub invariant-initializers : goal.invariant-initializers
 invariant-initializers g l = record {
   read : Read (initializer_kind l.arch) l.fn.locs l.locs (remaining_texts l.fn.self) (remaining_texts l.self) l.initializers;
-  leaves : IsSuffix (remaining l.fn.self) (remaining l.self);
+  advances : IsSuffix (remaining l.fn.self) (remaining l.self);
   places : BeginInitializers l.arch l.fn.self [] l.initializers;
   bounded : length l.locs ≤ 8;
   fails :

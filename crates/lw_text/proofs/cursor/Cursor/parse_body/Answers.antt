@@ -31,7 +31,7 @@ returns-in_err-threads g c = Err-clause_known _ _ _ c.from_residual-in_err-threa
   λ s f p whole.
       no_test-if_no_header c.args.arch (remaining_texts c.args.self.now) _ _ c.in_ok-initializers.ensures.parsed
       c.in_err-threads.ensures.0 s p,
-  Fails-later c.in_ok-initializers.ensures.leaves
+  Fails-later c.in_ok-initializers.ensures.advances
       (λ rest cause w. in_header _ _ (ReadsBlock-ParsedBlock c.new-locs.ensures c.in_ok-initializers.ensures) w)
       c.in_err-threads.ensures.1,
 ))
@@ -64,7 +64,7 @@ returns-in_err-rows g c = Err-clause_known _ _ _ c.from_residual-in_err-rows.ens
     let lost = c.in_err-rows.ensures ne in (
       λ s f p whole.
           no_test-if_no_rows c.args.arch _ _ _ c.in_ok-initializers.ensures.parsed _ _ c.in_ok-threads.ensures.0 lost.0 s p,
-      Fails-later (IsSuffix-join c.in_ok-initializers.ensures.leaves c.in_ok-threads.ensures.1) (λ rest cause w.
+      Fails-later (IsSuffix-join c.in_ok-initializers.ensures.advances c.in_ok-threads.ensures.1) (λ rest cause w.
           in_rows _ _ _ _ (ReadsBlock-ParsedBlock c.new-locs.ensures c.in_ok-initializers.ensures) c.in_ok-threads.ensures.0
           (ThreadExists-all_initializers _ _ _ (rw c.as_slice.ensures at c.in_ok-check_threads.ensures.ok)) w) lost.1,
     ))
@@ -79,7 +79,7 @@ returns g c = λ ne.
           c.in_ok-initializers.ensures.parsed c.in_ok-threads.threads (remaining_texts c.parse_header.new.self)
           c.in_ok-threads.ensures.0 _ _ c.in_ok-rows.ensures.0 c.parse_block.new.locs names lost.0,
       Fails-later
-          (IsSuffix-join c.in_ok-initializers.ensures.leaves (IsSuffix-join c.in_ok-threads.ensures.1 c.in_ok-rows.ensures.2))
+          (IsSuffix-join c.in_ok-initializers.ensures.advances (IsSuffix-join c.in_ok-threads.ensures.1 c.in_ok-rows.ensures.2))
           (λ rest cause w.
           in_condition _ _ _ _ _ _ (ReadsBlock-ParsedBlock c.new-locs.ensures c.in_ok-initializers.ensures)
           c.in_ok-threads.ensures.0
@@ -102,7 +102,7 @@ pub returns-in-Ok : goal.returns-in-Ok
 returns-in-Ok g c =
     let threads = c.in_ok-threads.threads in
     let block = rw c.new-locs.ensures at c.in_ok-initializers.ensures in
-    let leaves = IsSuffix-join block.leaves c.in_ok-threads.ensures.1 in
+    let advances = IsSuffix-join block.advances c.in_ok-threads.ensures.1 in
     let whole = remaining c.args.self.now in
     let behind = remaining c.parse_header.new.self in (
       HasSyntax-of_parts block (remaining_texts c.parse_header.new.self) (remaining_texts c.parse_rows.new.self)
@@ -111,7 +111,7 @@ returns-in-Ok g c =
       record {
         initializers = map (named_initializer c.parse_block.new.locs) c.in_ok-initializers.initializers;
         behind_block = remaining_texts c.parse_block.new.self;
-        front = with_spans leaves.0;
+        front = with_spans advances.0;
         behind_header = with_spans behind;
         behind_rows = with_spans (remaining c.parse_rows.new.self);
         block =
@@ -121,7 +121,7 @@ returns-in-Ok g c =
         header =
             subst (λ ts. Header (remaining_texts c.parse_block.new.self) threads ts) (sym (texts_placed behind))
             c.in_ok-threads.ensures.0;
-        parts = with_spans-of_suffix whole behind leaves;
+        parts = with_spans-of_suffix whole behind advances;
         says = Rows-with_spans _ behind (remaining c.parse_rows.new.self) c.in_ok-rows.rows c.in_ok-rows.ensures.0;
         cut = c.in_ok-rows.ensures.1;
       },

@@ -15,7 +15,7 @@ returns g c =
       name.text.now,
       c.in_ok-name.ensures.ok ∙ ap (λ l. name.text.now ∷ l) c.in_ok-expect.ensures.ok,
       c.in_ok-loc.ensures,
-      IsSuffix-join (name ∷ [], c.in_ok-name.ensures.token) c.in_ok-expect.ensures.leaves,
+      IsSuffix-join (name ∷ [], c.in_ok-name.ensures.token) c.in_ok-expect.ensures.advances,
     )
 
 pub returns-in_err-loc : goal.returns-in_err-loc

@@ -29,7 +29,7 @@ returns-in_err-quant g c = Err-clause_known _ _ _ c.from_residual-in_err-quant.e
       Listed-unique c.args.arch (remaining_texts c.args.self.now) all _ condition.behind_list
       (remaining_texts c.parse_listed.new.self) condition.lists c.in_ok-listed.ensures.parsed in
       c.in_err-quant.ensures.0 q condition.behind_quant (rw u.1 at condition.quantifies),
-  Fails-later c.in_ok-listed.ensures.leaves (λ rest cause w.
+  Fails-later c.in_ok-listed.ensures.advances (λ rest cause w.
       in_quantifier _ c.in_ok-listed.ensures.parsed c.in_ok-listed.ensures.threads_exist
       (subst (λ (table : NameTable). length table ≤ 8) c.in_ok-listed.ensures.names_are c.in_ok-listed.ensures.bounded) w)
       c.in_err-quant.ensures.1,
@@ -45,7 +45,7 @@ pub returns-in-Err : goal.returns-in-Err
 returns-in-Err g c = λ ne.
     let lost = c.in-Err.ensures ne in (
       no_condition-if_no_proposition c.in_ok-listed.ensures _ _ c.in_ok-quant.ensures.0 lost.0,
-      Fails-later (IsSuffix-join c.in_ok-listed.ensures.leaves c.in_ok-quant.ensures.1) (λ rest cause w.
+      Fails-later (IsSuffix-join c.in_ok-listed.ensures.advances c.in_ok-quant.ensures.1) (λ rest cause w.
           in_proposition _ _ c.in_ok-listed.ensures.parsed c.in_ok-listed.ensures.threads_exist
           (subst (λ (table : NameTable). length table ≤ 8) c.in_ok-listed.ensures.names_are c.in_ok-listed.ensures.bounded)
           c.in_ok-quant.ensures.0

@@ -18,8 +18,9 @@ loop-thread-preserved c = record {
       (remaining_texts c.expect.new.self)
       (c.in_ok-expect.ensures.ok ∙ ap (λ x. x ∷ remaining_texts c.expect.new.self) c.thread_name.ensures)
       (remaining_texts c.expect_either.new.self) (rw c.if-branch.false at c.in_ok-expect_either.ensures.0);
-  leaves =
-      IsSuffix-join c.loop-thread.invariant.leaves (IsSuffix-join c.in_ok-expect.ensures.leaves c.in_ok-expect_either.ensures.1);
+  advances =
+      IsSuffix-join c.loop-thread.invariant.advances
+      (IsSuffix-join c.in_ok-expect.ensures.advances c.in_ok-expect_either.ensures.1);
   fails = λ rest cause w.
       c.loop-thread.invariant.fails rest cause
       (in_next_thread (omega (arith, c.loop-thread-test.true))
@@ -38,17 +39,20 @@ returns-then-branch c = (
         ∙ ap (λ l. thread_name c.loop-thread.thread ∷ l) (rw c.if-branch.true at c.in_ok-expect_either.ensures.0)),
     omega (arith, c.loop-thread-test.true),
   ),
-  IsSuffix-join c.loop-thread.invariant.leaves (IsSuffix-join c.in_ok-expect.ensures.leaves c.in_ok-expect_either.ensures.1),
+  IsSuffix-join c.loop-thread.invariant.advances (IsSuffix-join c.in_ok-expect.ensures.advances c.in_ok-expect_either.ensures.1),
 )
 
 pub loop-thread-init : goal.loop-thread-init
-loop-thread-init c =
-    record { names = NamesContinueAt-none_yet (remaining_texts c.args.self.now); leaves = ([], refl); fails = λ rest cause w. w }
+loop-thread-init c = record {
+  names = NamesContinueAt-none_yet (remaining_texts c.args.self.now);
+  advances = ([], refl);
+  fails = λ rest cause w. w;
+}
 
 pub returns-in_err-expect : goal.returns-in_err-expect
 returns-in_err-expect c = Err-clause_known _ _ _ c.from_residual.ensures.1 (
   search rules,
-  Fails-later c.loop-thread.invariant.leaves (λ rest cause w.
+  Fails-later c.loop-thread.invariant.advances (λ rest cause w.
       c.loop-thread.invariant.fails rest cause
       (no_thread_name (omega (arith, c.loop-thread-test.true))
       (subst (λ n. FailsBefore (n ∷ []) Unexpected (remaining_texts c.loop-thread.self) rest cause) c.thread_name.ensures w)))
@@ -58,7 +62,7 @@ returns-in_err-expect c = Err-clause_known _ _ _ c.from_residual.ensures.1 (
 pub returns-in_err-expect_either : goal.returns-in_err-expect_either
 returns-in_err-expect_either c = Err-clause_known _ _ _ c.from_residual-in_err-expect_either.ensures.1 (
   search rules,
-  Fails-later (IsSuffix-join c.loop-thread.invariant.leaves c.in_ok-expect.ensures.leaves) (λ rest cause w.
+  Fails-later (IsSuffix-join c.loop-thread.invariant.advances c.in_ok-expect.ensures.advances) (λ rest cause w.
       c.loop-thread.invariant.fails rest cause
       (no_thread_mark (omega (arith, c.loop-thread-test.true))
       (c.in_ok-expect.ensures.ok ∙ ap (λ x. x ∷ remaining_texts c.expect.new.self) c.thread_name.ensures) w))
@@ -68,7 +72,7 @@ returns-in_err-expect_either c = Err-clause_known _ _ _ c.from_residual-in_err-e
 pub returns-then-is_next : goal.returns-then-is_next
 returns-then-is_next c = (
   search rules,
-  Fails-later {Later = λ ts rest cause. FailsInHeader rest cause c.loop-thread.thread ts} c.loop-thread.invariant.leaves
+  Fails-later {Later = λ ts rest cause. FailsInHeader rest cause c.loop-thread.thread ts} c.loop-thread.invariant.advances
       c.loop-thread.invariant.fails
       (Fails-here c.loop-thread.self _ c.refusal.ensures.place
       (too_many_threads (omega (arith, c.loop-thread-test.false, c.loop-thread.auto.thread-end)) refl
@@ -79,7 +83,7 @@ returns-then-is_next c = (
 pub returns : goal.returns
 returns c = (
   search rules,
-  Fails-later {Later = λ ts rest cause. FailsInHeader rest cause c.loop-thread.thread ts} c.loop-thread.invariant.leaves
+  Fails-later {Later = λ ts rest cause. FailsInHeader rest cause c.loop-thread.thread ts} c.loop-thread.invariant.advances
       c.loop-thread.invariant.fails
       (Fails-here c.loop-thread.self _ c.refusal-2.ensures.place
       (too_many_threads (omega (arith, c.loop-thread-test.false, c.loop-thread.auto.thread-end)) refl

@@ -7,7 +7,7 @@ use Rattle.lw_text.proofs.cursor.Cursor.parse_header.Given as goal
 abbrev pub invariant-loop-thread : goal.invariant-loop-thread
 invariant-loop-thread l = record {
   names : NamesContinueAt (remaining_texts l.fn.self) l.thread (remaining_texts l.self);
-  leaves : IsSuffix (remaining l.fn.self) (remaining l.self);
+  advances : IsSuffix (remaining l.fn.self) (remaining l.self);
   fails :
       (rest : TokenList) (cause : TextCause)
       → FailsInHeader rest cause l.thread (remaining_texts l.self)

@@ -28,7 +28,7 @@ returns-then-not-accept g c = rw c.new.ensures (record {
   threads_exist = tt;
   names_are = refl;
   within = All-nil (IsIn c.args.locs.now);
-  leaves = c.accept.ensures.leaves;
+  advances = c.accept.ensures.advances;
   bounded = c.len-known.ensures.table.bounded;
 })
 
@@ -39,7 +39,7 @@ returns-in_err-expect g c =
       λ ss rest listed there few.
           let whole = Whole-Listed c.args.arch c.args.threads (remaining_texts c.args.self.now) _ word ss rest listed in
           c.in_err-expect.ensures.err whole.0 (tail-unique _ word whole.1),
-      Fails-later c.accept.ensures.leaves (λ rest cause w. no_list_bracket word w) c.in_err-expect.ensures.fails,
+      Fails-later c.accept.ensures.advances (λ rest cause w. no_list_bracket word w) c.in_err-expect.ensures.fails,
     ))
 
 pub sites-init : goal.sites-init
@@ -48,7 +48,7 @@ sites-init g c =
     rw c.new-sites.ensures (record {
       read = Read-none _ c.args.locs.now (remaining_texts c.args.self.now) (remaining_texts c.expect.new.self) begins;
       bounded = c.len-known.ensures.table.bounded;
-      leaves = IsSuffix-join c.accept.ensures.leaves c.in_ok-expect.ensures.leaves;
+      advances = IsSuffix-join c.accept.ensures.advances c.in_ok-expect.ensures.advances;
       fails = λ rest cause w. in_sites begins w;
     })
 
@@ -60,7 +60,7 @@ returns-then-accept g c =
       threads_exist = whole.fits;
       names_are = whole.names_are;
       within = whole.within;
-      leaves = IsSuffix-join c.sites.invariant.leaves c.accept-in-sites.ensures.leaves;
+      advances = IsSuffix-join c.sites.invariant.advances c.accept-in-sites.ensures.advances;
       bounded = c.sites.invariant.bounded;
     }
 
@@ -82,8 +82,9 @@ site_read g c = record {
 }
 
 -- What remains before a site is a suffix of the text.
-leaves_before : (g : Over) (c : After-parse_site g) → IsSuffix (remaining c.args.self.now) (remaining c.accept-in-sites.new.self)
-leaves_before g c = IsSuffix-join c.sites.invariant.leaves c.accept-in-sites.ensures.leaves
+advances_before : (g : Over) (c : After-parse_site g)
+    → IsSuffix (remaining c.args.self.now) (remaining c.accept-in-sites.new.self)
+advances_before g c = IsSuffix-join c.sites.invariant.advances c.accept-in-sites.ensures.advances
 
 pub returns-in_err-parse_site : goal.returns-in_err-parse_site
 returns-in_err-parse_site g c =
@@ -97,7 +98,7 @@ returns-in_err-parse_site g c =
           (rw same at lost.0) all rest
           (Whole-Listed _ c.args.threads (remaining_texts c.args.self.now) (codes "[" ∷ c.sites.invariant.read.start)
           c.sites.invariant.read.begun all rest listed) there (HasRoomFor-map_same c.args.locs.now all few),
-      Fails-later (leaves_before g d) (λ rest cause w.
+      Fails-later (advances_before g d) (λ rest cause w.
           c.sites.invariant.fails rest cause
           (in_element (c.accept-in-sites.ensures.other c.if-accept.false)
           (subst (λ ts. FailsInSite c.args.arch (Some c.args.threads) c.sites.locs Condition ts rest cause) same w))) lost.1,
@@ -113,7 +114,7 @@ returns-in_err-expect_either g c =
           c.in_err-expect_either.ensures.0 all rest
           (Whole-Listed c.args.arch c.args.threads (remaining_texts c.args.self.now) _ c.sites.invariant.read.begun all rest
           listed),
-      Fails-later (IsSuffix-join (leaves_before g d.After-parse_site) c.in_ok-parse_site.ensures.leaves) (λ rest cause w.
+      Fails-later (IsSuffix-join (advances_before g d.After-parse_site) c.in_ok-parse_site.ensures.advances) (λ rest cause w.
           c.sites.invariant.fails rest cause
           (no_mark (c.accept-in-sites.ensures.other c.if-accept.false) (site.parsed, site.fits)
           (subst (λ (table : NameTable). length table ≤ 8) site.grows c.in_ok-parse_site.ensures.bounded) w))
@@ -131,9 +132,9 @@ returns-then-branch g c =
       threads_exist = whole.fits;
       names_are = whole.names_are;
       within = whole.within;
-      leaves =
-          IsSuffix-join (leaves_before g d.After-parse_site)
-          (IsSuffix-join c.in_ok-parse_site.ensures.leaves c.in_ok-expect_either.ensures.1);
+      advances =
+          IsSuffix-join (advances_before g d.After-parse_site)
+          (IsSuffix-join c.in_ok-parse_site.ensures.advances c.in_ok-expect_either.ensures.1);
       bounded = c.in_ok-parse_site.ensures.bounded;
     })
 
@@ -150,9 +151,9 @@ sites-preserved g c =
     let mark = rw c.if-branch.false at c.in_ok-expect_either.ensures.0 in
     rw c.in_ok-push.ensures.ok (record {
       read = Read-separator c.sites.invariant.read site (remaining_texts c.expect_either.new.self) mark;
-      leaves =
-          IsSuffix-join (leaves_before g d.After-parse_site)
-          (IsSuffix-join c.in_ok-parse_site.ensures.leaves c.in_ok-expect_either.ensures.1);
+      advances =
+          IsSuffix-join (advances_before g d.After-parse_site)
+          (IsSuffix-join c.in_ok-parse_site.ensures.advances c.in_ok-expect_either.ensures.1);
       bounded = c.in_ok-parse_site.ensures.bounded;
       fails = λ rest cause w.
           c.sites.invariant.fails rest cause

@@ -10,7 +10,7 @@ abbrev pub invariant-sites : goal.invariant-sites
 invariant-sites g l = record {
   read : Read (site_kind l.arch l.threads) l.fn.locs l.locs (remaining_texts l.fn.self) (remaining_texts l.self) l.sites;
   bounded : length l.locs ≤ 8;
-  leaves : IsSuffix (remaining l.fn.self) (remaining l.self);
+  advances : IsSuffix (remaining l.fn.self) (remaining l.self);
   fails :
       (rest : TokenList) (cause : TextCause)
       → FailsInSites l.arch l.threads rest cause l.locs (remaining_texts l.self)

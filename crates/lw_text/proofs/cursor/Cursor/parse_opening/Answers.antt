@@ -32,12 +32,12 @@ returns-in_err-word g c =
     let same = c.parse_opening_keyword.ensures.kept c.in_default.is in
     let kept = ap remaining_texts same in
     let stands = rw kept at c.in_ok-site.ensures.parsed in
-    let leaves = subst (λ x. IsSuffix (remaining x) (remaining c.parse_site.new.self)) same c.in_ok-site.ensures.leaves in
+    let advances = subst (λ x. IsSuffix (remaining x) (remaining c.parse_site.new.self)) same c.in_ok-site.ensures.advances in
     Err-clause_known _ _ _ c.from_residual-in_err-word.ensures.1 (λ ne. (
       λ s rest terminal begins few.
           no_terminal-if_site_has_no_value c.args.arch c.args.threads _ (remaining_texts c.parse_site.new.self) _ stands
           c.in_err-word.ensures.0 s rest terminal,
-      Fails-later leaves (λ rest cause w. (
+      Fails-later advances (λ rest cause w. (
         c.in_default.ensures.words,
         in_value _ stands c.in_ok-site.ensures.threads_exist
             (subst (λ (table : NameTable). length table ≤ 8) c.in_ok-site.ensures.names_are c.in_ok-site.ensures.bounded) w,
@@ -58,8 +58,8 @@ returns g c =
             syntax (remaining_texts c.parse_site.new.self, rw kept at taken.parsed, taken.threads_exist, c.in_ok-word.ensures.0);
         names_are = subst (λ claim. table ≡ with_sites c.args.locs.now (sites_in (Atom claim ∷ []))) syntax taken.names_are;
         within = c.atom_at.ensures.within table taken.within;
-        leaves =
-            IsSuffix-join (subst (λ x. IsSuffix (remaining x) (remaining c.parse_site.new.self)) same taken.leaves)
+        advances =
+            IsSuffix-join (subst (λ x. IsSuffix (remaining x) (remaining c.parse_site.new.self)) same taken.advances)
             c.in_ok-word.ensures.1;
       },
       refl,

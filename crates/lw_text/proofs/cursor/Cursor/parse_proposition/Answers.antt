@@ -34,7 +34,7 @@ returns-then-self g c =
       record {
         rest = [];
         suffix =
-            IsSuffix-join c.terminals.invariant.leaves
+            IsSuffix-join c.terminals.invariant.advances
             (remaining c.terminals.self, sym (append-nil (remaining c.terminals.self)));
         place = none.1 ∙ subst (λ x. BeginsAt x c.refusal.result.at) nothing c.refusal.ensures.place;
         way = c.terminals.invariant.fails [] _ (incomplete (incomplete_place (state_of c.terminals.reader) none.0) gone refl);
@@ -50,13 +50,13 @@ returns-in-Err g c = λ ne.
       NoProposition-no_terminal c.terminals.invariant.read
           (tokens_remain-before_last c.terminals.self.tokens.now c.terminals.self.next c.terminals.self.within c.if-self.false)
           lost.0,
-      Fails-later c.terminals.invariant.leaves (λ rest cause w. c.terminals.invariant.fails rest cause w) lost.1,
+      Fails-later c.terminals.invariant.advances (λ rest cause w. c.terminals.invariant.fails rest cause w) lost.1,
     )
 
 pub terminals-init : goal.terminals-init
 terminals-init g c = record {
   read = TerminalsRead-none c.args.arch c.args.threads c.args.locs.now _ c.new-reader.result c.new-reader.ensures;
-  leaves = ([], refl);
+  advances = ([], refl);
   fails = λ rest cause w.
       subst (λ state.
       FailsInProposition c.args.arch c.args.threads rest cause (place_of state) 0 c.args.locs.now
@@ -72,7 +72,7 @@ terminals-preserved g c =
       read =
           TerminalsRead-push c.in-Ok.ensures.0 c.terminals.invariant.read c.requires.once c.in-Ok.ensures.1 _ counts
           (subst (λ (n : ℕ). n ≤ 256) (sym counts) room);
-      leaves = IsSuffix-join c.terminals.invariant.leaves c.in-Ok.ensures.0.leaves;
+      advances = IsSuffix-join c.terminals.invariant.advances c.in-Ok.ensures.0.advances;
       fails = λ rest cause w.
           c.terminals.invariant.fails rest cause
           (Fails-after_terminal c.in-Ok.ensures.0 c.terminals.reader c.parse_next_terminal.new.reader

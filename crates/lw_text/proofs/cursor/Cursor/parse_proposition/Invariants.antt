@@ -9,7 +9,7 @@ use Rattle.lw_text.proofs.cursor.Cursor.parse_proposition.Given as goal
 abbrev pub invariant-terminals : goal.invariant-terminals
 invariant-terminals g l = record {
   read : TerminalsRead l.arch l.threads l.fn.locs l.locs (remaining_texts l.fn.self) (remaining_texts l.self) l.nodes l.reader;
-  leaves : IsSuffix (remaining l.fn.self) (remaining l.self);
+  advances : IsSuffix (remaining l.fn.self) (remaining l.self);
   fails :
       (rest : TokenList) (cause : TextCause)
       → FailsInProposition l.arch l.threads rest cause (place_of (state_of l.reader)) l.nodes l.locs (remaining_texts l.self)

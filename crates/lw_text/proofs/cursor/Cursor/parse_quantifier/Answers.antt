@@ -13,7 +13,7 @@ use Rattle.lw_text.proofs.cursor.Cursor.parse_quantifier.Goals as goal
 pub returns-in_err-expect : goal.returns-in_err-expect
 returns-in_err-expect c = Err-clause_known _ _ _ c.from_residual.ensures.1 (
   search rules,
-  Fails-later c.accept.ensures.leaves (λ rest cause w. no_exists (c.accept.ensures.taken c.if-accept.true) w)
+  Fails-later c.accept.ensures.advances (λ rest cause w. no_exists (c.accept.ensures.taken c.if-accept.true) w)
       c.in_err-expect.ensures.fails,
 )
 
@@ -24,7 +24,7 @@ returns-in_err-expect_either c =
     Err-clause_known _ _ _ c.from_residual-in_err-expect_either.ensures.1 (
       no_quantifier-if_other_word _ other (rw kept at c.in_err-expect_either.ensures.0)
           (rw kept at c.in_err-expect_either.ensures.1),
-      Fails-later c.accept.ensures.leaves (λ rest cause w.
+      Fails-later c.accept.ensures.advances (λ rest cause w.
           no_quantifier_word (FailsBefore-more _ (codes "exists" ∷ codes "forall" ∷ []) Condition _ rest cause other
           (subst (λ ts. FailsBefore (codes "exists" ∷ codes "forall" ∷ []) Condition ts rest cause) kept w)))
           c.in_err-expect_either.ensures.2,
@@ -33,5 +33,5 @@ returns-in_err-expect_either c =
 pub returns-then-accept : goal.returns-then-accept
 returns-then-accept c = (
   c.accept.ensures.taken c.if-accept.true ∙ ap (λ l. codes "~" ∷ l) c.in_ok-expect.ensures.ok,
-  IsSuffix-join c.accept.ensures.leaves c.in_ok-expect.ensures.leaves,
+  IsSuffix-join c.accept.ensures.advances c.in_ok-expect.ensures.advances,
 )

@@ -11,5 +11,5 @@ returns-in-Some c = (
   c.in_ok-expect.ensures.ok ∙ ap (λ l. codes ":" ∷ l) c.in_ok-name.ensures.ok,
   c.in-Some.ensures,
   refl,
-  IsSuffix-join c.in_ok-expect.ensures.leaves (c.in_ok-name.name ∷ [], c.in_ok-name.ensures.token),
+  IsSuffix-join c.in_ok-expect.ensures.advances (c.in_ok-name.name ∷ [], c.in_ok-name.ensures.token),
 )

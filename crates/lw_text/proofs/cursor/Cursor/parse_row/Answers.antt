@@ -34,10 +34,11 @@ returns-then-eq g c =
     let other : length (cells_texts c.push.new.self) ≡ c.args.threads → ⊥ =
     λ e. c.if-len-threads.false (omega (arith, c.len.ensures, length-map c.push.new.self cell_texts, e)) in
     λ _. (
-      no_row-if_count_differs (remaining_texts c.args.self.now) (remaining_texts c.parse_cell.new.self) _ line c.args.threads other,
+      no_row-if_count_differs (remaining_texts c.args.self.now) (remaining_texts c.parse_cell.new.self) _ line c.args.threads
+          other,
       record {
         rest = c.in_ok-mark.mark ∷ remaining c.parse_cell.new.self;
-        suffix = IsSuffix-join c.cells.invariant.leaves (c.parse_cell.new.cell, c.in_ok-mark.ensures.parts);
+        suffix = IsSuffix-join c.cells.invariant.advances (c.parse_cell.new.cell, c.in_ok-mark.ensures.parts);
         place = refl;
         way =
             ragged _ line (ap (λ x. x ∷ remaining_texts c.parse_cell.new.self) (is_text _ _ (sym c.eq.ensures ∙ c.if-eq.true)))
@@ -53,7 +54,7 @@ returns-then-len-threads g c =
         omega (arith, c.if-len-threads.true, c.len.ensures, length-map c.push.new.self cell_texts),
       ),
       rw c.in_ok-push.ensures.ok closed.1,
-      IsSuffix-join c.cells.invariant.leaves
+      IsSuffix-join c.cells.invariant.advances
           (IsSuffix-join (c.parse_cell.new.cell, c.in_ok-mark.ensures.parts) (c.in_ok-mark.mark ∷ [], refl)),
     )
 
@@ -67,8 +68,8 @@ cells-smaller g c = omega (
 pub cells-preserved : goal.cells-preserved
 cells-preserved g c = rw c.in_ok-push.ensures.ok (record {
   read = CellsRead-push c.cells.invariant.read c.in_ok-mark.ensures (sym c.eq.ensures ∙ c.if-eq.false);
-  leaves =
-      IsSuffix-join c.cells.invariant.leaves
+  advances =
+      IsSuffix-join c.cells.invariant.advances
       (IsSuffix-join (c.parse_cell.new.cell, c.in_ok-mark.ensures.parts) (c.in_ok-mark.mark ∷ [], refl));
 })
 

@@ -6,7 +6,7 @@ use Rattle.lw_text.proofs.cursor.Cursor.parse_row.Given as goal
 abbrev pub invariant-cells : goal.invariant-cells
 invariant-cells g l = record {
   read : CellsRead (remaining l.fn.self) (remaining l.self) l.cells;
-  leaves : IsSuffix (remaining l.fn.self) (remaining l.self);
+  advances : IsSuffix (remaining l.fn.self) (remaining l.self);
 }
 
 abbrev pub decreases-cells : goal.decreases-cells

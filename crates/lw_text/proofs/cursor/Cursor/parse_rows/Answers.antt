@@ -7,8 +7,7 @@ use Rattle.lw_text.proofs.Common.{too_many_rows, in_row, in_rows_after}
 use Rattle.lw_text.proofs.Lists.{IsSuffix-join}
 use Rattle.lw_text.proofs.Failures.{Fails-here, Fails-later}
 use Rattle.lw_text.proofs.Faults.{Err-clause_known, MatchResult-Memory_error}
-use Rattle.lw_text.proofs.Cells.{Row-shorter, Rows-at_stop, Rows-push, no_rows-if_no_row}
-use Rattle.lw_text.proofs.Cells.{no_rows-if_too_many}
+use Rattle.lw_text.proofs.Cells.{Row-shorter, Rows-at_stop, Rows-push, no_rows-if_no_row, no_rows-if_too_many}
 use Rattle.lw_text.proofs.CellPlaces.{RowsFrom-push}
 use Rattle.lw_text.proofs.cursor.Cursor.parse_rows.Goals as goal
 
@@ -17,7 +16,7 @@ returns-then-at_stop g c = (
   Rows-at_stop c.args.threads _ (remaining_texts c.rows.self) _ c.rows.invariant.passed
       (sym c.at_stop.ensures ∙ c.if-at_stop.true) (omega (arith, c.rows.invariant.bounded, length-map c.rows.rows cells_texts)),
   c.rows.invariant.cut,
-  c.rows.invariant.leaves,
+  c.rows.invariant.advances,
 )
 
 pub returns-then-len-eq-MAX_ROWS : goal.returns-then-len-eq-MAX_ROWS
@@ -27,8 +26,8 @@ returns-then-len-eq-MAX_ROWS g c =
     λ _. (
       no_rows-if_too_many c.args.threads _ _ _ c.rows.invariant.passed more
           (omega (arith, c.if-len-eq-MAX_ROWS.true, c.len.ensures, length-map c.rows.rows cells_texts)),
-      Fails-later {Later = λ ts rest cause. FailsInRows c.args.threads rest cause (length c.rows.rows) ts} c.rows.invariant.leaves
-          c.rows.invariant.fails
+      Fails-later {Later = λ ts rest cause. FailsInRows c.args.threads rest cause (length c.rows.rows) ts}
+          c.rows.invariant.advances c.rows.invariant.fails
           (Fails-here c.rows.self _ c.refusal.ensures.place (too_many_rows full more refl c.refusal.ensures.cause)),
     )
 
@@ -38,7 +37,7 @@ returns-in_err-parse_row g c = Err-clause_known _ _ _ c.from_residual.ensures.1 
     let more = sym c.at_stop.ensures ∙ c.if-at_stop.false in
     let few : length c.rows.rows < 64 = omega (arith, c.if-len-eq-MAX_ROWS.false, c.len.ensures, c.rows.invariant.bounded) in (
       no_rows-if_no_row c.args.threads _ _ _ c.rows.invariant.passed more lost.0,
-      Fails-later c.rows.invariant.leaves (λ rest cause w. c.rows.invariant.fails rest cause (in_row few more w)) lost.1,
+      Fails-later c.rows.invariant.advances (λ rest cause w. c.rows.invariant.fails rest cause (in_row few more w)) lost.1,
     ))
 
 pub rows-smaller : goal.rows-smaller
@@ -59,7 +58,7 @@ rows-preserved g c = record {
     c.len.ensures,
     c.rows.invariant.bounded,
   );
-  leaves = IsSuffix-join c.rows.invariant.leaves c.in_ok-parse_row.ensures.2;
+  advances = IsSuffix-join c.rows.invariant.advances c.in_ok-parse_row.ensures.2;
   fails = λ rest cause w.
       c.rows.invariant.fails rest cause
       (in_rows_after _ (omega (arith, c.if-len-eq-MAX_ROWS.false, c.len.ensures, c.rows.invariant.bounded))

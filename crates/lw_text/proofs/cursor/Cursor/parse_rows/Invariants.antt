@@ -11,7 +11,7 @@ invariant-rows g l = record {
   passed : Passed begins_stop (Row l.threads) (remaining_texts l.fn.self) (all_texts l.rows) (remaining_texts l.self);
   cut : RowsFrom (with_spans (remaining l.fn.self)) (placed_cells l.rows) (with_spans (remaining l.self));
   bounded : length l.rows ≤ 64;
-  leaves : IsSuffix (remaining l.fn.self) (remaining l.self);
+  advances : IsSuffix (remaining l.fn.self) (remaining l.self);
   fails :
       (rest : TokenList) (cause : TextCause)
       → FailsInRows l.threads rest cause (length l.rows) (remaining_texts l.self)

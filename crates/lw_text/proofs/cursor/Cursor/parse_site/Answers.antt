@@ -81,7 +81,7 @@ returns-in-Some g c =
       threads_exist = allowed_thread c.args.threads _ _ (sym c.is_allowed.ensures ∙ c.if-not-is_allowed.false);
       names_are = refl;
       within = omega arith;
-      leaves = IsSuffix-join (c.in_ok-first.first ∷ [], c.in_ok-first.ensures.token) reg.5;
+      advances = IsSuffix-join (c.in_ok-first.first ∷ [], c.in_ok-first.ensures.token) reg.5;
       bounded = c.len-known.ensures.table.bounded;
     })) (λ f lost ne. (
       λ s rest p there few.

@@ -9,7 +9,7 @@ use Rattle.lw_text.proofs.cursor.Cursor.parse_value.Goals as goal
 pub returns-in-Some : goal.returns-in-Some
 returns-in-Some c = (
   (c.in_ok-token.token.text.now, c.in_ok-expect.ensures.ok ∙ ap (λ l. codes "=" ∷ l) c.in_ok-token.ensures.ok, c.in-Some.ensures),
-  IsSuffix-join c.in_ok-expect.ensures.leaves (c.in_ok-token.token ∷ [], c.in_ok-token.ensures.token),
+  IsSuffix-join c.in_ok-expect.ensures.advances (c.in_ok-token.token ∷ [], c.in_ok-token.ensures.token),
 )
 
 pub returns-in-None : goal.returns-in-None
@@ -17,7 +17,7 @@ returns-in-None c = (
   no_value-if_no_number _ _ _ _ c.in_ok-expect.ensures.ok c.in_ok-token.ensures.ok c.in-None.ensures,
   record {
     rest = remaining c.expect.new.self;
-    suffix = c.in_ok-expect.ensures.leaves;
+    suffix = c.in_ok-expect.ensures.advances;
     place = c.refusal-misfit.ensures.place;
     way =
         no_number c.in_ok-expect.ensures.ok

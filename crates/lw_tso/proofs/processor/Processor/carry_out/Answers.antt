@@ -26,7 +26,7 @@ pub returns-in-FetchAdd-clause-done : goal.returns-in-FetchAdd-clause-done
 returns-in-FetchAdd-clause-done g c = rw c.in-FetchAdd.is c.fetch_add.ensures.done
 
 pub returns-in-Set-clause-done : goal.returns-in-Set-clause-done
-returns-in-Set-clause-done g c = rw c.in-Set.is (refl, rw (← c.value.ensures) c.go_on_with.ensures.processor, refl)
+returns-in-Set-clause-done g c = rw c.in-Set.is (refl, rw (← c.value.ensures) c.advance_with_register.ensures.processor, refl)
 
 pub returns-in-Sum-clause-done : goal.returns-in-Sum-clause-done
 returns-in-Sum-clause-done g c = rw c.in-Sum.is (refl, rw (← c.value-in-Sum.ensures) c.add.ensures.processor, refl)

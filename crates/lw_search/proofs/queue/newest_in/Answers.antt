@@ -3,7 +3,7 @@
 -- newest, or leaves what was found.
 use Rattle.lw_search.proofs.Common.{arith}
 use Rattle.lw_search.proofs.ThreadStates.{newest_buffered-take}
-use Rattle.lw_search.proofs.buffer.newest_in.Goals as goal
+use Rattle.lw_search.proofs.queue.newest_in.Goals as goal
 
 pub loop-index-preserved : goal.loop-index-preserved
 loop-index-preserved c =

@@ -2,7 +2,7 @@
 -- number is one less than a power of two (`has-below`).
 use Rattle.lw_orders.proofs.Common.{arith, w64}
 use Rattle.lw_orders.proofs.Bits.{has-ones, has-below}
-use Rattle.lw_orders.proofs.low_items.SmallItemSetItemBits.below.Goals as goal
+use Rattle.lw_orders.proofs.small_item_set.SmallItemSetItemBits.below.Goals as goal
 
 pub returns-then-len-eq-WIDTH-clause-items : goal.returns-then-len-eq-WIDTH-clause-items
 returns-then-len-eq-WIDTH-clause-items c k l = rw c.if-len-eq-WIDTH.true (has-ones 64 k)

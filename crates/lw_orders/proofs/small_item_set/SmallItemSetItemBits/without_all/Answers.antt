@@ -2,7 +2,7 @@
 -- set has no items from 64 on (`has-difference_low_bits`).
 use Rattle.lw_orders.proofs.Common.{w64}
 use Rattle.lw_orders.proofs.Bits.{has-difference_low_bits}
-use Rattle.lw_orders.proofs.low_items.SmallItemSetItemBits.without_all.Goals as goal
+use Rattle.lw_orders.proofs.small_item_set.SmallItemSetItemBits.without_all.Goals as goal
 
 pub returns : goal.returns
 returns c k l = rw (← c.self.view_is, c.low.ensures) (has-difference_low_bits w64 _ c.args.set k c.self.invariant)

@@ -37,31 +37,33 @@ abbrev pub then_runs : {M : Type 1} {𝓤 : Ura M} (𝓛 : Logic 𝓤)
 then_runs {𝓤 = 𝓤} 𝓛 C Λ E b q = any_q (after_seq 𝓤 𝓛.H (Wp 𝓤 𝓛.H C Λ E b (post 𝓤 𝓛.H q)) (post 𝓤 𝓛.H q))
 
 -- The machine value of a struct whose only field is a pointer.
-abbrev pub point_val : Ptr → Val
-point_val p = vstruct (vcons (ptr_val p) vnil)
+abbrev pub pointer_struct : Ptr → Val
+pointer_struct p = vstruct (vcons (ptr_val p) vnil)
 
 -- What a struct of one pointer owns by that field, whatever the struct's name.
-abbrev pub point_own : Ptr → List Val → Fml
-point_own p = (Struct (record { name = []; args = []; types = []; fields = RawPtr ∷ [] })).own_val (p, tt)
+abbrev pub owns_pointer_struct : Ptr → List Val → Fml
+owns_pointer_struct p = (Struct (record { name = []; args = []; types = []; fields = RawPtr ∷ [] })).own_val (p, tt)
 
--- The machine values owned as a struct of one pointer are exactly `point_val` of the pointer.
-pub point_own-only_point_val : (p : Ptr) (vs : List Val) → shadow (point_own p vs) → vs ≡ point_val p ∷ []
-point_own-only_point_val p vs s = s.1.0 ∙ (λ i. vstruct (of_list (s.1.1.0 i ++ [])) ∷ [])
+-- The machine values owned as a struct of one pointer are exactly `pointer_struct` of the pointer. (`shadow P` is what is true of P without any memory.)
+pub pointer_struct-if_owned : (p : Ptr) (vs : List Val) → shadow (owns_pointer_struct p vs) → vs ≡ pointer_struct p ∷ []
+pointer_struct-if_owned p vs s = s.1.0 ∙ (λ i. vstruct (of_list (s.1.1.0 i ++ [])) ∷ [])
 
--- `point_val` of a pointer can always be owned as a struct of one pointer, since no memory is needed for it.
-pub point_own-always : {M : Type 1} {𝓤 : Ura M} (𝓛 : Logic 𝓤) (p : Ptr) → ent 𝓤 (emp 𝓤) (sem 𝓛 (point_own p (point_val p ∷ [])))
-point_own-always 𝓛 p =
-    makes_shadow 𝓛 (point_own p (point_val p ∷ [])) (λ _. (tt, (tt, tt))) ((ptr_val p ∷ [], tt), (refl, (refl, tt)))
+-- `pointer_struct` of a pointer can always be owned as a struct of one pointer, since no memory is needed for it.
+pub owns_pointer_struct-always : {M : Type 1} {𝓤 : Ura M} (𝓛 : Logic 𝓤) (p : Ptr)
+    → ent 𝓤 (emp 𝓤) (sem 𝓛 (owns_pointer_struct p (pointer_struct p ∷ [])))
+owns_pointer_struct-always 𝓛 p =
+    makes_shadow 𝓛 (owns_pointer_struct p (pointer_struct p ∷ [])) (λ _. (tt, (tt, tt)))
+    ((ptr_val p ∷ [], tt), (refl, (refl, tt)))
 
 -- Each pointer has the machine type of pointers.
 pub Good-pointer : (p : Ptr) → Good ty_ptr (ptr_val p)
 Good-pointer (block_ptr b o) = (tt, tt)
 Good-pointer null_ptr = (tt, record { fits = lit< tt })
 
--- `point_val` of a pointer has the machine type of a struct of one pointer.
-pub Good-point_val : (p : Ptr) → Good (ty_struct [] (tcons ty_ptr tnil)) (point_val p)
-Good-point_val (block_ptr b o) = (tt, (tt, tt))
-Good-point_val null_ptr = (tt, (record { fits = lit< tt }, tt))
+-- `pointer_struct` of a pointer has the machine type of a struct of one pointer.
+pub Good-pointer_struct : (p : Ptr) → Good (ty_struct [] (tcons ty_ptr tnil)) (pointer_struct p)
+Good-pointer_struct (block_ptr b o) = (tt, (tt, tt))
+Good-pointer_struct null_ptr = (tt, (record { fits = lit< tt }, tt))
 
 -- The machine value of a pair.
 abbrev pub pair_val : Val → Val → Val

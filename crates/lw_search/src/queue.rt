@@ -1,10 +1,10 @@
-//! Store buffers: the words that a thread has stored and that have not reached memory yet.
+//! A first-in, first-out queue that can be hashed, for store buffers and for the events of a run; and the newest word of a store buffer.
 ghost use Rattle.std.specs.Prelude.{◌≡◌, [], ◌∷◌, ◌++◌, ◌==◌, length, drop, take, slice_get, Some, None, if◌then◌else◌, IfOk, OnOk};
 ghost use Rattle.std.specs.Option.{option_or};
 ghost use Rattle.std.specs.Cmp.Lexicographic.{pointwise, lists_equiv, lists_per};
-ghost use Rattle.std.specs.Hash as fed;
+ghost use Rattle.std.specs.Hash as hash;
 ghost use Rattle.std.specs.Hash.{items_Alike};
-ghost use Rattle.lw_tso.specs.Processors as table;
+ghost use Rattle.lw_tso.specs.Processors as processors;
 
 use lw_base::Word;
 use std::alloc::{AllocError, Allocator, Global};
@@ -121,7 +121,7 @@ impl<T: Eq, A: Allocator> Eq for Queue<T, A> {
 }
 
 impl<T: Hash, A: Allocator> Hash for Queue<T, A> {
-    ghost hash_input = { fed.slice T.hash_input };
+    ghost hash_input = { hash.slice T.hash_input };
 
     ghost respects_eq = { (items_Alike (record { fed = T.respects_eq })).fed };
 
@@ -133,7 +133,7 @@ impl<T: Hash, A: Allocator> Hash for Queue<T, A> {
 
 /// Returns the newest word that the entries have for a location, or `None` if they have none.
 pub(crate) fn newest_in(entries: &[(u8, Word)], loc: u8) -> Option<Word>
-    ensures { result ≡ table.newest_buffered entries.now loc }
+    ensures { result ≡ processors.newest_buffered entries.now loc }
 {
     let mut found = None;
     for index in 0..entries.len() {

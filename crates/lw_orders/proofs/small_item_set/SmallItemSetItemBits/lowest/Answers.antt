@@ -2,7 +2,7 @@
 -- unless the set is empty (`has-lowest`). The code counts trailing zeros.
 use Rattle.lw_orders.proofs.Common.{w64}
 use Rattle.lw_orders.proofs.Bits.{has-false_below_lowest, has-lowest}
-use Rattle.lw_orders.proofs.low_items.SmallItemSetItemBits.lowest.Goals as goal
+use Rattle.lw_orders.proofs.small_item_set.SmallItemSetItemBits.lowest.Goals as goal
 
 pub returns-clause-below : goal.returns-clause-below
 returns-clause-below c k l = rw (← c.self.view_is) (has-false_below_lowest w64 c.self.inside.0 k c.self.invariant l)

@@ -51,7 +51,7 @@ impl ItemBits for SmallItemSet {
         SmallItemSet(self.0 & !(1 << item))
     }
 
-    /// Returns the items of this set that are not among the other's items below 64.
+    /// Returns the items of this set that are not among the items of `set` below 64.
     fn without_all(self, set: ItemSet) -> Self {
         SmallItemSet(self.0 & !set.low())
     }
@@ -61,7 +61,7 @@ impl ItemBits for SmallItemSet {
         SmallItemSet((self.0 | set.low()) & others.0)
     }
 
-    /// Returns whether this set and the other's items below 64 are disjoint.
+    /// Returns whether this set and the items of `set` below 64 are disjoint.
     fn is_disjoint(self, set: ItemSet) -> bool {
         set.low() & self.0 == 0
     }

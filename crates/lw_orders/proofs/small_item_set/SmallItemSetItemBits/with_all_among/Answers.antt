@@ -2,7 +2,7 @@
 -- 64, so the wide set's low bits are enough (`has-among_low_bits`).
 use Rattle.lw_orders.proofs.Common.{w64}
 use Rattle.lw_orders.proofs.Bits.{has-among_low_bits}
-use Rattle.lw_orders.proofs.low_items.SmallItemSetItemBits.with_all_among.Goals as goal
+use Rattle.lw_orders.proofs.small_item_set.SmallItemSetItemBits.with_all_among.Goals as goal
 
 pub returns : goal.returns
 returns c k l =
