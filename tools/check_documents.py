@@ -338,20 +338,34 @@ def check_questions() -> Iterator[Comparison]:
                 yield f"what {name} asks", "exists" if word == "allowed" else "~exists", quantifier_read
 
 
+# The labels at the start of a cell: of a source test, and of a compiled program.
+SOURCE_LABELS = re.compile(r"^(\s*\w+:(?!=))+")
+COMPILED_LABEL = re.compile(r"^\s*L\d+:")
+
+
 def measure_statements(source: str, compiled: str, thread: int) -> list[tuple[int, bool]]:
-    """Returns, for each statement of a thread, its number of instructions, and whether it is a store."""
+    """Returns, for each statement of a thread, its number of instructions, and whether it is a store.
+
+    It looks only at words, so it shares no code with the compiler. A statement has one instruction or two. It has two in these cases:
+
+    - the first instruction is a CMP, before a branch, or an MFENCE, before a load;
+    - the statement is `d := swap x a` or `d := fetchadd x a`, and d is not a: a MOV of the operand comes first;
+    - the statement is `d := a + b`, and d is neither a nor b: a MOV comes first.
+    """
     cells = [[row.split("|")[thread] for row in list_rows(text)] for text in (source, compiled)]
-    statements = [re.sub(r"^(\s*\w+:(?!=))+", "", cell).split() for cell in cells[0]]
-    instructions = [re.sub(r"^\s*L\d+:", "", cell).split() for cell in cells[1]]
+    statements = [SOURCE_LABELS.sub("", cell).split() for cell in cells[0]]
+    instructions = [COMPILED_LABEL.sub("", cell).split() for cell in cells[1]]
     index, sizes = 0, []
     for words in filter(None, statements):
-        is_two = instructions[index][0] in ("CMP", "MFENCE")
-        if words[2:3] in (["swap"], ["fetchadd"]):
-            is_two = words[0] != words[-1]
+        target, operator = words[0], words[2] if len(words) > 2 else ""
+        has_two = instructions[index][0] in ("CMP", "MFENCE")
+        if operator in ("swap", "fetchadd"):
+            has_two = target != words[-1]
         if "+" in words:
-            is_two = words[0] not in (words[2], words[4])
-        sizes.append((1 + is_two, words[1] == ":=" and not re.fullmatch(r"r[0-5]", words[0])))
-        index += 1 + is_two
+            has_two = target not in (words[2], words[4])
+        is_store = words[1] == ":=" and not re.fullmatch(r"r[0-5]", target)
+        sizes.append((1 + has_two, is_store))
+        index += 1 + has_two
     return sizes
 
 

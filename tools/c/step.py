@@ -238,7 +238,7 @@ class Step(Control):
         if in_memory is None and None in (left, right):
             if base == "and" and left is None and self.mask_part(target, right, size) or self.operate_on_part(base, source, target):
                 return
-        result, flags = self.compute_result(base, left, right, size)
+        result, flags = self.compute_operation(base, left, right, size)
         if base not in ("cmp", "test", "bt"):
             if in_memory is None:
                 self.write_register(target, size, result)
@@ -271,13 +271,15 @@ class Step(Control):
         right = 1 if source is None else self.read_register_or_number(source, 1 if base in SHIFTS else size)
         count = self.path.require_number(right) & 31 if base in SHIFTS else 0
         value = self.read_register_or_number(target, size)
-        result = self.path.apply(value, lambda it: it << count & MASK[size]) if base in SHIFTS else self.compute_result(base, value, right, size)[0]
+        result = self.path.apply(value, lambda it: it << count & MASK[size]) if base in SHIFTS else self.compute_operation(base, value, right, size)[0]
         self.path.registers[target.name] = (result, size)
         self.path.flags = None
         return True
 
-    def compute_result(self, base: str, left: Value, right: Value, size: int) -> tuple[Value, Flags | None]:
-        """Returns the result of an operation, and the flags that it sets. Raises Refused for BT of memory."""
+    def compute_operation(self, base: str, left: Value, right: Value, size: int) -> tuple[Value, Flags | None]:
+        """Returns the result of an operation, and the flags that it sets. Does what `compute_result` can't: operations that read the carry flag
+        or operands in memory, rotations, and the check of pointers that are subtracted. Raises Refused for BT of memory.
+        """
         path = self.path
         if base in ("adc", "sbb"):
             carry, sign = int(self.evaluate_condition("b")), 1 if base == "adc" else -1

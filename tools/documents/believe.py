@@ -195,11 +195,11 @@ def find_faults(text: str, sittings: list[list[Definition]]) -> list[str]:
         faults.append(f"the first sitting {format_size(files[0])}, which is more than {MAX_LINES} lines")
     if format_size(files[0]) not in text:
         faults.append(f"docs/BELIEVE.md does not say that its first sitting {format_size(files[0])}")
-    return faults + find_unexplained_names(text, sittings)
+    return faults + find_notation_faults(text, sittings)
 
 
-def find_unexplained_names(text: str, sittings: list[list[Definition]]) -> list[str]:
-    """Returns the names of the standard library that the page's Notation lacks, a line each."""
+def find_notation_faults(text: str, sittings: list[list[Definition]]) -> list[str]:
+    """Returns a fault for each name of the standard library that the page's Notation lacks, a line each."""
     notation = text.partition(NOTATION)[2].partition("\n## ")[0]
     names = set().union(*map(list_std_names, sittings))
     return [f"docs/BELIEVE.md's Notation lacks {name}" for name in sorted(names) if not is_explained(name, notation)]
