@@ -101,14 +101,14 @@ pub use Rattle.lw_statements.specs.declared.slot.Slot.TheVariants.{Value}
 pub use Rattle.lw_statements.specs.declared.statement_parser.SlotBindings.{SlotBindings}
 pub use Rattle.lw_statements.specs.inner.Drafts.{ColumnDrafted, IsFresh, LabelMap, MapsLabelsAs, ReadOn}
 pub use Rattle.lw_statements.specs.inner.Drafts.{draft_cell, draft_in, label_target, target_by}
-pub use Rattle.lw_statements.specs.inner.Reading.{AllForward, BeginsAt, ColumnFaultIsTrue, ColumnFits}
-pub use Rattle.lw_statements.specs.inner.Reading.{ColumnRead, ColumnRefused, ColumnsRead, ColumnsRefused}
-pub use Rattle.lw_statements.specs.inner.Reading.{EndsEarlyIn, Fits, FitsBelow, HasDuplicateLabelAt}
-pub use Rattle.lw_statements.specs.inner.Reading.{HasExactlyLabels, HasMisfitIn, HasNoLabelAt, HasOverflowIn}
-pub use Rattle.lw_statements.specs.inner.Reading.{IsAtLabel, IsCellResolved, IsResolvable, IsResolved}
-pub use Rattle.lw_statements.specs.inner.Reading.{IsUnresolved, JumpCause, LabelsFit, LabelsRead}
-pub use Rattle.lw_statements.specs.inner.Reading.{LabelsRefused, LabelsTaken, LedForward, MaybeRead}
-pub use Rattle.lw_statements.specs.inner.Reading.{MaybeRefused, OptionalStatementFaultIsTrue}
-pub use Rattle.lw_statements.specs.inner.Reading.{StatementFaultIsTrue, StatementRead, StatementRefused}
-pub use Rattle.lw_statements.specs.inner.Reading.{WrongIn, bare, named_by}
+pub use Rattle.lw_statements.specs.inner.Reading.{AllForward, BeginsStatementAt, ColumnFaultIsTrue}
+pub use Rattle.lw_statements.specs.inner.Reading.{ColumnFits, ColumnRead, ColumnRefused, ColumnsRead}
+pub use Rattle.lw_statements.specs.inner.Reading.{ColumnsRefused, EndsEarlyIn, Fits, FitsBelow}
+pub use Rattle.lw_statements.specs.inner.Reading.{HasDuplicateLabelAt, HasExactlyLabels, HasMisfitIn}
+pub use Rattle.lw_statements.specs.inner.Reading.{HasNoLabelAt, HasOverflowIn, IsAtLabel, IsCellResolved}
+pub use Rattle.lw_statements.specs.inner.Reading.{IsResolvable, IsResolved, IsUnresolved, JumpCause}
+pub use Rattle.lw_statements.specs.inner.Reading.{LabelsFit, LabelsRead, LabelsRefused, LabelsTaken}
+pub use Rattle.lw_statements.specs.inner.Reading.{LedForward, MaybeRead, MaybeRefused}
+pub use Rattle.lw_statements.specs.inner.Reading.{OptionalStatementFaultIsTrue, StatementFaultIsTrue}
+pub use Rattle.lw_statements.specs.inner.Reading.{StatementRead, StatementRefused, WrongIn, bare, named_by}
 pub use Rattle.lw_statements.specs.inner.Tokens.{AllEndBefore, FaultClaim, NameRead, Refused}

@@ -14,9 +14,9 @@ use Rattle.lw_statements.proofs.Common.{TokenPosition, IsReadTo, IsMissing, IsSe
 use Rattle.lw_statements.proofs.Common.{IsSurplus, IsNinth, IsWrong, IsMisfit, EndsEarly, CellCauseIsTrue}
 use Rattle.lw_statements.proofs.Common.{BeginsWithColon, BeginsWithLabel, BeginsFitting, table_after}
 use Rattle.lw_statements.proofs.Common.{LabelMap, HasExactlyLabels, LabelsTaken, IsAtLabel}
-use Rattle.lw_statements.proofs.Common.{HasDuplicateLabelAt, HasNoLabelAt, HasMisfitIn, EndsEarlyIn, BeginsAt}
-use Rattle.lw_statements.proofs.Common.{HasOverflowIn, OptionalStatementFaultIsTrue, ColumnFaultIsTrue}
-use Rattle.lw_statements.proofs.Common.{FaultClaim, texts_of_grid}
+use Rattle.lw_statements.proofs.Common.{HasDuplicateLabelAt, HasNoLabelAt, HasMisfitIn, EndsEarlyIn}
+use Rattle.lw_statements.proofs.Common.{BeginsStatementAt, HasOverflowIn, OptionalStatementFaultIsTrue}
+use Rattle.lw_statements.proofs.Common.{ColumnFaultIsTrue, FaultClaim, texts_of_grid}
 use Rattle.lw_statements.proofs.Causes.{FaultClaim-weakened}
 use Rattle.lw_statements.proofs.FrontLabels.{Labels-rest, Labels-whole}
 use Rattle.lw_base.specs.declared.fault.CellCause.TheVariants.{Register}
@@ -316,7 +316,7 @@ module _ {Syntax Stmt A : Type 0} (grammar : Grammar Syntax Stmt) (front rest : 
 
         -- A token that is one too many is a surplus statement's, or names a ninth location.
         IsSurplus_or_IsNinth : ((length (statements syntaxes) ≡ grammar.language.most)
-            × BeginsAt grammar (drop next cell.tokens) at)
+            × BeginsStatementAt grammar (drop next cell.tokens) at)
             ⊎ ((length (statements syntaxes) ≡ grammar.language.most → ⊥) × HasOverflowIn grammar (drop next cell.tokens) mid at)
             → (p : TokenPosition (others ++ placed_row (front ++ cell ∷ rest) ∷ behind) at)
             × (IsSurplus grammar names p ⊎ IsNinth grammar names p)

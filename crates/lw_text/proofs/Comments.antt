@@ -1,5 +1,5 @@
 -- The end of a comment is unique, and a loop that counts the open inner comments finds it. The loop of
--- `after_comment` goes by `Progress`.
+-- `after_comment` goes by `Progress`. (In bytes, 40 is `(`, 41 is `)` and 42 is `*`.)
 use Rattle.lw_text.proofs.Common.{◌≡◌, ℕ, zero, suc, ◌+◌, ◌-◌, ◌<◌, ◌≤◌, true, false, [], ◌∷◌, length, refl}
 use Rattle.lw_text.proofs.Common.{sym, ap, subst, arith, add-one, sub-one, Bytes, IsSuffix, begins_pair}
 use Rattle.lw_text.proofs.Common.{begins_mark, Comment, closed, nested, other}

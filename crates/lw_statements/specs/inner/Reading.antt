@@ -202,8 +202,8 @@ module _ {Syntax Stmt : Type 0} (grammar : Grammar Syntax Stmt) where
     pub room : length (insert_names names (names_in grammar (bare o ∷ []))) ≤ most_locations
 
   -- The token at this place is the first, and can begin a statement.
-  abbrev pub BeginsAt : List Token → ℕ → Type 0
-  BeginsAt tokens at = (t : Token) × (slice_get tokens 0 ≡ Some t) × (t.at ≡ at) × CanBegin grammar t.text.now
+  abbrev pub BeginsStatementAt : List Token → ℕ → Type 0
+  BeginsStatementAt tokens at = (t : Token) × (slice_get tokens 0 ≡ Some t) × (t.at ≡ at) × CanBegin grammar t.text.now
 
   -- What a cause means for a place after a cell's labels, if the cells above have `above` statements: the thread has room for a statement,
   -- whose tokens are wrong or have a ninth location; or it has none, and the first token begins a statement beyond the limit or is wrong.
@@ -214,7 +214,7 @@ module _ {Syntax Stmt : Type 0} (grammar : Grammar Syntax Stmt) where
       ((m : HasMisfitIn tokens names at cause) × ((m.place ≡ 0) ⊎ (above ≢ grammar.language.most)))
       ⊎ ((cause ≡ Form) × (above ≢ grammar.language.most) × (token_texts tokens ≢ []) × EndsEarlyIn tokens end names at))
       ⊥ ⊥ ⊥
-      (((above ≡ grammar.language.most) × BeginsAt tokens at) ⊎ ((above ≢ grammar.language.most) × HasOverflowIn tokens names at))
+      (((above ≡ grammar.language.most) × BeginsStatementAt tokens at) ⊎ ((above ≢ grammar.language.most) × HasOverflowIn tokens names at))
 
   -- The tokens after a cell's labels are rejected: they are nothing that fits, and the cause is true of the place.
   abbrev pub MaybeRefused : ℕ → NameTable → Phrase → CellFault → Type 0
