@@ -1,7 +1,8 @@
--- `parse_block` promises the block's initializers, or that the tokens are no block with room for its
--- locations, and where they fail. It is the reading of a list between `{` and `}` with `;` between: one lemma
--- of `Readings` for each exit. An element that has no room, no site or no value makes the whole list
--- impossible (`initializers_fault`).
+-- `parse_block` promises the block's initializers, or that the tokens are no block with room for its locations,
+-- and where they fail. It is the reading of a list between `{` and `}` with `;` between: one lemma of `Readings`
+-- for each exit. An element that has no room, no site or no value makes the whole list impossible
+-- (`initializers_fault`). Each exit with a fault shows two things, in this order: that there is no such reading,
+-- and where it fails (`Fails-later`).
 use Rattle.lw_text.proofs.Common.{ℕ, ◌≡◌, ◌<◌, ◌≤◌, length, NameTable, ParsesMany, sym, [], None, refl, subst}
 use Rattle.lw_text.proofs.Common.{ap, arith, remaining_texts, remaining, IsSuffix, IsSite, IsInitializer}
 use Rattle.lw_text.proofs.Common.{TokenList, Unexpected, named_initializer, site_by_name, ◌∷◌, codes, map}

@@ -1,6 +1,8 @@
 -- `parse_body` promises the parts of a test that the tokens say, or that they say none, and where they fail.
 -- Success puts the parts together (`HasSyntax-of_parts`). For each part that fails, the tokens are no test, since
--- what precedes it is read in one way only (`no_test-if_no_header`, `no_test-if_thread_is_missing`, `no_test-if_no_rows`, `no_test-if_no_condition`).
+-- what precedes it is read in one way only (`no_test-if_no_header`, `no_test-if_thread_is_missing`,
+-- `no_test-if_no_rows`, `no_test-if_no_condition`). Each exit with a fault shows two things, in this order: that
+-- there is no such reading, and where it fails (`Fails-later`).
 use Rattle.lw_text.proofs.Common.{[], refl, sym, map, arith, subst, length-map, Header, Block}
 use Rattle.lw_text.proofs.Common.{named_initializer, cells_texts, with_spans, remaining, remaining_texts}
 use Rattle.lw_text.proofs.Common.{FailsInCondition, in_block, in_header, no_such_thread, in_rows}

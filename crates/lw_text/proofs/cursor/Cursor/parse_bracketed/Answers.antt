@@ -1,6 +1,7 @@
--- `parse_bracketed` promises the location whose name and `]` are next, or that there is none with room, and
--- where it fails. Each exit is immediate from the callee's contract, with the name as the first of the
--- remaining tokens.
+-- `parse_bracketed` promises the location whose name and `]` are next, or that there is none with room, and where
+-- it fails. Each exit is immediate from the callee's contract, with the name as the first of the remaining tokens.
+-- Each exit with a fault shows two things, in this order: that there is no such reading, and where it fails
+-- (`Fails-later`).
 use Rattle.lw_text.proofs.Common.{cons-head_eq, ◌≤◌, length, NameTable, ◌∷◌, [], ◌∙◌, ap, refl, sym, subst}
 use Rattle.lw_text.proofs.Common.{IsLocationName, HasRoomForName, remaining, IsNoNewLocation}
 use Rattle.lw_text.proofs.Common.{in_bracketed_name, no_bracket, BeginsAt}

@@ -1,6 +1,7 @@
--- `parse_condition` promises list, quantifier and proposition, or that the tokens are no condition, and where
--- they fail. Success puts the parts together (`ParsedCondition-of_parts`). If a part fails there is no other way to
--- read what precedes it: a list of names is unique (`Listed-unique`).
+-- `parse_condition` promises list, quantifier and proposition, or that the tokens are no condition, and where they
+-- fail. Success puts the parts together (`ParsedCondition-of_parts`). If a part fails there is no other way to
+-- read what precedes it: a list of names is unique (`Listed-unique`). Each exit with a fault shows two things, in
+-- this order: that there is no such reading, and where it fails (`Fails-later`).
 use Rattle.lw_text.proofs.Common.{◌≤◌, length, NameTable, [], map, refl, sym, subst, arith, IsDuplicateFree}
 use Rattle.lw_text.proofs.Common.{IsDuplicateFree-insert_names, insert_names-longer, site_names, with_sites}
 use Rattle.lw_text.proofs.Common.{sites_in, site_by_name, remaining_texts, FailsInProposition, first_place}

@@ -1,6 +1,7 @@
--- `parse_header` promises the number of threads that the header names, or that there is no header, and where
--- it fails. Each round reads one name and a `|` (`Names-more`). After four of them a fifth name is a fault of
--- its own.
+-- `parse_header` promises the number of threads that the header names, or that there is no header, and where it
+-- fails. Each round reads one name and a `|` (`Names-more`). After four of them a fifth name is a fault of its
+-- own. Each exit with a fault shows two things, in this order: that there is no such reading, and where it fails
+-- (`Fails-later`).
 use Rattle.lw_text.proofs.Common.{◌∷◌, ◌∙◌, ap, add-one, arith, codes, inl, inr, rules, subst, sym}
 use Rattle.lw_text.proofs.Common.{thread_name, remaining_texts, [], refl, Unexpected, FailsBefore}
 use Rattle.lw_text.proofs.Common.{FailsInHeader, in_next_thread, no_thread_name, no_thread_mark}

@@ -1,6 +1,7 @@
--- `parse_listed` promises the listed sites, or that the tokens have no such list, and where they fail.
--- Without the word `locations` the list is empty. Otherwise it is the reading of a list between brackets: one
--- lemma of `Readings` for each exit.
+-- `parse_listed` promises the listed sites, or that the tokens have no such list, and where they fail. Without the
+-- word `locations` the list is empty. Otherwise it is the reading of a list between brackets: one lemma of
+-- `Readings` for each exit. Each exit with a fault shows two things, in this order: that there is no such reading,
+-- and where it fails (`Fails-later`).
 use Rattle.lw_text.proofs.Common.{◌≤◌, length, NameTable, ◌≡◌, ◌∷◌, ◌∙◌, inl, inr, refl, ap, subst, sym}
 use Rattle.lw_text.proofs.Common.{codes, All-nil, IsIn, Some, IsSite, IsSuffix, site_by_name, remaining}
 use Rattle.lw_text.proofs.Common.{remaining_texts, FailsInSite, FailsInSites, no_list_bracket, in_sites}

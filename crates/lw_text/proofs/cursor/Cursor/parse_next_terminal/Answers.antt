@@ -1,7 +1,8 @@
--- `parse_next_terminal` promises the next terminal and the reader's state after it, or that no terminal fits,
--- and where it fails. The interesting exits are the two that refuse a terminal that could be read: it would
--- be one node too many (`no_room_for_node`), or the state does not allow it, which is so only of a `)` that closes
--- nothing (`closes_nothing`).
+-- `parse_next_terminal` promises the next terminal and the reader's state after it, or that no terminal fits, and
+-- where it fails. The interesting exits are the two that refuse a terminal that could be read: it would be one
+-- node too many (`no_room_for_node`), or the state does not allow it, which is so only of a `)` that closes
+-- nothing (`closes_nothing`). Each exit with a fault shows two things, in this order: that there is no such
+-- reading, and where it fails (`Fails-later`).
 use Rattle.lw_text.proofs.Common.{◌∙◌, [], refl, sym, ap, subst, remaining_texts, state_of, FailsInTerminal}
 use Rattle.lw_text.proofs.Common.{unopened, too_many_nodes, in_terminal}
 use Rattle.lw_text.proofs.Failures.{Fails-here, Fails-later}

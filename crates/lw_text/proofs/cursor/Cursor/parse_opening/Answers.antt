@@ -1,6 +1,7 @@
--- `parse_opening` promises a terminal that begins a part, or that there is none with room, and where it
--- fails. Without a keyword it can only be an atom: a site and a value. A site without a value begins no
--- terminal (`no_terminal-if_site_has_no_value`).
+-- `parse_opening` promises a terminal that begins a part, or that there is none with room, and where it fails.
+-- Without a keyword it can only be an atom: a site and a value. A site without a value begins no terminal
+-- (`no_terminal-if_site_has_no_value`). Each exit with a fault shows two things, in this order: that there is no
+-- such reading, and where it fails (`Fails-later`).
 use Rattle.lw_text.proofs.Common.{◌≤◌, length, NameTable, ◌≡◌, ◌∷◌, [], Some, refl, sym, ap, subst}
 use Rattle.lw_text.proofs.Common.{with_sites, Atom, IsAtom, sites_in, IsSuffix, remaining, remaining_texts}
 use Rattle.lw_text.proofs.Common.{FailsInSite, in_site, in_value, Condition}

@@ -1,7 +1,8 @@
--- `parse_proposition` promises the proposition that all remaining tokens are, or that they are none, and
--- where they fail. Each round adds a terminal (`TerminalsRead-push`). At the end the state has a result or is
--- incomplete (`ParsedProposition-at_end`, `NoProposition-open`). If no terminal fits, the tokens are no proposition,
--- whatever follows (`NoProposition-no_terminal`).
+-- `parse_proposition` promises the proposition that all remaining tokens are, or that they are none, and where
+-- they fail. Each round adds a terminal (`TerminalsRead-push`). At the end the state has a result or is incomplete
+-- (`ParsedProposition-at_end`, `NoProposition-open`). If no terminal fits, the tokens are no proposition, whatever
+-- follows (`NoProposition-no_terminal`). Each exit with a fault shows two things, in this order: that there is no
+-- such reading, and where it fails (`Fails-later`).
 use Rattle.lw_text.proofs.Common.{ℕ, ◌+◌, ◌≤◌, ◌∙◌, [], append-nil, drop_all, refl, sym, ap, subst, arith}
 use Rattle.lw_text.proofs.Common.{MatchResult-weaker, IsParserCause, remaining, remaining_texts, state_of}
 use Rattle.lw_text.proofs.Common.{FailsInProposition, incomplete, BeginsAt, place_of, Unterminated}

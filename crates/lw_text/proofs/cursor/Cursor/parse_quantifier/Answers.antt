@@ -1,6 +1,7 @@
--- `parse_quantifier` promises the quantifier that is next, or that there is none, and where it fails. If the
--- first token is none of the three words, no rule applies (`no_quantifier-if_other_word`); after `~` only `exists` may
--- follow.
+-- `parse_quantifier` promises the quantifier that is next, or that there is none, and where it fails. If the first
+-- token is none of the three words, no rule applies (`no_quantifier-if_other_word`); after `~` only `exists` may
+-- follow. Each exit with a fault shows two things, in this order: that there is no such reading, and where it
+-- fails (`Fails-later`).
 use Rattle.lw_text.proofs.Common.{◌∷◌, ◌∙◌, [], ap, codes, rules, subst, remaining_texts, FailsBefore}
 use Rattle.lw_text.proofs.Common.{no_exists, Condition}
 use Rattle.lw_text.proofs.Whole.{no_quantifier-if_other_word}

@@ -1,6 +1,7 @@
--- `parse_rows` promises all rows up to a token that ends them, or that there are none, and where they fail.
--- Each round reads a row (`Rows-push`), unless the next token ends the rows (`Rows-at_stop`), 64 have been read
--- (`no_rows-if_too_many`) or no row follows (`no_rows-if_no_row`).
+-- `parse_rows` promises all rows up to a token that ends them, or that there are none, and where they fail. Each
+-- round reads a row (`Rows-push`), unless the next token ends the rows (`Rows-at_stop`), 64 have been read
+-- (`no_rows-if_too_many`) or no row follows (`no_rows-if_no_row`). Each exit with a fault shows two things, in
+-- this order: that there is no such reading, and where it fails (`Fails-later`).
 use Rattle.lw_text.proofs.Common.{◌≡◌, ◌<◌, ◌∷◌, [], ◌∙◌, refl, subst, ap, sym, length, arith, length-append}
 use Rattle.lw_text.proofs.Common.{map_push, length-map, cells_texts, remaining_texts, FailsInRows}
 use Rattle.lw_text.proofs.Common.{too_many_rows, in_row, in_rows_after}

@@ -1,6 +1,7 @@
 -- `parse_site` promises a site whose thread is allowed and whose location has room, or that none is next, and
--- where it fails. The first token decides: `[`, a number or a name (`no_site-if_no_location_in_brackets`, `no_site-if_no_register`,
--- `no_site-if_no_location` say that the other rules do not apply).
+-- where it fails. The first token decides: `[`, a number or a name (`no_site-if_no_location_in_brackets`,
+-- `no_site-if_no_register`, `no_site-if_no_location` say that the other rules do not apply). Each exit with a
+-- fault shows two things, in this order: that there is no such reading, and where it fails (`Fails-later`).
 use Rattle.lw_text.proofs.Common.{◌∷◌, [], ◌∙◌, inl, inr, refl, sym, ap, subst, arith, codes}
 use Rattle.lw_text.proofs.Common.{MatchResult-weaker, remaining, remaining_texts, ParsedSite, in_name}
 use Rattle.lw_text.proofs.Common.{in_brackets, no_thread, in_register, BeginsAt}
