@@ -73,17 +73,18 @@ pub use Rattle.lw_text.specs.Failures.{FailsBefore, FailsInAssignment, FailsInBl
 pub use Rattle.lw_text.specs.Failures.{FailsInCondition, FailsInElements, FailsInHeader, FailsInInitializers}
 pub use Rattle.lw_text.specs.Failures.{FailsInList, FailsInName, FailsInProposition, FailsInQuantifier}
 pub use Rattle.lw_text.specs.Failures.{FailsInRegister, FailsInRow, FailsInRows, FailsInSite, FailsInSites}
-pub use Rattle.lw_text.specs.Failures.{FailsInTerminal, FailsInTest, FailsInValue, HasRoomForNode, IfFirst}
-pub use Rattle.lw_text.specs.Failures.{IsMisfitCause, IsNoNewLocation, PropositionPlace, ReadsBlock}
-pub use Rattle.lw_text.specs.Failures.{after_terminal, first_place, in_block, in_bracketed_name, in_brackets}
-pub use Rattle.lw_text.specs.Failures.{in_condition, in_element, in_elements_after, in_header}
-pub use Rattle.lw_text.specs.Failures.{in_initializers, in_list, in_name, in_next_thread, in_proposition}
-pub use Rattle.lw_text.specs.Failures.{in_quantifier, in_register, in_row, in_rows, in_rows_after, in_site}
-pub use Rattle.lw_text.specs.Failures.{in_sites, in_terminal, in_value, incomplete, next_place, no_brace}
-pub use Rattle.lw_text.specs.Failures.{no_bracket, no_colon, no_end, no_equals, no_exists, no_list_bracket}
-pub use Rattle.lw_text.specs.Failures.{no_mark, no_number, no_quantifier, no_register_name, no_such_thread}
-pub use Rattle.lw_text.specs.Failures.{no_thread, no_thread_mark, no_thread_name, opening_words, ragged}
-pub use Rattle.lw_text.specs.Failures.{too_many_nodes, too_many_rows, too_many_threads, unopened}
+pub use Rattle.lw_text.specs.Failures.{FailsInTerminal, FailsInTest, FailsInValue, HasMissingThread}
+pub use Rattle.lw_text.specs.Failures.{HasRoomForNode, HaveThreads, IfFirst, IsMisfitCause, IsNoNewLocation}
+pub use Rattle.lw_text.specs.Failures.{PropositionPlace, ReadsBlock, ReadsHeader, after_terminal, first_place}
+pub use Rattle.lw_text.specs.Failures.{in_block, in_bracketed_name, in_brackets, in_condition, in_element}
+pub use Rattle.lw_text.specs.Failures.{in_elements_after, in_header, in_initializers, in_list, in_name}
+pub use Rattle.lw_text.specs.Failures.{in_next_thread, in_proposition, in_quantifier, in_register, in_row}
+pub use Rattle.lw_text.specs.Failures.{in_rows, in_rows_after, in_site, in_sites, in_terminal, in_value}
+pub use Rattle.lw_text.specs.Failures.{incomplete, next_place, no_brace, no_bracket, no_colon, no_end}
+pub use Rattle.lw_text.specs.Failures.{no_equals, no_exists, no_list_bracket, no_mark, no_number}
+pub use Rattle.lw_text.specs.Failures.{no_quantifier, no_register_name, no_such_thread, no_thread}
+pub use Rattle.lw_text.specs.Failures.{no_thread_mark, no_thread_name, opening_words, ragged, too_many_nodes}
+pub use Rattle.lw_text.specs.Failures.{too_many_rows, too_many_threads, unopened}
 pub use Rattle.lw_text.specs.Frames.{Block, HasFrame, InitializerSyntax, IsInitializer, ParsesNoTest}
 pub use Rattle.lw_text.specs.Frames.{ParsesTest, TestFrame, TestSyntax, frame_of_syntax, head_of_syntax}
 pub use Rattle.lw_text.specs.Frames.{initial_word_of, listed_in, location_table, sites_of}

@@ -5,7 +5,8 @@ use Rattle.lw_text.proofs.Common.{length, refl, sym, ap, ◌∙◌, subst, arith
 use Rattle.lw_text.proofs.Common.{NameTable, TokenList, CellGrid, Formula, HasRoomFor, ThreadExists, InThread}
 use Rattle.lw_text.proofs.Common.{with_sites, InitializerSyntax, IsInitializer, sites_of, Block, Header}
 use Rattle.lw_text.proofs.Common.{Names, Rows, ParsesMany, ParsesSepEndBy, ParsesNoTest, ParsesTest}
-use Rattle.lw_text.proofs.Common.{ReadsBlock, FailsInCondition, FailsInHeader, FailsInRows, FailsInTest}
+use Rattle.lw_text.proofs.Common.{ReadsBlock, ReadsHeader, HaveThreads, HasMissingThread, FailsInBlock}
+use Rattle.lw_text.proofs.Common.{FailsInCondition, FailsInHeader, FailsInRows, FailsInTest, TestSyntax}
 use Rattle.lw_text.proofs.Common.{in_block, in_header, no_such_thread, in_rows, in_condition, TextCause}
 use Rattle.lw_text.proofs.Atoms.{no_site, IsInitializer-unique}
 use Rattle.lw_text.proofs.Cells.{Rows-unique}
@@ -117,120 +118,151 @@ module _ (arch : Arch) where
       not-FailsInHeader-if_parsed rest cause 0 n mid after fails
       (subst (λ l. Names 0 n l after) (sym (Block-unique arch ts es fs mid end block also).1) header.0) (omega (arith, header.1))
 
-  -- Where a thread of a block does not exist, not all of its threads do.
-  bad_thread-not_parsed : (ts mid end rest after behind inside later : TokenList) (es fs front : List InitializerSyntax)
-      (n k t r word : ℕ)
-      → Block arch ts es mid
-      → Header mid n after
-      → ts ≡ codes "{" ∷ inside
-      → ParsesMany Entry inside front rest
-      → IsInitializer arch rest (record { site = InThread t r; word = word }) behind
-      → n ≤ t
-      → Block arch ts fs end
-      → Header end k later
-      → AllByRecursion (λ e. ThreadExists k e.site) fs
+  -- The block and the header of a test are read in one way.
+  ReadsHeader-unique : {ts : TokenList} (h k : ReadsHeader arch ts)
+      → (h.initializers ≡ k.initializers) × (h.threads ≡ k.threads) × (h.after_header ≡ k.after_header)
+  ReadsHeader-unique {ts} h k =
+      block_and_header-unique ts h.after_block k.after_block h.after_header k.after_header h.initializers k.initializers h.threads
+      k.threads h.block.0 k.block.0 h.header k.header
+
+  -- So the rows after one reading of them are the rows after the other.
+  Rows-after_same_header : {ts : TokenList} (h k : ReadsHeader arch ts) (rows : CellGrid) (after : TokenList)
+      → Rows k.threads k.after_header rows after
+      → Rows h.threads h.after_header rows after
+  Rows-after_same_header h k rows after read =
+      let same = ReadsHeader-unique h k in
+      subst (λ (n : ℕ). Rows n h.after_header rows after) (sym same.1)
+      (subst (λ l. Rows k.threads l rows after) (sym same.2) read)
+
+  -- If the block was read, it does not fail.
+  not-FailsInBlock-if_header_read : {ts rest : TokenList} {cause : TextCause} (h : ReadsHeader arch ts)
+      → FailsInBlock arch [] ts rest cause
       → ⊥
-  bad_thread-not_parsed ts mid end rest after behind inside later es fs front n k t r word block header begins read is high also too all =
-      let u = block_and_header-unique ts mid end after later es fs n k block also header too in
-      not-all_threads_exist n front fs inside rest end t r word behind read is high
-      (subst (λ l. ParsesSepEndBy (IsInitializer arch) (codes ";") (codes "}") l fs end)
-      (sym (cons-tail_unique (sym begins ∙ also.1))) also.2)
-      (subst (λ (k : ℕ). AllByRecursion (λ e. ThreadExists k e.site) fs) (sym u.1) all)
+  not-FailsInBlock-if_header_read {ts} {rest} {cause} h fails =
+      not-FailsInBlock-if_parsed arch [] ts rest h.after_block cause h.initializers fails h.block.0 h.block.1
+
+  -- If the header was read, it does not fail after the block.
+  not-FailsInHeader-if_header_read : {ts rest after : TokenList} {cause : TextCause} (h : ReadsHeader arch ts)
+      (es : List InitializerSyntax)
+      → ReadsBlock arch ts es after
+      → FailsInHeader rest cause 0 after
+      → ⊥
+  not-FailsInHeader-if_header_read {ts} {rest} {after} {cause} h es block fails =
+      not-FailsInHeader-if_after_block ts after h.after_block rest h.after_header cause es h.initializers h.threads block.0 fails
+      h.block.0 h.header
+
+  -- The first initializer whose thread does not exist is at one place.
+  HasMissingThread-unique : {ts rest place : TokenList} {threads : ℕ}
+      → HasMissingThread arch ts rest threads
+      → HasMissingThread arch ts place threads
+      → rest ≡ place
+  HasMissingThread-unique {ts} {rest} {place} {threads} p q =
+      first_bad_thread-unique threads p.earlier q.earlier p.inside rest place p.thread p.register p.word q.thread q.register
+      q.word p.after q.after p.read p.earlier_exist p.first p.missing
+      (subst (λ l. ParsesMany Entry l q.earlier place) (sym (cons-tail_unique (sym p.opens ∙ q.opens))) q.read) q.earlier_exist
+      q.first q.missing
+
+  -- No initializer has a thread that does not exist, if all threads exist.
+  not-HasMissingThread-if_have_threads : {ts rest : TokenList} (h k : ReadsHeader arch ts)
+      → HasMissingThread arch ts rest h.threads
+      → HaveThreads k.threads k.initializers
+      → ⊥
+  not-HasMissingThread-if_have_threads {ts} {rest} h k m all =
+      not-all_threads_exist h.threads m.earlier k.initializers m.inside rest k.after_block m.thread m.register m.word m.after
+      m.read m.first m.missing
+      (subst (λ l. ParsesSepEndBy (IsInitializer arch) (codes ";") (codes "}") l k.initializers k.after_block)
+      (sym (cons-tail_unique (sym m.opens ∙ k.block.0.1))) k.block.0.2)
+      (subst (λ (n : ℕ). HaveThreads n k.initializers) (sym (ReadsHeader-unique h k).1) all)
+
+  -- No row fails, if the rows were read.
+  not-FailsInRows-if_rows_read : {ts rest : TokenList} {cause : TextCause} (h k : ReadsHeader arch ts) (rows : CellGrid)
+      (after : TokenList)
+      → FailsInRows h.threads rest cause 0 h.after_header
+      → Rows k.threads k.after_header rows after
+      → ⊥
+  not-FailsInRows-if_rows_read {ts} {rest} {cause} h k rows after fails are =
+      let read = Rows-after_same_header h k rows after are in
+      not-FailsInRows-if_parsed h.threads rest cause 0 h.after_header after rows fails read.0 (omega (arith, read.1))
 
   -- Tokens fail to be a test at one place only, and for one cause.
   pub FailsInTest-unique : FailsUniquely (FailsInTest arch)
   FailsInTest-unique ts r s d e (in_block p) (in_block q) = FailsInBlock-unique arch [] ts r s d e p q
-  FailsInTest-unique ts r s d e (in_block p) (in_header es mid block q) =
-      absurd (not-FailsInBlock-if_parsed arch [] ts r mid d es p block.0 block.1)
-  FailsInTest-unique ts r s d e (in_block p) (no_such_thread es front n t i w inside mid after behind block header begins read all is high c) =
-      absurd (not-FailsInBlock-if_parsed arch [] ts r mid d es p block.0 block.1)
-  FailsInTest-unique ts r s d e (in_block p) (in_rows es n mid after block header all q) =
-      absurd (not-FailsInBlock-if_parsed arch [] ts r mid d es p block.0 block.1)
-  FailsInTest-unique ts r s d e (in_block p) (in_condition es n rows mid after behind block header all are q) =
-      absurd (not-FailsInBlock-if_parsed arch [] ts r mid d es p block.0 block.1)
-  FailsInTest-unique ts r s d e (in_header es mid block q) (in_block p) =
-      absurd (not-FailsInBlock-if_parsed arch [] ts s mid e es p block.0 block.1)
-  FailsInTest-unique ts r s d e (in_header es mid block p) (in_header fs end also q) =
-      FailsInHeader-unique r s d e 0 mid p
-      (subst (FailsInHeader s e 0) (sym (Block-unique arch ts es fs mid end block.0 also.0).1) q)
-  FailsInTest-unique ts r s d e (in_header es mid block p) (no_such_thread fs front n t i w inside end after behind also header begins read all is high c) =
-      absurd (not-FailsInHeader-if_after_block ts mid end r after d es fs n block.0 p also.0 header)
-  FailsInTest-unique ts r s d e (in_header es mid block p) (in_rows fs n end after also header all q) =
-      absurd (not-FailsInHeader-if_after_block ts mid end r after d es fs n block.0 p also.0 header)
-  FailsInTest-unique ts r s d e (in_header es mid block p) (in_condition fs n rows end after behind also header all are q) =
-      absurd (not-FailsInHeader-if_after_block ts mid end r after d es fs n block.0 p also.0 header)
-  FailsInTest-unique ts r s d e (no_such_thread es front n t i w inside mid after behind block header begins read all is high c) (in_block p) =
-      absurd (not-FailsInBlock-if_parsed arch [] ts s mid e es p block.0 block.1)
-  FailsInTest-unique ts r s d e (no_such_thread fs front n t i w inside end after behind also header begins read all is high c) (in_header es mid block p) =
-      absurd (not-FailsInHeader-if_after_block ts mid end s after e es fs n block.0 p also.0 header)
-  FailsInTest-unique ts r s d e (no_such_thread es front n t i w inside mid after behind block header begins read all is high c) (no_such_thread fs other k u j v within end later beyond also too again reads each that above b) =
-      let same = block_and_header-unique ts mid end after later es fs n k block.0 also.0 header too in (
-        first_bad_thread-unique n front other inside r s t i w u j v behind beyond read all is high
-            (subst (λ l. ParsesMany Entry l other s) (sym (cons-tail_unique (sym begins ∙ again))) reads)
-            (subst (λ (k : ℕ). AllByRecursion (λ e. ThreadExists k e.site) other) (sym same.1) each) that
-            (subst (λ (k : ℕ). k ≤ u) (sym same.1) above),
-        λ some. c ∙ sym b,
-      )
-  FailsInTest-unique ts r s d e (no_such_thread es front n t i w inside mid after behind block header begins read all is high c) (in_rows fs k end later also too every q) =
-      absurd (bad_thread-not_parsed ts mid end r after behind inside later es fs front n k t i w block.0 header begins read is
-      high also.0 too every)
-  FailsInTest-unique ts r s d e (no_such_thread es front n t i w inside mid after behind block header begins read all is high c) (in_condition fs k rows end later beyond also too every are q) =
-      absurd (bad_thread-not_parsed ts mid end r after behind inside later es fs front n k t i w block.0 header begins read is
-      high also.0 too every)
-  FailsInTest-unique ts r s d e (in_rows es n mid after block header all p) (in_block q) =
-      absurd (not-FailsInBlock-if_parsed arch [] ts s mid e es q block.0 block.1)
-  FailsInTest-unique ts r s d e (in_rows fs n end after also header all q) (in_header es mid block p) =
-      absurd (not-FailsInHeader-if_after_block ts mid end s after e es fs n block.0 p also.0 header)
-  FailsInTest-unique ts r s d e (in_rows fs k end later also too every q) (no_such_thread es front n t i w inside mid after behind block header begins read all is high c) =
-      absurd (bad_thread-not_parsed ts mid end s after behind inside later es fs front n k t i w block.0 header begins read is
-      high also.0 too every)
-  FailsInTest-unique ts r s d e (in_rows es n mid after block header all p) (in_rows fs k end later also too every q) =
-      let same = block_and_header-unique ts mid end after later es fs n k block.0 also.0 header too in
-      FailsInRows-unique n r s d e 0 after p
-      (subst (λ (k : ℕ). FailsInRows k s e 0 after) (sym same.1) (subst (FailsInRows k s e 0) (sym same.2) q))
-  FailsInTest-unique ts r s d e (in_rows es n mid after block header all p) (in_condition fs k rows end later beyond also too every are q) =
-      let same = block_and_header-unique ts mid end after later es fs n k block.0 also.0 header too in
-      let read : Rows n after rows beyond =
-      subst (λ (k : ℕ). Rows k after rows beyond) (sym same.1) (subst (λ l. Rows k l rows beyond) (sym same.2) are) in
-      absurd (not-FailsInRows-if_parsed n r d 0 after beyond rows p read.0 (omega (arith, read.1)))
-  FailsInTest-unique ts r s d e (in_condition es n rows mid after behind block header all are p) (in_block q) =
-      absurd (not-FailsInBlock-if_parsed arch [] ts s mid e es q block.0 block.1)
-  FailsInTest-unique ts r s d e (in_condition fs n rows end after behind also header all are q) (in_header es mid block p) =
-      absurd (not-FailsInHeader-if_after_block ts mid end s after e es fs n block.0 p also.0 header)
-  FailsInTest-unique ts r s d e (in_condition fs k rows end later beyond also too every are q) (no_such_thread es front n t i w inside mid after behind block header begins read all is high c) =
-      absurd (bad_thread-not_parsed ts mid end s after behind inside later es fs front n k t i w block.0 header begins read is
-      high also.0 too every)
-  FailsInTest-unique ts r s d e (in_condition fs k rows end later beyond also too every are q) (in_rows es n mid after block header all p) =
-      let same = block_and_header-unique ts mid end after later es fs n k block.0 also.0 header too in
-      let read : Rows n after rows beyond =
-      subst (λ (k : ℕ). Rows k after rows beyond) (sym same.1) (subst (λ l. Rows k l rows beyond) (sym same.2) are) in
-      absurd (not-FailsInRows-if_parsed n s e 0 after beyond rows p read.0 (omega (arith, read.1)))
-  FailsInTest-unique ts r s d e (in_condition es n rows mid after behind block header all are p) (in_condition fs k lines end later beyond also too every still q) =
-      let same = block_and_header-unique ts mid end after later es fs n k block.0 also.0 header too in
-      let read : Rows n after lines beyond =
-      subst (λ (k : ℕ). Rows k after lines beyond) (sym same.1) (subst (λ l. Rows k l lines beyond) (sym same.2) still) in
-      let u = Rows-unique n after behind beyond rows lines are read in
-      FailsInCondition-unique arch n (with_sites [] (sites_of es)) behind r s d e p
-      (subst (λ l. FailsInCondition arch n (with_sites [] (sites_of es)) l s e) (sym u.1)
-      (subst (λ xs. FailsInCondition arch n (with_sites [] (sites_of xs)) beyond s e) (sym same.0)
-      (subst (λ (k : ℕ). FailsInCondition arch k (with_sites [] (sites_of fs)) beyond s e) (sym same.1) q)))
+  FailsInTest-unique ts r s d e (in_block p) (in_header es after block q) =
+      absurd (not-FailsInBlock-if_parsed arch [] ts r after d es p block.0 block.1)
+  FailsInTest-unique ts r s d e (in_block p) (no_such_thread h m c) = absurd (not-FailsInBlock-if_header_read h p)
+  FailsInTest-unique ts r s d e (in_block p) (in_rows h all q) = absurd (not-FailsInBlock-if_header_read h p)
+  FailsInTest-unique ts r s d e (in_block p) (in_condition h rows after all are q) = absurd (not-FailsInBlock-if_header_read h p)
+  FailsInTest-unique ts r s d e (in_header es after block q) (in_block p) =
+      absurd (not-FailsInBlock-if_parsed arch [] ts s after e es p block.0 block.1)
+  FailsInTest-unique ts r s d e (in_header es after block p) (in_header fs end also q) =
+      FailsInHeader-unique r s d e 0 after p
+      (subst (FailsInHeader s e 0) (sym (Block-unique arch ts es fs after end block.0 also.0).1) q)
+  FailsInTest-unique ts r s d e (in_header es after block p) (no_such_thread h m c) =
+      absurd (not-FailsInHeader-if_header_read h es block p)
+  FailsInTest-unique ts r s d e (in_header es after block p) (in_rows h all q) =
+      absurd (not-FailsInHeader-if_header_read h es block p)
+  FailsInTest-unique ts r s d e (in_header es after block p) (in_condition h rows end all are q) =
+      absurd (not-FailsInHeader-if_header_read h es block p)
+  FailsInTest-unique ts r s d e (no_such_thread h m c) (in_block q) = absurd (not-FailsInBlock-if_header_read h q)
+  FailsInTest-unique ts r s d e (no_such_thread h m c) (in_header es after block q) =
+      absurd (not-FailsInHeader-if_header_read h es block q)
+  FailsInTest-unique ts r s d e (no_such_thread h m c) (no_such_thread k n b) =
+      let same = subst (HasMissingThread arch ts s) (sym (ReadsHeader-unique h k).1) n in
+      (HasMissingThread-unique m same, λ some. c ∙ sym b)
+  FailsInTest-unique ts r s d e (no_such_thread h m c) (in_rows k all q) = absurd (not-HasMissingThread-if_have_threads h k m all)
+  FailsInTest-unique ts r s d e (no_such_thread h m c) (in_condition k rows after all are q) =
+      absurd (not-HasMissingThread-if_have_threads h k m all)
+  FailsInTest-unique ts r s d e (in_rows h all p) (in_block q) = absurd (not-FailsInBlock-if_header_read h q)
+  FailsInTest-unique ts r s d e (in_rows h all p) (in_header es after block q) =
+      absurd (not-FailsInHeader-if_header_read h es block q)
+  FailsInTest-unique ts r s d e (in_rows h all p) (no_such_thread k m c) = absurd (not-HasMissingThread-if_have_threads k h m all)
+  FailsInTest-unique ts r s d e (in_rows h all p) (in_rows k every q) =
+      let same = ReadsHeader-unique h k in
+      FailsInRows-unique h.threads r s d e 0 h.after_header p
+      (subst (λ (n : ℕ). FailsInRows n s e 0 h.after_header) (sym same.1) (subst (FailsInRows k.threads s e 0) (sym same.2) q))
+  FailsInTest-unique ts r s d e (in_rows h all p) (in_condition k rows after every are q) =
+      absurd (not-FailsInRows-if_rows_read h k rows after p are)
+  FailsInTest-unique ts r s d e (in_condition h rows after all are p) (in_block q) = absurd (not-FailsInBlock-if_header_read h q)
+  FailsInTest-unique ts r s d e (in_condition h rows end all are p) (in_header es after block q) =
+      absurd (not-FailsInHeader-if_header_read h es block q)
+  FailsInTest-unique ts r s d e (in_condition h rows after all are p) (no_such_thread k m c) =
+      absurd (not-HasMissingThread-if_have_threads k h m all)
+  FailsInTest-unique ts r s d e (in_condition h rows after all are p) (in_rows k every q) =
+      absurd (not-FailsInRows-if_rows_read k h rows after q are)
+  FailsInTest-unique ts r s d e (in_condition h rows after all are p) (in_condition k lines end every too q) =
+      let same = ReadsHeader-unique h k in
+      let u = Rows-unique h.threads h.after_header after end rows lines are (Rows-after_same_header h k lines end too) in
+      FailsInCondition-unique arch h.threads (with_sites [] (sites_of h.initializers)) after r s d e p
+      (subst (λ l. FailsInCondition arch h.threads (with_sites [] (sites_of h.initializers)) l s e) (sym u.1)
+      (subst (λ xs. FailsInCondition arch h.threads (with_sites [] (sites_of xs)) end s e) (sym same.0)
+      (subst (λ (n : ℕ). FailsInCondition arch n (with_sites [] (sites_of k.initializers)) end s e) (sym same.1) q)))
+
+  -- The block and the header of a test are read.
+  abbrev header_of_test : (ts : TokenList) (s : TestSyntax) → ParsesTest arch ts s → ReadsHeader arch ts
+  header_of_test ts s p = record {
+    initializers = s.initializers;
+    after_block = p.behind_block;
+    threads = s.threads;
+    after_header = p.behind_header;
+    block = (p.block, HasRoomFor-initial_block arch ts s p);
+    header = p.header;
+  }
 
   -- Tests do not fail.
   pub not-FailsInTest-if_parsed : (ts rest : TokenList) (cause : TextCause)
       → FailsInTest arch ts rest cause
       → ParsesNoTest arch ts
   not-FailsInTest-if_parsed ts rest cause (in_block fails) s f p whole =
-      not-FailsInBlock-if_parsed arch [] ts rest p.behind_block cause s.initializers fails p.block
-      (HasRoomFor-initial_block arch ts s p)
-  not-FailsInTest-if_parsed ts rest cause (in_header es mid block fails) s f p whole =
-      no_test-if_no_header arch ts mid es block.0
-      (λ n after header. not-FailsInHeader-if_parsed rest cause 0 n mid after fails header.0 (omega (arith, header.1))) s p
-  not-FailsInTest-if_parsed ts rest cause (no_such_thread es front n t i w inside mid after behind block header begins read all is high c) s f p whole =
-      bad_thread-not_parsed ts mid p.behind_block rest after behind inside p.behind_header es s.initializers front n s.threads t i
-      w block.0 header begins read is high p.block p.header p.threads_exist
-  not-FailsInTest-if_parsed ts rest cause (in_rows es n mid after block header all fails) s f p whole =
-      no_test-if_no_rows arch ts mid es block.0 n after header
-      (λ rows end read. not-FailsInRows-if_parsed n rest cause 0 after end rows fails read.0 (omega (arith, read.1))) s p
-  not-FailsInTest-if_parsed ts rest cause (in_condition es n rows mid after behind block header all are fails) s f p whole =
-      no_test-if_no_condition arch ts mid es block.0 n after header rows behind are (with_sites [] (sites_of es)) refl
-      (not-FailsInCondition-if_parsed arch n (with_sites [] (sites_of es)) behind rest cause fails) s f p whole
+      not-FailsInBlock-if_header_read (header_of_test ts s p) fails
+  not-FailsInTest-if_parsed ts rest cause (in_header es after block fails) s f p whole =
+      not-FailsInHeader-if_header_read (header_of_test ts s p) es block fails
+  not-FailsInTest-if_parsed ts rest cause (no_such_thread h m c) s f p whole =
+      not-HasMissingThread-if_have_threads h (header_of_test ts s p) m p.threads_exist
+  not-FailsInTest-if_parsed ts rest cause (in_rows h all fails) s f p whole =
+      no_test-if_no_rows arch ts h.after_block h.initializers h.block.0 h.threads h.after_header h.header
+      (λ rows end read.
+      not-FailsInRows-if_parsed h.threads rest cause 0 h.after_header end rows fails read.0 (omega (arith, read.1))) s p
+  not-FailsInTest-if_parsed ts rest cause (in_condition h rows after all are fails) s f p whole =
+      no_test-if_no_condition arch ts h.after_block h.initializers h.block.0 h.threads h.after_header h.header rows after are
+      (with_sites [] (sites_of h.initializers)) refl
+      (not-FailsInCondition-if_parsed arch h.threads (with_sites [] (sites_of h.initializers)) after rest cause fails) s f p whole

@@ -227,18 +227,41 @@ pub data FailsInCondition (arch : Arch) (threads : ℕ) (names : NameTable) (ts 
 abbrev pub ReadsBlock : Arch → TokenList → List InitializerSyntax → TokenList → Type 0
 ReadsBlock arch ts es rest = Block arch ts es rest × HasRoomFor [] (sites_of es)
 
+-- The block and the header were read.
+pub record ReadsHeader (arch : Arch) (ts : TokenList) : Type 0 where
+  pub initializers : List InitializerSyntax
+  pub after_block : TokenList
+  pub threads : ℕ
+  pub after_header : TokenList
+  pub block : ReadsBlock arch ts initializers after_block
+  pub header : Header after_block threads after_header
+
+-- The thread of each of these initializers exists, if it is of a register.
+abbrev pub HaveThreads : ℕ → List InitializerSyntax → Type 0
+HaveThreads threads es = AllByRecursion (λ e. ThreadExists threads e.site) es
+
+-- `rest` begins with the first initializer of a register whose thread does not exist.
+pub record HasMissingThread (arch : Arch) (ts rest : TokenList) (threads : ℕ) : Type 0 where
+  pub inside : TokenList
+  pub earlier : List InitializerSyntax
+  pub thread : ℕ
+  pub register : ℕ
+  pub word : ℕ
+  pub after : TokenList
+  pub opens : ts ≡ codes "{" ∷ inside
+  pub read : ParsesMany (λ ts e next. IsInitializer arch ts e (codes ";" ∷ next)) inside earlier rest
+  pub earlier_exist : HaveThreads threads earlier
+  pub first : IsInitializer arch rest (record { site = InThread thread register; word = word }) after
+  pub missing : threads ≤ thread
+
 -- The tokens fail to be a test's: its block; its header; the first initializer whose thread does not exist; its rows; or its condition.
 pub data FailsInTest (arch : Arch) (ts rest : TokenList) (cause : TextCause) : Type 0 where
   in_block : FailsInBlock arch [] ts rest cause → FailsInTest arch ts rest cause
-  in_header : (es : List InitializerSyntax) (mid : TokenList) → ReadsBlock arch ts es mid → FailsInHeader rest cause 0 mid
+  in_header : (es : List InitializerSyntax) (after : TokenList) → ReadsBlock arch ts es after → FailsInHeader rest cause 0 after
       → FailsInTest arch ts rest cause
-  no_such_thread : (es front : List InitializerSyntax) (threads t r word : ℕ) (inside mid after behind : TokenList) → ReadsBlock arch ts es mid
-      → Header mid threads after → ts ≡ codes "{" ∷ inside
-      → ParsesMany (λ ts e next. IsInitializer arch ts e (codes ";" ∷ next)) inside front rest
-      → AllByRecursion (λ e. ThreadExists threads e.site) front
-      → IsInitializer arch rest (record { site = InThread t r; word = word }) behind → threads ≤ t → cause ≡ Name → FailsInTest arch ts rest cause
-  in_rows : (es : List InitializerSyntax) (threads : ℕ) (mid after : TokenList) → ReadsBlock arch ts es mid → Header mid threads after
-      → AllByRecursion (λ e. ThreadExists threads e.site) es → FailsInRows threads rest cause 0 after → FailsInTest arch ts rest cause
-  in_condition : (es : List InitializerSyntax) (threads : ℕ) (rows : CellGrid) (mid after behind : TokenList) → ReadsBlock arch ts es mid
-      → Header mid threads after → AllByRecursion (λ e. ThreadExists threads e.site) es → Rows threads after rows behind
-      → FailsInCondition arch threads (with_sites [] (sites_of es)) behind rest cause → FailsInTest arch ts rest cause
+  no_such_thread : (h : ReadsHeader arch ts) → HasMissingThread arch ts rest h.threads → cause ≡ Name → FailsInTest arch ts rest cause
+  in_rows : (h : ReadsHeader arch ts) → HaveThreads h.threads h.initializers → FailsInRows h.threads rest cause 0 h.after_header
+      → FailsInTest arch ts rest cause
+  in_condition : (h : ReadsHeader arch ts) (rows : CellGrid) (after : TokenList) → HaveThreads h.threads h.initializers
+      → Rows h.threads h.after_header rows after
+      → FailsInCondition arch h.threads (with_sites [] (sites_of h.initializers)) after rest cause → FailsInTest arch ts rest cause

@@ -6,7 +6,7 @@
 use Rattle.lw_text.proofs.Common.{[], refl, sym, map, arith, subst, length-map, Header, Block}
 use Rattle.lw_text.proofs.Common.{named_initializer, cells_texts, with_spans, remaining, remaining_texts}
 use Rattle.lw_text.proofs.Common.{FailsInCondition, in_block, in_header, no_such_thread, in_rows}
-use Rattle.lw_text.proofs.Common.{in_condition, BeginsAt}
+use Rattle.lw_text.proofs.Common.{in_condition, BeginsAt, ReadsHeader}
 use Rattle.lw_text.proofs.CellPlaces.{Rows-with_spans, with_spans-of_suffix}
 use Rattle.lw_text.proofs.Lists.{IsSuffix-join}
 use Rattle.lw_text.proofs.api.Places.{texts_placed}
@@ -17,6 +17,8 @@ use Rattle.lw_text.proofs.Whole.{header_some, Rows-even, ThreadExists-all_initia
 use Rattle.lw_text.proofs.Whole.{site_is_register-missing_thread, ReadsBlock-ParsedBlock}
 use Rattle.lw_text.proofs.Failures.{Fails-later, BeginInitializers-at}
 use Rattle.lw_text.proofs.Faults.{Err-clause_known}
+use Rattle.lw_text.proofs.cursor.Cursor.parse_body.Given.{Over}
+use Rattle.lw_text.proofs.cursor.Cursor.parse_body.Goals.{In_ok-threads}
 use Rattle.lw_text.proofs.cursor.Cursor.parse_body.Goals as goal
 
 pub returns-in_err-initializers : goal.returns-in_err-initializers
@@ -38,6 +40,17 @@ returns-in_err-threads g c = Err-clause_known _ _ _ c.from_residual-in_err-threa
       c.in_err-threads.ensures.1,
 ))
 
+-- The block and the header were read.
+abbrev reads_header : (g : Over) (c : In_ok-threads g) → ReadsHeader c.args.arch (remaining_texts c.args.self.now)
+reads_header g c = record {
+  initializers = _;
+  after_block = _;
+  threads = c.in_ok-threads.threads;
+  after_header = _;
+  block = ReadsBlock-ParsedBlock c.new-locs.ensures c.in_ok-initializers.ensures;
+  header = c.in_ok-threads.ensures.0;
+}
+
 pub returns-in_err-check_threads : goal.returns-in_err-check_threads
 returns-in_err-check_threads g c =
     let lost = rw c.as_slice.ensures at c.in_err-check_threads.ensures.place in
@@ -54,10 +67,19 @@ returns-in_err-check_threads g c =
         suffix = begins.suffix;
         place = subst (BeginsAt begins.rest) (sym lost.5) begins.place;
         way =
-            no_such_thread _ _ _ thread.0 thread.1 lost.1.word _ _ _ _
-            (ReadsBlock-ParsedBlock c.new-locs.ensures c.in_ok-initializers.ensures) c.in_ok-threads.ensures.0 begins.opens
-            begins.read (ThreadExists-all_initializers _ begins.names _ lost.3) (begins.parsed thread.0 thread.1 thread.2)
-            thread.3 lost.6;
+            no_such_thread (reads_header g (goal.at.returns-in_err-check_threads g c).In_ok-threads) (record {
+              inside = _;
+              earlier = _;
+              thread = thread.0;
+              register = thread.1;
+              word = lost.1.word;
+              after = _;
+              opens = begins.opens;
+              read = begins.read;
+              earlier_exist = ThreadExists-all_initializers _ begins.names _ lost.3;
+              first = begins.parsed thread.0 thread.1 thread.2;
+              missing = thread.3;
+            }) lost.6;
       },
     ))
 
@@ -67,7 +89,7 @@ returns-in_err-rows g c = Err-clause_known _ _ _ c.from_residual-in_err-rows.ens
       λ s f p whole.
           no_test-if_no_rows c.args.arch _ _ _ c.in_ok-initializers.ensures.parsed _ _ c.in_ok-threads.ensures.0 lost.0 s p,
       Fails-later (IsSuffix-join c.in_ok-initializers.ensures.advances c.in_ok-threads.ensures.1) (λ rest cause w.
-          in_rows _ _ _ _ (ReadsBlock-ParsedBlock c.new-locs.ensures c.in_ok-initializers.ensures) c.in_ok-threads.ensures.0
+          in_rows (reads_header g (goal.at.returns-in_err-rows g c).In_ok-threads)
           (ThreadExists-all_initializers _ _ _ (rw c.as_slice.ensures at c.in_ok-check_threads.ensures.ok)) w) lost.1,
     ))
 
@@ -83,8 +105,7 @@ returns g c = λ ne.
       Fails-later
           (IsSuffix-join c.in_ok-initializers.ensures.advances (IsSuffix-join c.in_ok-threads.ensures.1 c.in_ok-rows.ensures.2))
           (λ rest cause w.
-          in_condition _ _ _ _ _ _ (ReadsBlock-ParsedBlock c.new-locs.ensures c.in_ok-initializers.ensures)
-          c.in_ok-threads.ensures.0
+          in_condition (reads_header g (goal.at.returns g c).In_ok-threads) _ _
           (ThreadExists-all_initializers _ _ _ (rw c.as_slice.ensures at c.in_ok-check_threads.ensures.ok)) c.in_ok-rows.ensures.0
           (subst
           (λ table. FailsInCondition c.args.arch c.in_ok-threads.threads table (remaining_texts c.parse_rows.new.self) rest cause)
