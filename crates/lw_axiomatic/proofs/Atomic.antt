@@ -8,7 +8,7 @@ use Rattle.lw_axiomatic.proofs.Common.{GlobalHappensBefore, SatisfiesAxioms, IsC
 use Rattle.lw_axiomatic.proofs.Common.{MemoryEvent, Execution, operation_is, Reads, Writes, Po, Rf, Co, Fr}
 use Rattle.lw_axiomatic.proofs.Common.{IsAtomic, IsNewest, HasTimes}
 use Rattle.lw_axiomatic.proofs.CoherenceLaws.{Co_total-of_writes}
-use Rattle.lw_axiomatic.proofs.EventKinds.{locked_event_reads, locked_event_writes}
+use Rattle.lw_axiomatic.proofs.EventKinds.{reads-if_locked_event, writes-if_locked_event}
 
 -- What a locked instruction reads from comes before it in coherence order.
 pub source_precedes_locked_in_co : {test : X86Test} {x : Execution} {o : FinalState}
@@ -49,7 +49,7 @@ module _ (test : X86Test) (x : Execution) where
     read = record {
       is_event = co.second_write.is_event;
       location_is = co.second_write.location_is;
-      is_read = locked_event_reads test r locked;
+      is_read = reads-if_locked_event test r locked;
     };
     write = co.first_write;
     events_differ = λ same. omega (arith, co.co_lt, ap x.co same);
@@ -117,11 +117,11 @@ locked_events_equal-same_source test x o candidate axioms r s l locked_r locked_
     elim (Co_total-of_writes candidate axioms.coherence r s l (record {
       is_event = reading_r.is_event;
       location_is = reading_r.location_is;
-      is_write = locked_event_writes test r locked_r;
+      is_write = writes-if_locked_event test r locked_r;
     }) (record {
       is_event = reading_s.is_event;
       location_is = reading_s.location_is;
-      is_write = locked_event_writes test s locked_s;
+      is_write = writes-if_locked_event test s locked_s;
     })) [
       | inl one ↦ one
       | inr (inl co) ↦ absurd (not-Co-same_source test x o candidate axioms r s l locked_s reading_r same_source co)

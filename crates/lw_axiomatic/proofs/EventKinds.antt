@@ -20,24 +20,24 @@ kind_implied P Q b each None e = absurd (true≢false (sym e))
 kind_implied P Q b each (Some o) e = each o e
 
 -- An operation that reads is no store.
-reads_no_store : (o : Operation) → reads o ≡ true → is_store o ≡ false
-reads_no_store (Store x v) e = absurd (true≢false (sym e))
-reads_no_store o e = refl
+is_store-false_if_reads : (o : Operation) → reads o ≡ true → is_store o ≡ false
+is_store-false_if_reads (Store x v) e = absurd (true≢false (sym e))
+is_store-false_if_reads o e = refl
 
 -- A fence is no store.
-fence_no_store : (o : Operation) → operations.is_fence o ≡ true → is_store o ≡ false
-fence_no_store (Store x v) e = absurd (true≢false (sym e))
-fence_no_store o e = refl
+is_store-false_if_fence : (o : Operation) → operations.is_fence o ≡ true → is_store o ≡ false
+is_store-false_if_fence (Store x v) e = absurd (true≢false (sym e))
+is_store-false_if_fence o e = refl
 
 -- A store reads nothing.
-store_no_reads : (o : Operation) → is_store o ≡ true → reads o ≡ false
-store_no_reads (Store x v) e = refl
-store_no_reads _ e = absurd (true≢false (sym e))
+reads-false_if_store : (o : Operation) → is_store o ≡ true → reads o ≡ false
+reads-false_if_store (Store x v) e = refl
+reads-false_if_store _ e = absurd (true≢false (sym e))
 
 -- A store is no fence.
-store_no_fence : (o : Operation) → is_store o ≡ true → operations.is_fence o ≡ false
-store_no_fence (Store x v) e = refl
-store_no_fence _ e = absurd (true≢false (sym e))
+is_fence-false_if_store : (o : Operation) → is_store o ≡ true → operations.is_fence o ≡ false
+is_fence-false_if_store (Store x v) e = refl
+is_fence-false_if_store _ e = absurd (true≢false (sym e))
 
 -- An operation that writes is a store, or also reads.
 store_or_reads : (q : Option Operation)
@@ -61,27 +61,27 @@ needs_empty_buffer-false_if_store (Store x v) e = refl
 needs_empty_buffer-false_if_store _ e = absurd (true≢false (sym e))
 
 -- A fence waits for an empty store buffer.
-fence_waits : (o : Operation) → operations.is_fence o ≡ true → needs_empty_buffer o ≡ true
-fence_waits Fence e = refl
-fence_waits _ e = absurd (true≢false (sym e))
+needs_empty_buffer-if_fence : (o : Operation) → operations.is_fence o ≡ true → needs_empty_buffer o ≡ true
+needs_empty_buffer-if_fence Fence e = refl
+needs_empty_buffer-if_fence _ e = absurd (true≢false (sym e))
 
 -- A load reads.
-load_reads : (o : Operation) → is_load o ≡ true → reads o ≡ true
-load_reads (Load d x) e = refl
-load_reads _ e = absurd (true≢false (sym e))
+reads-if_load : (o : Operation) → is_load o ≡ true → reads o ≡ true
+reads-if_load (Load d x) e = refl
+reads-if_load _ e = absurd (true≢false (sym e))
 
 -- A locked operation reads.
-locked_reads : (o : Operation) → is_locked o ≡ true → reads o ≡ true
-locked_reads o locked = or_right (is_load o) _ locked
+reads-if_locked : (o : Operation) → is_locked o ≡ true → reads o ≡ true
+reads-if_locked o locked = or_right (is_load o) _ locked
 
 -- A locked operation writes.
-pub locked_writes : (o : Operation) → is_locked o ≡ true → writes o ≡ true
-locked_writes o locked = or_right (is_store o) _ locked
+pub writes-if_locked : (o : Operation) → is_locked o ≡ true → writes o ≡ true
+writes-if_locked o locked = or_right (is_store o) _ locked
 
 -- A load writes nothing.
-pub load_no_writes : (o : Operation) → is_load o ≡ true → writes o ≡ false
-load_no_writes (Load d x) e = refl
-load_no_writes _ e = absurd (true≢false (sym e))
+pub writes-false_if_load : (o : Operation) → is_load o ≡ true → writes o ≡ false
+writes-false_if_load (Load d x) e = refl
+writes-false_if_load _ e = absurd (true≢false (sym e))
 
 -- An operation with a location writes it, or is a load.
 writes_or_loads : (q : Option Operation) (l : ℕ)
@@ -112,20 +112,20 @@ module _ (test : X86Test) where
   has_kind = operation_is x86_language test
 
   -- An event that reads is no store.
-  pub is_store-false_if_reads : (e : MemoryEvent) → has_kind reads e ≡ true → has_kind is_store e ≡ false
-  is_store-false_if_reads e = kind_implied reads is_store false reads_no_store _
+  pub is_store-false_if_reads_event : (e : MemoryEvent) → has_kind reads e ≡ true → has_kind is_store e ≡ false
+  is_store-false_if_reads_event e = kind_implied reads is_store false is_store-false_if_reads _
 
   -- An event that is a fence is no store.
-  pub is_store-false_if_fence : (e : MemoryEvent) → has_kind operations.is_fence e ≡ true → has_kind is_store e ≡ false
-  is_store-false_if_fence e = kind_implied operations.is_fence is_store false fence_no_store _
+  pub is_store-false_if_fence_event : (e : MemoryEvent) → has_kind operations.is_fence e ≡ true → has_kind is_store e ≡ false
+  is_store-false_if_fence_event e = kind_implied operations.is_fence is_store false is_store-false_if_fence _
 
   -- An event that is a store reads nothing.
-  pub store_reads_nothing : (e : MemoryEvent) → has_kind is_store e ≡ true → has_kind reads e ≡ false
-  store_reads_nothing e = kind_implied is_store reads false store_no_reads _
+  pub reads-false_if_store_event : (e : MemoryEvent) → has_kind is_store e ≡ true → has_kind reads e ≡ false
+  reads-false_if_store_event e = kind_implied is_store reads false reads-false_if_store _
 
   -- An event that is a store is no fence.
-  pub is_fence-false_if_store : (e : MemoryEvent) → has_kind is_store e ≡ true → has_kind operations.is_fence e ≡ false
-  is_fence-false_if_store e = kind_implied is_store operations.is_fence false store_no_fence _
+  pub is_fence-false_if_store_event : (e : MemoryEvent) → has_kind is_store e ≡ true → has_kind operations.is_fence e ≡ false
+  is_fence-false_if_store_event e = kind_implied is_store operations.is_fence false is_fence-false_if_store _
 
   -- An event that writes is a store, or also reads.
   pub write_stores_or_reads : (e : MemoryEvent)
@@ -146,24 +146,26 @@ module _ (test : X86Test) where
   needs_empty_buffer-false_if_store_event e = kind_implied is_store needs_empty_buffer false needs_empty_buffer-false_if_store _
 
   -- An event that is a fence waits for an empty store buffer.
-  pub fence_event_waits : (e : MemoryEvent) → has_kind operations.is_fence e ≡ true → has_kind needs_empty_buffer e ≡ true
-  fence_event_waits e = kind_implied operations.is_fence needs_empty_buffer true fence_waits _
+  pub needs_empty_buffer-if_fence_event : (e : MemoryEvent)
+      → has_kind operations.is_fence e ≡ true
+      → has_kind needs_empty_buffer e ≡ true
+  needs_empty_buffer-if_fence_event e = kind_implied operations.is_fence needs_empty_buffer true needs_empty_buffer-if_fence _
 
   -- An event that is a load reads.
-  pub load_event_reads : (e : MemoryEvent) → has_kind is_load e ≡ true → has_kind reads e ≡ true
-  load_event_reads e = kind_implied is_load reads true load_reads _
+  pub reads-if_load_event : (e : MemoryEvent) → has_kind is_load e ≡ true → has_kind reads e ≡ true
+  reads-if_load_event e = kind_implied is_load reads true reads-if_load _
 
   -- An event that is a locked instruction reads.
-  pub locked_event_reads : (e : MemoryEvent) → has_kind is_locked e ≡ true → has_kind reads e ≡ true
-  locked_event_reads e = kind_implied is_locked reads true locked_reads _
+  pub reads-if_locked_event : (e : MemoryEvent) → has_kind is_locked e ≡ true → has_kind reads e ≡ true
+  reads-if_locked_event e = kind_implied is_locked reads true reads-if_locked _
 
   -- An event that is a locked instruction writes.
-  pub locked_event_writes : (e : MemoryEvent) → has_kind is_locked e ≡ true → has_kind writes e ≡ true
-  locked_event_writes e = kind_implied is_locked writes true locked_writes _
+  pub writes-if_locked_event : (e : MemoryEvent) → has_kind is_locked e ≡ true → has_kind writes e ≡ true
+  writes-if_locked_event e = kind_implied is_locked writes true writes-if_locked _
 
   -- An event that is a load writes nothing.
-  pub load_writes_nothing : (e : MemoryEvent) → has_kind is_load e ≡ true → has_kind writes e ≡ false
-  load_writes_nothing e = kind_implied is_load writes false load_no_writes _
+  pub writes-false_if_load_event : (e : MemoryEvent) → has_kind is_load e ≡ true → has_kind writes e ≡ false
+  writes-false_if_load_event e = kind_implied is_load writes false writes-false_if_load _
 
   -- An event with a location writes it, or is a load.
   pub write_or_load : (e : MemoryEvent) (l : ℕ)

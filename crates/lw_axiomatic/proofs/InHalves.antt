@@ -12,7 +12,7 @@ use Rattle.lw_axiomatic.proofs.Common.{AreHalves, HalvesRf, HalvesCo, HalvesFr, 
 use Rattle.lw_axiomatic.proofs.Common.{reads_first, writes_last, holds_all, AreOfTwoThreads}
 use Rattle.lw_axiomatic.proofs.Common.{SatisfiesSplitAxioms, IsAllowedBySplitAxioms}
 use Rattle.lw_axiomatic.proofs.Decisions.{decided_event_equal}
-use Rattle.lw_axiomatic.proofs.EventKinds.{load_no_writes}
+use Rattle.lw_axiomatic.proofs.EventKinds.{writes-false_if_load}
 use Rattle.lw_litmus.specs.Operations as operations
 
 -- A locked instruction reads and writes.
@@ -29,7 +29,7 @@ is_locked-reads_and_writes : (q : Option Operation)
     → option_map_or is_locked q false ≡ true
 is_locked-reads_and_writes None a b = absurd (true≢false (sym a))
 is_locked-reads_and_writes (Some o) a b =
-    elim (or_cases (is_load o) _ a) [ inl load ↦ absurd (true≢false (sym b ∙ load_no_writes o load)) | inr locked ↦ locked ]
+    elim (or_cases (is_load o) _ a) [ inl load ↦ absurd (true≢false (sym b ∙ writes-false_if_load o load)) | inr locked ↦ locked ]
 
 -- The negation of a test that fails passes.
 not-of_false : (b : Bool) → b ≡ false → not b ≡ true

@@ -19,8 +19,8 @@ use Rattle.lw_axiomatic.proofs.Common.{index_lt-if_rank_lt, item_index-unique, A
 use Rattle.lw_axiomatic.proofs.Common.{HasOrdered-if_respected, not-Contains-nil, Contains-cons}
 use Rattle.lw_axiomatic.proofs.Common.{JumpsForward-thread, MemoryEvent, Execution, reads, operation_is}
 use Rattle.lw_axiomatic.proofs.Common.{IsEvent, Po, Ppo}
-use Rattle.lw_axiomatic.proofs.EventKinds.{store_reads_nothing, is_fence-false_if_store}
-use Rattle.lw_axiomatic.proofs.EventKinds.{write_stores_or_waits, fence_event_waits}
+use Rattle.lw_axiomatic.proofs.EventKinds.{reads-false_if_store_event, is_fence-false_if_store_event}
+use Rattle.lw_axiomatic.proofs.EventKinds.{write_stores_or_waits, needs_empty_buffer-if_fence_event}
 use Rattle.lw_litmus.specs.Operations as operations
 
 -- If the slots of two items of a thread are equal, the items have one position, and both are its drain or neither is.
@@ -361,12 +361,12 @@ module _ {test : X86Test} {paths : List (List ℕ)} (given : KeptOrder test path
         → operation_is x86_language test is_store a ≡ true
         → (operation_is x86_language test is_store b ≡ true) ⊎ (operation_is x86_language test needs_empty_buffer b ≡ true)
     store_or_waits-Ppo_from_store a b ppo s = elim (or_cases (operation_is x86_language test reads a) _ ppo.is_preserved) [
-      | inl r ↦ absurd (true≢false (sym r ∙ store_reads_nothing test a s))
+      | inl r ↦ absurd (true≢false (sym r ∙ reads-false_if_store_event test a s))
       | inr rest ↦ elim (or_cases (operation_is x86_language test writes b) _ rest) [
         | inl w ↦ write_stores_or_waits test b w
         | inr fences ↦ elim (or_cases (operation_is x86_language test operations.is_fence a) _ fences) [
-          | inl f ↦ absurd (true≢false (sym f ∙ is_fence-false_if_store test a s))
-          | inr f ↦ inr (fence_event_waits test b f)
+          | inl f ↦ absurd (true≢false (sym f ∙ is_fence-false_if_store_event test a s))
+          | inr f ↦ inr (needs_empty_buffer-if_fence_event test b f)
         ]
       ]
     ]

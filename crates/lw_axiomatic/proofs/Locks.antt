@@ -11,7 +11,7 @@ use Rattle.lw_axiomatic.proofs.Common.{IsOrderedBefore, IsUsedAsLock, IsOverBefo
 use Rattle.lw_axiomatic.proofs.Anchored.{Po-Rf_in_thread}
 use Rattle.lw_axiomatic.proofs.Atomic.{IsAtomic-GlobalHappensBefore, source_precedes_locked_in_co}
 use Rattle.lw_axiomatic.proofs.CoherenceLaws.{Co_total-of_writes, CoWW-Coherence}
-use Rattle.lw_axiomatic.proofs.EventKinds.{locked_event_reads, locked_event_writes}
+use Rattle.lw_axiomatic.proofs.EventKinds.{reads-if_locked_event, writes-if_locked_event}
 
 -- An operation that writes is a plain store or a locked one.
 store_or_locked : (q : Option Operation)
@@ -58,7 +58,7 @@ module _ (test : X86Test) (x : Execution) where
       → IsOrderedBefore test x a b
   ordered-sections l r s u a b acquires releases order before after =
       ordered-trans a u b (ordered-write a u before releases.writes.is_write)
-      (ordered-trans u s b order (ordered-read s b after (locked_event_reads test s acquires.locked)))
+      (ordered-trans u s b order (ordered-read s b after (reads-if_locked_event test s acquires.locked)))
 
 module _ {test : X86Test} {x : Execution} {o : FinalState} (candidate : IsCandidate x86_language test x o)
     (axioms : SatisfiesAxioms test x) (l : ℕ) (lock : IsUsedAsLock test x l) where
@@ -71,7 +71,7 @@ module _ {test : X86Test} {x : Execution} {o : FinalState} (candidate : IsCandid
   take_writes r take = record {
     is_event = take.reads.is_event;
     location_is = take.reads.location_is;
-    is_write = locked_event_writes test r take.locked;
+    is_write = writes-if_locked_event test r take.locked;
   }
 
   -- Of two events, the first in global happens-before is not the second in coherence order.
@@ -86,7 +86,8 @@ module _ {test : X86Test} {x : Execution} {o : FinalState} (candidate : IsCandid
       → IsOrderedBefore test x u s
   IsOrderedBefore-Rf_to_locked u s rf locked = elim (cases_eq u.thread s.thread) [
     | inr threads_differ ↦ ordered-step test x u s (inr (inl (record { rf = rf; threads_differ = threads_differ })))
-    | inl same_thread ↦ ordered-write test x u s (Po-Rf_in_thread axioms u s rf same_thread) (locked_event_writes test s locked)
+    | inl same_thread ↦
+        ordered-write test x u s (Po-Rf_in_thread axioms u s rf same_thread) (writes-if_locked_event test s locked)
   ]
 
   -- An acquisition has one release at most.
@@ -151,7 +152,7 @@ module _ {test : X86Test} {x : Execution} {o : FinalState} (candidate : IsCandid
                   rest.0,
                   rest.1,
                   ordered-trans test x rest.0 m s rest.2
-                      (ordered-trans test x m u s (ordered-read test x m u held.2.po (locked_event_reads test m held.1.locked))
+                      (ordered-trans test x m u s (ordered-read test x m u held.2.po (reads-if_locked_event test m held.1.locked))
                       order),
                 ))
             | inr (inr later) ↦

@@ -22,7 +22,7 @@ use Rattle.lw_axiomatic.proofs.Common.{HoldsStores, AreWaitingStores, DrainsOlde
 use Rattle.lw_axiomatic.proofs.Common.{AreWaitingStores-next, word_written, MemoryEvent, Execution}
 use Rattle.lw_axiomatic.proofs.Common.{operation_is, location, IsEvent, Writes}
 use Rattle.lw_axiomatic.proofs.EventLists.{event}
-use Rattle.lw_axiomatic.proofs.EventKinds.{locked_writes}
+use Rattle.lw_axiomatic.proofs.EventKinds.{writes-if_locked}
 use Rattle.lw_axiomatic.proofs.StepCases.{StepCase, StepCase-EffectLeadsTo, word_for, buffer_after}
 use Rattle.lw_axiomatic.proofs.StepCases.{memory_after, word_put}
 use Rattle.lw_axiomatic.proofs.Indices.{KeptOrder, items, item_numbered, turn, point_of, event_of_item}
@@ -541,14 +541,14 @@ module _ {test : X86Test} (x : Execution) (given : KeptOrder test x.paths) where
                 let writing : Writes x86_language test x item_event y = record {
                   is_event = on_path;
                   location_is = ap (λ o. option_and_then location_of (option_map x86_operation o)) item_on_path.at ∙ loc;
-                  is_write = event_kind writes ∙ locked_writes (x86_operation item_on_path.statement) locked;
+                  is_write = event_kind writes ∙ writes-if_locked (x86_operation item_on_path.statement) locked;
                 } in (
                   (λ z.
                       subst (λ (n : List ℕ). LastBefore (suc k) z (slice_index n z)) (sym m)
                       (LastBefore-write k y _ item_event s.memory writing
                       (reached_now (event_kind is_store
                       ∙ (is_store-false_if_locked (x86_operation item_on_path.statement) locked ∙ sym kind_is))) in_range
-                      (sym (agrees kind_is (locked_writes (x86_operation item_on_path.statement) locked))) inv.memory z)),
+                      (sym (agrees kind_is (writes-if_locked (x86_operation item_on_path.statement) locked))) inv.memory z)),
                   ap length m ∙ (length-set s.memory y _ ∙ inv.size),
                 ))
             | inr (free, is) ↦

@@ -298,10 +298,10 @@ module _ {test : X86Test} (well_scoped : IsWellScopedProgram test) {x : Executio
         (and_from (t == late_read.thread) _ (eq-eqb t late_read.thread same_thread) (lt-ltb j late_read.position less))
 
     -- An event that passes has a lower rank than the write, or precedes the read in its thread.
-    passes_inv : (t j : ℕ)
+    passes-inv : (t j : ℕ)
         → passes t j ≡ true
         → (rank (event t j) < rank late_write) ⊎ ((t ≡ late_read.thread) × (j < late_read.position))
-    passes_inv t j p = elim (or_cases (nat_lt (rank (event t j)) (rank late_write)) _ p) [
+    passes-inv t j p = elim (or_cases (nat_lt (rank (event t j)) (rank late_write)) _ p) [
       | inl less ↦ inl (ltb-true (rank (event t j)) (rank late_write) less)
       | inr own ↦
           (let both = and_parts (t == late_read.thread) (nat_lt j late_read.position) own in
@@ -315,7 +315,7 @@ module _ {test : X86Test} (well_scoped : IsWellScopedProgram test) {x : Executio
         → h < j
         → passes t j ≡ true
         → passes t h ≡ true
-    passes-downward_closed t h j ch cj less p = elim (passes_inv t j p) [
+    passes-downward_closed t h j ch cj less p = elim (passes-inv t j p) [
       | inl early ↦ passes-of_number t h (omega (
         arith,
         rank_increases-Po (event t h) (event t j)
@@ -343,8 +343,8 @@ module _ {test : X86Test} (well_scoped : IsWellScopedProgram test) {x : Executio
         (passes-downward_closed e.thread) is_event p
 
     -- What is in the front is an event that passes.
-    IsIn_inv : (e : MemoryEvent) → IsIn e → IsEvent x e × (passes e.thread e.position ≡ true)
-    IsIn_inv e c = Contains-of_fronts passes e.thread e.position x.paths c
+    IsIn-inv : (e : MemoryEvent) → IsIn e → IsEvent x e × (passes e.thread e.position ≡ true)
+    IsIn-inv e c = Contains-of_fronts passes e.thread e.position x.paths c
 
     -- The ranks increase along from-reads of what is in front.
     rank_increases-Fr : (r w : MemoryEvent) → IsIn r → Fr x86_language test x r w → rank r < rank w
@@ -352,8 +352,8 @@ module _ {test : X86Test} (well_scoped : IsWellScopedProgram test) {x : Executio
       | inl less ↦ less
       | inr le ↦
           absurd (let first : rank late_read ≤ rank r = first_read_is_least r w (record { fr = from; rank_at_most = le }) in
-          let is = IsIn_inv r ir in
-          elim (passes_inv r.thread r.position is.1) [
+          let is = IsIn-inv r ir in
+          elim (passes-inv r.thread r.position is.1) [
             | inl early ↦ omega (arith, early, first, first_write.is_late.rank_at_most)
             | inr (one, before) ↦ omega (
               arith,
@@ -367,8 +367,8 @@ module _ {test : X86Test} (well_scoped : IsWellScopedProgram test) {x : Executio
     -- What is read in front was written in front.
     IsIn-Rf_closed : (w r : MemoryEvent) → IsIn r → Rf x86_language test x w r → IsIn w
     IsIn-Rf_closed w r ir rf =
-        let is = IsIn_inv r ir in
-        IsIn-passes w rf.write.is_event (elim (passes_inv r.thread r.position is.1) [
+        let is = IsIn-inv r ir in
+        IsIn-passes w rf.write.is_event (elim (passes-inv r.thread r.position is.1) [
           | inl early ↦ passes-of_number w.thread w.position (omega (arith, anchored_by.rank_increases-Rf axioms w r rf, early))
           | inr (one, before) ↦ elim (cases_eq w.thread r.thread) [
             | inl same_thread ↦
@@ -461,7 +461,7 @@ module _ {test : X86Test} (well_scoped : IsWellScopedProgram test) {x : Executio
         → passes e.thread e.position ≡ false
     passes-false e late_e other =
         false_from_ne_true (passes e.thread e.position)
-        (λ p. elim (passes_inv e.thread e.position p) [ inl early ↦ late_e early | inr own ↦ other own ])
+        (λ p. elim (passes-inv e.thread e.position p) [ inl early ↦ late_e early | inr own ↦ other own ])
 
     -- After the run of the fronts the read is next in its thread.
     IsNext-load : IsNext test is_load raced_location late_read.thread walk_of_fronts.end
@@ -499,9 +499,9 @@ module _ {test : X86Test} (well_scoped : IsWellScopedProgram test) {x : Executio
         → h.thread ≡ late_read.thread
         → operation_is x86_language test needs_empty_buffer h ≡ false
     quiet_since h c_h same_thread =
-        let is = IsIn_inv h (walk_of_fronts.all_ahead h (split_run.among h c_h)) in
+        let is = IsIn-inv h (walk_of_fronts.all_ahead h (split_run.among h c_h)) in
         let later : rank earlier_store ≤ rank h = split_run.later h c_h in
-        let before : h.position < late_read.position = elim (passes_inv h.thread h.position is.1) [
+        let before : h.position < late_read.position = elim (passes-inv h.thread h.position is.1) [
           | inr own_h ↦ own_h.1
           | inl early ↦ elim (cases_order h.position late_read.position) [
             | inl same_position ↦

@@ -14,7 +14,7 @@ use Rattle.lw_axiomatic.proofs.Common.{item_slot, thread_rank-increasing, IsItem
 use Rattle.lw_axiomatic.proofs.Common.{Respects-if_ordered, first_state, MemoryEvent, Execution, reads}
 use Rattle.lw_axiomatic.proofs.Common.{operation_is, IsEvent, Reads, Po, Ppo, IsCandidate, IsBefore, IsNewest}
 use Rattle.lw_axiomatic.proofs.Common.{HasConsistentTimes, JumpsForward-thread}
-use Rattle.lw_axiomatic.proofs.EventKinds.{is_store-false_if_reads, needs_empty_buffer-false_if_store}
+use Rattle.lw_axiomatic.proofs.EventKinds.{is_store-false_if_reads_event, needs_empty_buffer-false_if_store}
 use Rattle.lw_axiomatic.proofs.Paths.{IsFlowPathFrom-ThreadExecutes}
 use Rattle.lw_axiomatic.proofs.ByTime.{by_time, IsOrder-by_time, Before-by_time}
 use Rattle.lw_axiomatic.proofs.Indices.{KeptOrder, turn, step_of, point_of, done, reached, Placed}
@@ -259,11 +259,11 @@ module _ {test : X86Test} (well_scoped : IsWellScopedProgram test) {x : Executio
 
       -- A read reaches memory when it is done, by the times.
       read_reached_is_done : reachedT r ≡ doneT r
-      read_reached_is_done = timed.at_once r (is_store-false_if_reads test r reading.is_read)
+      read_reached_is_done = timed.at_once r (is_store-false_if_reads_event test r reading.is_read)
 
       -- By the indices too, the read reaches memory when it is done.
       r_turn : reached_index r ≡ done_index r
-      r_turn = ap (λ b. turn kept_order (item r.thread r.position b)) (is_store-false_if_reads test r reading.is_read)
+      r_turn = ap (λ b. turn kept_order (item r.thread r.position b)) (is_store-false_if_reads_event test r reading.is_read)
 
       -- What is before it by the indices is before it by the times.
       IsBefore-of_indices : (w : MemoryEvent)

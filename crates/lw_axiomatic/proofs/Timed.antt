@@ -8,8 +8,8 @@ use Rattle.lw_axiomatic.proofs.Common.{is_store, is_load, writes, x86_language, 
 use Rattle.lw_axiomatic.proofs.Common.{Execution, reads, operation_is, IsEvent, Reads, Writes, Po, Rf, Co, Fr}
 use Rattle.lw_axiomatic.proofs.Common.{PoLoc, Rfe, Coherence, GlobalHappensBefore, SatisfiesAxioms, IsBefore}
 use Rattle.lw_axiomatic.proofs.Common.{IsNewest, HasConsistentTimes}
-use Rattle.lw_axiomatic.proofs.EventKinds.{is_store-false_if_reads, load_event_reads, load_writes_nothing}
-use Rattle.lw_axiomatic.proofs.EventKinds.{write_or_load, position_below_size}
+use Rattle.lw_axiomatic.proofs.EventKinds.{is_store-false_if_reads_event, reads-if_load_event}
+use Rattle.lw_axiomatic.proofs.EventKinds.{writes-false_if_load_event, write_or_load, position_below_size}
 use Rattle.lw_axiomatic.proofs.Levels.{level, level-suc, level-le, level-lt, size}
 
 module _ {test : X86Test} {x : Execution} {done reached : MemoryEvent → ℕ} (timed : HasConsistentTimes test x done reached) where
@@ -19,7 +19,7 @@ module _ {test : X86Test} {x : Execution} {done reached : MemoryEvent → ℕ} (
 
   -- What reads reaches memory when it is done.
   read_reached_is_done : (r : MemoryEvent) → has_kind reads r ≡ true → reached r ≡ done r
-  read_reached_is_done r e = timed.at_once r (is_store-false_if_reads test r e)
+  read_reached_is_done r e = timed.at_once r (is_store-false_if_reads_event test r e)
 
   -- No event reaches memory before it is done.
   done_at_most_reached : (e : MemoryEvent) → IsEvent x e → done e ≤ reached e
@@ -105,7 +105,7 @@ module _ {test : X86Test} {x : Execution} {done reached : MemoryEvent → ℕ} (
 
   -- The rank of a load follows its source's.
   rank-of_load : (e : MemoryEvent) → has_kind is_load e ≡ true → rank e ≡ suc (e.position + source (x.rf e))
-  rank-of_load e l = cond-false (has_kind writes e) _ _ (load_writes_nothing test e l)
+  rank-of_load e l = cond-false (has_kind writes e) _ _ (writes-false_if_load_event test e l)
 
   -- A write that is before a load is no newer than what the load reads.
   source_at_least-write_before : (r w : MemoryEvent) (l : ℕ) (q : Option MemoryEvent)
@@ -177,7 +177,7 @@ module _ {test : X86Test} {x : Execution} {done reached : MemoryEvent → ℕ} (
         source_at_least-write_before b a poloc.on_location (x.rf b) (timed.newest b poloc.on_location (record {
           is_event = poloc.po.second_event;
           location_is = poloc.second_location_is;
-          is_read = load_event_reads test b b_loads;
+          is_read = reads-if_load_event test b b_loads;
         })) (record { is_event = poloc.po.first_event; location_is = poloc.first_location_is; is_write = a_writes })
             (inr poloc.po),
       )
@@ -192,7 +192,7 @@ module _ {test : X86Test} {x : Execution} {done reached : MemoryEvent → ℕ} (
         source_at_most-later_write a b poloc.on_location (x.rf a) (timed.newest a poloc.on_location (record {
           is_event = poloc.po.first_event;
           location_is = poloc.first_location_is;
-          is_read = load_event_reads test a a_loads;
+          is_read = reads-if_load_event test a a_loads;
         })) poloc.po b_writes,
       )
       | inr b_loads ↦ omega (
@@ -203,11 +203,11 @@ module _ {test : X86Test} {x : Execution} {done reached : MemoryEvent → ℕ} (
         source_increases-Po a b poloc.on_location (x.rf a) (timed.newest a poloc.on_location (record {
           is_event = poloc.po.first_event;
           location_is = poloc.first_location_is;
-          is_read = load_event_reads test a a_loads;
+          is_read = reads-if_load_event test a a_loads;
         })) (record {
           is_event = poloc.po.second_event;
           location_is = poloc.second_location_is;
-          is_read = load_event_reads test b b_loads;
+          is_read = reads-if_load_event test b b_loads;
         }) poloc.po,
       )
     ]

@@ -14,8 +14,8 @@ use Rattle.lw_axiomatic.proofs.Common.{MemoryEvent, Execution, reads, operation_
 use Rattle.lw_axiomatic.proofs.Common.{Po, Rf, Co, Fr, Ppo, ThreadExecutes, IsReadFrom, IsCandidate}
 use Rattle.lw_axiomatic.proofs.Common.{SatisfiesAxioms, IsBefore, IsNewest, HasTimes, leb-true, ◌⊎◌}
 use Rattle.lw_axiomatic.proofs.EventLists.{event}
-use Rattle.lw_axiomatic.proofs.EventKinds.{is_store-false_if_reads, is_store-false_if_fence}
-use Rattle.lw_axiomatic.proofs.EventKinds.{store_reads_nothing, is_fence-false_if_store}
+use Rattle.lw_axiomatic.proofs.EventKinds.{is_store-false_if_reads_event, is_store-false_if_fence_event}
+use Rattle.lw_axiomatic.proofs.EventKinds.{reads-false_if_store_event, is_fence-false_if_store_event}
 use Rattle.lw_axiomatic.proofs.EventKinds.{write_stores_or_reads}
 use Rattle.lw_axiomatic.proofs.Levels.{level, level-le, level-lt, level-unique, size, length-size}
 use Rattle.lw_litmus.specs.Operations as operations
@@ -233,8 +233,8 @@ module _ {test : X86Test} {x : Execution} {o : FinalState} (candidate : IsCandid
   anchored_at_most_ghb_rank-of_store e is_event s =
       anchored_least e (ghb_rank e) is_event (λ k po h. omega (arith, ghb_rank_increases-Po_from_blocking k e po h))
       (λ h. absurd (elim (or_cases (has_kind reads e) (has_kind operations.is_fence e) h) [
-        | inl r ↦ true≢false (sym r ∙ store_reads_nothing test e s)
-        | inr f ↦ true≢false (sym f ∙ is_fence-false_if_store test e s)
+        | inl r ↦ true≢false (sym r ∙ reads-false_if_store_event test e s)
+        | inr f ↦ true≢false (sym f ∙ is_fence-false_if_store_event test e s)
       ]))
 
   -- The anchored number of an event that blocks is one more than its rank.
@@ -255,8 +255,8 @@ module _ {test : X86Test} {x : Execution} {o : FinalState} (candidate : IsCandid
   -- An event that blocks is no store.
   is_store-false_if_blocks : (e : MemoryEvent) → blocks e ≡ true → has_kind is_store e ≡ false
   is_store-false_if_blocks e h = elim (or_cases (has_kind reads e) (has_kind operations.is_fence e) h) [
-    | inl r ↦ is_store-false_if_reads test e r
-    | inr f ↦ is_store-false_if_fence test e f
+    | inl r ↦ is_store-false_if_reads_event test e r
+    | inr f ↦ is_store-false_if_fence_event test e f
   ]
 
   -- An event that reads blocks.
@@ -318,11 +318,11 @@ module _ {test : X86Test} {x : Execution} {o : FinalState} (candidate : IsCandid
       → has_kind is_store b ≡ false
       → blocks b ≡ true
   blocks-Ppo_from_store a b ppo s n = elim (or_cases (has_kind reads a) _ ppo.is_preserved) [
-    | inl r ↦ absurd (true≢false (sym r ∙ store_reads_nothing test a s))
+    | inl r ↦ absurd (true≢false (sym r ∙ reads-false_if_store_event test a s))
     | inr rest ↦ elim (or_cases (has_kind writes b) _ rest) [
       | inl w ↦ elim (write_stores_or_reads test b w) [ inl t ↦ absurd (true≢false (sym t ∙ n)) | inr r ↦ read_blocks b r ]
       | inr fences ↦ elim (or_cases (has_kind operations.is_fence a) _ fences) [
-        | inl f ↦ absurd (true≢false (sym f ∙ is_fence-false_if_store test a s))
+        | inl f ↦ absurd (true≢false (sym f ∙ is_fence-false_if_store_event test a s))
         | inr f ↦ or_right (has_kind reads b) _ f
       ]
     ]
@@ -432,7 +432,7 @@ module _ {test : X86Test} {x : Execution} {o : FinalState} (candidate : IsCandid
 
     -- The read reaches memory when it is done.
     read_reached_is_done : reached r ≡ done r
-    read_reached_is_done = reached-of_other r (is_store-false_if_reads test r reading.is_read)
+    read_reached_is_done = reached-of_other r (is_store-false_if_reads_event test r reading.is_read)
 
     -- Nothing that r would have to see is newer than what it reads.
     not-newer_than_read : (w : MemoryEvent)

@@ -42,7 +42,8 @@ fn quantifier_text(quant: Quant) -> &'static str
     }
 }
 
-/// Writes a proposition, which is the condition's or a part of it.
+/// Writes a proposition, which is the condition's or a part of it. Connectives are read from the left, and `/\` binds tighter than `\/`. So a left
+/// operand needs parentheses only if its connective binds less tightly, and a right operand also if its connective is the same.
 #[cycle(propositions)]
 fn write_proposition<A: Allocator, B: Allocator>(
     out: &mut String<A>,
@@ -84,20 +85,20 @@ fn write_register_is<A: Allocator>(
     write!(out, "{}:{}={}", cpu.index(), reg_name(arch, reg), word)
 }
 
-/// Writes a connective and its right operand, in parentheses if `needs_parentheses` is set.
+/// Writes a connective and its right operand, or `~` and its operand: the operand in parentheses if `needs_parentheses` is set.
 #[cycle(propositions)]
 fn write_right_operand<A: Allocator, B: Allocator>(
     out: &mut String<A>,
     head: &Head<B>,
-    mark: &str,
+    connective: &str,
     part: &Prop<B>,
     needs_parentheses: bool,
 ) -> Result<(), AllocError>
     requires { MentionsLocationsBelow (length head.now.locs) (formula_of part.now) }
     ensures { OnOk result (string_bytes out.new ≡ string_bytes out.old
-        ++ (mark.now ++ parenthesized_if needs_parentheses (proposition_text head.now.arch head.now.locs (formula_of part.now)))) }
+        ++ (connective.now ++ parenthesized_if needs_parentheses (proposition_text head.now.arch head.now.locs (formula_of part.now)))) }
 {
-    out.push_str(mark)?;
+    out.push_str(connective)?;
     write_part(out, head, part, needs_parentheses)
 }
 

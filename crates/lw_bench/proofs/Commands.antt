@@ -148,12 +148,12 @@ Gives-IsCommand_one_word words name task r many is other named = go r
         subst (λ l. IsCommand l given) (sym (texts_split ∙ ap (λ (o : Arguments). name ∷ argument_texts o) told.0))
         (subst (IsCommand (name ∷ [])) (sym told.1) named)
     go None none =
-        λ t said. none (texts_empty_inv _ (nothing_after_command _ _ t other (subst (λ l. IsCommand l t) texts_split said)))
+        λ t said. none (texts_empty-inv _ (nothing_after_command _ _ t other (subst (λ l. IsCommand l t) texts_split said)))
       where
         -- If there are no texts of arguments, there are no arguments.
-        texts_empty_inv : (o : Arguments) → argument_texts o ≡ [] → o ≡ []
-        texts_empty_inv [] e = refl
-        texts_empty_inv (x ∷ o) e = absurd (nil_ne_cons _ _ (sym e))
+        texts_empty-inv : (o : Arguments) → argument_texts o ≡ [] → o ≡ []
+        texts_empty-inv [] e = refl
+        texts_empty-inv (x ∷ o) e = absurd (nil_ne_cons _ _ (sym e))
 
 -- If the first argument is `replay`, the task of all arguments is that of `replay` with the others.
 pub Gives-IsCommand_replay : (words : Arguments) (r : Option Task)

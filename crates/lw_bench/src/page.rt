@@ -175,7 +175,7 @@ fn write_thread<A: Allocator>(
     out.push_str("\n")
 }
 
-/// Writes a space, and a name with its word.
+/// Writes a space, and a name with its word. (The definition `named` passes an index to its function, which this one ignores.)
 fn write_assignment<A: Allocator>(
     out: &mut String<A>,
     name: &str,

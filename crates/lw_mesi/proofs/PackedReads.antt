@@ -8,8 +8,9 @@ use Rattle.lw_mesi.proofs.Common.{length-map, get_or_past, fill_by_all, most_thr
 use Rattle.lw_mesi.proofs.Common.{Moesi, Copy, Invalid, CacheLine, copy_of, copy_state, copy_word}
 use Rattle.lw_mesi.proofs.Common.{coherent_word, empty_cpu_set, is_owner, ProtocolTable, is_held_anywhere}
 use Rattle.lw_mesi.proofs.Common.{copy_from, cache_line_to_read, on_load, table_of, moesi_on_other_get_s}
-use Rattle.lw_mesi.proofs.Common.{IsProtocolState, HasProtocolStates, copy_in, copy_map, put_here, none_held}
-use Rattle.lw_mesi.proofs.Common.{from_word, Inside, IsPacked, sharer_copy, copy_at, unpacked, shared_invalid}
+use Rattle.lw_mesi.proofs.Common.{IsProtocolState, HasProtocolStates, copy_in, copy_in-map, copy_in-set_same}
+use Rattle.lw_mesi.proofs.Common.{copy_in-invalid_if_none_held, copy_word-copy_from, Inside, IsPacked}
+use Rattle.lw_mesi.proofs.Common.{sharer_copy, copy_at, unpacked, shared_invalid}
 use Rattle.lw_mesi.proofs.IndexLemmas.{length-at_each, get_or-at_each, at_each-set_of_list}
 use Rattle.lw_mesi.proofs.PackedCopies.{copy_of_bits, copy_of-unpacked, copy_of_bits-sharer}
 use Rattle.lw_mesi.proofs.PackedCopies.{copy_of-unpacked_owned, coherent_word-unpacked}
@@ -105,7 +106,7 @@ unpacked-after_get_s p q t table held reader gotten =
     (length-map line.copies table.on_other_get_s ∙ length-at_each (copy_at p)) reader.cpu gotten.mine (λ u within ne.
     gotten.others u within ne
     ∙ ap table.on_other_get_s (sym (copy_of-unpacked p u within))
-    ∙ sym (copy_map table.on_other_get_s line.copies u gotten.invalid)) in
+    ∙ sym (copy_in-map table.on_other_get_s line.copies u gotten.invalid)) in
     ap (λ (cs : List Copy). cache_line_of cs q.memory) copies
     ∙ sym (ap₂ (λ c (m : ℕ). cache_line_of (set others t c) m)
     (ap₂ copy_from gotten.holds (coherent_word-unpacked p reader.packed)) gotten.memory)
@@ -122,8 +123,8 @@ copy_word-after_read p t table reader =
     let long : length others ≡ most_threads = length-map line.copies table.on_other_get_s ∙ length-at_each (copy_at p) in
     ap (λ (v : ℕ). Some v) (sym (coherent_word-unpacked p reader.packed))
     ∙ sym (ap (λ (c : Copy). copy_word (copy_of (on_load table c t line) t)) reader.without
-    ∙ ap copy_word (put_here others t mine (let lt = reader.cpu in omega (arith, long, lt)))
-    ∙ from_word (is_held_anywhere line.copies) (coherent_word line))
+    ∙ ap copy_word (copy_in-set_same others t mine (let lt = reader.cpu in omega (arith, long, lt)))
+    ∙ copy_word-copy_from (is_held_anywhere line.copies) (coherent_word line))
 
 -- A GetS under MOESI from a dirty owner: the owner moves to O or stays there, and the reader becomes a sharer.
 pub unpacked-shared_by_dirty_owner : (p : Inside) (t o : ℕ)
@@ -288,4 +289,4 @@ module _ (p : Inside) (t : ℕ) (q : Protocol) (reader : IsReader p t) (own : p.
           → slice_index_or p.sharers u false ≡ false
       nobody_if none u within =
           sharer-false_if_invalid (slice_index_or p.sharers u false) p.word
-          (sym (sharer_at u) ∙ sym (copy_of-unpacked p u within) ∙ none_held (unpacked p).copies none u)
+          (sym (sharer_at u) ∙ sym (copy_of-unpacked p u within) ∙ copy_in-invalid_if_none_held (unpacked p).copies none u)

@@ -6,8 +6,9 @@ use Rattle.lw_mesi.proofs.Common.{get_or-set_same, get_or-set_other, slice_index
 use Rattle.lw_mesi.proofs.Common.{length-map, most_threads, M, O, E, S, Copy, Modified, Owned, Exclusive}
 use Rattle.lw_mesi.proofs.Common.{Shared, Invalid, CacheLine, copy_of, copy_state, copy_word, coherent_word}
 use Rattle.lw_mesi.proofs.Common.{empty_cpu_set, is_owner, cache_line_to_write, on_write, cache_line_written}
-use Rattle.lw_mesi.proofs.Common.{on_evict, cache_line_evicted, IsOnlyCopy, copy_in, copy_map, put_here}
-use Rattle.lw_mesi.proofs.Common.{put_there, Inside, IsPacked, sharer_copy, copy_at, unpacked}
+use Rattle.lw_mesi.proofs.Common.{on_evict, cache_line_evicted, IsOnlyCopy, copy_in, copy_in-map}
+use Rattle.lw_mesi.proofs.Common.{copy_in-set_same, copy_in-set_other, Inside, IsPacked, sharer_copy, copy_at}
+use Rattle.lw_mesi.proofs.Common.{unpacked}
 use Rattle.lw_mesi.proofs.IndexLemmas.{length-at_each, get_or-at_each, at_each-set_of_list}
 use Rattle.lw_mesi.proofs.PackedCopies.{copy_of_bits, copy_of-unpacked, is_owner-sound, own-false_if_shared}
 use Rattle.lw_mesi.proofs.PackedCopies.{is_owner-of_only_copy, copy_word-is_line_word, coherent_word-unpacked}
@@ -65,8 +66,8 @@ module _ (p : Inside) (t : ℕ) (ok : IsPacked p) (lt : t < most_threads) where
       → u ≢ t
       → copy_in (set (map (λ c. Invalid) (unpacked p).copies) t (Modified (coherent_word (unpacked p)))) u ≡ Invalid
   others_invalid-after_get_m u ne =
-      put_there (map (λ c. Invalid) (unpacked p).copies) t (Modified (coherent_word (unpacked p))) u (λ e. ne (sym e))
-      ∙ copy_map (λ c. Invalid) (unpacked p).copies u refl
+      copy_in-set_other (map (λ c. Invalid) (unpacked p).copies) t (Modified (coherent_word (unpacked p))) u (λ e. ne (sym e))
+      ∙ copy_in-map (λ c. Invalid) (unpacked p).copies u refl
 
   -- After a write of processor t, every other copy is invalid.
   others_invalid-after_write : (c : Copy)
@@ -101,7 +102,7 @@ copy_word-after_write p t ok lt = go (copy_of (unpacked p) t) refl
     brought : Some p.word ≡ copy_word (copy_in (set invalidated_copies t (Modified (coherent_word line))) t)
     brought =
         ap (λ (v : ℕ). Some v) (sym (coherent_word-unpacked p ok))
-        ∙ sym (ap copy_word (put_here invalidated_copies t (Modified (coherent_word line))
+        ∙ sym (ap copy_word (copy_in-set_same invalidated_copies t (Modified (coherent_word line))
         (omega (arith, length-map line.copies (λ (c : Copy). Invalid), length-at_each (copy_at p)))))
 
     go : (c : Copy) → copy_of line t ≡ c → Some p.word ≡ copy_word (copy_of (on_write c t line) t)

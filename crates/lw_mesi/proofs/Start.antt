@@ -4,7 +4,8 @@ use Rattle.lw_mesi.proofs.Common.{◌≡◌, ℕ, zero, suc, ◌<◌, ◌≤◌,
 use Rattle.lw_mesi.proofs.Common.{refl, sym, ap, subst, arith, most_threads, Protocol, Invalid}
 use Rattle.lw_mesi.proofs.Common.{unheld_cache_line, empty_caches, copy_of, cache_line_at, coherent_word}
 use Rattle.lw_mesi.proofs.Common.{coherent_words, IsOnlyCopy, IsDirty, IsProtocolState, HasProtocolStates}
-use Rattle.lw_mesi.proofs.Common.{LineSatisfiesProtocol, SatisfiesProtocol, no_word, invalid_state}
+use Rattle.lw_mesi.proofs.Common.{LineSatisfiesProtocol, SatisfiesProtocol, copy_word-none_if_invalid}
+use Rattle.lw_mesi.proofs.Common.{invalid_state}
 
 -- The content of empty caches is memory's words.
 pub coherent_words-empty_caches : (cpus : ℕ) (words : List ℕ) → coherent_words (empty_caches cpus words) ≡ words
@@ -31,7 +32,9 @@ LineSatisfiesProtocol-unheld p w = record {
     as_many = refl;
     alone = λ t u own ne. absurd (subst IsOnlyCopy (copy_of-unheld w t) own);
     one_dirty = λ t u d e. absurd (subst IsDirty (copy_of-unheld w t) d);
-    same_word = λ t k h. no_word (copy_of (unheld_cache_line w) t) k (coherent_word (unheld_cache_line w)) (copy_of-unheld w t) h;
+    same_word = λ t k h.
+        copy_word-none_if_invalid (copy_of (unheld_cache_line w) t) k (coherent_word (unheld_cache_line w)) (copy_of-unheld w t)
+        h;
   };
   states = HasProtocolStates-unheld p w;
 }

@@ -19,7 +19,7 @@ use Rattle.std.proofs.lemmas.Map.Entries.{length-keys_of}
 use Rattle.indexmap.proofs.MapLemmas.{distinct_permutation}
 use Rattle.lw_base.specs.Outcomes.{FinalState, final_state_cmp}
 use Rattle.lw_outcome_map.specs.Listings.{OutcomesWith, outcomes_of, IsStrictlySorted}
-use Rattle.lw_outcome_map.proofs.api.Listings.{final_eq, final_eq-Decides, final_eq-IsEquivalence, final_eq-is_cmp_equal, final_state_cmp-IsTotalOrder, IsStrictlySorted-of_distinct, Contains-entry_of_outcome}
+use Rattle.lw_outcome_map.proofs.api.Listings.{final_eq, final_eq-Decides, final_eq-IsEquivalence, final_eq-is_cmp_equal, IsTotalOrder-final_state_cmp, IsStrictlySorted-of_distinct, Contains-entry_of_outcome}
 
 -- No two of the results of a comparison are the same.
 less-not_equal : Less ≡ Equal → ⊥
@@ -62,8 +62,8 @@ module _ {Kept : Type 0} where
   -- ---- One entry for each outcome.
 
   -- The order of entries by their outcomes is total.
-  entry_cmp-IsTotalOrder : IsTotalOrder entry_cmp
-  entry_cmp-IsTotalOrder = on_total (λ (e : FinalState × Kept). e.0) final_state_cmp-IsTotalOrder
+  IsTotalOrder-entry_cmp : IsTotalOrder entry_cmp
+  IsTotalOrder-entry_cmp = on_total (λ (e : FinalState × Kept). e.0) IsTotalOrder-final_state_cmp
 
   -- If the outcomes are sorted, the entries are sorted by their outcomes.
   IsSorted-entries : (es : OutcomesWith Kept) → IsSorted final_state_cmp (outcomes_of es) → IsSorted entry_cmp es
@@ -87,7 +87,7 @@ module _ {Kept : Type 0} where
       → IsStrictlySorted (dedup have_same_outcome es)
   IsStrictlySorted-dedup es up =
       IsStrictlySorted-of_steps (dedup have_same_outcome es)
-      (IsStrictlySortedBy-dedup entry_cmp-IsTotalOrder (λ e f. final_eq-is_cmp_equal e.0 f.0) es (IsSorted-entries es up))
+      (IsStrictlySortedBy-dedup IsTotalOrder-entry_cmp (λ e f. final_eq-is_cmp_equal e.0 f.0) es (IsSorted-entries es up))
 
   -- Each outcome remains.
   pub Contains-outcomes_of_dedup : (es : OutcomesWith Kept) (o : FinalState)
@@ -117,7 +117,7 @@ module _ {Kept : Type 0} where
   IsSorted-of_strictly_sorted es sorted k d low within =
       IsSorted-entries es (λ j o below inside.
       let less = sorted j (j + 1) o (omega arith) inside in
-      ap is_lt (final_state_cmp-IsTotalOrder.antisymm (get_or (outcomes_of es) (j + 1) o) (get_or (outcomes_of es) j o))
+      ap is_lt (IsTotalOrder-final_state_cmp.antisymm (get_or (outcomes_of es) (j + 1) o) (get_or (outcomes_of es) j o))
       ∙ ap (λ c. is_lt (ordering_reverse c)) less) k d low within
 
   -- The outcome of an entry that compares as equal to an outcome is at the entry's index.
@@ -140,7 +140,7 @@ module _ {Kept : Type 0} where
       let within : h.0 < length (e ∷ es) = omega (arith, h.1, length-keys_of (e ∷ es)) in
       let found : (get_or (e ∷ es) h.0 e).0 ≡ o = sym (outcomes_of-at (e ∷ es) h.0 e o within) ∙ h.2 in
       let equal : final_state_cmp (get_or (e ∷ es) h.0 e).0 o ≡ Equal =
-      ap (λ p. final_state_cmp p o) found ∙ tied_itself final_state_cmp-IsTotalOrder o in
+      ap (λ p. final_state_cmp p o) found ∙ tied_itself IsTotalOrder-final_state_cmp o in
       ⊎_elim (λ before. less-not_equal (sym (split.0 h.0 e (omega arith) before) ∙ equal))
       (λ after. greater-not_equal (sym (split.1 h.0 e after within) ∙ equal)) (cases_lt h.0 i)
 
@@ -153,4 +153,4 @@ module _ {Kept : Type 0} where
   search-finds_outcome es o (Ok i) sorted within found = slice_get-of_equal es o i within found
   search-finds_outcome es o (Err i) sorted within found =
       not-Contains-if_partitioned es o i
-      (found (searchable_from_sorted final_state_cmp-IsTotalOrder (λ e. e.0) es o (IsSorted-of_strictly_sorted es sorted)))
+      (found (searchable_from_sorted IsTotalOrder-final_state_cmp (λ e. e.0) es o (IsSorted-of_strictly_sorted es sorted)))

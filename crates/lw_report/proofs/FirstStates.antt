@@ -53,13 +53,13 @@ entry_le-if_not_above s t (inl less) e =
 entry_le-if_not_above s t (inr p) e = p.1
 
 -- The order by words is total.
-words_cmp-IsTotalOrder : IsTotalOrder words_cmp
-words_cmp-IsTotalOrder = on_total (λ (s : ListedState). s.words) nat_list_cmp_total
+IsTotalOrder-words_cmp : IsTotalOrder words_cmp
+IsTotalOrder-words_cmp = on_total (λ (s : ListedState). s.words) nat_list_cmp_total
 
 -- The order of states, by their words and then by the index of their outcome, is total.
-state_cmp-IsTotalOrder : IsTotalOrder state_cmp
-state_cmp-IsTotalOrder =
-    then_total words_cmp-IsTotalOrder
+IsTotalOrder-state_cmp : IsTotalOrder state_cmp
+IsTotalOrder-state_cmp =
+    then_total IsTotalOrder-words_cmp
     (then_total (on_total (λ (s : ListedState). s.entry) nat_cmp_total) (on_total _ bool_cmp_total))
 
 -- If states are ascending, their words are.
@@ -166,14 +166,14 @@ pub AreFirstStates-dedup : (all : List ListedState) → IsSorted state_cmp all �
 AreFirstStates-dedup all up = record {
   sorted =
       AllPairs-of_strictly_sorted (dedup have_same_words all)
-      (IsStrictlySortedBy-dedup words_cmp-IsTotalOrder (λ x y. sym (is_eq-slice_cmp x.words y.words)) all
+      (IsStrictlySortedBy-dedup IsTotalOrder-words_cmp (λ x y. sym (is_eq-slice_cmp x.words y.words)) all
       (λ k d low within. ordering_then-not_less (words_cmp (get_or all (k + 1) d) (get_or all k d)) _ (up k d low within)));
   among = λ k d lt.
       Contains-from_dedup have_same_words all (get_or (dedup have_same_words all) k d)
       (Contains-get_or (dedup have_same_words all) k d lt);
   smallest = go all (λ i j d lt within.
       NotAbove-if_not_sorted_after (get_or all i d) (get_or all j d)
-      (sorted_far (λ s t. is_lt (state_cmp s t)) (ranks_by state_cmp-IsTotalOrder (λ (s : ListedState). s)) all up i j d
+      (sorted_far (λ s t. is_lt (state_cmp s t)) (ranks_by IsTotalOrder-state_cmp (λ (s : ListedState). s)) all up i j d
       (omega (arith, lt)) within));
   each = λ t h.
       let a = Any-dedup (on_texts_equal (λ (s : ListedState). s.words)) all t h in

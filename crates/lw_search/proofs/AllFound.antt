@@ -3,7 +3,7 @@
 -- has the same end. The completeness of lists rests on this.
 use Rattle.lw_search.proofs.Common.{◌≡◌, ℕ, zero, suc, ◌≤◌, Some, List, [], ◌∷◌, length, sym, subst, arith}
 use Rattle.lw_search.proofs.Common.{slice_get, IsTrue, slice_get_within, Event, flat_memory, Instr}
-use Rattle.lw_search.proofs.Common.{MachineRunsTo, is_final, State, Components, Visited, IsCovered}
+use Rattle.lw_search.proofs.Common.{MachineRunsTo, is_final, State, Components, FoundStates, IsCovered}
 use Rattle.lw_search.proofs.Common.{SearchInvariant}
 
 module _ (program : List (List Instr)) (found : List State)
@@ -27,7 +27,7 @@ module _ (program : List (List Instr)) (found : List State)
       run-found n m.0 r.0 end (omega (arith, few, m.1)) (r.1, r.2) m.2 final
 
 -- Every final state reachable from the start is among those found.
-pub final_state-found : (program : List (List Instr)) (start : State) (tables : Components) (visited : Visited)
+pub final_state-found : (program : List (List Instr)) (start : State) (tables : Components) (visited : FoundStates)
     (found : List State)
     → SearchInvariant program start tables visited found (length found)
     → (events : List Event) (end : State)

@@ -10,7 +10,7 @@ use Rattle.lw_search.proofs.Common.{list_all_zip-at_index, RunsTo-append, get_or
 use Rattle.lw_search.proofs.Common.{get_or_from_slice_get, get_or_past, Event, flat_memory, Instr, Processor}
 use Rattle.lw_search.proofs.Common.{MachineTransition, MachineRunsTo, has_terminated, is_final, FinalState}
 use Rattle.lw_search.proofs.Common.{All, machine_outcome, Contains, Contains-append_left, Contains-push}
-use Rattle.lw_search.proofs.Common.{All-push, take-suc, outcomes_of, Origin, State, Components, Visited}
+use Rattle.lw_search.proofs.Common.{All-push, take-suc, outcomes_of, Origin, State, Components, FoundStates}
 use Rattle.lw_search.proofs.Common.{Represents, events_of, SearchInvariant, ReportsThreadEnd, LeadsTo}
 use Rattle.lw_search.proofs.Common.{ReachesIndex, CollectsState, CollectsAll, events_at, All-permutation}
 use Rattle.lw_search.proofs.Common.{IsPermutation, Contains-permuted_outcomes}
@@ -109,7 +109,7 @@ module _ (program : List (List Instr)) (tables : Components) (key : List ℕ) wh
 -- ---- schedules
 
 -- The start needs no events; it is the state whose parent is not before it.
-pub reaches_index-start : (visited : Visited) (index : ℕ) (origin : Origin)
+pub reaches_index-start : (visited : FoundStates) (index : ℕ) (origin : Origin)
     → slice_get visited.origins index ≡ Some origin
     → index ≤ origin.parent
     → ReachesIndex visited index []
@@ -123,14 +123,16 @@ pub events_at-none : (runs : List (List (ℕ × Bool))) (n : ℕ) → slice_get 
 events_at-none runs n none = ap events_of (get_or_past runs n [] (length-past runs n none))
 
 -- There is no state past the end of the table.
-pub reaches_index-past : (visited : Visited) (index : ℕ) → slice_get visited.origins index ≡ None → ReachesIndex visited index []
+pub reaches_index-past : (visited : FoundStates) (index : ℕ)
+    → slice_get visited.origins index ≡ None
+    → ReachesIndex visited index []
 reaches_index-past visited index none program start tables found closed s invariant there =
     let lt = slice_get_within found index s there in
     let origin = slice_get-in_range visited.origins index (subst (λ n. index < n) (sym invariant.origin_count) lt) in
     absurd (let e = sym none ∙ origin.1 in cc)
 
 -- The events to the parent, followed by those of the origin's run, reach the state.
-pub reaches_index-next : (visited : Visited) (index : ℕ) (origin : Origin) (more : List Event)
+pub reaches_index-next : (visited : FoundStates) (index : ℕ) (origin : Origin) (more : List Event)
     → (index ≤ origin.parent → ⊥)
     → slice_get visited.origins index ≡ Some origin
     → ReachesIndex visited origin.parent more
@@ -145,8 +147,8 @@ reaches_index-next visited (suc i) origin more after at leads = λ program start
     (leads program start tables found closed predecessor.from invariant predecessor.stood) predecessor.ran)
 
 -- Each state that was found is reachable.
-pub found-reachable : (program : List (List Instr)) (start : State) (tables : Components) (visited : Visited) (found : List State)
-    (closed : ℕ)
+pub found-reachable : (program : List (List Instr)) (start : State) (tables : Components) (visited : FoundStates)
+    (found : List State) (closed : ℕ)
     → SearchInvariant program start tables visited found closed
     → (n i : ℕ) (s : State)
     → i < n
@@ -169,7 +171,7 @@ found-reachable program start tables visited found closed invariant (suc n) (suc
 
 -- ---- entries
 
-module _ (program : List (List Instr)) (tables : Components) (visited : Visited) where
+module _ (program : List (List Instr)) (tables : Components) (visited : FoundStates) where
   -- If the state's outcome is among the entries already, the state is collected without a change.
   pub collects-known : (at : ℕ) (key : List ℕ) (o : FinalState) (es : OutcomeEntries)
       → slice_get visited.keys at ≡ Some key

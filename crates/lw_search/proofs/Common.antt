@@ -91,10 +91,10 @@ pub use Rattle.lw_search.specs.inner.InvisibleEvents.{drain_access, event_access
 pub use Rattle.lw_search.specs.inner.InvisibleEvents.{step_access}
 pub use Rattle.lw_search.specs.inner.ObservedStates.{AreObserved, InsertsObserved, InsertsWords}
 pub use Rattle.lw_search.specs.inner.ObservedStates.{ObservedWords, ObservesState}
-pub use Rattle.lw_search.specs.inner.StateKeys.{AppendsOrigin, Components, Extends, HasUniqueIndices}
-pub use Rattle.lw_search.specs.inner.StateKeys.{InsertsKey, IsPrefix, Represents, RepresentsOthers}
-pub use Rattle.lw_search.specs.inner.StateKeys.{RepresentsThreads, State, Visited, event_of, events_of}
-pub use Rattle.lw_search.specs.inner.StateKeys.{set_thread}
+pub use Rattle.lw_search.specs.inner.StateKeys.{AppendsOrigin, Components, Extends, FoundStates}
+pub use Rattle.lw_search.specs.inner.StateKeys.{HasUniqueIndices, InsertsKey, IsPrefix, Represents}
+pub use Rattle.lw_search.specs.inner.StateKeys.{RepresentsOthers, RepresentsThreads, State, event_of}
+pub use Rattle.lw_search.specs.inner.StateKeys.{events_of, set_thread}
 pub use Rattle.lw_search.specs.inner.ThreadStates.{ActResult}
 pub use Rattle.lw_search.specs.inner.Transitions.{AppendsRows, AreTransitions, CopiesRow, IsNeverEnabled}
 pub use Rattle.lw_search.specs.inner.Transitions.{IsTransition}

@@ -7,9 +7,9 @@ use Rattle.lw_search.proofs.Common.{without_evictions, X86Test, Contains, All-we
 use Rattle.lw_search.proofs.Common.{not-Contains-nil, Contains-head, Contains-tail, Contains-cons}
 use Rattle.lw_search.proofs.Common.{IsListedOutcome, OutcomeEntries, OutcomesWith, outcomes_of, Mesi}
 use Rattle.lw_search.proofs.Common.{Protocol, ReplaysToOverCaches, OutcomeOverCaches}
-use Rattle.lw_search.proofs.Common.{without_evictions-flat_run, State, Components, Visited, SearchInvariant}
-use Rattle.lw_search.proofs.Common.{CollectsAll, LeadsTo, HasOutcomeShape, All-map, IsComplete, ListsAgreeing}
-use Rattle.lw_search.proofs.Common.{Contains-entry_of_outcome}
+use Rattle.lw_search.proofs.Common.{without_evictions-flat_run, State, Components, FoundStates}
+use Rattle.lw_search.proofs.Common.{SearchInvariant, CollectsAll, LeadsTo, HasOutcomeShape, All-map}
+use Rattle.lw_search.proofs.Common.{IsComplete, ListsAgreeing, Contains-entry_of_outcome}
 use Rattle.lw_search.proofs.AllFound.{final_state-found}
 
 module _ (test : X86Test)
@@ -41,7 +41,7 @@ module _ (test : X86Test)
   module _ (Agrees : FinalState → FinalState → Type 0) {Kept : Type 0} (StandsFor : Kept → List Event → Type 0)
       (flat : (protocol : Protocol) (o : FinalState)
       → OutcomeOverCaches protocol test o ↔ IsMachineOutcome flat_memory test test.head.init_words o) (tables : Components)
-      (visited : Visited) (finished : IsFinished test tables visited) (entries : OutcomesWith Kept)
+      (visited : FoundStates) (finished : IsFinished test tables visited) (entries : OutcomesWith Kept)
       (collected : CollectsAll Agrees StandsFor test.threads tables visited entries) where
     -- A run from the initial state reaches the outcome of each entry, and the entry represents this run.
     All-LeadsTo : All (LeadsTo StandsFor test.threads (initial_machine_state test test.head.init_words)) entries

@@ -6,7 +6,7 @@ use Rattle.lw_search.proofs.Common.{if◌then◌else◌, ◌++◌, ◌∷◌, []
 use Rattle.lw_search.proofs.Common.{◌∙◌, false, slice_get-append_cases, inr, OutcomesWith, FinalState, get_or}
 use Rattle.lw_search.proofs.Common.{Contains-get_or, All-contains, Contains, outcomes_of, subst, map-append}
 use Rattle.lw_search.proofs.Common.{Contains-push, Contains-append_left, All, All-push, Seen, Instr}
-use Rattle.lw_search.proofs.Common.{Components, Visited, ObservedWords, State, Represents, length, IsTrue}
+use Rattle.lw_search.proofs.Common.{Components, FoundStates, ObservedWords, State, Represents, length, IsTrue}
 use Rattle.lw_search.proofs.Common.{is_final, final_words, machine_outcome, flat_memory, InsertsWords}
 use Rattle.lw_search.proofs.Common.{InsertsObserved, suc, arith, LeadsTo, IsOfSomeRun, SearchInvariant, ◌<◌}
 use Rattle.lw_search.proofs.Common.{slice_get_within, slice_get-in_range, AreObserved, ContainsWordsOf}
@@ -89,7 +89,7 @@ All-appended_entry P old new o grown all one = subst (λ es. All P es) (sym grow
 
 -- ---- one state
 
-module _ (names : List Seen) (program : List (List Instr)) (tables : Components) (visited : Visited) where
+module _ (names : List Seen) (program : List (List Instr)) (tables : Components) (visited : FoundStates) where
   -- The state at an index is not final, so nothing changes.
   pub observes-not_final : (at : ℕ) (key : List ℕ) (observed : ObservedWords)
       → slice_get visited.keys at ≡ Some key

@@ -4,7 +4,7 @@ use Rattle.lw_search.proofs.Common.{◌≡◌, ◌<◌, ℕ, zero, suc, List, []
 use Rattle.lw_search.proofs.Common.{arith, slice_get, Some, All, X86Test, initial_machine_state, Contains}
 use Rattle.lw_search.proofs.Common.{All-cons, All-nil, not-Contains-nil, Contains-head, Contains-tail}
 use Rattle.lw_search.proofs.Common.{Contains-cons, IsDuplicateFree, IsReachable, AreReachable, Visits}
-use Rattle.lw_search.proofs.Common.{ExceedsBudget, State, Components, Visited, HasUniqueIndices}
+use Rattle.lw_search.proofs.Common.{ExceedsBudget, State, Components, FoundStates, HasUniqueIndices}
 use Rattle.lw_search.proofs.Common.{SearchInvariant}
 use Rattle.lw_search.proofs.AllFound.{final_state-found}
 use Rattle.lw_search.proofs.Collected.{found-reachable}
@@ -46,7 +46,7 @@ All-slice_get P (x ∷ xs) each = All-cons P x xs (each 0 x refl) (All-slice_get
 
 -- ---- the states found
 
-module _ (test : X86Test) (tables : Components) (visited : Visited) (found : List State) where
+module _ (test : X86Test) (tables : Components) (visited : FoundStates) (found : List State) where
   -- The states found are reachable, whatever number of them was expanded.
   pub found-are_reachable : (closed : ℕ)
       → SearchInvariant test.threads (initial_machine_state test test.head.init_words) tables visited found closed

@@ -116,8 +116,8 @@ thread_eq-sound p q e =
     λ i. record { position = position i; regs = regs i; zero_flag = flag i; buffer = buffer i }
 
 -- The test of two thread states decides whether they are equal.
-pub thread_eq-Decides : (p q : Processor) → Decides (thread_eq p q) (p ≡ q)
-thread_eq-Decides p q = (
+pub Decides-thread_eq : (p q : Processor) → Decides (thread_eq p q) (p ≡ q)
+Decides-thread_eq p q = (
   thread_eq-sound p q,
   λ e. λ i.
       (unsigned_Decides p.position q.position).1 (ap (λ (z : Processor). z.position) e) i

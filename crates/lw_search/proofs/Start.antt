@@ -4,7 +4,8 @@ use Rattle.lw_search.proofs.Common.{◌≡◌, ◌≢◌, ℕ, zero, suc, ◌+�
 use Rattle.lw_search.proofs.Common.{[], ◌∷◌, length, refl, sym, ap, ◌∙◌, subst, arith, slice_get, slice_index}
 use Rattle.lw_search.proofs.Common.{cases_lt, slice_get_past, slice_get_within, same_Some, initial_processor}
 use Rattle.lw_search.proofs.Common.{initial_machine_state, X86Test, IsWellFormedProgram, length-map, get-map}
-use Rattle.lw_search.proofs.Common.{State, Components, Visited, Extends, Represents, InsertsKey, IsStarted}
+use Rattle.lw_search.proofs.Common.{State, Components, FoundStates, Extends, Represents, InsertsKey}
+use Rattle.lw_search.proofs.Common.{IsStarted}
 use Rattle.lw_search.proofs.Rows.{distinct-append}
 use Rattle.lw_search.proofs.ThreadStates.{slice_index-past}
 
@@ -101,7 +102,7 @@ length-past (x ∷ xs) (suc n) none = let h = length-past xs n none in omega ari
 
 -- A search with empty tables has found the initial state.
 pub start-invariant : {tables : Components} (test : X86Test) (key : List ℕ) (parent : ℕ) (run : List (ℕ × Bool))
-    (visited : Visited)
+    (visited : FoundStates)
     → IsWellFormedProgram test
     → Represents tables key (initial_machine_state test test.head.init_words)
     → Extends (record { program = test.threads; threads = []; memories = [] }) tables

@@ -11,7 +11,7 @@ use Rattle.lw_search.proofs.Common.{Operation, operation_effect, x86_operation, 
 use Rattle.lw_search.proofs.Common.{step_effect, Stop, EffectLeadsTo, EventOccurrence}
 use Rattle.lw_search.proofs.Common.{EventOccurrence-of_event, MachineTransition-deterministic}
 use Rattle.lw_search.proofs.Common.{not-EffectLeadsTo-evict_event, slice_get-append_cases, get-append_middle}
-use Rattle.lw_search.proofs.Common.{Origin, State, Components, Visited, Extends, Represents, IsPrefix}
+use Rattle.lw_search.proofs.Common.{Origin, State, Components, FoundStates, Extends, Represents, IsPrefix}
 use Rattle.lw_search.proofs.Common.{HasUniqueIndices, InsertsKey, AppendsOrigin, event_of, events_of}
 use Rattle.lw_search.proofs.Common.{set_thread, Covers, IsCovered, HasPredecessor, SearchInvariant, Expansion}
 use Rattle.lw_search.proofs.Common.{HasConflictsOfOthers, ExpandsState, ExpandsUpTo, CoversThread, Settled}
@@ -88,12 +88,12 @@ represents-extended key s extended stands = record {
 }
 
 -- Inserting a key preserves the keys at their indices, whether the key is new or known.
-prefix-inserted : (old new : Visited) (key : List ℕ) (parent : ℕ) (run : List (ℕ × Bool))
+prefix-inserted : (old new : FoundStates) (key : List ℕ) (parent : ℕ) (run : List (ℕ × Bool))
     → InsertsKey old key parent run new
     → IsPrefix old.keys new.keys
 prefix-inserted old new key parent run (inl a) i x at =
     ap (λ l. slice_get l i) a.1 ∙ slice_get-append_left old.keys (key ∷ []) i x at
-prefix-inserted old new key parent run (inr a) i x at = ap (λ (v : Visited). slice_get v.keys i) a.2 ∙ at
+prefix-inserted old new key parent run (inr a) i x at = ap (λ (v : FoundStates). slice_get v.keys i) a.2 ∙ at
 
 -- The thread of the event of a row of a run.
 pub cpu_of-event : (r : ℕ × Bool) → cpu_of (event_of r) ≡ r.0
@@ -128,7 +128,7 @@ module _ (program : List (List Instr)) where
   }
 
   -- The invariant holds with larger tables, of the same states.
-  pub invariant-extended : {old new : Components} {visited : Visited} {start : State} {found : List State} {closed : ℕ}
+  pub invariant-extended : {old new : Components} {visited : FoundStates} {start : State} {found : List State} {closed : ℕ}
       → Extends old new
       → SearchInvariant program start old visited found closed
       → SearchInvariant program start new visited found closed
@@ -151,7 +151,7 @@ module _ (program : List (List Instr)) where
   append_state found end = found ++ end ∷ []
 
   -- What was found, with one more state.
-  record Inserted (start : State) (new : Components) (now : Visited) (found : List State) (closed : ℕ)
+  record Inserted (start : State) (new : Components) (now : FoundStates) (found : List State) (closed : ℕ)
       (end : State) : Type 0 where
     more : List State
     longer : IsPrefix found more
@@ -159,7 +159,7 @@ module _ (program : List (List Instr)) where
     index : ℕ
     found_at_index : slice_get more index ≡ Some end
 
-  module _ (old new : Components) (visited now : Visited) (start : State) (found : List State) (closed : ℕ) (at : ℕ)
+  module _ (old new : Components) (visited now : FoundStates) (start : State) (found : List State) (closed : ℕ) (at : ℕ)
       (s end : State) (next : List ℕ) (parent : ℕ) (run : List (ℕ × Bool)) (extended : Extends old new)
       (invariant : SearchInvariant program start old visited found closed) (stood : slice_get found at ≡ Some s)
       (stands : Represents new next end) (size : length end.processors ≡ length program) (parent_is : parent ≡ at)
@@ -301,7 +301,7 @@ module _ (program : List (List Instr)) where
     Inserted-either_case (inr old_key) = Inserted-known_key old_key.0 old_key.1 old_key.2
 
   -- The state that an event, followed by invisible events, reaches is found.
-  pub IsCovered-after_event : {old settled_tables new : Components} {visited now : Visited} (at set t : ℕ) (e : ℕ × Bool)
+  pub IsCovered-after_event : {old settled_tables new : Components} {visited now : FoundStates} (at set t : ℕ) (e : ℕ × Bool)
       (key all next : List ℕ) (p : Processor) (m n : List ℕ) (parent : ℕ) (run : List (ℕ × Bool))
       → e.0 ≡ t
       → SettlesFrom program (IsLoaded program old key set t p m) old settled_tables all n (e ∷ []) run
@@ -363,7 +363,7 @@ module _ (program : List (List Instr)) where
   -- ---- events that are not enabled
 
   -- If an event is not enabled, nothing more has to be found.
-  pub covered-impossible : {tables : Components} {visited : Visited} (at : ℕ) (key : List ℕ) (e : Event) (Is : State → Type 0)
+  pub covered-impossible : {tables : Components} {visited : FoundStates} (at : ℕ) (key : List ℕ) (e : Event) (Is : State → Type 0)
       → ((s next : State)
       → (found : List State)
       → Represents tables key s
@@ -418,7 +418,7 @@ module _ (program : List (List Instr)) where
       r.1 ∙ ap Some (sym (loaded r.0 (stands.threads t r.0 r.1)))
 
   -- An event that is refused in the loaded thread state is refused in each state with the key.
-  pub expands-refused : {tables : Components} {visited : Visited} (at t : ℕ) (e : Event) (key : List ℕ) (code : List Instr)
+  pub expands-refused : {tables : Components} {visited : FoundStates} (at t : ℕ) (e : Event) (key : List ℕ) (code : List Instr)
       (p : Processor) (stop : Stop)
       → cpu_of e ≡ t
       → slice_get program t ≡ Some code
@@ -439,7 +439,7 @@ module _ (program : List (List Instr)) where
   IsMonotone A = (s : State) (found more : List State) → IsPrefix found more → A s found → A s more
 
   -- If two parts of an expansion give A and B, in sequence they give both, since A holds still when more states are found.
-  pub expands-both : {t0 t1 t2 : Components} {m0 m1 m2 : Visited} (at : ℕ) (key : List ℕ) (Is : State → Type 0)
+  pub expands-both : {t0 t1 t2 : Components} {m0 m1 m2 : FoundStates} (at : ℕ) (key : List ℕ) (Is : State → Type 0)
       (A B : State → List State → Type 0)
       → IsMonotone A
       → ExpandsState program t0 m0 t1 m1 at key Is A
@@ -457,7 +457,7 @@ module _ (program : List (List Instr)) where
       }
 
   -- An expansion that gives A gives what follows from A.
-  pub expands-weaker : {t0 t1 : Components} {m0 m1 : Visited} (at : ℕ) (key : List ℕ) (Is : State → Type 0)
+  pub expands-weaker : {t0 t1 : Components} {m0 m1 : FoundStates} (at : ℕ) (key : List ℕ) (Is : State → Type 0)
       (A B : State → List State → Type 0)
       → ((s : State) (more : List State) → A s more → B s more)
       → ExpandsState program t0 m0 t1 m1 at key Is A
@@ -467,7 +467,7 @@ module _ (program : List (List Instr)) where
       record { more = a.more; longer = a.longer; keys = a.keys; invariant = a.invariant; holds = weaker s a.more a.holds }
 
   -- What is expanded in each state of which one thing holds is expanded in each of which more holds.
-  pub expands-if_more_holds : {t0 t1 : Components} {m0 m1 : Visited} (at : ℕ) (key : List ℕ) (Is Other : State → Type 0)
+  pub expands-if_more_holds : {t0 t1 : Components} {m0 m1 : FoundStates} (at : ℕ) (key : List ℕ) (Is Other : State → Type 0)
       (A : State → List State → Type 0)
       → ((s : State) → Other s → Is s)
       → ExpandsState program t0 m0 t1 m1 at key Is A
@@ -519,7 +519,7 @@ module _ (program : List (List Instr)) where
       absurd (not-EffectLeadsTo-evict_event program (length s.memory) t x d.from d.to s.memory d.words d.does)
 
   -- The state is expanded.
-  pub ExpandsUpTo-all_threads : {t0 t1 : Components} {m0 m1 : Visited} (at n : ℕ) (key : List ℕ) (Is : State → Type 0)
+  pub ExpandsUpTo-all_threads : {t0 t1 : Components} {m0 m1 : FoundStates} (at n : ℕ) (key : List ℕ) (Is : State → Type 0)
       → length program ≤ n
       → slice_get m0.keys at ≡ Some key
       → ((s : State) → Represents t0 key s → length s.processors ≡ length program → Is s)

@@ -5,7 +5,7 @@ use Rattle.lw_search.proofs.Common.{None, Ok, List, [], ◌∷◌, length, refl,
 use Rattle.lw_search.proofs.Common.{slice_set, slice_index, same_Some, slice_get_within, slice_get-in_range}
 use Rattle.lw_search.proofs.Common.{Instr, Processor, flat_memory, MachineTransition, cpu_of, event_effect}
 use Rattle.lw_search.proofs.Common.{EffectLeadsTo, EffectLeadsTo-if_done, MachineTransition-of_effect, state}
-use Rattle.lw_search.proofs.Common.{ActResult, State, Components, Visited, Extends, Represents, IsPrefix}
+use Rattle.lw_search.proofs.Common.{ActResult, State, Components, FoundStates, Extends, Represents, IsPrefix}
 use Rattle.lw_search.proofs.Common.{InsertsKey, event_of, events_of, set_thread, IsCovered, SearchInvariant}
 use Rattle.lw_search.proofs.Common.{ExpandsState, Settles, SettlesFrom, IsLoaded, IsWorking, Successor}
 use Rattle.lw_search.proofs.Common.{Transition, CopiesRow, AppendsRows, IsTransition, AreTransitions}
@@ -17,7 +17,7 @@ use Rattle.lw_search.proofs.Rows.{extends-refl, prefix-refl}
 
 -- ---- rows and slots
 
-pub AppendsRows-refl : (tables : Components) (visited : Visited) → AppendsRows tables visited tables visited
+pub AppendsRows-refl : (tables : Components) (visited : FoundStates) → AppendsRows tables visited tables visited
 AppendsRows-refl tables visited =
     record { extended = extends-refl tables; keys = refl; origins = refl; runs = prefix-refl visited.runs }
 
@@ -37,11 +37,11 @@ copied-missing row x true is e = absurd cc
 copied-missing row x false is e = is
 
 -- An insertion keeps the numbers of runs.
-pub IsPrefix-inserted_runs : (old new : Visited) (key : List ℕ) (parent : ℕ) (run : List (ℕ × Bool))
+pub IsPrefix-inserted_runs : (old new : FoundStates) (key : List ℕ) (parent : ℕ) (run : List (ℕ × Bool))
     → InsertsKey old key parent run new
     → IsPrefix old.runs new.runs
 IsPrefix-inserted_runs old new key parent run (inl a) i x at = a.2.runs i x at
-IsPrefix-inserted_runs old new key parent run (inr a) i x at = ap (λ (v : Visited). slice_get v.runs i) a.2 ∙ at
+IsPrefix-inserted_runs old new key parent run (inr a) i x at = ap (λ (v : FoundStates). slice_get v.runs i) a.2 ∙ at
 
 module _ (program : List (List Instr)) where
   -- ---- larger tables
@@ -80,7 +80,7 @@ module _ (program : List (List Instr)) where
   }
 
   -- The invariant holds with larger tables and with more runs, of the same states.
-  invariant-prepared : {old new : Components} {visited now : Visited} {start : State} {found : List State} {closed : ℕ}
+  invariant-prepared : {old new : Components} {visited now : FoundStates} {start : State} {found : List State} {closed : ℕ}
       → AppendsRows old visited new now
       → SearchInvariant program start old visited found closed
       → SearchInvariant program start new now found closed
@@ -104,8 +104,8 @@ module _ (program : List (List Instr)) where
       a = invariant-extended program rows.extended before
 
   -- Rows that were appended before a state is expanded change nothing.
-  pub expands-prepared : {old mid new : Components} {visited prepared now : Visited} (at : ℕ) (key : List ℕ) (Is : State → Type 0)
-      (Holds : State → List State → Type 0)
+  pub expands-prepared : {old mid new : Components} {visited prepared now : FoundStates} (at : ℕ) (key : List ℕ)
+      (Is : State → Type 0) (Holds : State → List State → Type 0)
       → AppendsRows old visited mid prepared
       → ExpandsState program mid prepared new now at key Is Holds
       → ExpandsState program old visited new now at key Is Holds
@@ -197,7 +197,7 @@ module _ (program : List (List Instr)) where
       ∙ slice_get-loaded_thread program key s t code p stands as_many coded (λ z at. same_Some p z (sym row ∙ at))) r.0.1 done
 
   -- Of an event that is enabled in no state of the key, nothing has to be covered.
-  pub expands-never_enabled : {tables : Components} {visited : Visited} (at : ℕ) (key : List ℕ) (e : ℕ × Bool)
+  pub expands-never_enabled : {tables : Components} {visited : FoundStates} (at : ℕ) (key : List ℕ) (e : ℕ × Bool)
       (Is : State → Type 0)
       → IsNeverEnabled program tables key e
       → ExpandsState program tables visited tables visited at key Is (λ s more. IsCovered program more s (event_of e))
@@ -213,7 +213,7 @@ module _ (program : List (List Instr)) where
   -- ---- the state after a transition
 
   -- The state to which a transition leads, followed by invisible events of all threads, is found.
-  pub IsCovered-transition : {old settled new : Components} {visited now : Visited} {runs : List (List (ℕ × Bool))} (at c : ℕ)
+  pub IsCovered-transition : {old settled new : Components} {visited now : FoundStates} {runs : List (List (ℕ × Bool))} (at c : ℕ)
       (t : Transition) (code : List Instr) (key own all next n : List ℕ) (parent : ℕ) (run : List (ℕ × Bool))
       (is : IsTransition program old runs t)
       → t.event.0 ≡ c

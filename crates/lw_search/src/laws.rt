@@ -8,7 +8,7 @@ ghost use Rattle.lw_tso.specs.Runs.{MachineRunsTo, is_final};
 ghost use Rattle.lw_tso.specs.EventEffects.{cpu_of};
 ghost use Rattle.lw_tso.specs.Machines.{MachineTransition};
 ghost use Rattle.lw_search.specs.inner.InvisibleEvents.{IsInvisible, IsForward};
-ghost use Rattle.lw_search.specs.inner.StateKeys.{State, Components, Visited};
+ghost use Rattle.lw_search.specs.inner.StateKeys.{State, Components, FoundStates};
 ghost use Rattle.lw_search.specs.inner.Invariant.{Covers, SearchInvariant};
 
 /// An invisible event can be taken before all other events: each final state that some run reaches from the state before it is
@@ -20,7 +20,7 @@ pub(crate) fn invisible_events_can_be_taken_first()
 
 /// A search that has visited each state that it found has found all final states that are reachable.
 pub(crate) fn all_final_states_are_found()
-    ensures { (program : List (List Instr)) (start : State) (tables : Components) (visited : Visited) (found : List State)
+    ensures { (program : List (List Instr)) (start : State) (tables : Components) (visited : FoundStates) (found : List State)
         → SearchInvariant program start tables visited found (length found)
         → (events : List Event) (end : State) → MachineRunsTo flat_memory program events start end → IsTrue (is_final program end)
         → (i : ℕ) × (slice_get found i ≡ Some end) }

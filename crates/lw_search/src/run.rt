@@ -1,4 +1,4 @@
-//! Runs: the events that lead from one state to another, as rows that can be hashed.
+//! Runs: the events that lead from one state to another, as queues that can be hashed.
 ghost use Rattle.std.specs.Prelude.{◌≡◌, true, false};
 ghost use Rattle.lw_search.specs.inner.StateKeys.{event_of};
 
@@ -30,7 +30,7 @@ impl Model for RunEvent {
 pub(crate) type Run<A> = Queue<RunEvent, A>;
 
 impl RunEvent {
-    /// Returns the row of a thread's step.
+    /// Returns the event of a thread's step.
     pub(crate) fn step(cpu: Cpu) -> Self
         ensures { result ≡ (cpu, false) }
     {
@@ -40,7 +40,7 @@ impl RunEvent {
         }
     }
 
-    /// Returns the row of a thread's drain.
+    /// Returns the event of a thread's drain.
     pub(crate) fn drain(cpu: Cpu) -> Self
         ensures { result ≡ (cpu, true) }
     {
@@ -50,7 +50,7 @@ impl RunEvent {
         }
     }
 
-    /// Returns a number that no other event of a run has.
+    /// Returns the event's number, which is below 8. Different events have different numbers.
     pub(crate) fn code(self) -> u32 {
         u32::from(self.thread).wrapping_shl(1) | u32::from(self.is_drain)
     }

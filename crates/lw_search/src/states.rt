@@ -32,9 +32,9 @@ pub(crate) struct StateTable<A: Allocator> {
 }
 
 impl<A: Allocator> Model for StateTable<A> {
-    ghost use Rattle.lw_search.specs.inner.StateKeys.{Visited};
+    ghost use Rattle.lw_search.specs.inner.StateKeys.{FoundStates};
 
-    ghost Value = { Visited };
+    ghost Value = { FoundStates };
 
     ghost view = { λ s. record { keys = s.keys.keys; origins = s.origins.items; runs = s.runs.keys } };
 }

@@ -49,7 +49,7 @@ pub fn a_frame_has_one_source()
     ensures { (frame : TestFrame) (s t : SourceTest) → HasSource frame s → HasSource frame t → s ≡ t }
 {}
 
-/// States that at most one fault of the same cells is true, and none of the cells of a source test.
+/// States that, apart from a lack of memory, at most one fault of the same cells is true, and none of the cells of a source test.
 pub fn source_cells_have_one_fault()
     ensures one_fault { (names : NameTable) (columns : List (List PlacedCell)) (f g : CellFault) → f.cause ≢ Memory → g.cause ≢ Memory
         → CellFaultIsTrue source_grammar names columns f → CellFaultIsTrue source_grammar names columns g → f ≡ g }

@@ -53,7 +53,7 @@ pub fn read_test<L: StatementReader, A: Allocator + Copy>(
     parts_of(head, threads)
 }
 
-/// States that at most one fault of the same cells is true, and none of the cells of a test.
+/// States that, apart from a lack of memory, at most one fault of the same cells is true, and none of the cells of a test.
 pub fn cells_have_one_fault<L: StatementReader>()
     requires lawful { IsSpelling L.spelling L.made }
     ensures one_fault { (names : NameTable) (columns : List (List PlacedCell)) (f g : CellFault) → f.cause ≢ Memory → g.cause ≢ Memory

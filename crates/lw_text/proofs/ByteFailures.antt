@@ -1,5 +1,5 @@
 -- A text fails at one place only, and for one cause, before the tokens of its body: in a token, and in its
--- preamble. The first half of the law that a text fails at one place (OneFault).
+-- preamble. The first half of the law that a text fails at one place (OneFault). (In bytes, 34 is `"` and 123 is `{`.)
 use Rattle.lw_text.proofs.Common.{◌≡◌, ℕ, ◌<◌, inl, inr, Bool, true, false, not, [], ◌∷◌, ◌++◌, length, refl}
 use Rattle.lw_text.proofs.Common.{sym, ap, ◌∙◌, subst, arith, ◌==◌, AllByRecursion, All-mono, Arch, Bytes}
 use Rattle.lw_text.proofs.Common.{first_byte_is, is_ascii_digit, is_blank, is_key_byte, is_name_byte}

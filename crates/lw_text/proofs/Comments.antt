@@ -62,11 +62,11 @@ pub record Progress (bytes : Bytes) (depth : ℕ) (rest : Bytes) : Type 0 where
   pub bound : depth + length rest ≤ length bytes
 
 -- After `(*` one more comment is open.
-pub Progress_open : {bytes rest after : Bytes} {depth : ℕ}
+pub Progress-after_open : {bytes rest after : Bytes} {depth : ℕ}
     → Progress bytes depth rest
     → rest ≡ 40 ∷ 42 ∷ after
     → Progress bytes (depth + 1) after
-Progress_open {bytes} {rest} {after} {depth} p e = rw add-one (record {
+Progress-after_open {bytes} {rest} {after} {depth} p e = rw add-one (record {
   given = λ end c. p.given end (let d = c.2 in (d.0, rw e (nested c.1 d.1), d.2));
   only = λ end c.
       let d = p.only end c in
@@ -76,13 +76,13 @@ Progress_open {bytes} {rest} {after} {depth} p e = rw add-one (record {
 })
 
 -- After `*)` that closes an inner comment, one fewer is open.
-pub Progress_close : {bytes rest after : Bytes} {depth : ℕ}
+pub Progress-after_close : {bytes rest after : Bytes} {depth : ℕ}
     → Progress bytes depth rest
     → rest ≡ 42 ∷ 41 ∷ after
     → (depth ≡ 0 → ⊥)
     → Progress bytes (depth - 1) after
-Progress_close {depth = zero} p e ne = absurd (ne refl)
-Progress_close {bytes} {rest} {after} {depth = suc depth} p e ne = rw sub-one (record {
+Progress-after_close {depth = zero} p e ne = absurd (ne refl)
+Progress-after_close {bytes} {rest} {after} {depth = suc depth} p e ne = rw sub-one (record {
   given = λ end c. p.given end (after, rw e closed, c);
   only = λ end c.
       let d = p.only end c in
@@ -92,21 +92,21 @@ Progress_close {bytes} {rest} {after} {depth = suc depth} p e ne = rw sub-one (r
 })
 
 -- After `*)` that closes the outermost comment, the comment has ended.
-pub Progress_done : {bytes rest after : Bytes} {depth : ℕ}
+pub Comment-of_progress : {bytes rest after : Bytes} {depth : ℕ}
     → Progress bytes depth rest
     → rest ≡ 42 ∷ 41 ∷ after
     → depth ≡ 0
     → Comment bytes after
-Progress_done {bytes} {rest} {after} {depth} p e z = p.given after (after, rw e closed, rw z refl)
+Comment-of_progress {bytes} {rest} {after} {depth} p e z = p.given after (after, rw e closed, rw z refl)
 
 -- Any other byte preserves the number of open comments.
-pub Progress_other : {bytes rest next : Bytes} {depth b : ℕ}
+pub Progress-after_other : {bytes rest next : Bytes} {depth b : ℕ}
     → Progress bytes depth rest
     → rest ≡ b ∷ next
     → begins_pair 40 42 rest ≡ false
     → begins_pair 42 41 rest ≡ false
     → Progress bytes depth next
-Progress_other {bytes} {rest} {next} {depth} {b} p e m n =
+Progress-after_other {bytes} {rest} {next} {depth} {b} p e m n =
     let mark : begins_mark (b ∷ next) ≡ false = subst (λ x. begins_mark x ≡ false) e (begins_no_mark rest m n) in
     record {
       given = λ end c. p.given end (c.0, rw e (other mark c.1), c.2);

@@ -1,5 +1,6 @@
 -- Quoted texts and lines `Key=value` have unique ends, and so have sequences of them, the notes; and a loop
 -- finds the end. A step of the proof that a text has one frame; the loop of `after_notes` goes by `Passed`.
+-- (In bytes, 10 is a newline, 34 is `"`, 40 is `(`, 42 is `*`, 61 is `=` and 123 is `{`.)
 use Rattle.lw_text.proofs.Common.{◌≡◌, ℕ, ◌<◌, ◌≤◌, inl, inr, Bool, true, false, not, [], ◌∷◌, ◌++◌, length}
 use Rattle.lw_text.proofs.Common.{length-append, append_assoc, refl, sym, ap, ◌∙◌, subst, arith, ◌==◌}
 use Rattle.lw_text.proofs.Common.{eqb-true, AllByRecursion, list_all, not-true, not-false, HoldsOfNothing}
@@ -21,8 +22,8 @@ pub Without-of_all : (c : ℕ) (bytes : Bytes) → AllByRecursion (λ b. (b == c
 Without-of_all c bytes all = All-mono (λ b. (b == c) ≡ false) _ (λ b e. ap not e) bytes all
 
 -- Bytes that satisfy `Without` all differ from c.
-Without_inv : (c : ℕ) (bytes : Bytes) → Without c bytes → AllByRecursion (λ b. (b == c) ≡ false) bytes
-Without_inv c bytes all = All-mono _ (λ b. (b == c) ≡ false) (λ b e. not-true (b == c) e) bytes all
+Without-inv : (c : ℕ) (bytes : Bytes) → Without c bytes → AllByRecursion (λ b. (b == c) ≡ false) bytes
+Without-inv c bytes all = All-mono _ (λ b. (b == c) ≡ false) (λ b e. not-true (b == c) e) bytes all
 
 -- The parts of a text that starts with a quote: the bytes up to the next quote, and the rest.
 module _ (text inside quoted rest : Bytes) (e : text ≡ 34 ∷ inside) (f : inside ≡ quoted ++ rest) (all : Without 34 quoted)
@@ -46,7 +47,7 @@ module _ (text inside quoted rest : Bytes) (e : text ≡ 34 ∷ inside) (f : ins
       let h : not (b == 34) ≡ false = subst (λ x. first_byte_is (λ c. not (c == 34)) x ≡ false) g longest in
       let i : b ≡ 34 = eqb-true b 34 (not-false (b == 34) h) in
       let j : rest ≡ 34 ∷ after = cc in
-      record { inside = quoted; parts = e ∙ ap (λ x. 34 ∷ x) (f ∙ ap (λ x. quoted ++ x) j); plain = Without_inv 34 quoted all }
+      record { inside = quoted; parts = e ∙ ap (λ x. 34 ∷ x) (f ∙ ap (λ x. quoted ++ x) j); plain = Without-inv 34 quoted all }
 
 -- A quoted text starts with a quote.
 pub Quoted-front : (text end : Bytes) → Quoted text end → first_byte_is (λ b. b == 34) text ≡ true
@@ -124,7 +125,7 @@ module _ (text key rest spaces left : Bytes) (e : text ≡ key ++ rest) (all : K
     not_empty = some;
     are_key_bytes = all;
     spaced = spaced;
-    one_line = Without_inv 10 value one;
+    one_line = Without-inv 10 value one;
     longest = last;
   }
 
@@ -282,8 +283,12 @@ pub record Passed (bytes rest : Bytes) : Type 0 where
   pub bound : length rest ≤ length bytes
 
 -- After trivia and a note, the invariant holds again.
-pub Passed_note : {bytes rest start after : Bytes} → Passed bytes rest → Trivia rest start → Note start after → Passed bytes after
-Passed_note {bytes} {rest} {start} {after} p g n =
+pub Passed-after_note : {bytes rest start after : Bytes}
+    → Passed bytes rest
+    → Trivia rest start
+    → Note start after
+    → Passed bytes after
+Passed-after_note {bytes} {rest} {start} {after} p g n =
     let t = Note-suffix start after n in
     record {
       given = λ end m. p.given end (note g n m);
@@ -292,17 +297,17 @@ Passed_note {bytes} {rest} {start} {after} p g n =
     }
 
 -- Trivia and a note take at least one byte.
-pub Passed_shorter : {rest start after : Bytes} → Trivia rest start → Note start after → length after < length rest
-Passed_shorter {rest} {start} {after} g n =
+pub Note-shorter : {rest start after : Bytes} → Trivia rest start → Note start after → length after < length rest
+Note-shorter {rest} {start} {after} g n =
     let t = Note-suffix start after n in omega (arith, Trivia-shorter g, ap length t.1, length-append t.0 after, t.2)
 
 -- At `{` the notes have ended.
-pub Passed_done : {bytes rest start : Bytes}
+pub Notes-of_passed : {bytes rest start : Bytes}
     → Passed bytes rest
     → Trivia rest start
     → first_byte_is (λ b. b == 123) start ≡ true
     → Notes bytes start
-Passed_done {start = start} p g h = p.given start (none g h)
+Notes-of_passed {start = start} p g h = p.given start (none g h)
 
 -- Notes start with trivia that no more trivia follows.
 pub Notes-trivia_first : {text rest : Bytes}
@@ -312,11 +317,11 @@ Notes-trivia_first (none {rest = rest} t h) = (rest, t, block_no_trivia rest h)
 Notes-trivia_first (note {mid = mid} {after = after} t n m) = (mid, t, note_no_trivia mid after n)
 
 -- If a comment among the notes is not closed, there is no sequence of notes.
-pub Passed_open : {bytes rest : Bytes}
+pub no_notes-if_comment_is_open : {bytes rest : Bytes}
     → Passed bytes rest
     → ((start : Bytes) → begins_trivia start ≡ false → Trivia rest start → ⊥)
     → HoldsOfNothing (Notes bytes)
-Passed_open p never end m = let k = Notes-trivia_first (p.only end m) in never k.0 k.2 k.1
+no_notes-if_comment_is_open p never end m = let k = Notes-trivia_first (p.only end m) in never k.0 k.2 k.1
 
 -- If neither `{` nor a note follows the trivia, there is no sequence of notes.
 pub no_notes-if_no_note : {bytes rest start : Bytes}

@@ -1,5 +1,5 @@
 -- The end of blanks and comments is unique, and a loop finds it. The loop of `after_trivia` goes by
--- `Skipped`.
+-- `Skipped`. (In bytes, 40 42 is `(*`, which begins a comment.)
 use Rattle.lw_text.proofs.Common.{◌≡◌, ℕ, true, false, ◌||◌, [], ◌∷◌, ◌++◌, ◌≤◌, length, length-append, arith}
 use Rattle.lw_text.proofs.Common.{refl, sym, ap, ◌∙◌, subst, AllByRecursion, HoldsOfNothing, Bytes, is_blank}
 use Rattle.lw_text.proofs.Common.{first_byte_is, begins_pair, begins_trivia, Comment, Trivia, blank, comment}

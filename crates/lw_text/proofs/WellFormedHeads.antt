@@ -83,21 +83,21 @@ IsWordNumber-if true v w h k = h
 IsWordNumber-if false v w h k = k
 
 -- The word of the last initializer for a site, or the default, is a word.
-word_of_last-IsWordNumber : (names : List (List ℕ)) (s : Seen) (es : List InitializerSyntax) (w : ℕ)
+IsWordNumber-word_of_last : (names : List (List ℕ)) (s : Seen) (es : List InitializerSyntax) (w : ℕ)
     → AllByRecursion (λ e. IsWordNumber e.word) es
     → IsWordNumber w
     → IsWordNumber (fold (λ w e. if seen_eq (seen_in names e.site) s then e.word else w) w es)
-word_of_last-IsWordNumber names s [] w h k = k
-word_of_last-IsWordNumber names s (e ∷ es) w h k =
+IsWordNumber-word_of_last names s [] w h k = k
+IsWordNumber-word_of_last names s (e ∷ es) w h k =
     let now = seen_eq (seen_in names e.site) s in
-    word_of_last-IsWordNumber names s es (if now then e.word else w) h.1 (IsWordNumber-if now e.word w h.0 k)
+    IsWordNumber-word_of_last names s es (if now then e.word else w) h.1 (IsWordNumber-if now e.word w h.0 k)
 
 -- The initial value of a register or location is a word.
-initial_word-IsWordNumber : (names : List (List ℕ)) (es : List InitializerSyntax)
+IsWordNumber-initial_word : (names : List (List ℕ)) (es : List InitializerSyntax)
     → AllByRecursion (λ e. IsWordNumber e.word) es
     → (s : Seen)
     → IsWordNumber (initial_word_of names es s)
-initial_word-IsWordNumber names es h s = word_of_last-IsWordNumber names s es 0 h (omega arith)
+IsWordNumber-initial_word names es h s = IsWordNumber-word_of_last names s es 0 h (omega arith)
 
 -- ---- terminals
 
@@ -128,12 +128,12 @@ IsLocationName-insert_names : (names ns : List (List ℕ))
     → AllByRecursion IsLocationName (insert_names names ns)
 IsLocationName-insert_names names [] h k = h
 IsLocationName-insert_names names (n ∷ ns) h k =
-    IsLocationName-insert_names (insert_name names n) ns (insert_name-IsLocationName (contains_name names n) refl) k.1
+    IsLocationName-insert_names (insert_name names n) ns (IsLocationName-insert_name (contains_name names n) refl) k.1
   where
     -- Inserting a location's name preserves that all names are locations' names.
-    insert_name-IsLocationName : (b : Bool) → contains_name names n ≡ b → AllByRecursion IsLocationName (insert_name names n)
-    insert_name-IsLocationName true e = rw e h
-    insert_name-IsLocationName false e = rw e (AllByRecursion-append IsLocationName names (n ∷ []) h (k.0, tt))
+    IsLocationName-insert_name : (b : Bool) → contains_name names n ≡ b → AllByRecursion IsLocationName (insert_name names n)
+    IsLocationName-insert_name true e = rw e h
+    IsLocationName-insert_name false e = rw e (AllByRecursion-append IsLocationName names (n ∷ []) h (k.0, tt))
 
 -- ---- the proposition
 
@@ -192,7 +192,7 @@ head_well_formed arch ts name s p allowed parts whole =
     rw (← table_parts s) at
     (insert_names-contains_all (with_sites (with_sites [] (sites_of s.initializers)) s.listed)
     (site_names (sites_in s.terminals))) in
-    let begins = initial_word-IsWordNumber _ s.initializers (block_words arch ts parts.behind_block s.initializers parts.block) in
+    let begins = IsWordNumber-initial_word _ s.initializers (block_words arch ts parts.behind_block s.initializers parts.block) in
     record {
       name = allowed;
       has_thread = header_some parts.behind_block parts.behind_header s.threads parts.header;

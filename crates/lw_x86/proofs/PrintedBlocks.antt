@@ -73,8 +73,8 @@ module _ (head : TestHead) (well : IsWellFormedHead head) where
   initial_is_word (Location x) = row_word head.init_words x well.location_words
 
   -- Each register or location that has an initializer is of the test.
-  pub initialized_sites-IsOfTest : AllByRecursion IsOfTest (initialized_sites head)
-  initialized_sites-IsOfTest =
+  pub IsOfTest-initialized_sites : AllByRecursion IsOfTest (initialized_sites head)
+  IsOfTest-initialized_sites =
       AllByRecursion-append IsOfTest _ _
       (AllByRecursion-filter IsOfTest (needs_initializer head) _
       (AllByRecursion-flat_map_range IsOfTest thread_registers 0 head.threads
@@ -149,7 +149,7 @@ module _ (head : TestHead) (well : IsWellFormedHead head) where
       rw (← block_text-by_initializers)
       (Spells-mono block_bytes (omega (arith, initialized_site_count))
       (Spells-append_anything (Spells-append_anything (Spells-mark 123 refl (λ c. refl) refl (omega arith)) Spells-newline)
-      (Spells-append_anything (initializers_spelled (initialized_sites head) initialized_sites-IsOfTest)
+      (Spells-append_anything (initializers_spelled (initialized_sites head) IsOfTest-initialized_sites)
       (Spells-append_anything (Spells-mark 125 refl (λ c. refl) refl (omega arith)) Spells-newline))))
 
   -- ---- what the block says
@@ -179,7 +179,7 @@ module _ (head : TestHead) (well : IsWellFormedHead head) where
     refl,
     rw (append_assoc (flat_map (λ e. initializer_tokens e ++ codes ";" ∷ []) (initializers_of head)))
         (ParsesSepEndBy-tokens _ _ (codes ";") (codes "}") _ rest
-        (AllByRecursion-map _ _ _ (All-mono _ _ IsInitializer-initializer_tokens _ initialized_sites-IsOfTest))),
+        (AllByRecursion-map _ _ _ (All-mono _ _ IsInitializer-initializer_tokens _ IsOfTest-initialized_sites))),
   )
 
   -- Each initializer of a register is of a thread of the test.
@@ -188,4 +188,4 @@ module _ (head : TestHead) (well : IsWellFormedHead head) where
       AllByRecursion-map _ (initializer_of head) (initialized_sites head)
       (All-mono _ _
       (λ s h. site_exists X86 head.threads well.bounded head.locs (named_site head.locs s) (IsPrintable-IsOfTest s h))
-      (initialized_sites head) initialized_sites-IsOfTest)
+      (initialized_sites head) IsOfTest-initialized_sites)

@@ -15,7 +15,7 @@ use Rattle.lw_x86.proofs.Common.{has_seen-location, has_seen-append_left, has_se
 use Rattle.lw_x86.proofs.Common.{filter_has_seen-all_seen, named_site, IsPrintable, sites_in_table}
 use Rattle.lw_x86.proofs.Common.{seen_in-named_site, initial_word}
 use Rattle.lw_x86.proofs.PrintedBlocks.{needs_initializer, initialized_sites, initializer_of, initializers_of}
-use Rattle.lw_x86.proofs.PrintedBlocks.{initialized_sites-IsOfTest}
+use Rattle.lw_x86.proofs.PrintedBlocks.{IsOfTest-initialized_sites}
 
 -- A `map` of a `map` is a single `map`.
 map_twice : {X Y Z : Type 0} (f : Y → Z) (g : X → Y) (xs : List X) → map f (map g xs) ≡ map (λ x. f (g x)) xs
@@ -122,7 +122,7 @@ module _ (head : TestHead) (well : IsWellFormedHead head) where
       → (initial_word head s ≡ 0) ⊎ (has_seen (initialized_sites head) s ≡ true)
       → initial_word_of head.locs (initializers_of head) s ≡ initial_word head s
   initial_word_of-initializers s =
-      go (has_seen (initialized_sites head) s) (words_step (initialized_sites head) s 0 (initialized_sites-IsOfTest head well))
+      go (has_seen (initialized_sites head) s) (words_step (initialized_sites head) s 0 (IsOfTest-initialized_sites head well))
     where
       go : (b : Bool)
           → initial_word_of head.locs (initializers_of head) s ≡ word_if b s 0

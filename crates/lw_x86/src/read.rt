@@ -55,7 +55,7 @@ pub fn a_text_has_one_program()
     ensures { (text : Bytes) (p q : X86Test) → IsTextOf text p → IsTextOf text q → p ≡ q }
 {}
 
-/// States that at most one fault of the same cells is true, and none of the cells of an x86 test.
+/// States that, apart from a lack of memory, at most one fault of the same cells is true, and none of the cells of an x86 test.
 pub fn x86_cells_have_one_fault()
     ensures one_fault { (names : NameTable) (columns : List (List PlacedCell)) (f g : CellFault) → f.cause ≢ Memory → g.cause ≢ Memory
         → CellFaultIsTrue x86_grammar names columns f → CellFaultIsTrue x86_grammar names columns g → f ≡ g }

@@ -8,24 +8,24 @@ use Rattle.lw_memory.specs.Memory.{is_held}
 use Rattle.lw_mesi.specs.CacheLines.{Copy, Modified, Invalid, CacheLine, copy_of, copy_state, copy_word, dirty_word_or, coherent_word}
 use Rattle.lw_mesi.specs.Coherence.{IsOnlyCopy, IsDirty, IsCoherentCacheLine}
 use Rattle.lw_mesi.specs.Snooping.{ProtocolTable, is_held_anywhere, copy_from, get_m, cache_line_to_read, cache_line_to_write, cache_line_with_word, cache_line_evicted}
-use Rattle.lw_mesi.specs.laws.Coherent.{copy_in, at_index, put_here, put_there, copy_map, clean, dirty, put_clean, HasNoOtherCopy, no_word, one_word, single, LineAfterRequest}
+use Rattle.lw_mesi.specs.laws.Coherent.{copy_in, at_index, copy_in-set_same, copy_in-set_other, copy_in-map, dirty_word_or-if_clean, dirty_word_or-if_dirty, dirty_word_or-set_clean, HasNoOtherCopy, copy_word-none_if_invalid, copy_word-unique, IsCoherentCacheLine-if_single, LineAfterRequest}
 
 -- If no cache holds the line, each copy is invalid.
-pub none_held : (copies : List Copy) → is_held_anywhere copies ≡ false → (t : ℕ) → copy_in copies t ≡ Invalid
-none_held [] h t = refl
-none_held (Invalid ∷ copies) h zero = refl
-none_held (Invalid ∷ copies) h (suc t) = none_held copies h t
-none_held _ h t = cc
+pub copy_in-invalid_if_none_held : (copies : List Copy) → is_held_anywhere copies ≡ false → (t : ℕ) → copy_in copies t ≡ Invalid
+copy_in-invalid_if_none_held [] h t = refl
+copy_in-invalid_if_none_held (Invalid ∷ copies) h zero = refl
+copy_in-invalid_if_none_held (Invalid ∷ copies) h (suc t) = copy_in-invalid_if_none_held copies h t
+copy_in-invalid_if_none_held _ h t = cc
 
 -- The copy that a load brings, in S or in E, is not dirty.
-from_clean : (b : Bool) (w : ℕ) → IsDirty (copy_from b w) → ⊥
-from_clean true w h = h
-from_clean false w h = h
+not-IsDirty-of_copy_from : (held : Bool) (w : ℕ) → IsDirty (copy_from held w) → ⊥
+not-IsDirty-of_copy_from true w h = h
+not-IsDirty-of_copy_from false w h = h
 
 -- The copy that a load brings has the word that was sent.
-pub from_word : (b : Bool) (w : ℕ) → copy_word (copy_from b w) ≡ Some w
-from_word true w = refl
-from_word false w = refl
+pub copy_word-copy_from : (held : Bool) (w : ℕ) → copy_word (copy_from held w) ≡ Some w
+copy_word-copy_from true w = refl
+copy_word-copy_from false w = refl
 
 -- The effect of a GetS on the other copies, in each protocol: it preserves their words, leaves none in M or E, and makes none dirty.
 pub record SharesOthers (f : Copy → Copy) (line : CacheLine) : Type 0 where
@@ -42,36 +42,36 @@ module _ (t : ℕ) (line : CacheLine) (lt : t < most_threads) (sound : IsCoheren
     pub others : HasNoOtherCopy l t
 
   -- If processor t has a copy in M or E, a write hits: it is the only copy, and has the coherent word.
-  pub hit_to_write : (c : Copy) (w : ℕ) → copy_of line t ≡ c → copy_word c ≡ Some w → IsOnlyCopy c → ToWrite line
-  hit_to_write c w e h own = record {
+  pub ToWrite-if_hit : (c : Copy) (w : ℕ) → copy_of line t ≡ c → copy_word c ≡ Some w → IsOnlyCopy c → ToWrite line
+  ToWrite-if_hit c w e h own = record {
     as_many = sound.as_many;
     word = (ap copy_word e ∙ h) ∙ ap Some (sound.same_word t w (ap copy_word e ∙ h));
     others = λ u ne. sound.alone t u (subst IsOnlyCopy (sym e) own) ne;
   }
 
   -- After processor t's GetM the other copies are gone, and its own has the coherent word.
-  pub get_m_to_write : ToWrite (get_m t line)
-  get_m_to_write =
+  pub ToWrite-after_get_m : ToWrite (get_m t line)
+  ToWrite-after_get_m =
       let gone : List Copy = map (λ c. Invalid) line.copies in
       let long : length gone ≡ most_threads = length-map line.copies (λ c. Invalid) ∙ sound.as_many in
       record {
         as_many = length-set gone t (Modified (coherent_word line)) ∙ long;
-        word = ap copy_word (put_here gone t (Modified (coherent_word line)) (omega (arith, long)));
-        others = λ u ne. put_there gone t (Modified (coherent_word line)) u ne ∙ copy_map (λ c. Invalid) line.copies u refl;
+        word = ap copy_word (copy_in-set_same gone t (Modified (coherent_word line)) (omega (arith, long)));
+        others = λ u ne. copy_in-set_other gone t (Modified (coherent_word line)) u ne ∙ copy_in-map (λ c. Invalid) line.copies u refl;
       }
 
   -- A write to the only copy leaves a coherent line whose coherent word is the written one.
-  pub written : (w : ℕ) (l : CacheLine) → ToWrite l → LineAfterRequest w (cache_line_with_word t w l)
-  written w l h =
+  pub LineAfterRequest-after_write : (w : ℕ) (l : CacheLine) → ToWrite l → LineAfterRequest w (cache_line_with_word t w l)
+  LineAfterRequest-after_write w l h =
       let copies : List Copy = set l.copies t (Modified w) in
-      let here : copy_in copies t ≡ Modified w = put_here l.copies t (Modified w) (omega (arith, h.as_many)) in
-      let others : (u : ℕ) → t ≢ u → copy_in copies u ≡ Invalid = λ u ne. put_there l.copies t (Modified w) u ne ∙ h.others u ne in
+      let here : copy_in copies t ≡ Modified w = copy_in-set_same l.copies t (Modified w) (omega (arith, h.as_many)) in
+      let others : (u : ℕ) → t ≢ u → copy_in copies u ≡ Invalid = λ u ne. copy_in-set_other l.copies t (Modified w) u ne ∙ h.others u ne in
       let d : dirty_word_or l.memory copies ≡ w =
-      dirty l.memory w copies t (subst IsDirty (sym here) tt) (ap copy_word here) (λ u ne x. subst IsDirty (others u ne) x) in
+      dirty_word_or-if_dirty l.memory w copies t (subst IsDirty (sym here) tt) (ap copy_word here) (λ u ne x. subst IsDirty (others u ne) x) in
       record {
         content = d;
-        sound = single (cache_line_with_word t w l) t (length-set l.copies t (Modified w) ∙ h.as_many) others
-            (λ k e. one_word (copy_in copies t) k w (ap copy_word here) e ∙ sym d);
+        sound = IsCoherentCacheLine-if_single (cache_line_with_word t w l) t (length-set l.copies t (Modified w) ∙ h.as_many) others
+            (λ k e. copy_word-unique (copy_in copies t) k w (ap copy_word here) e ∙ sym d);
       }
 
   -- What a load leaves: the same coherent word, and a copy with it.
@@ -80,8 +80,8 @@ module _ (t : ℕ) (line : CacheLine) (lt : t < most_threads) (sound : IsCoheren
     pub word : copy_word (copy_of l t) ≡ Some (coherent_word line)
 
   -- A load that hits leaves the line unchanged, and finds the coherent word.
-  pub hit_loaded : (c : Copy) (w : ℕ) → copy_of line t ≡ c → copy_word c ≡ Some w → Loaded line
-  hit_loaded c w e h = record {
+  pub Loaded-if_hit : (c : Copy) (w : ℕ) → copy_of line t ≡ c → copy_word c ≡ Some w → Loaded line
+  Loaded-if_hit c w e h = record {
     after = record { content = refl; sound = sound };
     word = (ap copy_word e ∙ h) ∙ ap Some (sound.same_word t w (ap copy_word e ∙ h));
   }
@@ -109,8 +109,8 @@ module _ (t : ℕ) (line : CacheLine) (lt : t < most_threads) (sound : IsCoheren
       → LineAfterRequest (coherent_word line) (record { copies = set copies t c; memory = m })
   changed f c copies m h =
       let l : CacheLine = record { copies = set copies t c; memory = m } in
-      let here : copy_of l t ≡ c = put_here copies t c (let long = h.long in omega (arith, long)) in
-      let there : (u : ℕ) → t ≢ u → copy_of l u ≡ f (copy_of line u) = λ u ne. put_there copies t c u ne ∙ h.others u in
+      let here : copy_of l t ≡ c = copy_in-set_same copies t c (let long = h.long in omega (arith, long)) in
+      let there : (u : ℕ) → t ≢ u → copy_of l u ≡ f (copy_of line u) = λ u ne. copy_in-set_other copies t c u ne ∙ h.others u in
       record {
         content = h.content;
         sound = record {
@@ -138,7 +138,7 @@ module _ (t : ℕ) (line : CacheLine) (lt : t < most_threads) (sound : IsCoheren
       → Loaded (record { copies = set (map f line.copies) t (copy_from b (coherent_word line)); memory = m })
   get_s_loaded f m shared same mine b held =
       let v : ℕ = coherent_word line in
-      let are : (u : ℕ) → copy_in (map f line.copies) u ≡ f (copy_of line u) = λ u. copy_map f line.copies u shared.invalid in
+      let are : (u : ℕ) → copy_in (map f line.copies) u ≡ f (copy_of line u) = λ u. copy_in-map f line.copies u shared.invalid in
       let long : length (map f line.copies) ≡ most_threads = length-map line.copies f ∙ sound.as_many in
       let old_clean : IsDirty (copy_in (map f line.copies) t) → ⊥ = λ d. subst IsDirty (are t ∙ ap f mine ∙ shared.invalid) d in
       record {
@@ -146,32 +146,32 @@ module _ (t : ℕ) (line : CacheLine) (lt : t < most_threads) (sound : IsCoheren
           invalid = shared.invalid;
           long = long;
           others = are;
-          content = put_clean m (map f line.copies) t (copy_from b v) old_clean (from_clean b v) ∙ same;
-          clean = from_clean b v;
-          own = λ w h. one_word (copy_from b v) w v (from_word b v) h;
+          content = dirty_word_or-set_clean m (map f line.copies) t (copy_from b v) old_clean (not-IsDirty-of_copy_from b v) ∙ same;
+          clean = not-IsDirty-of_copy_from b v;
+          own = λ w h. copy_word-unique (copy_from b v) w v (copy_word-copy_from b v) h;
           word = shared.word;
           dirty = shared.dirty;
           alone = λ only u. nobody b held only u;
           only = λ u only. absurd (shared.free u only);
         });
-        word = ap copy_word (put_here (map f line.copies) t (copy_from b v) (omega (arith, long))) ∙ from_word b v;
+        word = ap copy_word (copy_in-set_same (map f line.copies) t (copy_from b v) (omega (arith, long))) ∙ copy_word-copy_from b v;
       }
     where
       -- If the requestor's copy is in E, nobody else has a copy.
       nobody : (b : Bool) → (b ≡ false → is_held_anywhere line.copies ≡ false) → IsOnlyCopy (copy_from b (coherent_word line)) → (u : ℕ) → f (copy_of line u) ≡ Invalid
       nobody true e own u = absurd own
-      nobody false e own u = ap f (none_held line.copies (e refl) u) ∙ shared.invalid
+      nobody false e own u = ap f (copy_in-invalid_if_none_held line.copies (e refl) u) ∙ shared.invalid
 
   -- Without the own copy the line is coherent too, if the coherent word is the same.
-  without_own : (m : ℕ)
+  LineAfterRequest-without_own : (m : ℕ)
       → dirty_word_or m (set line.copies t Invalid) ≡ coherent_word line → LineAfterRequest (coherent_word line) (record { copies = set line.copies t Invalid; memory = m })
-  without_own m content = changed (λ c. c) Invalid line.copies m (record {
+  LineAfterRequest-without_own m content = changed (λ c. c) Invalid line.copies m (record {
     invalid = refl;
     long = sound.as_many;
     others = λ u. refl;
     content = content;
     clean = λ d. d;
-    own = λ w h. no_word Invalid w (coherent_word line) refl h;
+    own = λ w h. copy_word-none_if_invalid Invalid w (coherent_word line) refl h;
     word = λ u. refl;
     dirty = λ u d. d;
     alone = λ only. absurd only;
@@ -185,14 +185,14 @@ module _ (t : ℕ) (line : CacheLine) (lt : t < most_threads) (sound : IsCoheren
       let copies : List Copy = set line.copies t Invalid in
       let none : (u : ℕ) → IsDirty (copy_in copies u) → ⊥ =
       at_index t (λ u. IsDirty (copy_in copies u) → ⊥)
-      (λ d. subst IsDirty (put_here line.copies t Invalid (omega (arith, sound.as_many))) d)
-      (λ u ne d. ne (sound.one_dirty t u (subst IsDirty (sym e) own) (subst IsDirty (put_there line.copies t Invalid u ne) d))) in
-      without_own w (clean w copies none ∙ sound.same_word t w (ap copy_word e ∙ h))
+      (λ d. subst IsDirty (copy_in-set_same line.copies t Invalid (omega (arith, sound.as_many))) d)
+      (λ u ne d. ne (sound.one_dirty t u (subst IsDirty (sym e) own) (subst IsDirty (copy_in-set_other line.copies t Invalid u ne) d))) in
+      LineAfterRequest-without_own w (dirty_word_or-if_clean w copies none ∙ sound.same_word t w (ap copy_word e ∙ h))
 
   -- An eviction of a clean copy leaves a coherent line with the same coherent word, and memory unchanged.
-  pub let_go : (c : Copy) → copy_of line t ≡ c → (IsDirty c → ⊥)
+  pub LineAfterRequest-if_clean_copy_evicted : (c : Copy) → copy_of line t ≡ c → (IsDirty c → ⊥)
       → LineAfterRequest (coherent_word line) (record { copies = set line.copies t Invalid; memory = line.memory })
-  let_go c e not = without_own line.memory (put_clean line.memory line.copies t Invalid (λ d. not (subst IsDirty e d)) (λ d. d))
+  LineAfterRequest-if_clean_copy_evicted c e not = LineAfterRequest-without_own line.memory (dirty_word_or-set_clean line.memory line.copies t Invalid (λ d. not (subst IsDirty e d)) (λ d. d))
 
   -- What each case of a protocol's table preserves: what a write finds, and what a load and an eviction leave.
   pub record Keeps (table : ProtocolTable) : Type 0 where

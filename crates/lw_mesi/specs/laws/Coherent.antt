@@ -15,39 +15,39 @@ pub at_index : (t : ℕ) (P : ℕ → Type 0) → P t → ((u : ℕ) → t ≢ u
 at_index t P here there u = ⊎_elim (λ same. subst P same here) (λ ne. there u ne) (cases_eq t u)
 
 -- A copy that was written into a list is the processor's copy.
-pub put_here : (copies : List Copy) (t : ℕ) (c : Copy) → t < length copies → copy_in (set copies t c) t ≡ c
-put_here copies t c lt = get_or-set_same copies t c Invalid lt
+pub copy_in-set_same : (copies : List Copy) (t : ℕ) (c : Copy) → t < length copies → copy_in (set copies t c) t ≡ c
+copy_in-set_same copies t c lt = get_or-set_same copies t c Invalid lt
 
 -- Writing a copy leaves the other copies unchanged.
-pub put_there : (copies : List Copy) (t : ℕ) (c : Copy) (u : ℕ) → t ≢ u → copy_in (set copies t c) u ≡ copy_in copies u
-put_there copies t c u ne = get_or-set_other copies t u c Invalid (λ e. ne (sym e))
+pub copy_in-set_other : (copies : List Copy) (t : ℕ) (c : Copy) (u : ℕ) → t ≢ u → copy_in (set copies t c) u ≡ copy_in copies u
+copy_in-set_other copies t c u ne = get_or-set_other copies t u c Invalid (λ e. ne (sym e))
 
 -- A function on all copies that preserves an invalid one applies to each of them.
-pub copy_map : (f : Copy → Copy) (copies : List Copy) (t : ℕ) → f Invalid ≡ Invalid → copy_in (map f copies) t ≡ f (copy_in copies t)
-copy_map f [] t e = sym e
-copy_map f (c ∷ copies) zero e = refl
-copy_map f (c ∷ copies) (suc t) e = copy_map f copies t e
+pub copy_in-map : (f : Copy → Copy) (copies : List Copy) (t : ℕ) → f Invalid ≡ Invalid → copy_in (map f copies) t ≡ f (copy_in copies t)
+copy_in-map f [] t e = sym e
+copy_in-map f (c ∷ copies) zero e = refl
+copy_in-map f (c ∷ copies) (suc t) e = copy_in-map f copies t e
 
 -- Without a copy in M or O the coherent word is memory's, w.
-pub clean : (w : ℕ) (copies : List Copy) → ((t : ℕ) → IsDirty (copy_in copies t) → ⊥) → dirty_word_or w copies ≡ w
-clean w [] h = refl
-clean w (Exclusive v ∷ copies) h = clean w copies (λ t. h (suc t))
-clean w (Shared v ∷ copies) h = clean w copies (λ t. h (suc t))
-clean w (Invalid ∷ copies) h = clean w copies (λ t. h (suc t))
-clean w _ h = absurd (h 0 tt)
+pub dirty_word_or-if_clean : (w : ℕ) (copies : List Copy) → ((t : ℕ) → IsDirty (copy_in copies t) → ⊥) → dirty_word_or w copies ≡ w
+dirty_word_or-if_clean w [] h = refl
+dirty_word_or-if_clean w (Exclusive v ∷ copies) h = dirty_word_or-if_clean w copies (λ t. h (suc t))
+dirty_word_or-if_clean w (Shared v ∷ copies) h = dirty_word_or-if_clean w copies (λ t. h (suc t))
+dirty_word_or-if_clean w (Invalid ∷ copies) h = dirty_word_or-if_clean w copies (λ t. h (suc t))
+dirty_word_or-if_clean w _ h = absurd (h 0 tt)
 
 -- With one copy in M or O the coherent word is that copy's, v.
-pub dirty : (w v : ℕ) (copies : List Copy) (t : ℕ)
+pub dirty_word_or-if_dirty : (w v : ℕ) (copies : List Copy) (t : ℕ)
     → IsDirty (copy_in copies t) → copy_word (copy_in copies t) ≡ Some v → ((u : ℕ) → t ≢ u → IsDirty (copy_in copies u) → ⊥)
     → dirty_word_or w copies ≡ v
-dirty w v (Modified k ∷ copies) zero d e h = cc
-dirty w v (Owned k ∷ copies) zero d e h = cc
-dirty w v (Modified k ∷ copies) (suc t) d e h = absurd (h 0 (omega arith) tt)
-dirty w v (Owned k ∷ copies) (suc t) d e h = absurd (h 0 (omega arith) tt)
-dirty w v (Exclusive k ∷ copies) (suc t) d e h = dirty w v copies t d e (λ u ne. h (suc u) (λ same. ne (omega arith)))
-dirty w v (Shared k ∷ copies) (suc t) d e h = dirty w v copies t d e (λ u ne. h (suc u) (λ same. ne (omega arith)))
-dirty w v (Invalid ∷ copies) (suc t) d e h = dirty w v copies t d e (λ u ne. h (suc u) (λ same. ne (omega arith)))
-dirty w v _ _ d e h = absurd d
+dirty_word_or-if_dirty w v (Modified k ∷ copies) zero d e h = cc
+dirty_word_or-if_dirty w v (Owned k ∷ copies) zero d e h = cc
+dirty_word_or-if_dirty w v (Modified k ∷ copies) (suc t) d e h = absurd (h 0 (omega arith) tt)
+dirty_word_or-if_dirty w v (Owned k ∷ copies) (suc t) d e h = absurd (h 0 (omega arith) tt)
+dirty_word_or-if_dirty w v (Exclusive k ∷ copies) (suc t) d e h = dirty_word_or-if_dirty w v copies t d e (λ u ne. h (suc u) (λ same. ne (omega arith)))
+dirty_word_or-if_dirty w v (Shared k ∷ copies) (suc t) d e h = dirty_word_or-if_dirty w v copies t d e (λ u ne. h (suc u) (λ same. ne (omega arith)))
+dirty_word_or-if_dirty w v (Invalid ∷ copies) (suc t) d e h = dirty_word_or-if_dirty w v copies t d e (λ u ne. h (suc u) (λ same. ne (omega arith)))
+dirty_word_or-if_dirty w v _ _ d e h = absurd d
 
 -- The first copy of a list does not matter for the coherent word if it is not dirty.
 skip : (w : ℕ) (c : Copy) (copies : List Copy) → (IsDirty c → ⊥) → dirty_word_or w (c ∷ copies) ≡ dirty_word_or w copies
@@ -56,13 +56,13 @@ skip w (Owned v) copies h = absurd (h tt)
 skip w _ copies h = refl
 
 -- Replacing a clean copy by a clean one preserves the coherent word.
-pub put_clean : (w : ℕ) (copies : List Copy) (t : ℕ) (c : Copy)
+pub dirty_word_or-set_clean : (w : ℕ) (copies : List Copy) (t : ℕ) (c : Copy)
     → (IsDirty (copy_in copies t) → ⊥) → (IsDirty c → ⊥) → dirty_word_or w (set copies t c) ≡ dirty_word_or w copies
-put_clean w (k ∷ copies) zero c old new = skip w c copies new ∙ sym (skip w k copies old)
-put_clean w (Exclusive k ∷ copies) (suc t) c old new = put_clean w copies t c old new
-put_clean w (Shared k ∷ copies) (suc t) c old new = put_clean w copies t c old new
-put_clean w (Invalid ∷ copies) (suc t) c old new = put_clean w copies t c old new
-put_clean w _ _ c old new = refl
+dirty_word_or-set_clean w (k ∷ copies) zero c old new = skip w c copies new ∙ sym (skip w k copies old)
+dirty_word_or-set_clean w (Exclusive k ∷ copies) (suc t) c old new = dirty_word_or-set_clean w copies t c old new
+dirty_word_or-set_clean w (Shared k ∷ copies) (suc t) c old new = dirty_word_or-set_clean w copies t c old new
+dirty_word_or-set_clean w (Invalid ∷ copies) (suc t) c old new = dirty_word_or-set_clean w copies t c old new
+dirty_word_or-set_clean w _ _ c old new = refl
 
 -- Every copy has this word.
 abbrev pub AllCopiesHold : CacheLine → ℕ → Type 0
@@ -73,17 +73,17 @@ abbrev pub HasNoOtherCopy : CacheLine → ℕ → Type 0
 HasNoOtherCopy line t = (u : ℕ) → t ≢ u → copy_of line u ≡ Invalid
 
 -- An invalid copy has no word.
-pub no_word : (c : Copy) (w v : ℕ) → c ≡ Invalid → copy_word c ≡ Some w → w ≡ v
-no_word c w v e h = let f : copy_word c ≡ None = ap copy_word e in cc
+pub copy_word-none_if_invalid : (c : Copy) (w v : ℕ) → c ≡ Invalid → copy_word c ≡ Some w → w ≡ v
+copy_word-none_if_invalid c w v e h = let f : copy_word c ≡ None = ap copy_word e in cc
 
 -- A copy has one word.
-pub one_word : (c : Copy) (w v : ℕ) → copy_word c ≡ Some v → copy_word c ≡ Some w → w ≡ v
-one_word c w v e h = cc
+pub copy_word-unique : (c : Copy) (w v : ℕ) → copy_word c ≡ Some v → copy_word c ≡ Some w → w ≡ v
+copy_word-unique c w v e h = cc
 
 -- A line is coherent if only one processor has a copy, with the coherent word.
-pub single : (line : CacheLine) (t : ℕ) → length line.copies ≡ most_threads → HasNoOtherCopy line t
+pub IsCoherentCacheLine-if_single : (line : CacheLine) (t : ℕ) → length line.copies ≡ most_threads → HasNoOtherCopy line t
     → ((w : ℕ) → copy_word (copy_of line t) ≡ Some w → w ≡ coherent_word line) → IsCoherentCacheLine line
-single line t long others word =
+IsCoherentCacheLine-if_single line t long others word =
     let none : (P : Copy → Type 0) → (P Invalid → ⊥) → (u : ℕ) → t ≢ u → P (copy_of line u) → ⊥ = λ P not u ne h. not (subst P (others u ne) h) in
     record {
       as_many = long;
@@ -97,7 +97,7 @@ single line t long others word =
           (λ k other u a b. absurd (none IsDirty (λ h. h) k other a));
       same_word = at_index t (λ u. (w : ℕ) → copy_word (copy_of line u) ≡ Some w → w ≡ coherent_word line)
           word
-          (λ u ne w e. no_word (copy_of line u) w (coherent_word line) (others u ne) e);
+          (λ u ne w e. copy_word-none_if_invalid (copy_of line u) w (coherent_word line) (others u ne) e);
     }
 
 -- The line after a request: its coherent word is v, and it is coherent.

@@ -9,8 +9,8 @@ use Rattle.lw_mesi.specs.CacheLines.{Copy, Modified, Owned, Exclusive, Shared, I
 use Rattle.lw_mesi.specs.Coherence.{IsOnlyCopy, IsDirty, IsCoherentCacheLine, IsProtocolState, HasProtocolStates}
 use Rattle.lw_mesi.specs.Snooping.{is_held_anywhere, copy_from, get_m, on_load, on_write, on_evict, cache_line_to_read, cache_line_to_write, cache_line_written, cache_line_evicted}
 use Rattle.lw_mesi.specs.Protocols.{table_of, mesi_on_other_get_s, moesi_on_other_get_s}
-use Rattle.lw_mesi.specs.laws.Coherent.{copy_in, copy_map, clean, LineAfterRequest}
-use Rattle.lw_mesi.specs.laws.Cases.{SharesOthers, ToWrite, hit_to_write, get_m_to_write, Loaded, hit_loaded, get_s_loaded, written_back, let_go, Keeps}
+use Rattle.lw_mesi.specs.laws.Coherent.{copy_in, copy_in-map, dirty_word_or-if_clean, LineAfterRequest}
+use Rattle.lw_mesi.specs.laws.Cases.{SharesOthers, ToWrite, ToWrite-if_hit, ToWrite-after_get_m, Loaded, Loaded-if_hit, get_s_loaded, written_back, LineAfterRequest-if_clean_copy_evicted, Keeps}
 
 -- Each protocol has the state I.
 pub invalid_state : (p : Protocol) → IsProtocolState p Invalid
@@ -45,16 +45,16 @@ shared_content m _ = refl
 content_kept : (p : Protocol) (line : CacheLine) → HasProtocolStates p line
     → dirty_word_or ((table_of p).memory_after_get_s line) (map (table_of p).on_other_get_s line.copies) ≡ coherent_word line
 content_kept Mesi line states =
-    clean (coherent_word line) (map mesi_on_other_get_s line.copies)
-    (λ u d. shared_clean (copy_of line u) (states u) (subst IsDirty (copy_map mesi_on_other_get_s line.copies u refl) d))
+    dirty_word_or-if_clean (coherent_word line) (map mesi_on_other_get_s line.copies)
+    (λ u d. shared_clean (copy_of line u) (states u) (subst IsDirty (copy_in-map mesi_on_other_get_s line.copies u refl) d))
 content_kept Moesi line states = shared_content line.memory line.copies
 
 module _ (p : Protocol) (t : ℕ) (line : CacheLine) (lt : t < most_threads) (sound : IsCoherentCacheLine line) (states : HasProtocolStates p line) where
   -- Whatever the copy of t was, a write finds that only t has a copy, with the coherent word.
   to_write : (c : Copy) → copy_of line t ≡ c → ToWrite t line lt sound (on_write c t line)
-  to_write (Modified w) e = hit_to_write t line lt sound (Modified w) w e refl tt
-  to_write (Exclusive w) e = hit_to_write t line lt sound (Exclusive w) w e refl tt
-  to_write _ e = get_m_to_write t line lt sound
+  to_write (Modified w) e = ToWrite-if_hit t line lt sound (Modified w) w e refl tt
+  to_write (Exclusive w) e = ToWrite-if_hit t line lt sound (Exclusive w) w e refl tt
+  to_write _ e = ToWrite-after_get_m t line lt sound
 
   -- Another cache's GetS preserves the words of the copies, leaves none in M or E, and makes none dirty.
   shares : SharesOthers (table_of p).on_other_get_s line
@@ -67,10 +67,10 @@ module _ (p : Protocol) (t : ℕ) (line : CacheLine) (lt : t < most_threads) (so
 
   -- Whatever the copy of t was, a load preserves the coherent word and the coherence of the line, and t then has a copy with this word.
   loaded : (c : Copy) → copy_of line t ≡ c → Loaded t line lt sound (on_load (table_of p) c t line)
-  loaded (Modified w) e = hit_loaded t line lt sound (Modified w) w e refl
-  loaded (Owned w) e = hit_loaded t line lt sound (Owned w) w e refl
-  loaded (Exclusive w) e = hit_loaded t line lt sound (Exclusive w) w e refl
-  loaded (Shared w) e = hit_loaded t line lt sound (Shared w) w e refl
+  loaded (Modified w) e = Loaded-if_hit t line lt sound (Modified w) w e refl
+  loaded (Owned w) e = Loaded-if_hit t line lt sound (Owned w) w e refl
+  loaded (Exclusive w) e = Loaded-if_hit t line lt sound (Exclusive w) w e refl
+  loaded (Shared w) e = Loaded-if_hit t line lt sound (Shared w) w e refl
   loaded Invalid e =
       get_s_loaded t line lt sound (table_of p).on_other_get_s ((table_of p).memory_after_get_s line) shares (content_kept p line states)
       e (is_held_anywhere line.copies) (λ none. none)
@@ -79,8 +79,8 @@ module _ (p : Protocol) (t : ℕ) (line : CacheLine) (lt : t < most_threads) (so
   evicted : (c : Copy) → copy_of line t ≡ c → is_held (copy_state c) ≡ true → LineAfterRequest (coherent_word line) (on_evict c t line)
   evicted (Modified w) e h = written_back t line lt sound (Modified w) w e refl tt
   evicted (Owned w) e h = written_back t line lt sound (Owned w) w e refl tt
-  evicted (Exclusive w) e h = let_go t line lt sound (Exclusive w) e (λ d. d)
-  evicted (Shared w) e h = let_go t line lt sound (Shared w) e (λ d. d)
+  evicted (Exclusive w) e h = LineAfterRequest-if_clean_copy_evicted t line lt sound (Exclusive w) e (λ d. d)
+  evicted (Shared w) e h = LineAfterRequest-if_clean_copy_evicted t line lt sound (Shared w) e (λ d. d)
   evicted Invalid e h = cc
 
   -- The table of each protocol preserves coherence and the coherent word, in each case.
@@ -116,7 +116,7 @@ put_state p (k ∷ copies) (suc t) c here there (suc u) = put_state p copies t c
 map_state : (p : Protocol) (f : Copy → Copy) (copies : List Copy)
     → f Invalid ≡ Invalid → ((c : Copy) → IsProtocolState p c → IsProtocolState p (f c)) → ((u : ℕ) → IsProtocolState p (copy_in copies u))
     → (u : ℕ) → IsProtocolState p (copy_in (map f copies) u)
-map_state p f copies invalid keeps states u = subst (IsProtocolState p) (sym (copy_map f copies u invalid)) (keeps (copy_in copies u) (states u))
+map_state p f copies invalid keeps states u = subst (IsProtocolState p) (sym (copy_in-map f copies u invalid)) (keeps (copy_in copies u) (states u))
 
 module _ (p : Protocol) (line : CacheLine) (states : HasProtocolStates p line) where
   -- A load preserves that all copies are in states of the protocol.

@@ -15,7 +15,7 @@ use Rattle.lw_mesi.specs.declared.protocol.Protocol.{Protocol}
 use Rattle.lw_mesi.specs.Snooping.{cache_line_to_read, cache_line_to_write, cache_line_written, cache_line_evicted, answer_from, caches_after}
 use Rattle.lw_mesi.specs.Protocols.{table_of, caches_by}
 use Rattle.lw_mesi.specs.laws.Coherent.{at_index, LineAfterRequest}
-use Rattle.lw_mesi.specs.laws.Cases.{written}
+use Rattle.lw_mesi.specs.laws.Cases.{LineAfterRequest-after_write}
 use Rattle.lw_mesi.specs.laws.ProtocolCases.{keeps, loaded_states, written_states, evicted_states}
 
 -- Replacing a line replaces its coherent word in the list of coherent words.
@@ -65,7 +65,7 @@ module _ (p : Protocol) (t : ℕ) (line : CacheLine) (lt : t < most_threads) (ok
 
   -- After a write the line is coherent, and its coherent word is the written one.
   pub write_after : (w : ℕ) → LineAfterRequest w (cache_line_written t w line)
-  write_after w = written t line lt ok.coherent w (cache_line_to_write t line) (keeps p t line lt ok.coherent ok.states).to_write
+  write_after w = LineAfterRequest-after_write t line lt ok.coherent w (cache_line_to_write t line) (keeps p t line lt ok.coherent ok.states).to_write
 
   -- A load finds the coherent word in the processor's copy, which it fetches if necessary.
   pub load_word : copy_word (copy_of (cache_line_to_read (table_of p) t line) t) ≡ Some (coherent_word line)

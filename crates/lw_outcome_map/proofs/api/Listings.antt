@@ -55,8 +55,8 @@ final_eq-IsEquivalence =
     (on_equiv (λ (f : FinalState). f.words) nat_list_eq_equiv)
 
 -- `cmp` of outcomes is a total order.
-pub final_state_cmp-IsTotalOrder : IsTotalOrder final_state_cmp
-final_state_cmp-IsTotalOrder =
+pub IsTotalOrder-final_state_cmp : IsTotalOrder final_state_cmp
+IsTotalOrder-final_state_cmp =
     then_total (on_total (λ (f : FinalState). f.regs) (lists_total nat_list_cmp_total))
     (on_total (λ (f : FinalState). f.words) nat_list_cmp_total)
 
@@ -125,9 +125,9 @@ IsStrictlySorted-of_distinct es sorted once i j d lt within =
     let first : FinalState = get_or (outcomes_of es) i d in
     let later : FinalState = get_or (outcomes_of es) j d in
     let up : is_lt (final_state_cmp later first) ≡ false =
-    sorted_far _ (ranks_by final_state_cmp-IsTotalOrder (λ o. o)) (outcomes_of es) sorted i j d (omega (arith, lt)) within in
+    sorted_far _ (ranks_by IsTotalOrder-final_state_cmp (λ o. o)) (outcomes_of es) sorted i j d (omega (arith, lt)) within in
     let turned : is_lt (ordering_reverse (final_state_cmp first later)) ≡ false =
-    sym (ap is_lt (final_state_cmp-IsTotalOrder.antisymm later first)) ∙ up in
+    sym (ap is_lt (IsTotalOrder-final_state_cmp.antisymm later first)) ∙ up in
     final_state_cmp-Less first later (final_state_cmp first later) refl turned
     (AllPairs-from_IsDistinct final_eq-Decides (outcomes_of es) once i j d lt within)
 
@@ -151,7 +151,7 @@ not-listed_later es i j o sorted at to lt =
     let later = get_or_from_slice_get (outcomes_of es) j o o to in
     let less : final_state_cmp o o ≡ Less =
     sym (λ k. final_state_cmp (first k) (later k)) ∙ sorted i j o lt (slice_get_within (outcomes_of es) j o to) in
-    true≢false (ap is_lt (sym less ∙ tied_itself final_state_cmp-IsTotalOrder o))
+    true≢false (ap is_lt (sym less ∙ tied_itself IsTotalOrder-final_state_cmp o))
 
 -- In a strictly ascending list an outcome is at one index.
 pub outcome_index-unique : {Kept : Type 0} (es : OutcomesWith Kept) (i j : ℕ) (o : FinalState)

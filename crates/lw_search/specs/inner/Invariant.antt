@@ -17,7 +17,7 @@ use Rattle.lw_tso.specs.Runs.{IsMachineOutcome, MachineRunsTo, is_final, initial
 use Rattle.lw_tso_caches.specs.OverCaches.{OutcomeOverCaches}
 use Rattle.lw_search.specs.declared.states.Origin.{Origin}
 use Rattle.lw_search.specs.inner.Accesses.{HasConflictsOfOthers}
-use Rattle.lw_search.specs.inner.StateKeys.{State, Components, Visited, Extends, Represents, RepresentsOthers, RepresentsThreads, IsPrefix, HasUniqueIndices, events_of, set_thread}
+use Rattle.lw_search.specs.inner.StateKeys.{State, Components, FoundStates, Extends, Represents, RepresentsOthers, RepresentsThreads, IsPrefix, HasUniqueIndices, events_of, set_thread}
 
 -- The events of the run that has a number, or none if no run has it.
 abbrev pub events_at : List (List (ℕ × Bool)) → ℕ → List Event
@@ -51,7 +51,7 @@ module _ (program : List (List Instr)) where
 
   -- The invariant of a search that began at `start`: the keys represent the found states, which are different from each other, the start
   -- first, each other one with a predecessor; and all successors of the first `at` states are covered.
-  pub record SearchInvariant (start : State) (tables : Components) (visited : Visited) (found : List State) (at : ℕ) : Type 0 where
+  pub record SearchInvariant (start : State) (tables : Components) (visited : FoundStates) (found : List State) (at : ℕ) : Type 0 where
     pub key_count : length visited.keys ≡ length found
     pub origin_count : length visited.origins ≡ length found
     pub within : at ≤ length found
@@ -67,7 +67,7 @@ module _ (program : List (List Instr)) where
     pub covered : (i : ℕ) (s : State) → i < at → slice_get found i ≡ Some s → (e : Event) → IsCovered found s e
 
   -- More states were found, which satisfy the invariant, and the property Holds is true of them.
-  pub record Expansion (start : State) (tables : Components) (old visited : Visited) (found : List State) (at : ℕ) (Holds : List State → Type 0) : Type 0 where
+  pub record Expansion (start : State) (tables : Components) (old visited : FoundStates) (found : List State) (at : ℕ) (Holds : List State → Type 0) : Type 0 where
     pub more : List State
     pub longer : IsPrefix found more
     pub keys : IsPrefix old.keys visited.keys
@@ -76,21 +76,21 @@ module _ (program : List (List Instr)) where
 
   -- From each list of found states with the invariant, whose state at the index `at` has this key and is as Is says, a longer list
   -- with the invariant was made, of which Holds is so.
-  abbrev pub ExpandsState : Components → Visited → Components → Visited → ℕ → List ℕ → (State → Type 0) → (State → List State → Type 0) → Type 0
+  abbrev pub ExpandsState : Components → FoundStates → Components → FoundStates → ℕ → List ℕ → (State → Type 0) → (State → List State → Type 0) → Type 0
   ExpandsState old_tables old_visited new_tables new_visited at key Is Holds =
       (start : State) (found : List State) (closed : ℕ) (s : State) → SearchInvariant start old_tables old_visited found closed
       → slice_get found at ≡ Some s → slice_get old_visited.keys at ≡ Some key → Is s
       → Expansion start new_tables old_visited new_visited found closed (Holds s)
 
   -- From each list of found states with the invariant up to `before`, one with the invariant up to `after` was made.
-  abbrev pub ExpandsUpTo : Components → Visited → ℕ → Components → Visited → ℕ → Type 0
+  abbrev pub ExpandsUpTo : Components → FoundStates → ℕ → Components → FoundStates → ℕ → Type 0
   ExpandsUpTo old_tables old_visited before new_tables new_visited after =
       (start : State) (found : List State) → SearchInvariant start old_tables old_visited found before
       → (more : List State) × SearchInvariant start new_tables new_visited more after
 
   -- The progress of a search that had visited no state, within a budget: it has visited all states that it found (true), or it has found
   -- more than the budget (false).
-  abbrev pub IsProgress : Components → Visited → Components → Visited → ℕ → Bool → Type 0
+  abbrev pub IsProgress : Components → FoundStates → Components → FoundStates → ℕ → Bool → Type 0
   IsProgress old_tables old_visited new_tables new_visited budget true =
       ExpandsUpTo old_tables old_visited 0 new_tables new_visited (length new_visited.keys) × (length new_visited.keys ≤ budget)
   IsProgress old_tables old_visited new_tables new_visited budget false =
@@ -134,12 +134,12 @@ pub record SettlesFrom (program : List (List Instr)) (From : State → Type 0) (
   pub settled : (s : State) → From s → Settled program new key m (events_of more) s
 
 -- A search has found some states of a test, and has visited none.
-abbrev pub IsStarted : X86Test → Components → Visited → Type 0
+abbrev pub IsStarted : X86Test → Components → FoundStates → Type 0
 IsStarted test tables visited =
     (found : List State) × SearchInvariant test.threads (initial_machine_state test test.head.init_words) tables visited found 0
 
 -- A search of a test has visited all states that it has found.
-abbrev pub IsFinished : X86Test → Components → Visited → Type 0
+abbrev pub IsFinished : X86Test → Components → FoundStates → Type 0
 IsFinished test tables visited =
     (found : List State)
     × SearchInvariant test.threads (initial_machine_state test test.head.init_words) tables visited found (length visited.keys)
@@ -150,7 +150,7 @@ ReachesOutcome program start events o =
     (end : State) × MachineRunsTo flat_memory program events start end × IsTrue (is_final program end) × (o ≡ machine_outcome flat_memory end)
 
 -- The events lead from the start to the state that was found at an index.
-abbrev pub ReachesIndex : Visited → ℕ → List Event → Type 0
+abbrev pub ReachesIndex : FoundStates → ℕ → List Event → Type 0
 ReachesIndex visited index events =
     (program : List (List Instr)) (start : State) (tables : Components) (found : List State) (closed : ℕ) (s : State)
     → SearchInvariant program start tables visited found closed → slice_get found index ≡ Some s → MachineRunsTo flat_memory program events start s
@@ -175,7 +175,7 @@ LeadsTo StandsFor program start e = (events : List Event) × StandsFor e.1 event
 
 -- The outcome of the state at an index is among the new entries, if the state is final; the old outcomes still are; and if the schedules
 -- reach all old outcomes, they reach all new ones.
-pub record CollectsState (program : List (List Instr)) (tables : Components) (visited : Visited) (at : ℕ) (old new : OutcomeEntries) : Type 0 where
+pub record CollectsState (program : List (List Instr)) (tables : Components) (visited : FoundStates) (at : ℕ) (old new : OutcomeEntries) : Type 0 where
   pub covered : (start : State) (found : List State) (closed : ℕ) (s : State) → SearchInvariant program start tables visited found closed
       → slice_get found at ≡ Some s → IsTrue (is_final program s) → Contains (outcomes_of new) (machine_outcome flat_memory s)
   pub kept : (o : FinalState) → Contains (outcomes_of old) o → Contains (outcomes_of new) o
@@ -196,7 +196,7 @@ HaveSameWords names p o = final_words names p ≡ final_words names o
 
 module _ (Agrees : FinalState → FinalState → Type 0) {Kept : Type 0} (StandsFor : Kept → List Event → Type 0) where
   -- For each final state that was found an outcome is listed that agrees with the state's; and something leads to each listed outcome.
-  pub record CollectsAll (program : List (List Instr)) (tables : Components) (visited : Visited) (entries : OutcomesWith Kept) : Type 0 where
+  pub record CollectsAll (program : List (List Instr)) (tables : Components) (visited : FoundStates) (entries : OutcomesWith Kept) : Type 0 where
     pub covered : (start : State) (found : List State) (closed : ℕ) (i : ℕ) (s : State) → SearchInvariant program start tables visited found closed
         → slice_get found i ≡ Some s → IsTrue (is_final program s) → ContainsAgreeing Agrees (outcomes_of entries) (machine_outcome flat_memory s)
     pub lead : (start : State) (found : List State) (closed : ℕ) → SearchInvariant program start tables visited found closed

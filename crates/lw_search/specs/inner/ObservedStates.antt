@@ -7,7 +7,7 @@ use Rattle.lw_litmus.specs.declared.instr.Instr.{Instr}
 use Rattle.lw_memory.specs.Flat.{flat_memory}
 use Rattle.lw_outcome_map.specs.Listings.{OutcomesWith, outcomes_of}
 use Rattle.lw_tso.specs.Runs.{is_final, machine_outcome}
-use Rattle.lw_search.specs.inner.StateKeys.{State, Components, Visited}
+use Rattle.lw_search.specs.inner.StateKeys.{State, Components, FoundStates}
 use Rattle.lw_search.specs.inner.Invariant.{SearchInvariant, LeadsTo, IsOfSomeRun}
 
 -- Lists of words, and outcomes that have them.
@@ -36,7 +36,7 @@ pub record InsertsObserved (old : ObservedWords) (words : List ℕ) (o : FinalSt
   pub outcomes : new.outcomes ≡ old.outcomes ++ (o, tt) ∷ []
   pub words_are : (i : ℕ) (others : List ℕ) → slice_get new.words i ≡ Some others → (slice_get old.words i ≡ Some others) ⊎ (others ≡ words)
 
-module _ (names : List Seen) (program : List (List Instr)) (tables : Components) (visited : Visited) where
+module _ (names : List Seen) (program : List (List Instr)) (tables : Components) (visited : FoundStates) where
   -- If the words are those of the outcomes, they still are, and the state at an index is observed if it is final; the old outcomes are kept,
   -- and if some run leads to each old one, so it does to each new one.
   pub record ObservesState (at : ℕ) (old new : ObservedWords) : Type 0 where

@@ -68,13 +68,13 @@ abbrev pub events_of : List (ℕ × Bool) → List Event
 events_of run = map event_of run
 
 -- The keys of states, each with its origin, in the order in which they were found; and the runs that origins name by number.
-pub record Visited : Type 0 where
+pub record FoundStates : Type 0 where
   pub keys : List (List ℕ)
   pub origins : List Origin
   pub runs : List (List (ℕ × Bool))
 
 -- Origins were appended, of which this is the only one: it has this parent, and its number is that of this run.
-pub record AppendsOrigin (old : Visited) (parent : ℕ) (run : List (ℕ × Bool)) (new : Visited) : Type 0 where
+pub record AppendsOrigin (old : FoundStates) (parent : ℕ) (run : List (ℕ × Bool)) (new : FoundStates) : Type 0 where
   pub origin : Origin
   pub parent_is : origin.parent ≡ parent
   pub origins : new.origins ≡ old.origins ++ origin ∷ []
@@ -82,7 +82,7 @@ pub record AppendsOrigin (old : Visited) (parent : ℕ) (run : List (ℕ × Bool
   pub listed : slice_get new.runs origin.run ≡ Some run
 
 -- A new key is appended with its origin; or the table has the key, and nothing changes.
-abbrev pub InsertsKey : Visited → List ℕ → ℕ → List (ℕ × Bool) → Visited → Type 0
+abbrev pub InsertsKey : FoundStates → List ℕ → ℕ → List (ℕ × Bool) → FoundStates → Type 0
 InsertsKey old key parent run new =
     (((i : ℕ) → slice_get old.keys i ≡ Some key → ⊥) × (new.keys ≡ old.keys ++ key ∷ []) × AppendsOrigin old parent run new)
     ⊎ ((i : ℕ) × (slice_get old.keys i ≡ Some key) × (new ≡ old))

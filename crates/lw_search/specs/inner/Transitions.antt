@@ -6,7 +6,7 @@ use Rattle.lw_tso.specs.Machines.{MachineTransition}
 use Rattle.lw_tso.specs.Processors.{Processor}
 use Rattle.lw_search.specs.declared.transitions.Successor.{Successor}
 use Rattle.lw_search.specs.declared.transitions.Transition.{Transition}
-use Rattle.lw_search.specs.inner.StateKeys.{State, Components, Visited, Extends, IsPrefix, Represents, event_of, events_of, set_thread}
+use Rattle.lw_search.specs.inner.StateKeys.{State, Components, FoundStates, Extends, IsPrefix, Represents, event_of, events_of, set_thread}
 use Rattle.lw_search.specs.inner.Invariant.{Settles}
 
 -- The result of a copy of a row: true if there is a row, which the copy x is now, and false if there is none.
@@ -15,7 +15,7 @@ CopiesRow row x true = row ≡ Some x
 CopiesRow row x false = row ≡ None
 
 -- Rows were appended to the tables, and runs to those of the found states. No state was found.
-pub record AppendsRows (old : Components) (visited : Visited) (new : Components) (now : Visited) : Type 0 where
+pub record AppendsRows (old : Components) (visited : FoundStates) (new : Components) (now : FoundStates) : Type 0 where
   pub extended : Extends old new
   pub keys : now.keys ≡ visited.keys
   pub origins : now.origins ≡ visited.origins

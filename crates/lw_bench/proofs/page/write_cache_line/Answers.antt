@@ -12,9 +12,9 @@ loop-loc-init g c = record { left = refl }
 
 pub loop-loc-preserved : goal.loop-loc-preserved
 loop-loc-preserved g c =
-    let is = is_index most_locations _ c.all.ensures refl c.loop-loc-test.true c.loc-item.is in
-    let held = c.state_of.ensures.letter ∙ ap (g.M.MemorySystem.state c.args.memory.now c.args.cpu) is in
-    AllWritten-step c.loop-loc.invariant _ _ _ (ap (slice_get c.args.locs.now) (sym is) ∙ c.name.ensures)
+    let index_is = is_index most_locations _ c.all.ensures refl c.loop-loc-test.true c.loc-item.is in
+    let held = c.state_of.ensures.letter ∙ ap (g.M.MemorySystem.state c.args.memory.now c.args.cpu) index_is in
+    AllWritten-step c.loop-loc.invariant _ _ _ (ap (slice_get c.args.locs.now) (sym index_is) ∙ c.name.ensures)
     (ap (λ s. named (λ _. letter s) 0 c.name.result.now) held) c.in_ok-write_line_state.ensures
 
 pub returns : goal.returns
@@ -35,13 +35,21 @@ returns g c =
 
 pub name-requires : goal.name-requires
 name-requires g c =
-    let is = is_index most_locations _ c.all.ensures refl c.loop-loc-test.true c.loc-item.is in
-    omega (arith, is, c.loop-loc-test.true, length-take c.len.result c.all.result, c.len.ensures.len)
+    let index_is = is_index most_locations _ c.all.ensures refl c.loop-loc-test.true c.loc-item.is in
+    omega (arith, index_is, c.loop-loc-test.true, length-take c.len.result c.all.result, c.len.ensures.len)
 
 pub state_of-requires : goal.state_of-requires
 state_of-requires g c =
-    let is = is_index most_locations _ c.all.ensures refl c.loop-loc-test.true c.loc-item.is in
+    let index_is = is_index most_locations _ c.all.ensures refl c.loop-loc-test.true c.loc-item.is in
     record {
       cpu = c.requires.cpu;
-      loc = omega (arith, is, c.loop-loc-test.true, length-take c.len.result c.all.result, c.len.ensures.len, c.requires.words);
+      loc =
+          omega (
+            arith,
+            index_is,
+            c.loop-loc-test.true,
+            length-take c.len.result c.all.result,
+            c.len.ensures.len,
+            c.requires.words,
+          );
     }

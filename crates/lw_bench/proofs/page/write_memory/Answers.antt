@@ -11,9 +11,9 @@ loop-loc-init g c = record { left = refl }
 
 pub loop-loc-preserved : goal.loop-loc-preserved
 loop-loc-preserved g c =
-    let is = is_index most_locations _ c.all.ensures refl c.loop-loc-test.true c.loc-item.is in
-    let word = c.word_in_memory.ensures.word ∙ ap (slice_index (g.M.MemorySystem.memory c.args.memory.now)) is in
-    AllWritten-step c.loop-loc.invariant _ _ _ (ap (slice_get c.args.locs.now) (sym is) ∙ c.name.ensures)
+    let index_is = is_index most_locations _ c.all.ensures refl c.loop-loc-test.true c.loc-item.is in
+    let word = c.word_in_memory.ensures.word ∙ ap (slice_index (g.M.MemorySystem.memory c.args.memory.now)) index_is in
+    AllWritten-step c.loop-loc.invariant _ _ _ (ap (slice_get c.args.locs.now) (sym index_is) ∙ c.name.ensures)
     (ap (λ w. named (λ _. decimal w) 0 c.name.result.now) word) c.in_ok-write_assignment.ensures
 
 pub returns : goal.returns
@@ -33,8 +33,8 @@ returns g c =
 
 pub name-requires : goal.name-requires
 name-requires g c =
-    let is = is_index most_locations _ c.all.ensures refl c.loop-loc-test.true c.loc-item.is in
-    omega (arith, is, c.loop-loc-test.true, length-take c.len.result c.all.result, c.len.ensures.len)
+    let index_is = is_index most_locations _ c.all.ensures refl c.loop-loc-test.true c.loc-item.is in
+    omega (arith, index_is, c.loop-loc-test.true, length-take c.len.result c.all.result, c.len.ensures.len)
 
 pub word_in_memory-requires : goal.word_in_memory-requires
 word_in_memory-requires g c = omega (

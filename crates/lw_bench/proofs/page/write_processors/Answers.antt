@@ -14,13 +14,13 @@ pub loop-cpu-preserved : goal.loop-cpu-preserved
 loop-cpu-preserved g c =
     let processors = c.args.machine.now.state.processors in
     let k = c.loop-cpu.cpu-index in
-    let is = is_index most_threads _ c.all.ensures refl c.loop-cpu-test.true c.cpu-item.is in
+    let index_is = is_index most_threads _ c.all.ensures refl c.loop-cpu-test.true c.cpu-item.is in
     let here =
     slice_get-in_range processors k
     (omega (arith, c.requires.threads, c.loop-cpu-test.true, length-take c.args.head.now.threads c.all.result)) in
     AllWritten-step c.loop-cpu.invariant here.0 _ _ here.1
-    (ap (λ k. processor_lines (head_of c.args.head.now) (g.M.MemorySystem.state c.args.machine.now.state.memory) k here.0) is)
-    (c.in_ok-write_processor.ensures here.0 (ap (slice_get processors) is ∙ here.1))
+    (ap (λ k. processor_lines (head_of c.args.head.now) (g.M.MemorySystem.state c.args.machine.now.state.memory) k here.0)
+    index_is) (c.in_ok-write_processor.ensures here.0 (ap (slice_get processors) index_is ∙ here.1))
 
 pub returns : goal.returns
 returns g c = AllWritten-of_every c.loop-cpu.invariant (omega (
@@ -34,11 +34,11 @@ returns g c = AllWritten-of_every c.loop-cpu.invariant (omega (
 
 pub bounds-regs-index : goal.bounds-regs-index
 bounds-regs-index g c =
-    let is = is_index most_threads _ c.all.ensures refl c.loop-cpu-test.true c.cpu-item.is in
+    let index_is = is_index most_threads _ c.all.ensures refl c.loop-cpu-test.true c.cpu-item.is in
     let many = ap length c.requires.regs ∙ length-map c.args.machine.now.state.processors _ in
     omega (
       arith,
-      is,
+      index_is,
       c.index.ensures.value,
       many,
       c.loop-cpu-test.true,
@@ -48,9 +48,9 @@ bounds-regs-index g c =
 
 pub write_processor-requires : goal.write_processor-requires
 write_processor-requires g c =
-    let is = is_index most_threads _ c.all.ensures refl c.loop-cpu-test.true c.cpu-item.is in
+    let index_is = is_index most_threads _ c.all.ensures refl c.loop-cpu-test.true c.cpu-item.is in
     record {
-      cpu = omega (arith, is, c.loop-cpu-test.true, length-take c.args.head.now.threads c.all.result, c.requires.threads);
+      cpu = omega (arith, index_is, c.loop-cpu-test.true, length-take c.args.head.now.threads c.all.result, c.requires.threads);
       words = c.requires.words;
       regs =
           ap (λ (l : List (List ℕ)). slice_index_or l c.index.result []) c.requires.regs

@@ -15,22 +15,22 @@ pub loop-cpu-preserved : goal.loop-cpu-preserved
 loop-cpu-preserved g c =
     let threads = c.args.run.now.state.threads in
     let k = c.loop-cpu.cpu-index in
-    let is = is_index most_threads _ c.all.ensures refl c.loop-cpu-test.true c.cpu-item.is in
+    let index_is = is_index most_threads _ c.all.ensures refl c.loop-cpu-test.true c.cpu-item.is in
     let here =
     slice_get-in_range threads k
     (omega (arith, c.requires.threads, c.loop-cpu-test.true, length-take c.args.head.now.threads c.all.result)) in
     let position =
     get-of_map (λ (t : Thread). t.position) threads k here.0 c.position.result here.1
-    (ap (slice_get (map (λ (t : Thread). t.position) threads)) (sym is) ∙ c.position.ensures) in
+    (ap (slice_get (map (λ (t : Thread). t.position) threads)) (sym index_is) ∙ c.position.ensures) in
     let listed =
     ap (λ l. slice_get l k) c.requires.regs
     ∙ slice_get-map (λ (t : Thread). t.regs) threads k
     ∙ ap (option_map (λ (t : Thread). t.regs)) here.1 in
     let regs =
-    ap (λ i. slice_index_or c.args.regs.now i []) (c.index.ensures.value ∙ is)
+    ap (λ i. slice_index_or c.args.regs.now i []) (c.index.ensures.value ∙ index_is)
     ∙ get_or_from_slice_get c.args.regs.now k here.0.regs [] listed in
     let line =
-    ap (λ t. thread_line c.args.head.now.arch t c.position.result (slice_index_or c.args.regs.now c.index.result [])) is
+    ap (λ t. thread_line c.args.head.now.arch t c.position.result (slice_index_or c.args.regs.now c.index.result [])) index_is
     ∙ ap₂ (thread_line c.args.head.now.arch k) position regs in
     AllWritten-step c.loop-cpu.invariant here.0 _ _ here.1 line c.in_ok-write_thread.ensures
 
@@ -55,11 +55,11 @@ position-requires g c = omega (
 
 pub bounds-regs-index : goal.bounds-regs-index
 bounds-regs-index g c =
-    let is = is_index most_threads _ c.all.ensures refl c.loop-cpu-test.true c.cpu-item.is in
+    let index_is = is_index most_threads _ c.all.ensures refl c.loop-cpu-test.true c.cpu-item.is in
     let many = ap length c.requires.regs ∙ length-map c.args.run.now.state.threads (λ (p : Thread). p.regs) in
     omega (
       arith,
-      is,
+      index_is,
       c.index.ensures.value,
       many,
       c.loop-cpu-test.true,

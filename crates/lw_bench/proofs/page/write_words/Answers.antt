@@ -11,9 +11,9 @@ loop-loc-init g c = record { left = refl }
 
 pub loop-loc-preserved : goal.loop-loc-preserved
 loop-loc-preserved g c =
-    let is = is_index most_locations _ c.all.ensures refl c.loop-loc-test.true c.loc-item.is in
-    AllWritten-step c.loop-loc.invariant c.name.result.now _ _ (ap (slice_get c.args.locs.now) (sym is) ∙ c.name.ensures)
-    (ap (λ k. named (λ _. decimal (slice_index c.args.words.now k)) 0 c.name.result.now) (c.index.ensures.value ∙ is))
+    let index_is = is_index most_locations _ c.all.ensures refl c.loop-loc-test.true c.loc-item.is in
+    AllWritten-step c.loop-loc.invariant c.name.result.now _ _ (ap (slice_get c.args.locs.now) (sym index_is) ∙ c.name.ensures)
+    (ap (λ k. named (λ _. decimal (slice_index c.args.words.now k)) 0 c.name.result.now) (c.index.ensures.value ∙ index_is))
     c.in_ok-write_assignment.ensures
 
 pub returns : goal.returns
@@ -33,15 +33,15 @@ returns g c =
 
 pub name-requires : goal.name-requires
 name-requires g c =
-    let is = is_index most_locations _ c.all.ensures refl c.loop-loc-test.true c.loc-item.is in
-    omega (arith, is, c.loop-loc-test.true, length-take c.len.result c.all.result, c.len.ensures.len)
+    let index_is = is_index most_locations _ c.all.ensures refl c.loop-loc-test.true c.loc-item.is in
+    omega (arith, index_is, c.loop-loc-test.true, length-take c.len.result c.all.result, c.len.ensures.len)
 
 pub bounds-words-index : goal.bounds-words-index
 bounds-words-index g c =
-    let is = is_index most_locations _ c.all.ensures refl c.loop-loc-test.true c.loc-item.is in
+    let index_is = is_index most_locations _ c.all.ensures refl c.loop-loc-test.true c.loc-item.is in
     omega (
       arith,
-      is,
+      index_is,
       c.index.ensures.value,
       c.loop-loc-test.true,
       length-take c.len.result c.all.result,

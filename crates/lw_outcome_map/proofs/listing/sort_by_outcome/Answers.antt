@@ -5,11 +5,11 @@ use Rattle.std.proofs.lemmas.Fn.{always_returns_same}
 use Rattle.std.proofs.lemmas.List.MinMax.{ranks_by}
 use Rattle.indexmap.proofs.MapLemmas.{sorted_keys}
 use Rattle.lw_base.specs.Outcomes.{final_state_cmp}
-use Rattle.lw_outcome_map.proofs.api.Listings.{final_state_cmp-IsTotalOrder}
+use Rattle.lw_outcome_map.proofs.api.Listings.{IsTotalOrder-final_state_cmp}
 use Rattle.lw_outcome_map.proofs.listing.sort_by_outcome.Goals as goal
 
 pub returns-clause-sorted : goal.returns-clause-sorted
 returns-clause-sorted g c =
     sorted_keys (λ o p. is_lt (final_state_cmp o p)) _
-    (c.sort_unstable_by.ensures.sorted (λ a b. is_lt (final_state_cmp a.0 b.0)) (ranks_by final_state_cmp-IsTotalOrder (λ e. e.0))
+    (c.sort_unstable_by.ensures.sorted (λ a b. is_lt (final_state_cmp a.0 b.0)) (ranks_by IsTotalOrder-final_state_cmp (λ e. e.0))
     (always_returns_same _ _ _ (λ a r f' k. (ap is_lt k.met, refl))))

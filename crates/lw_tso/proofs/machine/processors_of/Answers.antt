@@ -16,12 +16,12 @@ loop-thread-preserved g c =
     let there : c.loop-thread.thread < length c.args.program.now.threads =
     omega (arith, within, known.head.regs, known.as_many) in
     let code = slice_get-of_read _ _ _ c.loop-thread.thread _ c.as_slice.ensures refl there c.index-as_slice-thread.is in
-    let of = get_or_from_slice_get _ c.loop-thread.thread _ [] code ∙ sym c.as_slice-in-loop-thread.ensures in
+    let code_is = get_or_from_slice_get _ c.loop-thread.thread _ [] code ∙ sym c.as_slice-in-loop-thread.ensures in
     let started : processor_of c.in_ok-new.field-0
     ≡ initial_processor (get_or c.args.program.now.head.init_regs c.loop-thread.thread []) =
     rw (← c.as_slice-regs-items.ensures) c.in_ok-new.ensures.processor in
     let roomy : stores_from 0 (thread_code c.args.program.now.threads c.loop-thread.thread) ≤ c.in_ok-new.field-0.buffer.room =
-    rw of (omega (arith, c.in_ok-new.ensures.room)) in
+    rw code_is (omega (arith, c.in_ok-new.ensures.room)) in
     AreStarted-push _ _ _ _ _ _ c.loop-thread.invariant within c.in_ok-push.ensures.items started roomy
 
 pub bounds-as_slice-thread : goal.bounds-as_slice-thread

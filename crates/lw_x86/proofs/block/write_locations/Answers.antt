@@ -20,11 +20,11 @@ below_len len {all = all} e f here at =
 pub loop-loc-preserved : goal.loop-loc-preserved
 loop-loc-preserved g c =
     let names = length c.args.head.now.locs in
-    let is = is_index most_locations _ c.all.ensures refl c.loop-loc-test.true c.loc-item.is in
+    let index_is = is_index most_locations _ c.all.ensures refl c.loop-loc-test.true c.loc-item.is in
     let within : c.loop-loc.loc-index < names =
     omega (arith, c.loop-loc-test.true, length-take c.len.result c.all.result, c.len.ensures.len) in
     numbers_written-push (location_initializer (head_of c.args.head.now)) names c.loop-loc.loc-index _ _ c.loop-loc.invariant _
-    within (rw is at c.in_ok-write_location.ensures)
+    within (rw index_is at c.in_ok-write_location.ensures)
 
 pub returns : goal.returns
 returns g c =

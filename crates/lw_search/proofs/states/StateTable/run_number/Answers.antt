@@ -1,7 +1,7 @@
 -- Of `run_number`, which returns the number of a run and inserts the run if it has none; keys and origins are
 -- unchanged. `position-item` shows that a found index is that of an equal run; `prefix-insert_if` that an
 -- insertion keeps all earlier numbers.
-use Rattle.lw_search.proofs.Common.{◌≡◌, ◌∙◌, Some, sym, ap, slice_get, IfOk-weaker, Visited}
+use Rattle.lw_search.proofs.Common.{◌≡◌, ◌∙◌, Some, sym, ap, slice_get, IfOk-weaker, FoundStates}
 use Rattle.lw_search.proofs.Rows.{run_eq, run_eq-sound, position-item, prefix-insert_if}
 use Rattle.lw_search.proofs.states.StateTable.run_number.Goals as goal
 
@@ -11,16 +11,17 @@ returns-in-Some-clause-found g c =
     position-item run_eq run_eq-sound c.self.inside.runs.keys c.args.run.now c.get_index_of.result c.in-Some.index
     c.get_index_of.ensures.index c.in-Some.is in
     IfOk-weaker c.row_number.result _ _
-    (λ n is. ap (λ (t : Visited). slice_get t.runs n) (sym c.self.view_is) ∙ ap (slice_get c.self.inside.runs.keys) is ∙ at)
+    (λ n is. ap (λ (t : FoundStates). slice_get t.runs n) (sym c.self.view_is) ∙ ap (slice_get c.self.inside.runs.keys) is ∙ at)
     c.row_number.ensures
 
 pub returns-in_ok-index-in-None-clause-keys : goal.returns-in_ok-index-in-None-clause-keys
 returns-in_ok-index-in-None-clause-keys g c =
-    IfOk-weaker c.row_number-in-None.result _ _ (λ n is. ap (λ (t : Visited). t.keys) c.self.view_is) c.row_number-in-None.ensures
+    IfOk-weaker c.row_number-in-None.result _ _ (λ n is. ap (λ (t : FoundStates). t.keys) c.self.view_is)
+    c.row_number-in-None.ensures
 
 pub returns-in_ok-index-in-None-clause-origins : goal.returns-in_ok-index-in-None-clause-origins
 returns-in_ok-index-in-None-clause-origins g c =
-    IfOk-weaker c.row_number-in-None.result _ _ (λ n is. ap (λ (t : Visited). t.origins) c.self.view_is)
+    IfOk-weaker c.row_number-in-None.result _ _ (λ n is. ap (λ (t : FoundStates). t.origins) c.self.view_is)
     c.row_number-in-None.ensures
 
 pub returns-in_ok-index-in-None-clause-runs : goal.returns-in_ok-index-in-None-clause-runs

@@ -1,10 +1,10 @@
 -- Of `thread_number`, which returns the number of a thread's state and inserts it if it has none. As for
 -- `memory_number`; the row of outlooks that is appended describes the thread's state (`DescribeRows-appended`). That the comparison of threads' states decides equality is `thread_eq-sound` and
--- `thread_eq-Decides`.
+-- `Decides-thread_eq`.
 use Rattle.lw_search.proofs.Common.{◌≡◌, ◌∙◌, Some, true, refl, sym, ap, slice_get, IfOk-weaker, Components}
 use Rattle.lw_search.proofs.Common.{list_any}
 use Rattle.lw_search.proofs.AccessSets.{DescribeRows-appended}
-use Rattle.lw_search.proofs.Rows.{thread_eq, thread_eq-sound, thread_eq-Decides, position-item}
+use Rattle.lw_search.proofs.Rows.{thread_eq, thread_eq-sound, Decides-thread_eq, position-item}
 use Rattle.lw_search.proofs.Rows.{prefix-insert_if, prefix-refl, distinct-insert, extends-refl}
 use Rattle.lw_search.proofs.tables.Tables.thread_number.Goals as goal
 
@@ -24,7 +24,7 @@ returns-in_ok-index-in-None-clause-extended g c =
       program = refl;
       threads = prefix-insert_if _ _ _ _ c.in_ok-index-in-None.ensures.keys;
       memories = prefix-refl _;
-      distinct_threads = distinct-insert thread_eq thread_eq-Decides _ _ _ c.in_ok-index-in-None.ensures.keys;
+      distinct_threads = distinct-insert thread_eq Decides-thread_eq _ _ _ c.in_ok-index-in-None.ensures.keys;
       distinct_memories = λ d. d;
     }) c.row_number-in-None.ensures)
 
