@@ -44,6 +44,11 @@ MAX_DRAWN_CYCLES = 3
 MAX_NAMED_READS = 4  # the number of reads of the initial word with a name at their arrow
 LETTERS = "abcdefghijklmnopqrstuvwxyz"
 NONE_FORBIDDEN = "x86-TSO allows every state that some candidate execution has."
+# Why a cycle teaches little about buffers and fences, each with its weight: cycles of less weight are printed and drawn first.
+COMPUTED = "The code computes some of these words: they are no constants of the test."
+ONE_LOCATION = "The accesses of one location contradict each other: store buffers and fences have no part in that."
+UNKNOWN = "A word that is ? would follow only from itself."
+WEIGHTS = {COMPUTED: 1, ONE_LOCATION: 2, UNKNOWN: 4}
 NAMES = {"po": "program order", "rf": "reads-from", "co": "coherence order", "fr": "from-reads"}
 # Relations are distinguished by their names and by the dashes of their lines: colours are those of threads and locations.
 STYLE = """
@@ -66,12 +71,20 @@ Words = Tuple[int, ...]
 WayKey = Tuple[str, str, Tuple[str, ...]]
 
 
+class DrawnCycle(NamedTuple):
+    """A cycle that forbids a state: its picture, its words, and the sentences on why it teaches little, if it does."""
+
+    picture: str
+    words: str
+    kind: str
+
+
 class WhyNot(NamedTuple):
-    """The lines on a state, or on all; the exit status; and the cycles that are printed first, each as a picture with its words."""
+    """The lines on a state, or on all; the exit status; and the cycles that are drawn."""
 
     lines: list[str]
     status: int
-    cycles: list[tuple[str, str]]
+    cycles: list[DrawnCycle]
 
 
 class Names:
@@ -287,7 +300,7 @@ def parse_state(test: plain.Test, line: str) -> dict[plain.Site, int]:
 
 
 class Way:
-    """A way in which the axioms forbid a state: the axiom and its cycle, with the first execution that has it, and how many have it."""
+    """A way in which the axioms forbid a state: the axiom and its cycle, with the clearest execution that has it, and how many have it."""
 
     def __init__(self, execution: executions.Execution, broken: tuple[str, list[executions.Edge]]) -> None:
         """Describes the cycle by which an execution breaks an axiom."""
@@ -295,10 +308,43 @@ class Way:
         names = Names(execution)
         self.axiom, self.cycle = broken[0], names.format_cycle(broken[1])
         self.events = tuple(names.format_event(event) for event in dict.fromkeys(it.source for it in broken[1]))
+        self.kinds = list_kinds(execution, broken[1])
+
+    @property
+    def weight(self) -> int:
+        """Returns how little the cycle teaches about buffers and fences."""
+        return sum(WEIGHTS[it] for it in self.kinds)
 
     def make_key(self) -> WayKey:
         """Returns the key of the order of ways, which differs for different ways."""
         return self.axiom, self.cycle, self.events
+
+    def add(self, other: Way) -> None:
+        """Counts an execution that has the same cycle, and draws it in place of the first one if it is clearer."""
+        self.times += 1
+        if other.weight < self.weight:
+            self.execution, self.broken, self.kinds = other.execution, other.broken, other.kinds
+
+    def make_rank(self) -> tuple[int, bool, int, int]:
+        """Returns what orders the ways of a state: the clearest are first, then those of several threads, the shortest, and the most frequent."""
+        return self.weight, len({it.source.thread for it in self.broken[1]}) == 1, len(self.events), -self.times
+
+
+def list_constants(test: plain.Test) -> set[int]:
+    """Returns the words that a test's code and initial block have."""
+    values = [it.value for code in test.threads for it in code]
+    return {*test.words, *(word for row in test.registers for word in row), *(it.word for it in values if isinstance(it, plain.Number))}
+
+
+def list_kinds(execution: executions.Execution, cycle: list[executions.Edge]) -> list[str]:
+    """Returns why a cycle teaches little about buffers and fences: it is of one location, or words are computed in it, or unknown in its execution."""
+    events = [it.source for it in cycle]
+    locations = {execution.find_instruction(it).location for it in events} - {None}
+    of_one_location = [ONE_LOCATION] if len(locations) == 1 else []
+    if None in [*(execution.read[it] for it in execution.rf), *execution.written.values()]:
+        return [*of_one_location, UNKNOWN]
+    words = {words[it] for words in (execution.read, execution.written) for it in events if words.get(it) is not None}
+    return [*of_one_location, COMPUTED] if words - list_constants(execution.test) else of_one_location
 
 
 def list_forbidden_states(
@@ -322,21 +368,30 @@ def list_forbidden_states(
             broken.pop(words, None)
             continue
         way = Way(execution, broken_axiom)
-        broken.setdefault(words, {}).setdefault(way.make_key(), way).times += 1
+        broken.setdefault(words, {}).setdefault(way.make_key(), way).add(way)
     return allowed, broken
 
 
 def sort_forbidden_states(broken: dict[Words, dict[WayKey, Way]]) -> list[tuple[Words, list[Way]]]:
-    """Returns the states that are forbidden, sorted by their words (unknown ones first), each with the ways in which it is, the shortest first."""
-    shorter = lambda it: (len(it.events), -it.times)
-    ordered = sorted(broken.items(), key=lambda it: [-1 if word is None else word for word in it[0]])
-    return [(words, sorted(ways.values(), key=shorter)) for words, ways in ordered]
+    """Returns the states that are forbidden, sorted by their words (unknown ones last), each with the ways in which it is, the clearest first."""
+    ordered = sorted(broken.items(), key=lambda it: [(word is None, word or 0) for word in it[0]])
+    return [(words, sorted(ways.values(), key=Way.make_rank)) for words, ways in ordered]
+
+
+def format_state(test: plain.Test, words: Words) -> str:
+    """Returns the line of a state, as a report has it."""
+    return " ".join(f"{plain.format_site(test, site)}={format_word(word)};" for site, word in zip(plain.list_observed_sites(test), words))
+
+
+def draw_cycle(test: plain.Test, way: Way, line: str) -> DrawnCycle:
+    """Returns a way as a picture with its words, which begin with the line of the state if several states are explained."""
+    words = f"{way.axiom}: {way.cycle}"
+    return DrawnCycle(draw_execution(way.execution, f"{test.name}: {way.cycle}", way.broken), f"{line} {words}" if line else words, " ".join(way.kinds))
 
 
 def explain_state(test: plain.Test, words: Words, ways: list[Way]) -> list[str]:
     """Returns the lines on a state that the axioms forbid."""
-    line = " ".join(f"{plain.format_site(test, site)}={format_word(word)};" for site, word in zip(plain.list_observed_sites(test), words))
-    lines = [f"x86-TSO forbids {line}"]
+    lines = [f"x86-TSO forbids {format_state(test, words)}", *(f"  {kind}" for kind in ways[0].kinds)]
     for way in ways[:MAX_CYCLES]:
         breaking = "1 candidate execution breaks" if way.times == 1 else f"{way.times} candidate executions break"
         lines += [f"  {breaking} {way.axiom}: {way.cycle}", *(f"    {event}" for event in way.events)]
@@ -346,7 +401,7 @@ def explain_state(test: plain.Test, words: Words, ways: list[Way]) -> list[str]:
 
 
 def explain_states(test: plain.Test, state: str) -> WhyNot:
-    """Returns the lines on a state, or on all; the exit status; and the cycles that are printed first, each as a picture with its words."""
+    """Returns the lines on a state, or on all; the exit status; and the cycles that are drawn: the clearest ones."""
     state_words = None if state == "all" else parse_state(test, state)
     try:
         allowed, broken = list_forbidden_states(test, state_words, MAX_CANDIDATES)
@@ -358,8 +413,9 @@ def explain_states(test: plain.Test, state: str) -> WhyNot:
         no_state = f"No candidate execution ends in {state} No choice of paths and reads gives these values together."
         return WhyNot([no_state if state_words else NONE_FORBIDDEN], 0, [])
     states = sort_forbidden_states(broken)
-    drawn = [it for _, ways in states for it in ways[:MAX_DRAWN_CYCLES]][:MAX_DRAWN_CYCLES]
-    cycles = [(draw_execution(it.execution, f"{test.name}: {it.cycle}", it.broken), f"{it.axiom}: {it.cycle}") for it in drawn]
+    least = min(ways[0].weight for _, ways in states)
+    drawn = [(words, it) for words, ways in states for it in ways if it.weight == least][:MAX_DRAWN_CYCLES]
+    cycles = [draw_cycle(test, it, format_state(test, words) if state_words is None else "") for words, it in drawn]
     return WhyNot([line for words, ways in states for line in explain_state(test, words, ways)], 0, cycles)
 
 
@@ -374,7 +430,8 @@ def explain_states_of_any(test: plain.Test, state: str) -> WhyNot:
         explanation = explain_states(program, rename_registers(state, plain.REGISTERS["SRC"], plain.REGISTERS["X86"]))
     except given.Fault as fault:
         raise given.Fault(rename_to_source(fault.args[0]), *fault.args[1:]) from None
-    return explanation._replace(lines=[rename_to_source(line) for line in explanation.lines])
+    cycles = [it._replace(words=rename_to_source(it.words)) for it in explanation.cycles]
+    return explanation._replace(lines=[rename_to_source(line) for line in explanation.lines], cycles=cycles)
 
 
 def rename_to_source(words: str) -> str:

@@ -216,7 +216,7 @@ function answerWhyNot(program, text, { state }) {
   if (language === "X86") return { ...whyNot(test, state), language };
   try {
     const { lines, cycles } = whyNot(test, renameRegisters(state, REGISTERS.SRC, REGISTERS.X86));
-    return { lines: lines.map(inSource), cycles, language };
+    return { lines: lines.map(inSource), cycles: cycles.map((it) => ({ ...it, words: inSource(it.words) })), language };
   } catch (error) {
     if (error instanceof NoAnswer) error.message = inSource(error.message);
     throw error;

@@ -17,6 +17,10 @@ const ARROWS = "Each arrow means “comes before”. ";
 const CIRCLE = "The bold ones form a cycle, so no run can end this way.";
 // How the first line of an answer on a forbidden state begins. Words that no candidate has are `?` there, so the page names the state that was asked about.
 const FORBIDS = "x86-TSO forbids ";
+const PROVED = "Proved: the list has all states. ";
+const DRAWN = "The execution and its cycle are found by the page: ";
+// How the words on a cycle begin if it breaks the axiom of one location, for which program order always counts.
+const OF_ONE_LOCATION = "coherence";
 const RULE = "Program order counts here, but not";
 const RULE_OF_RUN = "By interleaving the bold arrows forbid this run. x86-TSO does not keep program order";
 const EXCEPTION =
@@ -38,7 +42,7 @@ export class Why {
 
   /** Removes what is shown. */
   clear() {
-    Object.assign(this, { report: null, askedOf: null, missing: null, chosen: null, fields: [] });
+    Object.assign(this, { report: null, askedOf: null, missing: null, isOfAll: false, chosen: null, fields: [] });
     this.answers.replaceChildren();
     this.form.replaceChildren();
     this.form.hidden = false;
@@ -46,7 +50,7 @@ export class Why {
 
   /**
    * Offers fields for the words of a state of a report. They hold the state that the condition asks about: one that the list lacks, or else
-   * `telling`, one that it has; or any state that it lacks.
+   * `telling`, one that it has; or any state that it lacks. If the condition asks about none, the first answer is on all forbidden states.
    */
   offer(report, telling = null) {
     this.clear();
@@ -54,6 +58,7 @@ export class Why {
     this.report = report;
     this.tints = tintsOf(this.editor.text);
     this.missing = missingState(report, questionOf(this.editor.text));
+    this.isOfAll = this.missing === null && telling === null;
     const state = this.missing ?? telling ?? missingState(report) ?? report.states[0].line;
     const words = new Map(wordsOf(state));
     this.fields = namesOf(report).map((name) => ({ name, field: this.fieldOf(name, words.get(name)) }));
@@ -77,8 +82,10 @@ export class Why {
     this.form.hidden = guess.isLocked(this.editor.text);
     if (this.form.hidden) return guess.unlock(this.editor, this.answers, () => this.askOnce(chosen));
     if (this.report === null) return null;
+    const isFirstOfAll = this.isOfAll && this.askedOf === null;
     const isOther = this.missing === null && chosen !== null && chosen !== this.chosen;
     this.chosen = chosen;
+    if (isFirstOfAll) return this.answer("all");
     if (isOther) return this.set(chosen);
     if (this.askedOf === null) return this.ask();
     return this.markExplained();
@@ -147,15 +154,31 @@ export class Why {
 
   /** Returns the parts of an answer: the sentence, the pictures of cycles, and all in words. */
   partsOf({ lines, cycles }, isSource) {
-    const drawn = cycles.map(({ graph, words }) => el("figure", {}, shownGraph(graph, this.tints).graph, el("figcaption", {}, words)));
-    const of = isSource ? "Of the compiled program, with the source's names: " : "";
-    const isForbidden = lines[0].startsWith(FORBIDS) && this.askedOf !== "all";
-    const head = el("p", { class: "why-head" }, of, el("b", {}, isForbidden ? FORBIDS + this.askedOf : lines[0]), " ", plainMark());
+    const drawn = cycles.map((it) => el("figure", {}, shownGraph(it.graph, this.tints).graph, captionOf(it)));
     const inWords = el("details", { open: !drawn.length && lines.length > 1 }, el("summary", {}, "In words"), el("pre", {}, lines.join("\n")));
+    const head = this.headOf(lines, isSource);
     if (!drawn.length) return [head, lines.length > 1 ? inWords : ""];
-    const notes = el("div", { class: "why-notes" }, el("p", { class: "small" }, ARROWS, this.cyclesWords(lines, drawn)), legend(...drawn), ruleNote(RULE));
+    const isOfOrder = cycles.some(({ words }) => !words.includes(OF_ONE_LOCATION));
+    const explained = el("p", { class: "small" }, ARROWS, this.cyclesWords(lines, drawn));
+    const notes = el("div", { class: "why-notes" }, explained, legend(...drawn), isOfOrder && ruleNote(RULE));
     return [head, el("div", { class: "why-drawn" }, el("div", { class: "figures" }, drawn), notes), inWords];
   }
+
+  /** Returns the sentence of an answer. That a state is forbidden is proved if the whole list is shown: it lacks the state. */
+  headOf(lines, isSource) {
+    const of = isSource ? "Of the compiled program, with the source's names: " : "";
+    const states = lines.filter((it) => it.startsWith(FORBIDS));
+    const isOfOne = states.length > 0 && this.askedOf !== "all";
+    const isProved = isOfOne && !this.report.left_out;
+    const several = `${FORBIDS}${states.length} states that some candidate execution has.`;
+    const words = isOfOne ? FORBIDS + this.askedOf : states.length > 1 ? several : lines[0];
+    return el("p", { class: "why-head" }, of, el("b", {}, words), " ", isProved ? el("span", { class: "by" }, PROVED) : plainMark());
+  }
+}
+
+/** Returns the caption of a cycle that is drawn: its words, why it teaches little, if it does, and what is not proved of the picture. */
+function captionOf({ words, kind }) {
+  return el("figcaption", {}, el("span", { class: "cycle-words" }, words), kind && el("span", { class: "kind" }, kind), el("span", {}, DRAWN, plainMark()));
 }
 
 /** Returns how many cycles the lines of an answer name, and how many more they count. */

@@ -1,15 +1,21 @@
-// Says of a state that a test does not end in which axiom each candidate execution with it breaks, and draws the cycles: as tools/graph.py
-// does. Not proved.
+// Says of a state that a test does not end in which axiom each candidate execution with it breaks, and draws the cycles that teach the most: as
+// tools/graph.py does. Not proved.
 
-import { TooMany, candidates } from "./executions.js";
+import { TooMany, candidates, threadOf } from "./executions.js";
 import { Names, graphOf, shown } from "./graphs.js";
 import { NoAnswer } from "./program.js";
 import { observed, siteKey, siteName, wordAt } from "./propositions.js";
+import { WORD } from "./token_reader.js";
 
 const MAX_EXECUTIONS = 400000;
 const MAX_CYCLES = 6;
 const MAX_DRAWN = 3;
 const NONE_FORBIDDEN = "x86-TSO allows every state that some candidate execution has.";
+// Why a cycle teaches little about buffers and fences, each with its weight: cycles of less weight are named and drawn first.
+const COMPUTED = "The code computes some of these words: they are no constants of the test.";
+const ONE_LOCATION = "The accesses of one location contradict each other: store buffers and fences have no part in that.";
+const UNKNOWN = "A word that is ? would follow only from itself.";
+const WEIGHTS = new Map([[COMPUTED, 1], [ONE_LOCATION, 2], [UNKNOWN, 4]]);
 
 /**
  * Returns the words in a report's line, by site. Throws NoAnswer unless the line names exactly what the test shows.
@@ -29,15 +35,49 @@ function stateOf(test, line) {
   return new Map(sites.map((site, index) => [siteKey(site), words.get(names[index])]));
 }
 
+/** Returns the words that a test's code and initial block have. */
+function constantsOf(test) {
+  const numbers = test.threads.flat().flatMap(({ value }) => (value?.number === undefined ? [] : [value.number]));
+  return new Set([...test.words, ...test.registers.flat(), ...numbers]);
+}
+
+/**
+ * Returns why a cycle teaches little about buffers and fences: it is of one location, or words are computed in it, or unknown in its execution.
+ * @param {Execution} execution
+ * @param {Edge[]} cycle
+ * @param {Set<number>} constants
+ * @returns {string[]}
+ */
+function kindsOf(execution, cycle, constants) {
+  const events = cycle.map((it) => it.source);
+  const locations = new Set(events.map((it) => execution.instruction(it).location).filter((it) => it !== undefined));
+  const kinds = locations.size === 1 ? [ONE_LOCATION] : [];
+  const isUnknown = (word) => word === null;
+  if ([...execution.rf.keys()].some((it) => isUnknown(execution.read.get(it))) || [...execution.written.values()].some(isUnknown)) return [...kinds, UNKNOWN];
+  const words = events.flatMap((it) => [execution.read.get(it) ?? null, execution.written.get(it) ?? null]);
+  return words.every((it) => it === null || constants.has(it)) ? kinds : [...kinds, COMPUTED];
+}
+
+/** Returns how little a way teaches about buffers and fences. */
+function weightOf({ kinds }) {
+  return kinds.reduce((sum, it) => sum + WEIGHTS.get(it), 0);
+}
+
+/** Counts an execution that has the cycle of a way, and takes it in place of the first one if it is clearer. */
+function addTo(way, other) {
+  way.times += 1;
+  if (weightOf(other) < weightOf(way)) Object.assign(way, { execution: other.execution, violation: other.violation, kinds: other.kinds });
+}
+
 /**
  * Returns the states that the axioms allow, and those that they forbid: each of these with the `ways` in which its candidate executions break an
- * axiom. A way has the axiom, the cycle, its events, the number of such executions, and one of them with its violation.
+ * axiom. A way has the axiom, the cycle, its events, the number of such executions, the clearest of them with its violation, and its kinds.
  * @param {Test} test
  * @param {Map<string, number> | null} wanted
  * @returns {{allowed: Set<string>, forbidden: {words: number[], ways: Map<string, Way>}[]}}
  */
 function forbiddenStates(test, wanted) {
-  const [allowed, forbidden, sites] = [new Set(), new Map(), observed(test)];
+  const [allowed, forbidden, sites, constants] = [new Set(), new Map(), observed(test), constantsOf(test)];
   for (const execution of candidates(test, MAX_EXECUTIONS)) {
     const outcome = execution.outcome();
     const words = sites.map((site) => wordAt(site, outcome) ?? null);
@@ -51,13 +91,19 @@ function forbiddenStates(test, wanted) {
     }
     const names = new Names(execution);
     const events = violation.cycle.map((each) => names.line(each.source));
-    const way = { axiom: violation.axiom, cycle: names.cycle(violation.cycle), events, times: 0, execution: execution, violation };
+    const kinds = kindsOf(execution, violation.cycle, constants);
+    const way = { axiom: violation.axiom, cycle: names.cycle(violation.cycle), events, times: 0, execution: execution, violation, kinds };
     const { ways } = forbidden.get(String(words)) ?? forbidden.set(String(words), { words, ways: new Map() }).get(String(words));
     const key = JSON.stringify([way.axiom, way.cycle, events]);
     if (!ways.has(key)) ways.set(key, way);
-    ways.get(key).times += 1;
+    addTo(ways.get(key), way);
   }
   return { allowed, forbidden: [...forbidden.values()] };
+}
+
+/** Returns the line of a state, as a report has it. */
+function lineOf(test, words) {
+  return observed(test).map((site, index) => `${siteName(test, site)}=${shown(words[index])};`).join(" ");
 }
 
 /**
@@ -67,8 +113,7 @@ function forbiddenStates(test, wanted) {
  * @returns {string[]}
  */
 function sayWhy(test, { words, ways }) {
-  const line = observed(test).map((site, index) => `${siteName(test, site)}=${shown(words[index])};`).join(" ");
-  const lines = [`x86-TSO forbids ${line}`];
+  const lines = [`x86-TSO forbids ${lineOf(test, words)}`, ...ways[0].kinds.map((it) => `  ${it}`)];
   for (const { axiom, cycle, events, times } of ways.slice(0, MAX_CYCLES)) {
     const breaking = times === 1 ? "1 candidate execution breaks" : `${times} candidate executions break`;
     lines.push(`  ${breaking} ${axiom}: ${cycle}`, ...events.map((it) => `    ${it}`));
@@ -76,27 +121,36 @@ function sayWhy(test, { words, ways }) {
   return ways.length > MAX_CYCLES ? [...lines, `  and ${ways.length - MAX_CYCLES} other cycles`] : lines;
 }
 
+/** Returns what orders the ways of a state: the clearest are first, then those of several threads, the shortest, and the most frequent. */
+function rankOf(way) {
+  const isOfOneThread = new Set(way.violation.cycle.map((it) => threadOf(it.source))).size === 1;
+  return [weightOf(way), Number(isOfOneThread), way.events.length, -way.times];
+}
+
+/** Compares two rows of numbers by the first ones that differ. */
+function compareRows(one, other) {
+  const index = one.findIndex((it, at) => it !== other[at]);
+  return index < 0 ? 0 : one[index] - other[index];
+}
+
 /**
- * Returns the forbidden states, sorted by their words (unknown ones first), each with the ways in which it is forbidden, the shortest first.
+ * Returns the forbidden states, sorted by their words (unknown ones last), each with the ways in which it is forbidden, the clearest first.
  * @param {{words: number[], ways: Map<string, Way>}[]} forbidden
  * @returns {{words: number[], ways: Way[]}[]}
  */
 function sortForbidden(forbidden) {
-  const key = ({ words }) => words.map((word) => word ?? -1);
-  const compareWords = (a, b) => {
-    const index = key(a).findIndex((word, number) => word !== key(b)[number]);
-    return index < 0 ? 0 : key(a)[index] - key(b)[index];
-  };
-  const compareWays = (a, b) => a.events.length - b.events.length || b.times - a.times;
+  const key = ({ words }) => words.map((word) => word ?? WORD);
+  const compareWords = (a, b) => compareRows(key(a), key(b));
+  const compareWays = (a, b) => compareRows(rankOf(a), rankOf(b));
   return forbidden.sort(compareWords).map(({ words, ways }) => ({ words, ways: [...ways.values()].sort(compareWays) }));
 }
 
 /**
- * Returns the lines that say why a test does not end in a state, or in each that some candidate has (`all`); and the `cycles` that are named
- * first, each as a graph with its words.
+ * Returns the lines that say why a test does not end in a state, or in each that some candidate has (`all`); and the clearest `cycles`, each as a
+ * graph with its words, and with the sentences on why it teaches little, if it does (`kind`).
  * @param {Test} test
  * @param {string} state
- * @returns {{lines: string[], cycles: {graph: string, words: string}[]}}
+ * @returns {{lines: string[], cycles: {graph: string, words: string, kind: string}[]}}
  */
 export function whyNot(test, state) {
   const wanted = state === "all" ? null : stateOf(test, state);
@@ -111,12 +165,15 @@ export function whyNot(test, state) {
     return { lines: ["x86-TSO allows this state: `lw schedules` lists it with a schedule."], cycles: [] };
   }
   if (!byAxioms.forbidden.length) {
-    return { lines: [wanted ? `No candidate execution ends in ${state} No choice of paths and reads gives these values together.` : NONE_FORBIDDEN], cycles: [] };
+    const none = `No candidate execution ends in ${state} No choice of paths and reads gives these values together.`;
+    return { lines: [wanted ? none : NONE_FORBIDDEN], cycles: [] };
   }
   const states = sortForbidden(byAxioms.forbidden);
-  const shownWays = states.flatMap(({ ways }) => ways.slice(0, MAX_DRAWN)).slice(0, MAX_DRAWN);
-  const cycles = shownWays.map(({ execution, violation, cycle, axiom }) => {
-    return { graph: graphOf(execution, `${test.name}: ${cycle}`, violation), words: `${axiom}: ${cycle}` };
+  const allWays = states.flatMap(({ words, ways }) => ways.map((it) => ({ ...it, line: wanted ? "" : `${lineOf(test, words)} ` })));
+  const least = Math.min(...states.map(({ ways }) => weightOf(ways[0])));
+  const drawn = allWays.filter((it) => weightOf(it) === least).slice(0, MAX_DRAWN);
+  const cycles = drawn.map(({ execution, violation, cycle, axiom, kinds, line }) => {
+    return { graph: graphOf(execution, `${test.name}: ${cycle}`, violation), words: `${line}${axiom}: ${cycle}`, kind: kinds.join(" ") };
   });
   return { lines: states.flatMap((it) => sayWhy(test, it)), cycles };
 }

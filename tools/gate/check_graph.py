@@ -7,7 +7,8 @@
   are those of tools/plain.py's replay of the schedule.
 - The outcomes that the axioms allow are those that tools/plain.py finds by its walk: for the classic shapes, and for random tests.
 - Why not: for each outcome of the classic shapes that candidate executions have and the machine has not, the tool prints a cycle of the
-  relations that the axiom is about; and it calls no state that the machine has forbidden.
+  relations that the axiom is about; and it calls no state that the machine has forbidden. First come cycles through several locations, of known
+  words; if there is none, it says so.
 - Each row of docs/FAMILIES.md: the execution that its test asks about has the row's cycle, and if x86-TSO forbids it, that is a cycle
   of global happens-before.
 - In the picture of each of these executions no arrow crosses a box, no label lies over a box, over another label or out of it, and at most
@@ -59,6 +60,19 @@ REFUSED: tuple[tuple[list[str], int], ...] = (
     (["--why-not", "0:r0=0; 0:r0=0; 1:r0=0;", SOURCE], 1),
     (["--why-not", "0:EAX=0; 1:EAX=0;", SB], 1),
     (["P0", "/nowhere/X.litmus"], 1),
+)
+
+
+# Of examples a state, and what is printed of it first: the clearest cycle, or why none is clear.
+CLEAREST = (
+    ("MCS-x86", "0:ESI=1; 1:ESI=1; n=1;", ["  2 candidate executions break global happens-before: d -po-> e -fr-> j -po-> l -rf-> d"]),
+    ("TicketLock", "0:r4=1; 1:r4=1; n=1;", ["  2 candidate executions break global happens-before: d -po-> e -rf-> g -po-> h -fr-> d"]),
+    (
+        "Peterson+mfences-x86", "0:ECX=1; 1:ECX=1;",
+        ["  2 candidate executions break global happens-before: b -po-> c -po-> d -fr-> e -po-> f -co-> b"],
+    ),
+    ("Counter-x86", "0:EAX=0; 1:EAX=0; x=1;", [f"  {graph.ONE_LOCATION}", "  1 candidate execution breaks coherence: a -co-> b -fr-> a"]),
+    ("Counter-x86", "0:EAX=1; 1:EAX=1; x=2;", [f"  {graph.ONE_LOCATION}", f"  {graph.UNKNOWN}"]),
 )
 
 
@@ -249,6 +263,11 @@ def check_tool() -> Iterator[Comparison]:
     ran = run("--why-not", "all", f"{HOME}/examples/MP-x86.litmus")
     expected = "x86-TSO forbids 1:EAX=1; 1:EBX=0;\n  1 candidate execution breaks global happens-before: "
     yield "why MP does not end so", (0, True), (ran.returncode, ran.stdout.startswith(expected + "a -po-> b -rf-> c -po-> d -fr-> a\n"))
+    for name, state, begin in CLEAREST:
+        ran = run("--why-not", state, f"{HOME}/examples/{name}.litmus")
+        yield f"the cycle of {name} that comes first", begin, ran.stdout.splitlines()[1 : 1 + len(begin)]
+    drawn = graph.explain_states(read_compiled(f"{HOME}/examples/Counter-x86.litmus"), "all").cycles
+    yield "the states of Counter whose cycles are drawn have known words", [False] * 2, ["?" in it.words for it in drawn]
     ran = run("--why-not", "0:r0=0; 1:r0=0;", SOURCE)
     front = "x86-TSO forbids 0:r0=0; 1:r0=0;\n"
     yield "why SB does not end so, in its own names", (0, True), (ran.returncode, ran.stdout.startswith(front))

@@ -319,7 +319,8 @@ def answer_why_not(text: bytes, state: str) -> Answer:
     except given.Fault as why:
         message = why.args[0]
         raise NoAnswer(f"{message[0].upper()}{message[1:]}.") from None
-    return {"lines": lines, "cycles": [{"graph": picture, "words": words} for picture, words in cycles], "language": read_language(text)}
+    drawn = [{"graph": it.picture, "words": it.words, "kind": it.kind} for it in cycles]
+    return {"lines": lines, "cycles": drawn, "language": read_language(text)}
 
 
 QUESTIONS: dict[str, Callable[..., Answer]] = {

@@ -227,7 +227,7 @@ def draw_graph(test: Test, schedule: str) -> str:
 
 def draw_why_not(test: Test, state: str) -> str:
     """Returns the cycles by which the axioms forbid a state, as pictures."""
-    return "".join(make_figure(svg) for svg, _ in graph.explain_states_of_any(test, state).cycles)
+    return "".join(make_figure(it.picture) for it in graph.explain_states_of_any(test, state).cycles)
 
 
 # Caches.

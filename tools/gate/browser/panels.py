@@ -30,9 +30,31 @@ class WhyNot(PageCase):
         self.assertEqual(["1", "0"], [it.get_attribute("value") for it in user.all("#why input")])
         self.assertEqual([], user.all("#graph-place"))
         self.assertSays("x86-TSO forbids 1:EAX=1; 1:EBX=0;", "#why .why-head")
-        self.assertEqual("global happens-before: a -po-> b -rf-> c -po-> d -fr-> a", user.text("#why figcaption"))
+        self.assertEqual("global happens-before: a -po-> b -rf-> c -po-> d -fr-> a", user.text("#why .cycle-words"))
         self.assertIn("Program order counts here, but not from a store to a later load", user.text("#why .rule"))
         self.assertEqual(4, user.run("return document.querySelectorAll('#why figure path.marked').length"))
+
+    def test_proved(self) -> None:
+        """That a state is forbidden is proved, since the list lacks it; what is drawn is not, which its caption says."""
+        user = self.user
+        user.open_listed("#example=MP-x86&view=why")
+        self.assertSays("x86-TSO forbids 1:EAX=1; 1:EBX=0; Proved: the list has all states.", "#why .why-head")
+        self.assertEqual([], user.all("#why .why-head .plain"))
+        self.assertSays("The execution and its cycle are found by the page: not proved", "#why figcaption")
+
+    def test_clearest(self) -> None:
+        """First come cycles through several locations, of known words; if there is none, the caption says of which kind those are that exist."""
+        user = self.user
+        for name in ("MCS-x86", "TicketLock", "Peterson%2Bmfences-x86"):
+            user.open_listed(f"#example={name}&view=why")
+            user.find("#why figure svg.graph")
+            self.assertEqual([], [it for it in user.texts("#why .cycle-words") if not it.startswith("global happens-before: ")], name)
+            self.assertEqual([], [it for it in user.texts("#why figure svg.graph text") if "?" in it], name)
+            self.assertEqual([], user.all("#why .kind"))
+        user.open_listed("#example=Counter-x86&view=why")
+        self.assertSays("The accesses of one location contradict each other", "#why .kind")
+        self.assertSays("0:EAX=0; 1:EAX=0; x=1; coherence: a -co-> b -fr-> a", "#why .cycle-words")
+        self.assertEqual([], user.all("#why .rule"))
 
     def test_source(self) -> None:
         """The question about a source test is in its own names, and the proposed state is answered."""
