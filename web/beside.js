@@ -4,7 +4,7 @@
 import * as address from "./address.js";
 import { ask } from "./ask.js";
 import { button, byId, el, plainMark } from "./dom.js";
-import { differenceOf } from "./differences.js";
+import { differenceOf, keyOf } from "./differences.js";
 import * as guess from "./guess.js";
 import { Lockstep } from "./lockstep.js";
 import { Side } from "./side.js";
@@ -150,9 +150,17 @@ export class Beside {
     for (const [index, side] of this.sides.entries()) side.states.mark(alone[index]);
     const [first, second] = alone.map((lines) => lines?.length);
     const states = (number) => (number === 1 ? "1 state" : `${number} states`);
-    const numbers = `${states(both)} in both, ${first} only left, ${second} only right. `;
+    const numbers = `${states(both)} in both, ${first} only left, ${second} only right. ${this.alsoWords()}`;
     this.fitLater();
     this.compared.replaceChildren(...(why ? [why] : both === undefined ? [] : [numbers, plainMark()]));
+  }
+
+  /** Says that the state which the verdict on x86 shows is a state by interleaving, too, if one test is the source and the other x86. */
+  alsoWords() {
+    const [x86, source] = ["X86", "SRC"].map((language) => this.sides.find((it) => it.states.language === language)?.states);
+    const key = x86 && source && x86.asked !== null ? keyOf(x86.asked) : null;
+    const isAlso = key !== null && source.report.states.some(({ line }) => keyOf(line) === key);
+    return isAlso ? `${x86.asked.replace(/;$/, "")} is reached also by interleaving. ` : "";
   }
 }
 

@@ -30,6 +30,17 @@ function withoutCaches(text) {
 // The words of a comment that may name another example: those that end in -x86, are between backquotes, or follow `see`.
 const NAME = /(`?[\w.+]+-x86\b`?|`[\w.+]+`|(?<=\b[Ss]ee )[\w.+]*\w)/;
 
+// Why the outcome of an x86 test that is allowed surprises, or that it needs no store buffer: what is known of it by interleaving.
+const BY_INTERLEAVING = {
+  allowed: "Also by interleaving: it needs no store buffer.",
+  forbidden: "Never by interleaving: only store buffers make it possible.",
+};
+// A sentence that says more of one test.
+const SURPRISES = {
+  "SB-x86": "No interleaving of the four instructions gives this: each load would have to come before the other thread's store.",
+};
+const KNOWN = /^Interleaving: (allowed|forbidden)\. x86-TSO: allowed\./;
+
 /** Returns the schedule of the run that a comment describes, or null. */
 function scheduleIn(comment) {
   return /\bA (?:telling schedule|run): ([\w\s:]+)/.exec(comment)?.[1].trim().replace(/\s+/g, " ") ?? null;
@@ -37,7 +48,7 @@ function scheduleIn(comment) {
 
 /** Returns the words beside the comment of a source test if only the compiler's fences forbid its outcome on x86; or "". */
 function fencesWords({ name, text, known }, tests) {
-  const isHeldByFences = text.startsWith("SRC") && /^Interleaving: forbidden\. x86-TSO: allowed\./.test(known);
+  const isHeldByFences = text.startsWith("SRC") && KNOWN.exec(known)?.[1] === "forbidden";
   if (!isHeldByFences) return "";
   const bare = `${name}-x86`;
   return ` On x86 the compiler's fences forbid this outcome; without them it is allowed${tests.has(bare) ? `: \`${bare}\`` : ""}.`;
@@ -115,6 +126,13 @@ export class Examples {
   /** Returns the name of the example with a text, or undefined. */
   nameOf(text) {
     return [...this.tests.values()].find((it) => it.text === text)?.name;
+  }
+
+  /** Returns a note on the outcome of an x86 example that x86-TSO allows: whether interleaving allows it, too. Of another text it is "". */
+  noteOn(text) {
+    const name = this.nameOf(aligned(text));
+    const by = text.startsWith("X86") ? KNOWN.exec(this.tests.get(name)?.known)?.[1] : undefined;
+    return by ? (SURPRISES[name] ?? BY_INTERLEAVING[by]) : "";
   }
 
   /** Returns the schedule that a text has of its own: of an example that of the comment beside it, and otherwise that of a comment in it; or null. */

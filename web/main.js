@@ -34,8 +34,6 @@ import { hasModule } from "./ways.js";
 import { Why } from "./why.js";
 
 const FIRST = "SB-x86";
-// Why the answer on the opening view surprises.
-const SURPRISE = "No interleaving of the four instructions gives this: each load would have to come before the other thread's store.";
 // After how many milliseconds without a letter what is written is run, and how long what runs by itself may take.
 const TYPING = 600;
 const MAX_MILLISECONDS = 10000;
@@ -56,7 +54,7 @@ const states = new States(byId("outcome"), editor, () => updateOffers(), {
   next: byId("next"),
   onVeil: keepBack,
   ownOf: (text) => examples.scheduleOf(text),
-  noteOf: () => (address.read().example || address.read().text ? "" : el("p", { class: "small note" }, SURPRISE)),
+  noteOf: (text) => examples.noteOn(text),
   onFence: changeFence,
 });
 const panels = {

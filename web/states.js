@@ -48,7 +48,8 @@ export class States {
    * `why` is called with a missing state, `onWatch` with one whose run the reader wants to see, `onDraw` when another run is shown, `onStep` when
    * it is at another step, `onFence` if a fence is put into the test or taken out, and `onVeil` with whether the verdict is kept back. Runs are
    * shown in `runPanel`, and their graph in `graphPlace`. `firstStep` is the step at which the first run is shown: "telling", or a number. `ownOf`
-   * returns the schedule that a text has of its own, or null, and `noteOf` a note below the verdict. `next` is shown below the run.
+   * returns the schedule that a text has of its own, or null, and `noteOf` a note on a text whose outcome is allowed, or "". `next` is shown below
+   * the run.
    */
   constructor(panel, editor, onReveal = () => null, more = {}) {
     const { why = null, runPanel = panel, graphPlace = null, firstStep = "telling", next = null, ...others } = more;
@@ -203,6 +204,7 @@ export class States {
     if (guessed !== null) countPrediction(text, guessed === words.is_so);
     const [kind, word, sentence] = headlineOf(this.language, report, conditionWords(text));
     const [by, way] = BY[this.isSearched ? "searched" : "enumerated"];
+    const note = kind === "can" || kind === "wrong" ? this.noteOf(text) : "";
     this.verdict.className = `verdicts ${kind}`;
     this.verdict.replaceChildren(
       guess.wasAsked(text) ? guessedWords(guessed, words.is_so, () => this.askAgain(), this.reason()) : "",
@@ -212,7 +214,7 @@ export class States {
         el("span", { class: "count-words" }, ` ${countWords(report)}`), " ",
         el("span", { class: "by", title: way }, el("span", { class: "long-by" }, "The list is "), `${by}.`),
         report.is_proved ? "" : [" ", el("span", { class: "by" }, "Its ticks are "), plainMark(), "."]),
-      this.noteOf(),
+      note && el("p", { class: "small note" }, note),
     );
   }
 

@@ -46,16 +46,29 @@ class FirstView(PageCase):
         self.assertEqual(["x 1 ↓", "y 1 ↓"], user.texts("#watching .entry"))
 
     def test_surprise(self) -> None:
-        """Only the opening view says why its state surprises; a link to the test itself does not, nor the view for a projector."""
+        """The opening view says why its state surprises, and so does a link to the test or with its text; the view for a projector does not."""
         user = self.user
         user.open_listed()
         self.assertSays("No interleaving of the four instructions gives this", "#outcome .note")
         user.click("#present")
         self.assertSoon([], lambda: user.all("#outcome .note"))
         user.press(user.keys.ESCAPE)
-        user.open_listed("#example=SB-x86")
-        self.assertSays("Allowed.", "#outcome .verdict")
-        self.assertEqual([], user.all("#outcome .note"))
+        bare = "X86 SB-x86\n{}\n P0 | P1 ;\n MOV [x],$1 | MOV [y],$1 ;\n MOV EAX,[y] | MOV EAX,[x] ;\nexists (0:EAX=0 /\\ 1:EAX=0)\n"
+        for link in ("#example=SB-x86", f"#text={quote(bare)}"):
+            user.open_listed(link)
+            self.assertSays("No interleaving of the four instructions gives this", "#outcome .note")
+
+    def test_by_interleaving(self) -> None:
+        """Of an x86 example with an outcome that is allowed a note says whether interleaving allows it, too; of others there is none."""
+        user = self.user
+        for name, note in (
+            ("R-x86", ["Never by interleaving: only store buffers make it possible."]),
+            ("Peterson%2Bturnfirst-x86", ["Also by interleaving: it needs no store buffer."]),
+            ("Urcu%2Bphase-x86", ["Also by interleaving: it needs no store buffer."]),
+            ("MP-x86", []), ("SB", []), ("Counter-x86", []),
+        ):
+            user.open_listed(f"#example={name}")
+            self.assertEqual(note, user.texts("#outcome .note"), name)
 
     def test_in_sight_together(self) -> None:
         """Code, buffers, memory, verdict and list are in sight together at 1280 by 720."""

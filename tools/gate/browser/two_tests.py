@@ -62,6 +62,14 @@ class Compared(PageCase):
         text = user.run("return document.querySelector('.program').textContent").splitlines()
         self.assertEqual([" P0          | P1          ;", " MOV [x],$1  | MOV [y],$1  ;"], text[2:4])
 
+    def test_by_interleaving(self) -> None:
+        """If the state that the verdict on x86 shows is one of the source, the comparison says that it is reached also by interleaving."""
+        user = self.user
+        user.open("#example=Peterson%2Bturnfirst-x86&beside=Peterson%2Bturnfirst")
+        self.assertSays("0:ECX=1; 1:ECX=1 is reached also by interleaving. not proved", ".compared")
+        user.open("#example=SB-x86&beside=SB")
+        self.assertSays("3 states in both, 1 only left, 0 only right. not proved", ".compared")
+
     def test_four_threads(self) -> None:
         """With two tests of four threads no part is cut off, and all of both machines is in sight, at 1280 by 720 and at 1920 by 1080."""
         user = self.user
