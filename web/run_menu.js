@@ -16,7 +16,8 @@ export class RunMenu {
     const enter = (event) => event.key === "Enter" && this.follow();
     this.written = el("input", { type: "text", size: "22", id: id("written"), placeholder: "P0 D0 P1", keydown: enter });
     this.listed = button("Watch the run that lw lists", () => this.run.chooseListed(), { class: "listed-run" });
-    this.place = el("details", { class: "menu" }, el("summary", { "aria-label": "More on this run" }, "⋯"), el("div", { class: "sheet-menu" },
+    this.opener = el("summary", { "aria-label": "More on this run" }, "⋯");
+    this.place = el("details", { class: "menu" }, this.opener, el("div", { class: "sheet-menu" },
       this.listed,
       button("Copy the schedule", () => copy(run.events.join(" "), this.said)),
       button("Save this picture", () => this.savePicture(false), { id: id("save-picture") }),
@@ -46,10 +47,12 @@ export class RunMenu {
     if (answer && !answer.picture) showError(answer, this.wrong, editor);
   }
 
-  /** Follows the schedule that is written, or says what is wrong with it. */
+  /** Follows the schedule that is written, and closes the menu; or says what is wrong with it. */
   async follow() {
     const answer = await this.run.follow(this.written.value.trim());
     this.wrong.replaceChildren();
-    if (answer) showError(answer, this.wrong, this.run.editor);
+    if (answer) return showError(answer, this.wrong, this.run.editor);
+    this.place.open = false;
+    return this.opener.focus({ preventScroll: true });
   }
 }

@@ -236,6 +236,7 @@ class Schedules(PageCase):
         begin(user, "#example=SB-x86&view=hand")
         follow(user, "P0 P0 P1 P1 D1 D0")
         self.assertSoon("P0 P0 P1 P1 D1 D0", user.schedule)
+        self.assertSoon(False, lambda: user.run("return document.querySelector('#watching .menu').open"))
         follow(user, "P0 P1 Q0")
         self.assertSays("Line 1, column 7: Word", ".menu .notice")
         follow(user, "P0 D0 D0")
