@@ -42,8 +42,8 @@ export function refusalOf(event, { number }) {
 export function showError(answer, panel, editor) {
   const { fault } = answer;
   if (editor.isAlone && isInText(fault)) {
-    showFaultInEditor(fault, editor);
-    panel.append(el("p", { class: "no-answer" }, `No answer: line ${fault.row} of the text has a fault.`));
+    const { row } = showFaultInEditor(fault, editor);
+    panel.append(el("p", { class: "no-answer" }, `No answer: line ${row} of the text has a fault.`));
   } else panel.append(el("p", { class: "notice", role: "alert" }, fault ? wordsOf(fault, editor.text) : errorWords(answer)));
 }
 
@@ -69,32 +69,37 @@ const LIMITS = {
 };
 
 /**
- * Returns a fault in words: its place, what is wrong, and lw's own line. `known` is the page's sentence on it, or null.
+ * Returns a fault in words: its place, what is wrong, and lw's own line. `hint` is the page's explanation of it.
  * @param {Fault} fault
  * @param {string} text
- * @param {string | null} [known]
+ * @param {Hint} [hint]
  * @returns {(Node | string)[]}
  */
-function wordsOf(fault, text, known = isInText(fault) ? hintOn(fault, text).words : null) {
+function wordsOf(fault, text, hint = isInText(fault) ? hintOn(fault, text) : {}) {
   const line = el("code", { class: "fault-line" }, fault.line);
   if (fault.kind === "limit") return [`The list could take too long, so it is refused. ${LIMITS[fault.name]}. `, line];
-  const place = fault.row ? el("b", {}, `Line ${fault.row}, column ${fault.column}: `) : "";
-  const cause = known ? sentence(`${known} `) : fault.name ? [fault.name, ": ", sentence(sentenceOf(fault.kind, fault.number)), ". "] : [];
-  return [place, ...cause, ...(isInText(fault) ? sentence(endOfRowBefore(fault, text)) : []), line];
+  const { row, column } = hint.at ?? fault;
+  const place = row ? el("b", {}, `Line ${row}, column ${column}: `) : "";
+  const cause = hint.words ? sentence(`${hint.words} `) : fault.name ? [fault.name, ": ", sentence(sentenceOf(fault.kind, fault.number)), ". "] : [];
+  return [place, ...cause, ...(isInText(fault) && !hint.at ? sentence(endOfRowBefore(fault, text)) : []), line];
 }
 
 /**
- * Marks a fault in the editor, with a hint on it.
+ * Marks a fault in the editor, with a hint on it. Returns where it is marked.
  * @param {Fault} fault
  * @param {Editor} editor
+ * @returns {{row: number}}
  */
 function showFaultInEditor(fault, editor) {
-  editor.mark(fault);
-  const { words, change } = hintOn(fault, editor.text);
+  const hint = hintOn(fault, editor.text);
+  const marked = { ...fault, ...hint.at };
+  const { change } = hint;
+  editor.mark(marked);
   const apply = change && button(change.title ?? `Change it to ${change.text}`, () => editor.replace(change), { class: "apply" });
   byId("fault").replaceChildren(
-    el("p", { class: "notice" }, wordsOf(fault, editor.text, words), " ", apply, " ", button("Go to it", () => editor.goToFault(), { class: "go-to" })),
+    el("p", { class: "notice" }, wordsOf(fault, editor.text, hint), " ", apply, " ", button("Go to it", () => editor.goToFault(), { class: "go-to" })),
   );
+  return marked;
 }
 
 /**

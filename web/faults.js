@@ -4,6 +4,7 @@
 import { nearest } from "./nearest.js";
 import { otherCode, otherHead, otherRegister } from "./other_language.js";
 import { TEMPLATE } from "./template.js";
+import { readTest } from "./tests.js";
 
 const TOKEN = /0x[\da-fA-F]+|\d\w*|[A-Za-z_]\w*|:=|[!=]=|=>|<>|&&|\|\||\/\\|\\\/|[^]/uy;
 const STATEMENTS =
@@ -215,6 +216,48 @@ export function endOfRowBefore({ row }, text) {
   return `Line ${rows.split("\n").length} has no \`;\` at its end: perhaps that is the fault. `;
 }
 
+/**
+ * Returns where in a text each row ends that has no `;`, from the row before a fault on: before the comments after it.
+ * @param {Fault} fault
+ * @param {string} text
+ * @returns {number[]}
+ */
+function endsWithoutMark(fault, text) {
+  const first = /^Line (\d+)/.exec(endOfRowBefore(fault, text))?.[1];
+  if (first === undefined) return [];
+  const code = withoutComments(text).split(/~?\s*\b(?:exists|forall|locations|filter)\b/, 1)[0];
+  let begin = 0;
+  return code.split("\n").flatMap((line, at) => {
+    const end = begin + line.trimEnd().length;
+    begin += line.length + 1;
+    return at + 1 < Number(first) || !line.trim() || line.trimEnd().endsWith(";") ? [] : [end];
+  });
+}
+
+/**
+ * Returns the explanation of a fault that is gone if each row of a text ends with a `;`, at the first row that has none; null if it is not.
+ * @param {Fault} fault
+ * @param {string} text
+ * @returns {Hint | null}
+ */
+function rowsWithoutEnd(fault, text) {
+  const ends = endsWithoutMark(fault, text);
+  if (!ends.length) return null;
+  const [begin, end] = [ends[0], ends.at(-1)];
+  const put = ends.map((it, at) => `${text.slice(ends[at - 1] ?? begin, it)} ;`).join("");
+  try {
+    readTest(text.slice(0, begin) + put + text.slice(end));
+  } catch {
+    return null;
+  }
+  const front = text.slice(0, begin).split("\n");
+  const others = ends.length === 2 ? "another one" : `${ends.length - 1} others`;
+  const words = ends.length === 1 ? "This row has no `;` at its end." : `This row and ${others} have no \`;\` at their ends.`;
+  const title = ends.length === 1 ? "Put in the ;" : `Put in ${ends.length} ;`;
+  const at = { row: front.length, column: [...front.at(-1)].length + 1, index: begin };
+  return { words, change: { begin, end, text: put, title }, at };
+}
+
 /** Returns that a text is empty, and proposes a small test in its place, if that is so; or "". */
 function emptyText(place) {
   if (place.text.trim()) return "";
@@ -315,14 +358,16 @@ const SENTENCES = {
 };
 
 /**
- * Returns the explanation of a text's fault: `words`, a sentence in which code is between backquotes, or null if the fault is not known; and the
- * proposed `change`, a text with the `begin` and the `end` of the part that it replaces, and a `title` if the text is long, or null.
+ * Returns the explanation of a text's fault, a `Hint`: `words`, a sentence in which code is between backquotes, or null if the fault is not known;
+ * the proposed `change`, a text with the `begin` and the `end` of the part that it replaces, and a `title` if the text says little, or null; and where
+ * the text is to be changed (`at`), if that is not the place of the fault.
  * @param {Fault} fault
  * @param {string} text
- * @returns {{words: string | null, change: {begin: number, end: number, text: string, title?: string} | null}}
+ * @returns {{words: string | null, change: {begin: number, end: number, text: string, title?: string} | null, at?: object}}
  */
-export function hintOn({ kind, name, index }, text) {
+export function hintOn(fault, text) {
+  const { kind, name, index } = fault;
   const place = new Place(text, index);
-  const words = SENTENCES[`${kind} ${name}`]?.(place) ?? null;
-  return { words, change: place.change };
+  const explain = () => ({ words: SENTENCES[`${kind} ${name}`]?.(place) ?? null, change: place.change });
+  return rowsWithoutEnd(fault, text) ?? explain();
 }

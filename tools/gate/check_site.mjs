@@ -637,14 +637,18 @@ function compareHints(page, program, tally) {
 
 const NO_COMMA = "The operands of an instruction have a comma between them.";
 const NO_CONSTANT = "A constant is a whole number from 0 to 4294967295.";
+const NO_END_OF_ROW = "This row has no `;` at its end.";
 const NO_END = "The initial values lack a `}` at their end.";
 // A part of a text, what is there in place of it, some of the page's words, the line of a row that lacks its end, and the proposed text.
 const HINTS = [
-  ["[y],EAX ;", "[y],EAX", "The text ends too early.", 5, undefined],
-  ["[y],EAX ;", "[y],EAX (* ; *)\n\n(* a; b\n *)", "The text ends too early.", 5, undefined],
-  ["[y],EAX ;", "[y],EAX\n locations [x;]\n", "The text ends too early.", 5, undefined],
-  ["[y],EAX ;\n", "[y],EAX ", "The text ends too early.", 5, undefined],
-  ["[x] ;", "[x]", "This row has too few or too many cells", 4, undefined],
+  ["[y],EAX ;", "[y],EAX", NO_END_OF_ROW, 5, " ;"],
+  ["[y],EAX ;", "[y],EAX (* ; *)\n\n(* a; b\n *)", NO_END_OF_ROW, 5, " ;"],
+  ["[y],EAX ;", "[y],EAX\n locations [x;]\n", NO_END_OF_ROW, 5, " ;"],
+  ["[y],EAX ;\n", "[y],EAX ", NO_END_OF_ROW, 5, " ;"],
+  ["[x] ;", "[x]", NO_END_OF_ROW, 4, " ;"],
+  ["P1 ;", "P1", NO_END_OF_ROW, 3, " ;"],
+  ["[x] ;\n MFENCE | XCHG [y],EAX ;", "[x]\n MFENCE | XCHG [y],EAX", "This row and another one have no `;`", 4, " ;\n MFENCE | XCHG [y],EAX ;"],
+  ["[x] ;", "[y] [x]", "This row has too few or too many cells", 4, undefined],
   ["(x=1 /\\ 1:EAX=0)", "(x=1 /\\\n 2:EAX=0)", "There is no thread 2", undefined, undefined],
   ["{ x=0 }", "{ x=0", NO_END, undefined, undefined],
   ["{ x=0 }", "{x=1;", NO_END, undefined, undefined],

@@ -111,15 +111,30 @@ class Faults(PageCase):
             self.assertFalse("perhaps" in user.text("#fault"))
 
     def test_end_of_row(self) -> None:
-        """A row that lacks its end is named."""
+        """A row that lacks its end is named and marked, and a button puts the end in; also if several rows lack it."""
         user = self.user
         user.open_listed()
-        for rows, line in (
-            (" | MFENCE\n MOV [x],$1 | MOV EAX,[x] ;\nexists (x=1)\n", 4),
-            (" | MFENCE ;\n MOV [x],$1 | MOV EAX,[x]\n(* the end; *)\n\nexists (x=1)\n", 5),
+        for rows, line, title, mended in (
+            (" | MFENCE\n MOV [x],$1 | MOV EAX,[x] ;\nexists (x=1)\n", 4, "Put in the ;", "MFENCE ;"),
+            (" | MFENCE ;\n MOV [x],$1 | MOV EAX,[x]\n(* the end; *)\n\nexists (x=1)\n", 5, "Put in the ;", "MOV EAX,[x] ;"),
+            (" | MFENCE\n MOV [x],$1 | MOV EAX,[x]\nexists (x=1)\n", 4, "Put in 2 ;", "MOV EAX,[x] ;"),
         ):
             user.run_text(f"X86 Open\n{{}}\n P0 | P1 ;\n{rows}")
-            self.assertSays(f"Line {line} has no ; at its end: perhaps that is the fault.", "#fault")
+            self.assertSays(f"Line {line}, column ", "#fault b")
+            self.assertSays(" no ; at ", "#fault")
+            self.assertSoon([f"✗ {line}"], lambda: user.texts(".numbers .faulty"))
+            self.assertEqual(title, user.text("#fault .apply"))
+            user.click("#fault .apply")
+            self.assertSoon(True, lambda: mended in user.value())
+            self.assertSays("Allowed.", "#outcome .verdict")
+            self.assertSoon([], lambda: user.texts("#fault p"))
+
+    def test_end_of_row_perhaps(self) -> None:
+        """If the end of a row is not all that a text lacks, the row is named beside the fault."""
+        user = self.user
+        user.open_listed()
+        user.run_text("X86 Open\n{}\n P0 | P1 ;\n | MFENCE\n MOV [x],$1 | MOV EAX,[x] | MFENCE ;\nexists (x=1)\n")
+        self.assertSays("Line 4 has no ; at its end: perhaps that is the fault.", "#fault")
 
     def test_open_block(self) -> None:
         """Initial values without their end are named, and nothing is put into the text."""
