@@ -34,8 +34,9 @@ const NOTES = [
 // How well a word fits, the best first; a synonym fits less than the word itself.
 const [WHOLE, OTHER_LANGUAGE, BEGIN, IN_NAME, IN_FAMILY, IN_WORDS, BEGINS_WORD] = [0, 0.5, 1, 2, 4, 6, 8];
 const FOR_SYNONYM = 3;
-// The addition to the fit of a test whose full name is written: the test comes before all others.
+// The addition to the fit of a test whose full name is written, and the fit of one whose whole name is: the test comes before all others.
 const FULL_NAME = -20;
+const EXACT = -40;
 // The ending of an x86 test's name that begins with the name of its source test.
 const X86_FORM = "-x86";
 
@@ -120,7 +121,8 @@ export function notesOn(text) {
 }
 
 /**
- * Returns the tests of families that all words of a text fit, the best first, with x86 tests before source tests of the same name if `isX86` is set.
+ * Returns the tests of families that all words of a text fit, the best first: before all others the test of which the text is the name. Of the tests
+ * that have a name in both languages those of x86 are first if `isX86` is set.
  * @param {Family[]} families
  * @param {string} text
  * @param {boolean} isOnlyNames
@@ -133,6 +135,7 @@ export function findTests(families, text, isOnlyNames, isX86 = false) {
   const phrase = words.join(" ");
   const fullName = Object.hasOwn(FULL_NAMES, phrase) ? FULL_NAMES[phrase] : null;
   const fitting = candidates.flatMap(({ test, family }) => {
+    if (test.name.toLowerCase() === phrase) return [{ test, fit: EXACT }];
     const named = fullName === null ? null : fitOf(fullName, test, family, { isOnlyNames: true, isX86 });
     if (named !== null) return [{ test, fit: FULL_NAME + named }];
     const fits = words.map((it) => bestFit(it, test, family, { isOnlyNames, isX86 }));

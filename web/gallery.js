@@ -52,8 +52,8 @@ export class Gallery {
   }
 
   /**
-   * Opens the example whose name is written, of the source test and the x86 test of a name that in the language of the test that is shown; or the only
-   * example that is found. Of several the first gets the focus.
+   * Opens the example whose name is written, or if there is none the x86 test of that name; or the only example that is found. Of several the first
+   * gets the focus.
    */
   enter(event) {
     event.preventDefault();

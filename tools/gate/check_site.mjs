@@ -596,7 +596,7 @@ function compareFinding(page, tally, families) {
   }
   tally.compare("MP is in no jump", [], namesFor("MP").filter((it) => !it.startsWith("MP")));
   tally.compare("nothing is found by a word that is none", [], namesFor("zebra"));
-  tally.compare("x86 tests first", ["MP-x86", "MP"], page.finding.findTests(families, "mp", false, true).map((it) => it.name).slice(0, 2));
+  tally.compare("an exact name first", ["MP", "MP-x86"], page.finding.findTests(families, "mp", false, true).map((it) => it.name).slice(0, 2));
   const first = (text) => page.finding.findTests(families, text, false, true)[0]?.name;
   const fullNames = ["load buffering", "Store buffer", "message passing", "independent reads of independent writes", "stale"];
   tally.compare("full names, and what readers call them", ["LB-x86", "SB-x86", "MP-x86", "IRIW-x86", "MP-x86"], fullNames.map(first));

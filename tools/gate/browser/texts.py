@@ -389,13 +389,13 @@ class Gallery(PageCase):
         user.press(user.keys.ARROW_DOWN, user.keys.ENTER)
         self.assertSoon("LB-x86", lambda: user.text("#example-name"))
 
-    def test_language(self) -> None:
-        """Enter opens the x86 test of a name if an x86 test is shown, and the source test if a source test is."""
+    def test_exact(self) -> None:
+        """Enter opens the example whose name is written, whatever the language of the test that is shown; or else the x86 test of that name."""
         user = self.user
-        for example, name in (("SB-x86", "MP-x86"), ("SB", "MP")):
+        for example, written, name in (("SB-x86", "MP", "MP"), ("MP-x86", "SB", "SB"), ("SB", "mp-x86", "MP-x86"), ("SB", "Forwarding", "Forwarding-x86")):
             user.open_listed(f"#example={example}")
             user.click("#open-gallery")
-            user.find("#search").send_keys("mp")
+            user.find("#search").send_keys(written)
             self.assertSoon(name, lambda: (user.texts("#gallery .example b") or [""])[0])
             user.press(user.keys.ENTER)
             self.assertSoon(name, lambda: user.text("#example-name"))
@@ -422,7 +422,7 @@ class Gallery(PageCase):
         user.open_listed()
         user.click("#open-gallery")
         names = lambda: user.texts("#gallery .example b")
-        for word, first in (("MP", ["MP-x86", "MP"]), ("mutex", ["SpinLock-x86", "SpinLock"]), ("spin", ["SpinLock", "SpinLock-x86"]),
+        for word, first in (("MP", ["MP", "MP-x86"]), ("mutex", ["SpinLock-x86", "SpinLock"]), ("spin", ["SpinLock", "SpinLock-x86"]),
                             ("queue", ["QueueLock", "ProducerQueue"]), ("CAS", ["TryLock", "Consensus"])):
             field = user.find("#search")
             field.clear()
