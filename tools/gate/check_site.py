@@ -175,6 +175,8 @@ def check_documents() -> Iterator[Comparison]:
         yield f"{file} opens examples that are there", [], [it["example"] for it in views if it.get("example", "SB") not in names]
         words = re.sub(r"<pre.*?</pre>|<code>.*?</code>|<svg.*?</svg>", "", texts[file], flags=re.S)
         yield f"{file} has no marks of Markdown", [], re.findall(r".*(?:\*\*|`|\]\().*", words)
+        unlinked = re.findall(r"(?<![\w/])(?:docs/|examples/)?[A-Z-]+\.md", re.sub(r"<a\b.*?</a>", "", words, flags=re.S))
+        yield f"{file} names no document without a link that the site carries", [], [it for it in unlinked if is_carried(it)]
     preparation = texts["lab.html"].partition('<h3 id="prepare-it-in-ten-minutes">')[2].partition("<h4")[0]
     needed = {documents.SHEET, documents.QUIZ, "card.html", "terms.html", documents.SHAPES, "tutorial.html", "solutions.html"}
     needed |= {documents.SLIDES} & set(texts)
@@ -277,6 +279,11 @@ def check_origin() -> Iterator[Comparison]:
         yield f"the origin {given_origin}", f"{begin}{words} {origin.NO_ADDRESS} {origin.NO_LICENCE}", origin.describe_origin(given_origin)
     with mock.patch.object(origin, "read_lines", lambda path: ["a", "5 passed, 0 failed"] if path.endswith("/gate") else ["", "", "", "b"]):
         yield "the gate of other sources is not that of these", None, origin.read_origin().gate
+
+
+def is_carried(name: str) -> bool:
+    """Returns whether a site carries the document with a file's name, as texts have it."""
+    return {name, f"docs/{name}", f"../{name}"} & {f"{prefix}{it.source}.md" for it in documents.DOCUMENTS.values() for prefix in ("", "docs/")} != set()
 
 
 def is_dead_link(link: str, file: str, texts: dict[str, str]) -> bool:

@@ -19,7 +19,7 @@ from page.origin import describe_origin, read_origin
 
 
 class Document(NamedTuple):
-    """A document of a site: its name in docs/, its name in lists of documents, and what it is."""
+    """A document of a site: its name as links of docs/ have it, its name in lists of documents, and what it is."""
 
     source: str
     title: str
@@ -43,6 +43,10 @@ DOCUMENTS = {
     "proof.html": Document("PROOF", "The proof", "explained for graduate students"),
     "believe.html": Document("BELIEVE", "What to read to believe it", "the definitions, in order"),
     "trusted.html": Document("TRUSTED", "What is trusted", "assumptions on one page"),
+    "examples.html": Document("../examples/INDEX", "All examples", "by family, with what each shows and where it was published"),
+    "from-herd.html": Document("FROM-HERD", "From herd", "tests in herd's form, logs, and many files"),
+    "from-c.html": Document("FROM-C", "From C and Rust", "small programs as litmus tests"),
+    "on-machine.html": Document("ON-MACHINE", "On a machine", "what a processor shows of a test"),
     "solutions.html": Document("SOLUTIONS", "Solutions", "to the tutorial and the lab"),
 }
 LAST_LISTED = "theorems.html"
@@ -198,10 +202,11 @@ class SiteRenderer(markdown.Renderer):
         """Returns a link to a document of the site, a part of it or an example; of any other link the words."""
         words = WITHIN.sub("", words)
         document, hash_sign, part = target.partition("#")
+        document = document.replace("../docs/", "", 1)
         name = document[: -len(".md")] if document.endswith(".md") else document
         if not document or name in self.files:
             file = self.files.get(name, "")
-            words = DOCUMENTS[file].title if words in (document, f"docs/{document}") else words
+            words = DOCUMENTS[file].title if words in (document, f"docs/{document}", document.replace("../", "", 1)) else words
             return f'<a href="{file}{hash_sign}{part}">{words}</a>'
         match = EXAMPLE.fullmatch(document)
         return make_page_link(words, example=match[1]) if match and is_example(match[1]) else words
