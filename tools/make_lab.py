@@ -29,6 +29,8 @@ from shared import command, start
 
 NO_SITE = "make_lab: the site is left out: there are no modules of these sources (tools/build_wasm.py makes them)"
 
+# The page, as the slides link to it.
+PAGE = "../students/site/index.html"
 NO_SLIDES = "make_lab: the slides are left out: there is no program of these sources (./lw builds it)"
 
 
@@ -88,7 +90,8 @@ def main() -> int:
     reader.add_argument("folder", metavar="FOLDER")
     folder = reader.read().folder
     try:
-        modules, shown = web_files.read_modules(), make_slides.make_page_if_built()
+        modules = web_files.read_modules()
+        shown = make_slides.make_page_if_built(PAGE if modules else "")
         write_files(folder, make_files(modules, shown))
     except (NoLab, make_site.NoSite, OSError) as why:
         return given.refuse(f"make_lab: {why}")

@@ -1,11 +1,12 @@
 #!/usr/bin/env python3
 """Makes a quiz for a class: one HTML file, which works without a server and without a network.
 
-    python3 tools/make_quiz.py OUT.html [--tests N] [--seed S]
+    python3 tools/make_quiz.py OUT.html [--tests N] [--seed S] [--page LINK]
 
 For each of N tests (10) it asks whether the test can end this way by interleaving, when threads take turns on one memory, and whether it can on
 x86-TSO. At the end it shows which answers were right, and a code to hand in; tools/read_codes.py reads the codes, and so does the file itself, for
-the teacher. The seed has up to eight small letters and digits; the same seed makes the same bytes.
+the teacher. The seed has up to eight small letters and digits; the same seed makes the same bytes. With LINK, the address of lw's page as the quiz has it
+(`site/index.html`), each answer has a link at the end that opens its test there, with the run or with the cycle that explains the answer.
 
 The answers are hidden in the file, but not well: a determined student can read them. The verdicts are those of the program's reports (./lw
 states). Without a program of these sources they are those of tools/plain.py, and a line says so. Python 3.8 is enough, on any system.
@@ -28,14 +29,14 @@ NOT_PROVED = "make_quiz: the verdicts are those of tools/plain.py: there is no p
 TEMPLATE = os.path.join(os.path.dirname(os.path.abspath(quiz.__file__)), "quiz.html")
 
 
-def make_page(count: int, seed: str, report: Callable[[str], str]) -> str:
-    """Returns the quiz as one page."""
+def make_page(count: int, seed: str, report: Callable[[str], str], page: str = "") -> str:
+    """Returns the quiz as one page, with links to lw's page at an address, if there is one."""
     with open(TEMPLATE, encoding="utf-8") as file:
         html = file.read()
     parts = {
         "@SYMBOLS@": codes.SYMBOLS, "@LETTERS@": codes.LETTERS, "@MARKS@": str(codes.MARKS), "@MOST@": str(codes.MAX_TESTS),
         "@BYTES@": str(codes.BYTES),
-        "@PRIME@": str(codes.PRIME), "@SUM@": str(codes.LENGTH_OF_SUM),
+        "@PRIME@": str(codes.PRIME), "@SUM@": str(codes.LENGTH_OF_SUM), "@PAGE@": format_literal(page),
         "@QUIZ@": format_literal(quiz.make_data(seed, quiz.make_tests(count, seed, report))),
     }
     for name, part in parts.items():
@@ -50,10 +51,11 @@ def main() -> int:
     reader.add_argument("out", metavar="OUT.html")
     reader.add_argument("--tests", type=int, default=10, metavar="N")
     reader.add_argument("--seed", default="1", metavar="S")
+    reader.add_argument("--page", default="", metavar="LINK")
     arguments = reader.read()
     report = quiz.choose_reporter()
     try:
-        html = make_page(arguments.tests, arguments.seed, report)
+        html = make_page(arguments.tests, arguments.seed, report, arguments.page)
         with open(arguments.out, "w", encoding="utf-8", newline="\n") as file:
             file.write(html)
     except OSError as why:

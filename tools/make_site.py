@@ -75,6 +75,8 @@ globalThis.site.coming.catch(() => null);
 """
 # The quiz of a site: the number of its tests, and the seed.
 QUIZ = (10, "1")
+# The page of a site, as its documents link to it.
+PAGE = "index.html"
 # The rule for a page of files: it may send nothing by a network.
 POLICY = "connect-src 'none'; object-src 'none'; frame-src 'none'; base-uri 'none'; form-action 'none'"
 
@@ -218,7 +220,7 @@ def make_documents(web: str, slides: str | None) -> Files:
     if match is None:
         raise NoSite("web/style.css does not begin with the colours by light and by dark")
     style = shorten_style(match[0] + read_source(documents.STYLE, web))
-    questions = make_quiz.make_page(*QUIZ, quiz.make_report_by_plain)
+    questions = make_quiz.make_page(*QUIZ, quiz.make_report_by_plain, PAGE)
     return {**documents.make_pages(POLICY, questions, slides), documents.STYLE: style, documents.SCRIPT: read_source(documents.SCRIPT, web)}
 
 
@@ -249,7 +251,7 @@ def make_site(out: str, modules: list[bytes], is_one_file: bool = False, web: st
     if is_one_file:
         write_file(out, make_one_file(modules, web))
         return
-    files = make_folder(modules, web, slides=make_slides.make_page_if_built())
+    files = make_folder(modules, web, slides=make_slides.make_page_if_built(PAGE))
     os.makedirs(out, exist_ok=True)
     for name, text in files.items():
         write_file(f"{out}/{name}", text)

@@ -1,11 +1,12 @@
 #!/usr/bin/env python3
 """Makes the slides for the introduction of the lab (docs/LAB.md): one HTML file, which loads nothing.
 
-    python3 tools/make_slides.py OUT.html
+    python3 tools/make_slides.py OUT.html [--page LINK]
 
 PageDown, Space, Enter, the arrows to the right and down, a click and a tap lead on; PageUp and the other arrows lead back; Home and End to
 the ends. Two small buttons lead back and on, with the number of the slide between them. N shows notes for the teacher. The number after `#` in
-the address is that of the slide. Printed, each slide is a page.
+the address is that of the slide. Printed, each slide is a page. With LINK, the address of lw's page as the slides have it (`site/index.html`), each slide
+that shows a test has a link that opens the test there, at the same run, in one tab for all slides.
 
 What the slides show of tests comes from the program (`./lw states` and `./lw replay`), which has to be built: so it needs Linux. The pictures are
 those of tools/picture.py and tools/graph.py. The same sources give the same bytes.
@@ -35,6 +36,7 @@ html, body { margin: 0; background: #fff; color: #111 }
 .slide svg { width: 100%; height: 100% }
 .slide aside { display: none; border-top: 1px solid #888; padding-top: 1vh; font-size: .8em; color: #444 }
 .noted .slide aside { display: block }
+.slide .open { position: absolute; right: 4vw; top: 3.6vh; font-size: .65em; color: #1849a9 }
 .slide footer { position: absolute; right: 2vw; bottom: 1vh; font-size: .6em; color: #555 }
 .running .slide { display: none }
 .running .slide.shown { display: flex }
@@ -54,11 +56,12 @@ html, body { margin: 0; background: #fff; color: #111 }
   .slide pre { font-size: .9375em; overflow-x: auto }
   .slide figure { flex: none }
   .slide svg { height: auto }
+  .slide .open { position: static; font-size: .9em }
   .slide footer { right: 1rem; font-size: .8em }
   .controls { right: 0; bottom: 0; padding: .4rem 1rem; font-size: 1.25rem; background: #fff; border-radius: .3em }
 }
 @media print {
-  .running .controls { display: none }
+  .running .controls, .slide .open { display: none }
   .running .slide footer { display: block }
   .running .slide, .slide { display: flex; width: 297mm; height: 209mm; padding: 10mm 14mm; font-size: 17pt; break-after: page }
   .slide:last-of-type { break-after: auto }
@@ -89,13 +92,13 @@ const KEYS = {
 addEventListener("keydown", (event) => {
   if (event.ctrlKey || event.altKey || event.metaKey) return;
   if (event.key === "n" || event.key === "N") document.body.classList.toggle("noted");
-  if (!KEYS[event.key] || event.target.closest("button") && [" ", "Enter"].includes(event.key)) return;
+  if (!KEYS[event.key] || event.target.closest("button, a") && [" ", "Enter"].includes(event.key)) return;
   event.preventDefault();
   show(event.key === " " && event.shiftKey ? at - 1 : KEYS[event.key]());
 });
 back.addEventListener("click", () => show(at - 1));
 on.addEventListener("click", () => show(at + 1));
-addEventListener("click", ({ target }) => target.closest(".controls") || String(getSelection()) || show(at + 1));
+addEventListener("click", ({ target }) => target.closest(".controls, a") || String(getSelection()) || show(at + 1));
 addEventListener("hashchange", () => show((parseInt(location.hash.slice(1), 10) || 1) - 1));
 document.body.classList.add("running");
 show((parseInt(location.hash.slice(1), 10) || 1) - 1);
@@ -107,9 +110,9 @@ CONTROLS = (
 )
 
 
-def make_page() -> str:
-    """Returns the slides as one page."""
-    all_slides = slides.render_slides()
+def make_page(page: str = "") -> str:
+    """Returns the slides as one page, with links to lw's page at an address, if there is one."""
+    all_slides = slides.render_slides(page)
     body = "".join(
         f'<section class="slide">\n<h2>{escape(title, quote=False)}</h2>\n{html}<footer>{number} of {len(all_slides)}</footer>\n</section>\n'
         for number, (title, html) in enumerate(all_slides, 1)
@@ -121,11 +124,11 @@ def make_page() -> str:
     )
 
 
-def make_page_if_built() -> str | None:
-    """Returns the slides, or None if the program is not built, or not for this system."""
+def make_page_if_built(page: str = "") -> str | None:
+    """Returns the slides with links to a page, or None if the program is not built, or not for this system."""
     try:
         films.check_program()
-        return make_page()
+        return make_page(page)
     except (films.NoFilm, ImportError, OSError):
         return None
 
@@ -135,11 +138,12 @@ def main() -> int:
     given.set_output_encoding()
     reader = command.Reader(__doc__)
     reader.add_argument("out", metavar="OUT.html")
-    out = reader.read().out
+    reader.add_argument("--page", default="", metavar="LINK")
+    arguments = reader.read()
     try:
         films.check_program()
-        html = make_page()
-        with open(out, "w", encoding="utf-8", newline="\n") as file:
+        html = make_page(arguments.page)
+        with open(arguments.out, "w", encoding="utf-8", newline="\n") as file:
             file.write(html)
     except (films.NoFilm, NoLab, OSError) as why:
         return given.refuse(f"make_slides: {why}")

@@ -22,6 +22,7 @@ import subprocess
 import sys
 import tempfile
 from collections.abc import Iterator
+from urllib.parse import parse_qsl
 
 import given
 import make_quiz
@@ -100,6 +101,12 @@ def check_reasons(data: quiz.Data, tests: list[quiz.Asked]) -> Iterator[Comparis
         yield f"the reasons on test {index}", kinds, [reason["kind"] for reason in reason_read]
         yield f"the reasons on test {index} have events", True, all(len(reason.get("steps") or reason["events"]) > 1 for reason in reason_read)
         test = plain.read_test(other_reason.text)
+        for reason in reason_read:
+            if "schedule" in reason:
+                run_read = plain.X86Replay(test, "mesi")
+                for event in plain.read_schedule(str(reason["schedule"]), test.locations):
+                    run_read.execute_event(*event)
+                yield f"the run of test {index} ends as it asks", True, plain.is_true(test.proposition, run_read.make_outcome())
         ways = [reasons.list_asked_schedules(test, plain.make_x86_start, moves) for moves in (plain.list_interleaved_moves, plain.list_x86_moves)]
         yield f"runs by tools/plain.py that end as test {index} asks", [other_reason.interleaved, other_reason.on_x86], [bool(runs) for runs in ways]
     words = ("store buffer", "steps", "events", "memory")
@@ -264,6 +271,31 @@ def check_browser(page: str, folder: str) -> Iterator[Comparison]:
         user.driver.quit()
 
 
+def check_links(page: str, folder: str) -> Iterator[Comparison]:
+    """Checks that with the address of lw's page each answer has a link at the end: to its run, or to the test and why it has none."""
+    if not users.is_there():
+        return
+    user = users.User(f"file://{folder}/linked.html", f"{folder}/profile-of-links")
+    try:
+        user.open()
+        yield "before the end there is no link to the page", [], user.all("a.open")
+        user.run("for (const it of document.querySelectorAll('input[value=yes]')) it.click()")
+        user.find("#student").send_keys("Ana 17")
+        user.click("#done")
+        user.find("#score")
+        links = user.run("return [...document.querySelectorAll('a.open')].map((it) => [it.target, it.getAttribute('href')])")
+        views = [dict(parse_qsl(href.partition("site/index.html#")[2])) for _, href in links]
+        data = read_data(page)
+        expected = [
+            {"text": text, **({"view": "hand", "schedule": reason["schedule"]} if "schedule" in reason else {"view": "why"})}
+            for text, both in zip(data["tests"], quiz.read_reasons(data)) for reason in both
+        ]
+        yield "each answer opens its test on the page, with its run", expected, views
+        yield "all tests open in one tab", {"lw"}, {target for target, _ in links}
+    finally:
+        user.driver.quit()
+
+
 def check_commands(folder: str) -> Iterator[Comparison]:
     """Runs the commands, and looks at their statuses."""
     for words, expected in (
@@ -286,10 +318,13 @@ def comparisons() -> Iterator[Comparison]:
         yield "make_quiz.py OUT.html", ("", "", 0), run(["make_quiz.py", f"{folder}/quiz.html", "--tests", str(TESTS), "--seed", "1"])
         with open(f"{folder}/quiz.html", encoding="utf-8", newline="") as file:
             page = file.read()
+        words = [f"{folder}/linked.html", "--tests", str(TESTS), "--seed", "1", "--page", "site/index.html"]
+        yield "make_quiz.py OUT.html --page LINK", ("", "", 0), run(["make_quiz.py", *words])
         yield from check_page(page, quiz.make_tests(TESTS, "1", quiz.make_report_by_program))
         yield from check_codes(page, folder)
         yield from check_commands(folder)
         yield from check_browser(page, folder)
+        yield from check_links(page, folder)
 
 
 def main() -> int:

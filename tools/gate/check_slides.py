@@ -3,6 +3,7 @@
     python3 tools gate.check_slides
 
 - There are twelve slides, each with a title of its own; the page names no other site and loads nothing; the same sources give the same bytes.
+  With the address of lw's page each slide that shows a test has a link that opens that test there.
 - What is shown of a test is what the program says of it: each list is that of its report, with the verdict, and each picture of the
   machine has the registers, the store buffers and the words of its replay. An execution's loads have the words that the replay ends with.
 - The slides are in the order of the timetable. Before the tasks none shows a test of tasks 2 to 4, except the text of A1 and A2 and the
@@ -21,6 +22,7 @@ import sys
 import tempfile
 from collections.abc import Iterator
 from html import unescape
+from urllib.parse import parse_qsl
 
 import given
 import make_slides
@@ -90,6 +92,17 @@ def check_page(page: str) -> Iterator[Comparison]:
     yield "each slide has a note", COUNT, page.count("<aside>")
     yield "no slide shows cache lines", [], re.findall(r">lines [^<]*<", page)
     yield "sheet and slide ask the same of task 1", (True, True), (SAID in page, SAID in " ".join(read_file("docs/LAB.md").split()))
+
+
+def check_links(tests: dict[str, bytes]) -> Iterator[Comparison]:
+    """Checks that each slide with a test opens it on the page: a text is asked about first, and a run is the one that is shown."""
+    linked = make_slides.make_page("index.html").split('<section class="slide">')[1:]
+    for number, slide in enumerate(linked, 1):
+        shown = re.findall(r'data-kind="(\w+)" data-test="([\w-]+)"(?: data-schedule="([^"]*)")?', slide)
+        links = [unescape(it) for it in re.findall(r'<a class="open" target="lw" href="index\.html#([^"]*)">', slide)]
+        more = {"code": {"predict": "1"}, "states": {}}
+        expected = [{"text": tests[name].decode(), **more.get(kind, {"view": "hand", "schedule": schedule})} for kind, name, schedule in shown]
+        yield f"what slide {number} opens", expected, [dict(parse_qsl(it)) for it in links]
 
 
 def check_lists(page: str, tests: dict[str, bytes]) -> Iterator[Comparison]:
@@ -166,9 +179,10 @@ def check_figures(page: str, tests: dict[str, bytes]) -> Iterator[Comparison]:
 def check_command() -> Iterator[Comparison]:
     """Checks the command."""
     with tempfile.TemporaryDirectory(prefix="lw-slides-") as folder:
-        yield "make_slides.py OUT.html", ("", "", 0), run(["make_slides.py", f"{folder}/slides.html"])
-        with open(f"{folder}/slides.html", encoding="utf-8") as file:
-            yield "what it makes", True, file.read() == make_slides.make_page()
+        for words, made in (([], make_slides.make_page()), (["--page", "site/index.html"], make_slides.make_page("site/index.html"))):
+            yield f"make_slides.py OUT.html {' '.join(words)}", ("", "", 0), run(["make_slides.py", f"{folder}/slides.html", *words])
+            with open(f"{folder}/slides.html", encoding="utf-8") as file:
+                yield f"what it makes, {words}", True, file.read() == made
         yield "a folder that is not there", 1, run(["make_slides.py", f"{folder}/nowhere/slides.html"])[2]
         yield from check_browser(folder)
     yield "no words", 2, run(["make_slides.py"])[2]
@@ -200,6 +214,9 @@ def check_browser(folder: str) -> Iterator[Comparison]:
         for button, key, number in ((on, Keys.ENTER, 3), (on, Keys.SPACE, 4), (back, Keys.ENTER, 3), (back, Keys.SPACE, 2)):
             button.send_keys(key)
             yield f"a key on a button leads to slide {number}", f"#{number}", driver.current_url[-2:]
+        driver.find_element("tag name", "body").send_keys(Keys.HOME)
+        driver.find_element("css selector", ".slide.shown .open").click()
+        yield "a link leads to no other slide, and opens one tab", ("#1", 2), (driver.current_url[-2:], len(driver.window_handles))
         yield "nothing of a slide is below the buttons", [], driver.execute_script(COVERED)
         driver.find_element("tag name", "body").send_keys(Keys.HOME)
         yield "on the first slide no button leads back", ["true", "false"], [it.get_attribute("aria-disabled") for it in (back, on)]
@@ -224,6 +241,7 @@ def comparisons() -> Iterator[Comparison]:
     tests = slides.read_texts()
     page = make_slides.make_page()
     yield from check_page(page)
+    yield from check_links(tests)
     yield from check_lists(page, tests)
     yield from check_figures(page, tests)
     yield from check_command()

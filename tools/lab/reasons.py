@@ -18,7 +18,7 @@ from replay_state import read_state
 
 MAX_CANDIDATES = 400_000
 Moves = Callable[[plain.Test, State], Iterator[Move]]
-# A run has `steps`; a cycle has `events`, of which each comes before the next, and the last before the first.
+# A run has `steps`, and the `schedule` of the x86 test; a cycle has `events`, of which each comes before the next, and the last before the first.
 Reason = Dict[str, Union[str, List[str]]]
 
 
@@ -61,7 +61,7 @@ def explain_on_x86(text: str) -> Reason:
     test = plain.read_test(text)
     schedules = list_asked_schedules(test, plain.make_x86_start, plain.list_x86_moves)
     if schedules:
-        return {"kind": "run", "steps": describe_steps(test, schedules[0])}
+        return {"kind": "run", "steps": describe_steps(test, schedules[0]), "schedule": schedules[0]}
     return {"kind": "cycle", "events": find_shortest_cycle(test, find_broken_cycle)}
 
 
@@ -70,8 +70,24 @@ def explain_by_interleaving(text: str, source: str) -> Reason:
     test = plain.read_test(source)
     schedules = list_asked_schedules(test, plain.make_source_start, plain.list_source_moves)
     if schedules:
-        return {"kind": "run", "steps": [rename_to_x86(it) for it in describe_steps(test, schedules[0])]}
+        steps = [rename_to_x86(it) for it in describe_steps(test, schedules[0])]
+        return {"kind": "run", "steps": steps, "schedule": make_x86_schedule(plain.read_test(text), schedules[0])}
     return {"kind": "cycle", "events": find_shortest_cycle(plain.read_test(text), executions.Execution.find_cycle)}
+
+
+def make_x86_schedule(test: plain.Test, schedule: str) -> str:
+    """Returns the schedule of an x86 test that does what one of its source form does: each store is drained at once, and fences are carried out."""
+    codes = [list(code) for code in test.threads]
+    events = []
+    for thread in (int(event[1]) for event in schedule.split()):
+        while codes[thread]:
+            events.append(f"P{thread}")
+            kind = codes[thread].pop(0).kind
+            if kind == "store":
+                events.append(f"D{thread}")
+            if kind != "mfence":
+                break
+    return " ".join([*events, *(f"P{thread}" for thread, code in enumerate(codes) for _ in code)])
 
 
 def rename_to_x86(words: str) -> str:

@@ -8,6 +8,7 @@ from __future__ import annotations
 import re
 from html import escape
 from typing import List, NamedTuple, Tuple, Union
+from urllib.parse import urlencode
 
 import executions
 import films
@@ -200,7 +201,23 @@ def render_part(part: Part, tests: dict[str, bytes]) -> str:
     return draw_film(part, text) if isinstance(part, Film) else draw_graph(part, text)
 
 
-def render_slides() -> list[tuple[str, str]]:
-    """Returns, for each slide, its title and its HTML."""
+def make_view(part: Code | States | Film | Graph, text: str) -> dict[str, str]:
+    """Returns the fields of the page's address that show what a part does: a prediction is asked for first, or the run is shown, which continues."""
+    if isinstance(part, (Film, Graph)):
+        return {"view": "hand", "schedule": part.schedule, "text": text}
+    return {"predict": "1", "text": text} if isinstance(part, Code) else {"text": text}
+
+
+def make_page_link(parts: list[Part], tests: dict[str, bytes], page: str) -> str:
+    """Returns a link that opens a slide's test on the page at an address, in one tab for all of them; nothing if there is no test or no page."""
+    shown = [it for it in parts if not isinstance(it, (Words, Note))]
+    if not shown or not page:
+        return ""
+    view = make_view(shown[0], tests[shown[0].test].decode())
+    return f'<a class="open" target="lw" href="{escape(page)}#{escape(urlencode(view))}">Open it on the page</a>\n'
+
+
+def render_slides(page: str) -> list[tuple[str, str]]:
+    """Returns, for each slide, its title and its HTML, with links to the page at an address, if that is not empty."""
     tests = read_texts()
-    return [(title, "".join(render_part(part, tests) for part in parts)) for title, parts in SLIDES]
+    return [(title, make_page_link(parts, tests, page) + "".join(render_part(part, tests) for part in parts)) for title, parts in SLIDES]

@@ -243,7 +243,8 @@ def make_preparation(has_slides: bool) -> str:
     """Returns how a teacher prepares the lab with what is on the site, in steps."""
     link = lambda file, words: f'<a href="{file}" target="hand-out">{words}</a>'
     slides = (
-        f"{link(SLIDES, 'The slides')} are in the timetable below. The arrows, a click or the two buttons lead through them; N shows notes for you."
+        f"{link(SLIDES, 'The slides')} are in the timetable below. The arrows, a click or the two buttons lead through them; N shows notes for you, and "
+        "a link on a slide opens its test here."
         if has_slides else "The slides are missing: this site was made without the built program, which they need. The repository makes them."
     )
     compared = make_page_link("the test SB beside the same test with fences", example="SB-x86", beside="SB+mfences-x86")
