@@ -1,9 +1,10 @@
-// Proposes what to look at next: the same test with fences, or without additions; and documents to read.
+// Proposes what to look at next: the same test with fences, or without additions; and what there is to read, and for a class.
 
 import { button, byId, el } from "./dom.js";
 import { documents } from "./supplies.js";
 
-const TUTORIAL = "tutorial.html";
+// The documents that are named with a test, by their files, with what a reader finds there.
+const NAMED = [["tutorial.html", "Tutorial", ""], ["lab.html", "Lab for a class", ": sheet, slides, quiz"]];
 
 /** Returns the words on the example to which the next step leads. */
 function wordsOf(examples, name, partner) {
@@ -25,6 +26,7 @@ export function showNextStep(examples, name, { choose, compare, browse }) {
     "Next: ", wordsOf(examples, name, partner), button(partner, () => choose(partner), { class: "link", id: "next-test" }), ", or ",
     button("compare both", () => compare(partner), { class: "link", id: "next-compare" }), ". ",
   ];
-  const tutorial = documents.some(([file]) => file === TUTORIAL) && [el("a", { href: TUTORIAL, target: "reading" }, "Tutorial"), " "];
-  byId("next").replaceChildren(...[step, tutorial].filter(Boolean).flat());
+  const named = NAMED.filter(([name]) => documents.some(([file]) => file === name));
+  const links = named.map(([file, title, words]) => el("span", { class: "unbroken" }, el("a", { href: file, target: "reading" }, title), words, " "));
+  byId("next").replaceChildren(...step, ...links);
 }

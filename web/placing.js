@@ -4,16 +4,17 @@ import { byId } from "./dom.js";
 
 // In a window that is narrower the page has one column.
 const NARROW = "(max-width: 69.99rem)";
+const PHONE = "(max-width: 40rem)";
 
 /**
  * Places the parts: in one column the verdict and the machine come first, and the text is folded. The graph is beside the machine if it has room, and
- * otherwise below it. `fit` is called when the room for the machine has changed, with `true` on a projector
+ * otherwise below it. On a phone the words on the test are below the verdict, and otherwise above the text. `fit` is called when the room for the machine has changed, with `true` on a projector
  * and after it.
  * @param {Present} present
  * @param {function(boolean): void} fit
  */
 export function placeParts(present, fit) {
-  const narrow = matchMedia(NARROW);
+  const [narrow, phone] = [NARROW, PHONE].map((it) => matchMedia(it));
   const graph = byId("graph-place");
   const placeGraph = () => {
     const drawn = graph.querySelector(".graph");
@@ -22,12 +23,17 @@ export function placeParts(present, fit) {
     const place = isBelow ? byId("answers") : byId("test");
     if (graph.parentElement !== place) place.insertBefore(graph, place.querySelector(":scope > .folded"));
   };
+  const placeAbout = () => {
+    if (phone.matches) byId("outcome").querySelector(".verdicts").after(byId("about"));
+    else byId("editor").before(byId("about"));
+  };
   const place = () => {
     byId(narrow.matches ? "beside" : "answers").before(byId("test"));
     fold(narrow.matches);
     placeGraph();
   };
   narrow.addEventListener("change", place);
+  phone.addEventListener("change", placeAbout);
   graph.addEventListener("drawn", () => {
     placeGraph();
     present.fit();
@@ -43,6 +49,7 @@ export function placeParts(present, fit) {
     fit(true);
   });
   place();
+  placeAbout();
 }
 
 /** Sets how high the machine may be so that it is in sight, with the graph below it. */

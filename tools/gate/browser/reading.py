@@ -5,6 +5,7 @@ import base64
 import re
 import zlib
 
+from gate.browser.lists import IN_SIGHT
 from gate.browser.looks import CONTRAST, HEADINGS, MIN_CONTRAST, OVERFLOW
 from gate.browser.page_case import PageCase
 from page.documents import CARDS, DOCUMENTS, SHEET
@@ -43,10 +44,14 @@ class Reading(PageCase):
         self.user.find("body[data-ready]")
 
     def test_way_there_and_back(self) -> None:
-        """The page leads to the tutorial, and a link of the tutorial opens its test on the page."""
+        """The page leads to the tutorial and to the lab at first sight, and a link of the tutorial opens its test on the page."""
         user = self.user
+        user.resize(1280, 720)
         user.open_listed()
-        self.assertTrue(user.find("#next a").get_attribute("href").endswith("/tutorial.html"))
+        self.assertEqual(["Tutorial", "Lab for a class: sheet, slides, quiz"], user.texts("#next .unbroken"))
+        self.assertTrue(user.run(IN_SIGHT, "#next"))
+        links = [it.get_attribute("href").rpartition("/")[2] for it in user.all("#next a")]
+        self.assertEqual(["tutorial.html", "lab.html"], links)
         self.read("tutorial.html")
         self.follow(".open a[href*='example=SB-x86']")
         self.assertSays("SB-x86", "#example-name")
