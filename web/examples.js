@@ -33,11 +33,11 @@ const NAME = /(`?[\w.+]+-x86\b`?|`[\w.+]+`|(?<=\b[Ss]ee )[\w.+]*\w)/;
 // Why the outcome of an x86 test that is allowed surprises, or that it needs no store buffer: what is known of it by interleaving.
 const BY_INTERLEAVING = {
   allowed: "Also by interleaving: it needs no store buffer.",
-  forbidden: "Never by interleaving: only store buffers make it possible.",
+  forbidden: "Never by interleaving: it needs store buffers.",
 };
 // A sentence that says more of one test.
 const SURPRISES = {
-  "SB-x86": "No interleaving of the four instructions gives this: each load would have to come before the other thread's store.",
+  "SB-x86": "No interleaving gives this: each load would have to come before the other thread's store.",
 };
 const KNOWN = /^Interleaving: (allowed|forbidden)\. x86-TSO: allowed\./;
 

@@ -1,6 +1,6 @@
 // Places the parts of the page: by the width of the window, by the size of the graph, and on a projector.
 
-import { byId } from "./dom.js";
+import { button, byId, el } from "./dom.js";
 
 // In a window that is narrower the page has one column.
 const NARROW = "(max-width: 69.99rem)";
@@ -23,9 +23,14 @@ export function placeParts(present, fit) {
     const place = isBelow ? byId("answers") : byId("test");
     if (graph.parentElement !== place) place.insertBefore(graph, place.querySelector(":scope > .folded"));
   };
+  const about = byId("about");
+  const brief = el("div", { class: "brief" }, moreOf(about));
   const placeAbout = () => {
-    if (phone.matches) byId("outcome").querySelector(".verdicts").after(byId("about"));
-    else byId("editor").before(byId("about"));
+    byId("editor").before(about);
+    brief.remove();
+    if (!phone.matches) return;
+    byId("outcome").querySelector(".verdicts").after(brief);
+    brief.prepend(about);
   };
   const place = () => {
     byId(narrow.matches ? "beside" : "answers").before(byId("test"));
@@ -50,6 +55,17 @@ export function placeParts(present, fit) {
   });
   place();
   placeAbout();
+}
+
+/** Returns a button that shows the whole of a text of which a phone shows the first line only. */
+function moreOf(place) {
+  const toggle = () => {
+    const isWhole = place.classList.toggle("whole");
+    more.setAttribute("aria-expanded", String(isWhole));
+    more.textContent = isWhole ? "less" : "more";
+  };
+  const more = button("more", toggle, { class: "link small", "aria-expanded": "false", "aria-controls": place.id });
+  return more;
 }
 
 /** Sets how high the machine may be so that it is in sight, with the graph below it. */

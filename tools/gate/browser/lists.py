@@ -49,20 +49,20 @@ class FirstView(PageCase):
         """The opening view says why its state surprises, and so does a link to the test or with its text; the view for a projector does not."""
         user = self.user
         user.open_listed()
-        self.assertSays("No interleaving of the four instructions gives this", "#outcome .note")
+        self.assertSays("No interleaving gives this: each load would", "#outcome .note")
         user.click("#present")
         self.assertSoon([], lambda: user.all("#outcome .note"))
         user.press(user.keys.ESCAPE)
         bare = "X86 SB-x86\n{}\n P0 | P1 ;\n MOV [x],$1 | MOV [y],$1 ;\n MOV EAX,[y] | MOV EAX,[x] ;\nexists (0:EAX=0 /\\ 1:EAX=0)\n"
         for link in ("#example=SB-x86", f"#text={quote(bare)}"):
             user.open_listed(link)
-            self.assertSays("No interleaving of the four instructions gives this", "#outcome .note")
+            self.assertSays("No interleaving gives this: each load would", "#outcome .note")
 
     def test_by_interleaving(self) -> None:
         """Of an x86 example with an outcome that is allowed a note says whether interleaving allows it, too; of others there is none."""
         user = self.user
         for name, note in (
-            ("R-x86", ["Never by interleaving: only store buffers make it possible."]),
+            ("R-x86", ["Never by interleaving: it needs store buffers."]),
             ("Peterson%2Bturnfirst-x86", ["Also by interleaving: it needs no store buffer."]),
             ("Urcu%2Bphase-x86", ["Also by interleaving: it needs no store buffer."]),
             ("MP-x86", []), ("SB", []), ("Counter-x86", []),

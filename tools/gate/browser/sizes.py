@@ -276,6 +276,19 @@ class Phone(PageCase):
         self.assertTrue(user.run(bottom, "#watching") < user.run(bottom, "#unfold"))
         self.assertEqual([], user.all("#text"))
 
+    def test_about(self) -> None:
+        """The first line of the words on the test is below the verdict, on the first screen; a button shows them whole."""
+        user = self.user
+        box = "const { top, bottom } = document.querySelector(arguments[0]).getBoundingClientRect(); return [top, bottom]"
+        (_, verdict), (begin, end), (below, _) = (user.run(box, css) for css in ("#outcome .verdicts", "#about .about", "#outcome .states-place"))
+        self.assertTrue(verdict <= begin < end <= below and end <= 844, (verdict, begin, end, below))
+        user.click(".brief button")
+        self.assertEqual("less", user.text(".brief button"))
+        self.assertTrue(user.run("const it = document.querySelector('#about .about'); return it.scrollHeight <= it.clientHeight + 1"))
+        user.resize(1280, 720)
+        self.assertSoon(1, lambda: len(user.all("#test > #about .about")))
+        self.assertEqual([], user.all(".brief"))
+
     def test_buffers(self) -> None:
         """The store buffers are in sight on the first screen, also of a test with long code, of which a part is shown."""
         user = self.user
