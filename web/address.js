@@ -13,8 +13,8 @@ let fields = parseFields(keptForReload() ?? location.hash.slice(1));
 let timer = null;
 // The address as it was written or followed last. If the present one differs, a link is about to be followed, and is not overwritten.
 let known = location.hash;
-keep();
-addEventListener("pageshow", keep);
+storeFields();
+addEventListener("pageshow", storeFields);
 
 /**
  * Returns the fields of the part of an address after `#`. In the name of an example a bare `+` is a plus.
@@ -39,8 +39,8 @@ function keptForReload() {
   }
 }
 
-/** Stores what is kept, for when the page is loaded anew. */
-function keep() {
+/** Stores the fields in the browser's store of this tab, where a reload of the page finds them. */
+function storeFields() {
   try {
     sessionStorage.setItem(KEY, String(fields));
   } catch {
@@ -67,7 +67,7 @@ export function put(changes, isNew = false) {
     if (value === null || value === undefined || value === "") fields.delete(key);
     else fields.set(key, String(value));
   }
-  keep();
+  storeFields();
   if (!isNew) timer ??= setTimeout(write, PAUSE);
   else {
     history.pushState(null, "", addressOfFields());
@@ -100,7 +100,7 @@ export function onLink(act) {
     const before = read();
     known = location.hash;
     fields = parseFields(location.hash.slice(1));
-    keep();
+    storeFields();
     act(before);
   });
 }

@@ -6,7 +6,7 @@
  * @param {string} line
  * @returns {string[] | null}
  */
-function cellsOf(line) {
+function splitCells(line) {
   const row = /^\s*(.*?)\s*;\s*$/.exec(line);
   return row && row[1].split("|").map((cell) => cell.trim());
 }
@@ -19,9 +19,9 @@ function cellsOf(line) {
 export function aligned(text) {
   const lines = text.split("\n");
   const begin = lines.findIndex((line) => /^\s*P0\s*[|;]/.test(line));
-  const threads = cellsOf(lines[begin] ?? "")?.length;
+  const threads = splitCells(lines[begin] ?? "")?.length;
   const isRow = (cells, index) => cells && index >= begin && cells.length === threads;
-  const rows = lines.map(cellsOf).map((cells, index) => (isRow(cells, index) ? cells : null));
+  const rows = lines.map(splitCells).map((cells, index) => (isRow(cells, index) ? cells : null));
   const widths = Array.from({ length: threads ?? 0 }, (_, thread) => Math.max(...rows.map((cells) => cells?.[thread].length ?? 0)));
   const shown = (cells) => ` ${cells.map((cell, thread) => cell.padEnd(widths[thread])).join(" | ")} ;`;
   return lines.map((line, index) => (rows[index] ? shown(rows[index]) : line)).join("\n");

@@ -4,7 +4,7 @@
 // An `Atom` is a site, a word, and whether the condition denies that the site has the word.
 
 import { holds, siteKey, siteName } from "./propositions.js";
-import { wordsOf } from "./replays.js";
+import { contentsOf } from "./replays.js";
 import { readTest } from "./tests.js";
 
 const MAX_ATOMS = 6;
@@ -146,7 +146,7 @@ export function questionOf(text) {
  */
 function outcomeOf(test, line) {
   const outcome = { registers: test.threads.map(() => ({})), words: {} };
-  const byName = new Map(wordsOf(line));
+  const byName = new Map(contentsOf(line));
   for (const [location, name] of test.locations.entries()) if (byName.has(name)) outcome.words[location] = byName.get(name);
   for (const site of sitesOf(test)) outcome.registers[site.thread][site.register] = byName.get(siteName(test, site));
   return outcome;

@@ -1,7 +1,7 @@
 // Finds the states that two reports have in common, and those that only one has. Registers have names by the language; that of a compiled program
 // represents that of its source with the same number. Not proved.
 
-import { registerNumber, wordsOf } from "./replays.js";
+import { registerNumber, contentsOf } from "./replays.js";
 
 const OTHER_NAMES = "Not compared: the tests show different registers and locations.";
 const NOT_WHOLE = "The states are not compared, since not all of them are shown.";
@@ -12,7 +12,7 @@ const NOT_WHOLE = "The states are not compared, since not all of them are shown.
  * @returns {[string, number][]}
  */
 function pairsOf(line) {
-  const pairs = wordsOf(line).map(([name, word]) => {
+  const pairs = contentsOf(line).map(([name, word]) => {
     const [, thread, register] = /^(\d):(\w+)$/.exec(name) ?? [];
     return [thread === undefined ? name : `${thread}:${registerNumber(register)}`, word];
   });
@@ -29,7 +29,7 @@ export function keyOf(line) {
 }
 
 /** Returns a key of the names that the states of a report have: the same for two reports if they show the same. */
-function namesOf({ states }) {
+function shownNames({ states }) {
   return String(pairsOf(states[0]?.line ?? "").map(([name]) => name));
 }
 
@@ -40,7 +40,7 @@ function namesOf({ states }) {
  */
 export function differenceOf(...reports) {
   if (reports.some((it) => it.left_out)) return { why: NOT_WHOLE };
-  if (namesOf(reports[0]) !== namesOf(reports[1])) return { why: OTHER_NAMES };
+  if (shownNames(reports[0]) !== shownNames(reports[1])) return { why: OTHER_NAMES };
   const lines = reports.map(({ states }) => new Map(states.map(({ line }) => [keyOf(line), line])));
   const others = [...lines].reverse();
   const alone = lines.map((it, index) => [...it].filter(([key]) => !others[index].has(key)).map(([, line]) => line));

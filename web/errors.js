@@ -1,7 +1,7 @@
 // Shows why there is no answer: a fault, with its place and the sentence of docs/FORMAT.md for it, or an error.
 
 import { button, byId, el, sentence } from "./dom.js";
-import { endOfRowBefore, hintOn } from "./faults.js";
+import { explainMissingRowEnd, hintOn } from "./faults.js";
 import { table } from "./supplies.js";
 
 let sentences = {};
@@ -44,7 +44,7 @@ export function showError(answer, panel, editor) {
   if (editor.isAlone && isInText(fault)) {
     const { row } = showFaultInEditor(fault, editor);
     panel.append(el("p", { class: "no-answer" }, `No answer: line ${row} of the text has a fault.`));
-  } else panel.append(el("p", { class: "notice", role: "alert" }, fault ? wordsOf(fault, editor.text) : errorWords(answer)));
+  } else panel.append(el("p", { class: "notice", role: "alert" }, fault ? faultWords(fault, editor.text) : errorWords(answer)));
 }
 
 /** Returns whether a fault is one of the text of a test. */
@@ -75,13 +75,13 @@ const LIMITS = {
  * @param {Hint} [hint]
  * @returns {(Node | string)[]}
  */
-function wordsOf(fault, text, hint = isInText(fault) ? hintOn(fault, text) : {}) {
+function faultWords(fault, text, hint = isInText(fault) ? hintOn(fault, text) : {}) {
   const line = el("code", { class: "fault-line" }, fault.line);
   if (fault.kind === "limit") return [`The list could take too long, so it is refused. ${LIMITS[fault.name]}. `, line];
   const { row, column } = hint.at ?? fault;
   const place = row ? el("b", {}, `Line ${row}, column ${column}: `) : "";
   const cause = hint.words ? sentence(`${hint.words} `) : fault.name ? [fault.name, ": ", sentence(sentenceOf(fault.kind, fault.number)), ". "] : [];
-  return [place, ...cause, ...(isInText(fault) && !hint.at ? sentence(endOfRowBefore(fault, text)) : []), line];
+  return [place, ...cause, ...(isInText(fault) && !hint.at ? sentence(explainMissingRowEnd(fault, text)) : []), line];
 }
 
 /**
@@ -97,7 +97,7 @@ function showFaultInEditor(fault, editor) {
   editor.mark(marked);
   const apply = change && button(change.title ?? `Change it to ${change.text}`, () => editor.replace(change), { class: "apply" });
   byId("fault").replaceChildren(
-    el("p", { class: "notice" }, wordsOf(fault, editor.text, hint), " ", apply, " ", button("Go to it", () => editor.goToFault(), { class: "go-to" })),
+    el("p", { class: "notice" }, faultWords(fault, editor.text, hint), " ", apply, " ", button("Go to it", () => editor.goToFault(), { class: "go-to" })),
   );
   return marked;
 }

@@ -2,7 +2,7 @@
 // into the text. The sentence depends on the fault's name and on the token at its place; lw's own line is shown beside it. Not proved.
 
 import { nearest } from "./nearest.js";
-import { otherCode, otherHead, otherRegister } from "./other_language.js";
+import { explainCode, explainHead, otherRegister } from "./other_language.js";
 import { TEMPLATE } from "./template.js";
 import { readTest } from "./tests.js";
 
@@ -25,6 +25,7 @@ const CONNECTIVES = {
 };
 // The labels before an instruction in its cell.
 const LABELS = /^(?:\w+\s*:\s*)*$/;
+const QUESTION_OR_LIST = /~?\s*\b(?:exists|forall|locations|filter)\b/;
 // An instruction with the first of its two operands.
 const ONE_OPERAND = /\b(?:MOV|ADD|CMP|XCHG|XADD)\s+[\w[\]]+$/i;
 
@@ -132,7 +133,7 @@ function misspeltQuestion(text) {
  * @param {Place} place
  * @returns {string}
  */
-function missingInQuestion(place) {
+function explainMissingInQuestion(place) {
   const { text } = place;
   const misspelt = misspeltQuestion(text);
   if (misspelt) return `lw has no question of the name \`${misspelt}\`.${place.meant(QUESTIONS, misspelt, text.lastIndexOf(misspelt))}`;
@@ -145,7 +146,7 @@ function missingInQuestion(place) {
 }
 
 /** Returns that the test has no thread of the number at a place, if that is so; or "". */
-function missingThread({ token, after, text }) {
+function explainMissingThread({ token, after, text }) {
   const names = /^[ \t]*P0\b[^;]*(?=;)/m.exec(text)?.[0].split("|").map((_, thread) => `\`P${thread}\``);
   if (!names || !/^\d+$/.test(token) || !/^\s*:/.test(after) || Number(token) < names.length) return "";
   const threads = names.length === 1 ? names[0] : `${names.slice(0, -1).join(", ")} and ${names.at(-1)}`;
@@ -162,7 +163,7 @@ function isInBlock(text) {
  * @param {Place} place
  * @returns {string}
  */
-function otherNotation(place) {
+function explainNotation(place) {
   const { token, text, index } = place;
   const front = text.slice(0, index);
   if (questionIn(`${front} `) === null && !isInBlock(front)) return "";
@@ -186,7 +187,7 @@ function otherNotation(place) {
  * @param {Place} place
  * @returns {string}
  */
-function firstWord(place) {
+function explainFirstWord(place) {
   if (place.text.slice(0, place.index).trim()) return "";
   if (place.token === "C") return "lw reads tests that begin with `SRC` or `X86`. This one begins as a test in C does.";
   const meant = /86/.test(place.token) ? place.propose(HEADS[1]) : place.meant(HEADS);
@@ -194,26 +195,38 @@ function firstWord(place) {
 }
 
 /** Returns that the initial values have no end, if that is so; or "". */
-function openBlock({ text }) {
+function explainOpenBlock({ text }) {
   return isInBlock(withoutComments(text)) ? "The initial values lack a `}` at their end." : "";
 }
 
 /** Returns that a constant is negative or no whole number, if that is so; or "". */
-function badConstant({ text, index }) {
+function explainConstant({ text, index }) {
   return /(?:[=,$+]\s*|\b\d+)$/.test(text.slice(0, index)) && /^[-.]\s*\d/.test(text.slice(index)) ? CONSTANT : "";
 }
 
 /**
- * Returns that the row before a fault in a text has no `;` at its end, if that is so; or "". A comment and a line of the question are no rows.
+ * Returns the number of the last line of code before a fault if this line has no `;`; null if it has one, or a mark of an open comment, if there is
+ * no header yet, or if the question is misspelt. `row` is the number of the fault's line.
+ * @param {Fault} fault
+ * @param {string} text
+ * @returns {number | null}
+ */
+function lineWithoutEnd({ row }, text) {
+  const front = withoutComments(text).split("\n", row - 1).join("\n");
+  const rows = front.split(QUESTION_OR_LIST)[0].trimEnd();
+  const hasEnd = /(?:;|\(\*|\*\)).*$/.test(rows);
+  return !/^\s*P0\b/m.test(rows) || hasEnd || misspeltQuestion(text) ? null : rows.split("\n").length;
+}
+
+/**
+ * Returns that the last line of code before a fault has no `;` at its end, if that is so; or "".
  * @param {Fault} fault
  * @param {string} text
  * @returns {string}
  */
-export function endOfRowBefore({ row }, text) {
-  const front = withoutComments(text).split("\n", row - 1).join("\n");
-  const rows = front.split(/~?\s*\b(?:exists|forall|locations|filter)\b/)[0].trimEnd();
-  if (!/^\s*P0\b/m.test(rows) || /(?:;|\(\*|\*\)).*$/.test(rows) || misspeltQuestion(text)) return "";
-  return `Line ${rows.split("\n").length} has no \`;\` at its end: perhaps that is the fault. `;
+export function explainMissingRowEnd(fault, text) {
+  const line = lineWithoutEnd(fault, text);
+  return line === null ? "" : `Line ${line} has no \`;\` at its end: perhaps that is the fault. `;
 }
 
 /**
@@ -223,14 +236,14 @@ export function endOfRowBefore({ row }, text) {
  * @returns {number[]}
  */
 function endsWithoutMark(fault, text) {
-  const first = /^Line (\d+)/.exec(endOfRowBefore(fault, text))?.[1];
-  if (first === undefined) return [];
-  const code = withoutComments(text).split(/~?\s*\b(?:exists|forall|locations|filter)\b/, 1)[0];
+  const first = lineWithoutEnd(fault, text);
+  if (first === null) return [];
+  const code = withoutComments(text).split(QUESTION_OR_LIST, 1)[0];
   let begin = 0;
   return code.split("\n").flatMap((line, at) => {
     const end = begin + line.trimEnd().length;
     begin += line.length + 1;
-    return at + 1 < Number(first) || !line.trim() || line.trimEnd().endsWith(";") ? [] : [end];
+    return at + 1 < first || !line.trim() || line.trimEnd().endsWith(";") ? [] : [end];
   });
 }
 
@@ -259,7 +272,7 @@ function rowsWithoutEnd(fault, text) {
 }
 
 /** Returns that a text is empty, and proposes a small test in its place, if that is so; or "". */
-function emptyText(place) {
+function explainEmptyText(place) {
   if (place.text.trim()) return "";
   place.put(TEMPLATE, 0, place.text.length);
   place.change.title = "Begin with a small test";
@@ -271,7 +284,7 @@ function emptyText(place) {
  * @param {Place} place
  * @returns {string}
  */
-function formOfSource(place) {
+function explainSourceForm(place) {
   const { token, before, index, text } = place;
   const isEnd = token === ";" || token === "|";
   if (token === "=" || token === "==") {
@@ -294,7 +307,7 @@ function formOfSource(place) {
  * @param {Place} place
  * @returns {string}
  */
-function formOfX86(place) {
+function explainX86Form(place) {
   const { token, before, index, text } = place;
   if (/^xadd$/i.test(token) && before === "") return "Write `LOCK XADD`.";
   if (token === "=" || token === ":=") return "The operands of an instruction have a comma between them: `MOV [x],$1`.";
@@ -317,21 +330,21 @@ const SENTENCES = {
   "text NotUtf8": () => "The text is not UTF-8 from here on.",
   "text TooLong": () => "The text is too long: it may have 65,536 bytes.",
   "text Unterminated": (place) =>
-    emptyText(place) ||
-    openBlock(place) ||
-    missingInQuestion(place) ||
+    explainEmptyText(place) ||
+    explainOpenBlock(place) ||
+    explainMissingInQuestion(place) ||
     "The text ends too early. The last row may lack its `;`, a comment its `*)`, or the test its question, as `exists (x=1)`.",
   "text Unexpected": (place) =>
-    openBlock(place) ||
-    badConstant(place) ||
-    otherNotation(place) ||
-    firstWord(place) ||
+    explainOpenBlock(place) ||
+    explainConstant(place) ||
+    explainNotation(place) ||
+    explainFirstWord(place) ||
     `${place.tokenWords} is not expected here. A test is \`SRC\` or \`X86\` and a name, the initial values in \`{ }\`, the row \`P0 | P1 ;\`, ` +
     "the rows of code, and a question.",
   "text Number": ({ tokenWords }) => `${tokenWords} is no constant. ${CONSTANT} In base 16 it begins with \`0x\`.`,
   "text Name": (place) =>
-    missingThread(place) ||
-    (otherRegister(place.token, place.isX86) !== null && otherHead(place)) ||
+    explainMissingThread(place) ||
+    (otherRegister(place.token, place.isX86) !== null && explainHead(place)) ||
     `${place.tokenWords} can't be a name here. A question names a location, as \`x=1\`, or a register with its thread, as ` +
     `\`${place.isX86 ? "0:EAX=1" : "0:r0=1"}\`.${place.meantRegister()}`,
   "text Ragged": () => "This row has too few or too many cells: it needs one for each thread, with `|` between them. A cell may be empty.",
@@ -339,12 +352,12 @@ const SENTENCES = {
   "text TooManyRows": () => "A test has 64 rows at most.",
   "text TooManyLocations": () => "A test has eight locations at most.",
   "text Condition": (place) =>
-    otherNotation(place) ||
+    explainNotation(place) ||
     `${place.tokenWords} does not fit into the question. It is \`exists\`, \`~exists\` or \`forall\`, and then for instance \`(x=1 /\\ 0:r0=0)\`, ` +
     "with `/\\` (and), `\\/` (or) and `~` (not).",
-  "cell Form": (place) => `${place.tokenWords} does not fit here. ${otherCode(place) || (place.isX86 ? formOfX86(place) : formOfSource(place))}`,
+  "cell Form": (place) => `${place.tokenWords} does not fit here. ${explainCode(place) || (place.isX86 ? explainX86Form(place) : explainSourceForm(place))}`,
   "cell Register": (place) =>
-    otherCode(place) ||
+    explainCode(place) ||
     `${place.tokenWords} is no register, and one is needed here: ${place.isX86 ? "`EAX`, `EBX`, `ECX`, `EDX`, `ESI` or `EDI`" : "`r0` to `r5`"}.` +
     `${place.meantRegister()} ` +
     (place.isX86 ? "A location has brackets: `[x]`." : "A location is loaded into a register first: `r0 := y`."),

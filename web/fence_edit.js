@@ -35,7 +35,7 @@ function withoutComments(text) {
  * @param {string} text
  * @returns {{begin: number, end: number, cells: TextCell[]}[]}
  */
-function rowsOf(text) {
+function rowsInText(text) {
   const code = withoutComments(text);
   const rows = [];
   let begin = code.indexOf(";", code.indexOf("P0", code.indexOf("}"))) + 1;
@@ -43,7 +43,7 @@ function rowsOf(text) {
     const end = code.indexOf(";", begin);
     if (end < 0) break;
     const line = beginOfLine(code, begin, end);
-    rows.push({ begin: line, end, cells: cellsOf(code, line, end) });
+    rows.push({ begin: line, end, cells: cellsBetween(code, line, end) });
     begin = end + 1;
   }
   return rows;
@@ -68,7 +68,7 @@ function beginOfLine(code, begin, end) {
  * @param {number} end
  * @returns {TextCell[]}
  */
-function cellsOf(code, begin, end) {
+function cellsBetween(code, begin, end) {
   let at = begin;
   return code.slice(begin, end).split("|").map((raw) => {
     const [, labels, instruction] = /^\s*((?:\w+\s*:\s*)*)([^]*?)\s*$/.exec(raw);
@@ -84,7 +84,7 @@ function cellsOf(code, begin, end) {
  * @param {Place} place
  * @returns {{row: number, cell: TextCell} | undefined}
  */
-function placeOf(rows, [thread, number]) {
+function placeInText(rows, [thread, number]) {
   const filled = rows.flatMap(({ cells }, row) => (cells[thread]?.instruction ? [{ row, cell: cells[thread] }] : []));
   return filled[number];
 }
@@ -111,8 +111,8 @@ function padCell(inner, { begin, end }) {
  * @returns {string}
  */
 function insertFence(text, place) {
-  const rows = rowsOf(text);
-  const { row, cell } = placeOf(rows, place);
+  const rows = rowsInText(text);
+  const { row, cell } = placeInText(rows, place);
   const [thread] = place;
   const labelled = `${cell.labels.trim()} ${FENCE}`.trim();
   const unlabelled = cell.labels ? replaceCell(text, cell, padCell(cell.instruction, cell)) : text;
@@ -131,9 +131,9 @@ function insertFence(text, place) {
  * @returns {string}
  */
 function removeFence(text, place) {
-  const rows = rowsOf(text);
+  const rows = rowsInText(text);
   const [thread] = place;
-  const { row, cell } = placeOf(rows, place);
+  const { row, cell } = placeInText(rows, place);
   const below = rows[row + 1]?.cells[thread];
   const isMoved = Boolean(cell.labels && below?.instruction);
   const relabelled = isMoved ? replaceCell(text, below, padCell(`${cell.labels.trim()} ${below.labels}${below.instruction}`, below)) : text;

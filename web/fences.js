@@ -114,11 +114,11 @@ export class Fences {
     const { table, condition, texts } = answer;
     const by = this.everything.checked ? "by all registers and locations?" : ["by the question ", el("code", {}, condition), "?"];
     const head = el("tr", {}, ["Fence", "If only it is left out", "States that are new then"].map((it) => el("th", { scope: "col" }, it)));
-    const names = namesOf(table);
+    const names = fenceNames(table);
     const rows = table.rows.map((it, index) => this.rowOf(names[index], it, texts[index]));
     const shown = el("table", {}, el("thead", {}, head), el("tbody", {}, rows));
     const isSource = answer.language === "SRC";
-    const verdict = el("p", { class: "verdict", role: "status" }, el("strong", {}, verdictOf(answer, names)));
+    const verdict = el("p", { class: "verdict", role: "status" }, el("strong", {}, verdictOnTable(answer, names)));
     const isPlain = table.answered_by.includes("plain");
     const byPage = "lw refuses some lists by their count of orders; these come from the page's own interpreter ";
     const lists = isPlain ? [byPage, plainMark(), "."] : [`All lists come from lw${this.isSearched ? ", by a search" : ""}.`];
@@ -139,7 +139,7 @@ export class Fences {
     const effect = added.length ? `adds ${statesOf(added.length)}` : "changes nothing";
     const of = [`without the fence of ${name} `, plainMark(), " "];
     const watch = (line) => watchButton(line, () => this.film.show(line, { text, of, search: this.isSearched }));
-    return el("tr", {}, el("th", { scope: "row" }, name), el("td", {}, effect), el("td", {}, shownOf(added, watch)));
+    return el("tr", {}, el("th", { scope: "row" }, name), el("td", {}, effect), el("td", {}, shownLines(added, watch)));
   }
 }
 
@@ -155,7 +155,7 @@ function statesOf(number) {
 }
 
 /** Returns the page's names of the fences: by the instruction after each, since their numbers count instructions from 0. */
-function namesOf({ rows }) {
+function fenceNames({ rows }) {
   const names = rows.map(({ place }) => place.replace(/^(P\d) at \d+$/, "$1, at its end").replace(/ at \d+/, ""));
   return names.map((name, index) => {
     const alike = names.filter((it) => it === name).length;
@@ -164,7 +164,7 @@ function namesOf({ rows }) {
 }
 
 /** Returns which fences are enough for the states that exist with all of them, and in how many of these the condition holds. */
-function verdictOf({ table, language }, names) {
+function verdictOnTable({ table, language }, names) {
   const { rows, enough, states, positive } = table;
   const program = language === "SRC" ? "the compiled program" : "the test";
   const holding = ` the condition holds in ${positive || "none"} of `;
@@ -184,7 +184,7 @@ function verdictOf({ table, language }, names) {
 }
 
 /** Returns the first states of some lines, each with its button to watch a run, and how many others there are. */
-function shownOf(lines, watch) {
+function shownLines(lines, watch) {
   const shown = lines.slice(0, MAX_SHOWN).map((it) => el("div", {}, el("code", {}, it), " ", watch(it)));
   return lines.length > MAX_SHOWN ? [...shown, `and ${lines.length - MAX_SHOWN} others`] : shown;
 }

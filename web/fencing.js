@@ -134,7 +134,8 @@ function enlarge(fences, others, inOrder, isEnough) {
 
 /**
  * Returns the smallest sets of places at which fences answer a test's question: its condition holds in no state, or of `forall` in all. Each has
- * its `places` in words, its `text`, and the number of its `states`. `listOf` gives the number of states of a text and of those in which the
+ * its `places` in words, its `text`, and the number of its `states`. `number` counts the places that were tried, `isAnswered` says whether the test
+ * is answered without a further fence, and `more` counts the sets that are not shown. `listOf` gives the number of states of a text and of those in which the
  * condition holds, or null if there is no list.
  * @param {Test} test
  * @param {function(string): ({lines: string[], positive: number} | null)} listOf

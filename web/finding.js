@@ -49,7 +49,7 @@ function wordsOfName(name) {
   return name.replace(/([a-z])([A-Z])/g, "$1 $2").toLowerCase().split(/[^a-z0-9.]+/);
 }
 
-const wordsOf = (text) => text.toLowerCase().match(/[a-z0-9]+/g) ?? [];
+const lettersAndDigits = (text) => text.toLowerCase().match(/[a-z0-9]+/g) ?? [];
 const isWord = (word) => (it) => it === word || it === `${word}s`;
 
 /**
@@ -68,10 +68,10 @@ function fitOf(word, { name, also, shows, about }, family, { isOnlyNames, isX86 
   if (lower.startsWith(word)) return BEGIN;
   if (wordsOfName(name).some(begins)) return IN_NAME;
   if (isOnlyNames) return null;
-  if ([also, family.name].some((it) => wordsOf(it).some(isWord(word)))) return IN_FAMILY;
-  const words = wordsOf(`${shows} ${about}`);
+  if ([also, family.name].some((it) => lettersAndDigits(it).some(isWord(word)))) return IN_FAMILY;
+  const words = lettersAndDigits(`${shows} ${about}`);
   if (words.some(isWord(word))) return IN_WORDS;
-  return [...words, ...wordsOf(family.name)].some(begins) ? BEGINS_WORD : null;
+  return [...words, ...lettersAndDigits(family.name)].some(begins) ? BEGINS_WORD : null;
 }
 
 /**

@@ -104,7 +104,7 @@ function missingFences(execution, cycle) {
  * @param {Execution} execution
  * @returns {string[]}
  */
-export function wordsOf(execution) {
+export function explanationOf(execution) {
   const [names, cycle] = [new Names(execution), execution.cycle()];
   const letter = (event) => names.letters.get(event);
   const lines = execution.events().map((it) => names.line(it));
@@ -114,7 +114,7 @@ export function wordsOf(execution) {
     lines.push(`${NAMES[kind]} (${kind}): ${pairs || "none"}`);
   }
   const starts = [...execution.rf].filter(([, source]) => source === null).map(([read]) => letter(read));
-  lines.push(`reads of the initial word: ${starts.join(", ") || "none"}`, verdictOf(execution, names));
+  lines.push(`reads of the initial word: ${starts.join(", ") || "none"}`, verdictOnExecution(execution, names));
   if (!cycle) return [...lines, "A run of interleaving: po, rf, co and fr have no cycle."];
   lines.push(`No run of interleaving: ${names.cycle(cycle)}`);
   const advice = (it) => `An MFENCE between ${letter(it.source)} and ${letter(it.target)} would keep their order.`;
@@ -127,7 +127,7 @@ export function wordsOf(execution) {
  * @param {Names} names
  * @returns {string}
  */
-function verdictOf(execution, names) {
+function verdictOnExecution(execution, names) {
   const broken = execution.broken();
   if (!broken) return "x86-TSO allows it: coherence and global happens-before have no cycle.";
   return `x86-TSO forbids it: ${broken.axiom} has the cycle ${names.cycle(broken.cycle)}`;
@@ -146,7 +146,7 @@ function spot([x, y]) {
 }
 
 /** Returns the place of an event in its test, by which a page finds its instruction. */
-function placeOf(event) {
+function eventPlace(event) {
   return `${threadOf(event)}:${positionOf(event)}`;
 }
 
@@ -161,7 +161,7 @@ function drawEdge(drawing, layout, route, isMarked) {
   const [first, ...others] = layout.curvesOf(route);
   const curve = ([, ...points]) => `C${points.map(spot).join(" ")}`;
   const path = `M${spot(first[0])} ${[first, ...others].map(curve).join(" ")}`;
-  const ends = route.way === "start" ? `data-to="${placeOf(target)}"` : `data-from="${placeOf(source)}" data-to="${placeOf(target)}"`;
+  const ends = route.way === "start" ? `data-to="${eventPlace(target)}"` : `data-from="${eventPlace(source)}" data-to="${eventPlace(target)}"`;
   drawing.elements.push(`<path class="${kind ?? "rf"}${isMarked ? " marked" : ""}" ${ends} marker-end="url(#to-${kind ?? "rf"})" d="${path}"/>`);
 }
 
@@ -185,7 +185,7 @@ function drawEvents(drawing, layout, execution, texts, inCycle) {
     for (const event of events) {
       const [x, y] = layout.corner(event);
       const kind = execution.instruction(event).kind === "store" ? "entry" : "box";
-      drawing.elements.push(`<g data-at="${placeOf(event)}">`);
+      drawing.elements.push(`<g data-at="${eventPlace(event)}">`);
       drawing.box(x, y, ...layout.box, inCycle.has(event) ? `${kind} marked` : kind);
       drawing.text(x + layout.room.beside, y + BASE, texts.get(event));
       drawing.elements.push("</g>");

@@ -8,7 +8,7 @@
 
 import { Fault, NoAnswer } from "./program.js";
 import { conditionText, holds, observed, siteName, wordAt } from "./propositions.js";
-import { wordsOf } from "./replays.js";
+import { contentsOf } from "./replays.js";
 import { readTest } from "./tests.js";
 
 const MAX_STATES = 200000;
@@ -66,7 +66,7 @@ function foundHere(text) {
     const sites = observed(test);
     return (line) => {
       const outcome = { registers: test.threads.map(() => ({})), words: {} };
-      for (const [at, [, word]] of wordsOf(line).entries()) put(outcome, sites[at], word);
+      for (const [at, [, word]] of contentsOf(line).entries()) putWord(outcome, sites[at], word);
       return holds(test.proposition, outcome);
     };
   } catch {
@@ -75,7 +75,7 @@ function foundHere(text) {
 }
 
 /** Puts a word into an outcome, at a site; a site that is undefined is left out. */
-function put(outcome, site, word) {
+function putWord(outcome, site, word) {
   if (site?.location !== undefined) outcome.words[site.location] = word;
   else if (site) outcome.registers[site.thread][site.register] = word;
 }
@@ -102,11 +102,11 @@ export function reportOf(program, text, how) {
     if (isTrue) holding += 1;
     if (index < MAX_STATES || (isTrue && holding <= MAX_STATES)) states.push({ index, line, holds: isTrue });
   }
-  return { ...partsOf(head, number, states, tail, positive === holding), positive, is_proved: isProved };
+  return { ...listParts(head, number, states, tail, positive === holding), positive, is_proved: isProved };
 }
 
 /** Returns a report's parts. States are marked only if as many were found as the report counts. */
-function partsOf(head, number, states, tail, isWhole) {
+function listParts(head, number, states, tail, isWhole) {
   const isMarked = isWhole && states.every((it) => it.holds !== null);
   return {
     head,

@@ -120,7 +120,7 @@ function isFew({ cells, slots }) {
  * @param {Shown} shown
  * @returns {Object<string, boolean>}
  */
-export function kindsOf(shown) {
+export function sizeClassesOf(shown) {
   return { tight: isTight(shown), roomy: isRoomy(shown), few: isFew(shown), dense: isDense(shown), tall: isTall(shown) };
 }
 

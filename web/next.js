@@ -7,7 +7,7 @@ import { documents } from "./supplies.js";
 const NAMED = [["tutorial.html", "Tutorial", ""], ["lab.html", "Lab for a class", ": sheet, slides, quiz"]];
 
 /** Returns the words on the example to which the next step leads. */
-function wordsOf(examples, name, partner) {
+function nextWords(examples, name, partner) {
   if (examples.fencedOf(name) === partner) return `the same test with ${/\+.*(?:xchg|xadd)/.test(partner) ? "locked instructions" : "fences"}: `;
   if (partner === `${name}-x86`) return "the same test on x86, without the compiler's fences: ";
   return "the same test without what was added: ";
@@ -23,7 +23,7 @@ export function showNextStep(examples, name, { choose, compare, browse }) {
   const partner = examples.tests.has(name) ? examples.relativeOf(name) : undefined;
   const another = ["Next: ", button("another example", browse, { class: "link", id: "next-example" }), ". "];
   const step = !partner ? another : [
-    "Next: ", wordsOf(examples, name, partner), button(partner, () => choose(partner), { class: "link", id: "next-test" }), ", or ",
+    "Next: ", nextWords(examples, name, partner), button(partner, () => choose(partner), { class: "link", id: "next-test" }), ", or ",
     button("compare both", () => compare(partner), { class: "link", id: "next-compare" }), ". ",
   ];
   const named = NAMED.filter(([name]) => documents.some(([file]) => file === name));

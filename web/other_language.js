@@ -85,7 +85,7 @@ function isAllIn(language, text) {
  * @param {Place} place
  * @returns {string}
  */
-export function otherHead(place) {
+export function explainHead(place) {
   const other = place.isX86 ? "SRC" : "X86";
   if (!isAllIn(other, place.text)) return "";
   const head = place.text.search(/\S/);
@@ -98,7 +98,7 @@ export function otherHead(place) {
  * @param {Place} place
  * @returns {string}
  */
-export function otherCode(place) {
+export function explainCode(place) {
   const { text, index, isX86 } = place;
   const other = isX86 ? "SRC" : "X86";
   const begin = Math.max(...["|", ";"].map((it) => text.lastIndexOf(it, index - 1))) + 1;
@@ -106,7 +106,7 @@ export function otherCode(place) {
   const cell = text.slice(begin, end);
   const code = cell.trim();
   if (!CODE[other].test(code)) return "";
-  const proposal = otherHead(place);
+  const proposal = explainHead(place);
   if (proposal) return proposal;
   const translated = isX86 ? inX86(code) : inSource(code);
   if (translated === null) return SAID[other];

@@ -80,7 +80,7 @@ export class Drawing {
 // The parts of a picture.
 
 /** Returns the registers that a thread's code names, or that have a word other than 0 at some time. */
-function usedRegisters(film, thread) {
+function registersInFilm(film, thread) {
   const named = new Set(film.cells[thread].flatMap((it) => it.text.match(/\w+/g) ?? []));
   const rows = film.states.map((state) => state.threads[thread].registers);
   return rows[0].map(([name]) => name).filter((name, index) => named.has(name) || rows.some((row) => row[index][1]));
@@ -108,7 +108,7 @@ function effectLines(film, step, letters) {
 }
 
 /** Returns the words on the event before which a film ends. */
-function refusalOf({ refused }) {
+function endWordsOf({ refused }) {
   return refused ? `Here ${refused.event} is refused: ${refusal(refused.number)}` : "";
 }
 
@@ -121,7 +121,7 @@ function heldLines(thread) {
 class Measures {
   constructor(film) {
     const threadStates = film.states.flatMap((state) => state.threads);
-    this.used = film.cells.map((_, thread) => usedRegisters(film, thread));
+    this.used = film.cells.map((_, thread) => registersInFilm(film, thread));
     this.hasBuffers = "buffer" in film.states[0].threads[0];
     this.entries = this.hasBuffers ? Math.max(1, ...threadStates.map((it) => it.buffer.length)) : 0;
     this.code = Math.max(1, ...film.cells.map((column) => column.length));
@@ -219,7 +219,7 @@ export function pictureOf(film, step) {
   const measures = new Measures(film);
   drawState(drawing, film, step, EDGE, EDGE, measures);
   const title = `${film.states[0].name} after ${film.events.slice(0, step).join(" ") || "no event"}`;
-  const refusal = step === film.events.length ? refusalOf(film) : "";
+  const refusal = step === film.events.length ? endWordsOf(film) : "";
   const width = Math.max(measures.wholeWidth, refusal.length * LETTER);
   const height = measures.wholeHeight + 2 * EDGE + drawRefusal(drawing, refusal, measures.wholeHeight + EDGE);
   return drawing.svg(width + 2 * EDGE, height, title);
@@ -252,7 +252,7 @@ export function stripOf(film) {
     drawState(drawing, film, step, x, y + LINE * rows + 4, measures);
   }
   const [across, down] = [Math.min(number, PANELS), Math.ceil(number / PANELS)];
-  const refused = drawRefusal(drawing, refusalOf(film), down * (height + GAP));
+  const refused = drawRefusal(drawing, endWordsOf(film), down * (height + GAP));
   const title = `${film.states[0].name}, event by event: ${film.events.join(" ")}`;
   return drawing.svg(across * (width + 2 * GAP) - 2 * GAP + 2 * EDGE, down * (height + GAP) + EDGE + refused, title);
 }

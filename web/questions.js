@@ -10,7 +10,7 @@ import { effectOf, refusal } from "./effects.js";
 import { executionOf } from "./executions.js";
 import { cellsOf, compiledSchedule, filmOf, sourceFilm, toTheEnd } from "./films.js";
 import { setsOfFences } from "./fencing.js";
-import { graphOf, wordsOf } from "./graphs.js";
+import { graphOf, explanationOf } from "./graphs.js";
 import { endingOf, isTooDeep, listOrNull, reportOf, scheduleTo } from "./lists.js";
 import { pictureOf, stripOf } from "./pictures.js";
 import { Fault, NoAnswer, bytesOf, languageOf, textOf } from "./program.js";
@@ -91,9 +91,9 @@ function listedFilm(program, text, { state, protocol, search = false }, onProgre
  */
 function answerMoves(program, text, { schedule, protocol, whole = false }) {
   const state = program.replayed(text, schedule, protocol);
-  if (state.end.kind === "Stopped") throw refusalOf(state.end, eventsIn(schedule));
+  if (state.end.kind === "Stopped") throw noAnswerOfRefusal(state.end, eventsIn(schedule));
   const language = languageOf(text);
-  const events = state.threads.flatMap((_, thread) => eventsOf(thread, language === "X86" ? state.content : null));
+  const events = state.threads.flatMap((_, thread) => eventsOfThread(thread, language === "X86" ? state.content : null));
   const moves = events.map((event) => {
     const { end } = program.replayed(text, `${schedule} ${event}`, protocol);
     const refused = end.kind === "Stopped" ? { number: end.number, cause: end.cause } : null;
@@ -101,8 +101,8 @@ function answerMoves(program, text, { schedule, protocol, whole = false }) {
   });
   const cells = cellsOf(program, text);
   const ending = endingOf(text, state);
-  const registers = whole ? registersPut(program, text, { schedule, protocol }, cells) : null;
-  return { state, ...lastOf(program, text, { schedule, protocol }, cells, state), put: registers, ending, moves, cells, language };
+  const registers = whole ? registersWritten(program, text, { schedule, protocol }, cells) : null;
+  return { state, ...lastOf(program, text, { schedule, protocol }, cells, state), written: registers, ending, moves, cells, language };
 }
 
 /**
@@ -113,16 +113,16 @@ function answerMoves(program, text, { schedule, protocol, whole = false }) {
  * @param {Cell[][]} cells
  * @returns {string[][] | null}
  */
-function registersPut(program, text, { schedule, protocol }, cells) {
+function registersWritten(program, text, { schedule, protocol }, cells) {
   const events = eventsIn(schedule);
   if (events.length > MAX_LOOKED_AT) return null;
   const states = program.statesAlong(text, events, protocol);
-  const put = cells.map(() => []);
+  const written = cells.map(() => []);
   for (const [index, event] of events.entries()) {
     const { thread, register } = effectOf(event, cells, states[index], states[index + 1]);
-    if (register !== undefined && !put[thread].includes(register)) put[thread].push(register);
+    if (register !== undefined && !written[thread].includes(register)) written[thread].push(register);
   }
-  return put;
+  return written;
 }
 
 /**
@@ -131,7 +131,7 @@ function registersPut(program, text, { schedule, protocol }, cells) {
  * @param {string[]} events
  * @returns {NoAnswer}
  */
-function refusalOf({ at, number, cause }, events) {
+function noAnswerOfRefusal({ at, number, cause }, events) {
   const refused = { event: events[at], at, number, cause };
   return new NoAnswer(`Event ${at + 1} of the schedule, ${events[at]}, is refused: ${refusal(number)}.`, { refused });
 }
@@ -159,7 +159,7 @@ function lastOf(program, text, { schedule, protocol }, cells, state) {
  * @param {[string, number][] | null} content
  * @returns {string[]}
  */
-function eventsOf(thread, content) {
+function eventsOfThread(thread, content) {
   return content ? [`P${thread}`, `D${thread}`, ...content.map(([name]) => `E${thread}:${name}`)] : [`P${thread}`];
 }
 
@@ -206,7 +206,7 @@ function answerGraph(program, text, { schedule }) {
   const steps = film.events.map((word, index) => [word, film.states[index + 1].threads[Number(word[1])].at]);
   const execution = executionOf(test, steps);
   const graph = graphOf(execution, `${test.name}, the execution of ${schedule}`);
-  return { graph, words: wordsOf(execution), hasCycle: Boolean(execution.cycle()) };
+  return { graph, words: explanationOf(execution), hasCycle: Boolean(execution.cycle()) };
 }
 
 /** Returns why a test does not end in a state. A source test's registers are those of its compiled program, by their numbers. */

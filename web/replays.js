@@ -137,7 +137,7 @@ export function registerNumber(name) {
  * @param {string} line
  * @returns {[string, number][]}
  */
-export function wordsOf(line) {
+export function contentsOf(line) {
   return [...line.matchAll(/(\S+)=(\d+);/g)].map(([, name, word]) => [name, Number(word)]);
 }
 
@@ -153,7 +153,7 @@ export function endsIn(state, line) {
     const [, thread, register] = /^(\d):(\w+)$/.exec(name) ?? [];
     return thread === undefined ? content.get(name) : state.threads[thread].registers[registerNumber(register)][1];
   };
-  return state.end.kind === "Final" && wordsOf(line).every(([name, word]) => wordIn(name) === word);
+  return state.end.kind === "Final" && contentsOf(line).every(([name, word]) => wordIn(name) === word);
 }
 
 /**

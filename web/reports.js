@@ -2,7 +2,7 @@
 
 import { el } from "./dom.js";
 import { fileName, save } from "./output.js";
-import { wordsOf } from "./replays.js";
+import { contentsOf } from "./replays.js";
 
 /**
  * Returns the names of what a report shows.
@@ -10,7 +10,7 @@ import { wordsOf } from "./replays.js";
  * @returns {string[]}
  */
 export function namesOf({ states }) {
-  return states.length ? wordsOf(states[0].line).map(([name]) => name) : [];
+  return states.length ? contentsOf(states[0].line).map(([name]) => name) : [];
 }
 
 /**

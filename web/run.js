@@ -30,8 +30,8 @@ function tellingStep(frames) {
   return Math.max(0, waiting.indexOf(Math.max(...waiting)));
 }
 
-/** Returns, for each thread, the registers that have words of the run, given those before an event with an effect. */
-function putAfter(before, effect) {
+/** Returns for each thread the registers into which events have put words: those before the last event, and the one that its effect names. */
+function writtenAfter(before, effect) {
   const register = effect?.register;
   return before.map((names, thread) => (register !== undefined && thread === effect.thread ? [...new Set([...names, register])] : names));
 }
@@ -92,7 +92,7 @@ export class Run {
   openListed(program) {
     const film = this.listed.films[program];
     const frames = film.states.map((state, index) => ({ state, before: film.states[Math.max(index - 1, 0)], effect: film.effects[index - 1] ?? null }));
-    for (const [at, it] of frames.entries()) it.put = putAfter(frames[at - 1]?.put ?? film.cells.map(() => []), it.effect);
+    for (const [at, it] of frames.entries()) it.written = writtenAfter(frames[at - 1]?.written ?? film.cells.map(() => []), it.effect);
     Object.assign(this, { isByHand: false, program, isX86: program === "x86", isSource: "source" in this.listed.films });
     this.open(film.text, film.cells, film.events, frames);
   }
@@ -219,7 +219,7 @@ export class Run {
     if (!this.frames[step]) {
       const answer = await this.movesAt(step);
       if (!answer?.state || ticket !== this.ticket) return;
-      this.frames[step] = { ...answer, put: answer.put ?? this.putAt(step, answer.effect) };
+      this.frames[step] = { ...answer, written: answer.written ?? this.writtenAt(step, answer.effect) };
     }
     const direction = this.step === null || Math.abs(step - this.step) !== 1 ? 0 : step - this.step;
     Object.assign(this, { step, ending: null, isOpening: wanted === "telling" });
@@ -232,9 +232,9 @@ export class Run {
   }
 
   /** Returns the registers that events have put words into up to a step whose event has an effect, or null if that is not known. */
-  putAt(step, effect) {
-    const before = this.frames[step - 1]?.put;
-    return before ? putAfter(before, effect) : null;
+  writtenAt(step, effect) {
+    const before = this.frames[step - 1]?.written;
+    return before ? writtenAfter(before, effect) : null;
   }
 
   /** Shows the same step again, after a choice has changed how it is shown. */
@@ -264,7 +264,7 @@ export class Run {
     const schedule = this.scheduleTo(step);
     const key = this.keyOf(schedule);
     if (!this.kept.has(key)) {
-      const whole = !this.frames[step]?.put && !this.frames[step - 1]?.put;
+      const whole = !this.frames[step]?.written && !this.frames[step - 1]?.written;
       const answering = ask(this.editor, "moves", { text: this.text, schedule, protocol: this.protocol, whole }).then((answer) => {
         if (!answer?.moves) this.kept.delete(key);
         return answer;

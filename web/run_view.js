@@ -126,7 +126,7 @@ export class RunView {
   /** Shows the step that the run is at; `direction` is 1 if it is one step forward, -1 if it is one back, and 0 for a jump. */
   draw(direction) {
     const { run } = this;
-    const places = placesOf(run);
+    const places = placesOfEvents(run);
     const shown = { ...shownOf(run, places), direction };
     if (!direction) this.spare = 0;
     this.setLeast(leastHeight(shown) - this.spare);
@@ -242,7 +242,7 @@ function isInSight({ intersectionRect, intersectionRatio }) {
 }
 
 /** Returns, for each event of a run, the place of its instruction, as far as it is known; a drain has that of its store. */
-function placesOf({ events, frames, cells }) {
+function placesOfEvents({ events, frames, cells }) {
   const stores = cells.map(() => []);
   return events.map((event, index) => {
     const thread = Number(event[1]);
@@ -268,7 +268,7 @@ function shownOf(run, places) {
   const inSource = run.isSource && run.isX86 ? (name) => `r${registerNumber(name)}` : null;
   const done = events.slice(0, step).map((event, index) => event[0] === "P" && (places[index] ?? event[1]));
   const isSkipped = (thread, at) => !done.includes(String(thread)) && !done.includes(`${thread}:${at}`);
-  const isPut = (thread, name) => !frame.put || frame.put[thread].includes(name);
+  const isWritten = (thread, name) => !frame.written || frame.written[thread].includes(name);
   const hasFences = run.isX86 && !run.isSource && !run.isLocked && run.isOfEditor;
-  return { ...frame, cells, tints, slots, used, drained, inSource, isPut, isSkipped, hasFences, event: step ? events[step - 1] : null };
+  return { ...frame, cells, tints, slots, used, drained, inSource, isWritten, isSkipped, hasFences, event: step ? events[step - 1] : null };
 }

@@ -48,7 +48,7 @@ export function showingEverything(test) {
  * @param {Place} place
  * @returns {string}
  */
-function placeOf(test, [thread, position]) {
+function wordsOnPlace(test, [thread, position]) {
   const next = test.threads[thread][position + 1];
   return `P${thread} at ${position}${next ? `, before ${instructionText(test, next)}` : ""}`;
 }
@@ -87,7 +87,7 @@ export function tableOfFences(test, listOf) {
   const known = new Set(states);
   const rows = fences.map((fence) => {
     const added = lists.of(without(test, [fence])).filter((line) => !known.has(line));
-    return { place: placeOf(test, fence), added };
+    return { place: wordsOnPlace(test, fence), added };
   });
   const leftOut = findSpareFences(test, fences, states, lists);
   const enough = fences.filter((fence) => !leftOut.includes(fence)).map(([thread, at]) => `P${thread} at ${at}`);

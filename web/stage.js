@@ -6,7 +6,7 @@ import { fitCodes, showNext, watchCodes } from "./code_window.js";
 import { el } from "./dom.js";
 import { fenceButton, goToFence } from "./fence_buttons.js";
 import { flightsOf } from "./flights.js";
-import { MAX_SLOTS, hasLongStores, isStacked, kindsOf } from "./machine_size.js";
+import { MAX_SLOTS, hasLongStores, isStacked, sizeClassesOf } from "./machine_size.js";
 import { fly, glow, isStill, placesIn, settle } from "./motion.js";
 import { caches } from "./preferences.js";
 import { notNext, notOldest } from "./run_words.js";
@@ -33,7 +33,7 @@ export class Stage {
   /**
    * Draws a state. `shown` has the `cells`, the `state` and that `before` it, the `event` between them with its `effect`, which registers
    * are `used`, the `tints`, how many entries have left each buffer (`drained`), and `direction`: 1 for a step forward, -1 back, 0 for a jump.
-   * `isPut` says of a thread and the name of a register whether an event has put a word into it, `isSkipped` of a thread and the index of an earlier
+   * `isWritten` says of a thread and the name of a register whether an event has put a word into it, `isSkipped` of a thread and the index of an earlier
    * instruction whether a jump has passed over it, and `hasFences` whether fences can be put.
    */
   draw(shown) {
@@ -55,7 +55,7 @@ export class Stage {
   /** Chooses the size in which the machine is drawn; one that is `small` is not drawn large, whatever the window. */
   size() {
     const isSmall = this.place.classList.contains("small");
-    for (const [kind, is] of Object.entries(kindsOf(this.shown))) this.place.classList.toggle(kind, is && !(kind === "roomy" && isSmall));
+    for (const [kind, is] of Object.entries(sizeClassesOf(this.shown))) this.place.classList.toggle(kind, is && !(kind === "roomy" && isSmall));
   }
 
   /** Fits the code into the room that there is, once all that is above the machine is shown. */
@@ -177,7 +177,7 @@ export class Stage {
     const old = new Map(before.threads[thread].registers);
     const rows = registers.map(([name, word]) => {
       const isPut = word !== old.get(name) || (effect?.thread === thread && effect.register === name);
-      const isInitial = !isPut && !this.shown.isPut(thread, name);
+      const isInitial = !isPut && !this.shown.isWritten(thread, name);
       const attributes = { class: `register${isPut ? " changed" : ""}${isInitial ? " initial" : ""}`, "data-key": `r:${thread}:${name}` };
       const source = this.shown.inSource?.(name);
       const inSource = source && el("span", { class: "in-source", title: "its name in the source" }, ` ${source}`);

@@ -176,6 +176,7 @@ function takeLabel(reader, labels, position) {
  */
 function resolved(statement, position, labels) {
   if (statement.target === undefined) return statement;
+  // A label that is missing counts as position 0, to which no jump leads forward.
   const target = labels.get(statement.target) ?? 0;
   if (target <= position) throw new NoTest(`a jump to ${statement.target} leads nowhere, or not forward`);
   return { ...statement, target };

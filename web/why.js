@@ -7,7 +7,7 @@ import { button, byId, el, plainMark, sentence } from "./dom.js";
 import { graphParts, legend, shownGraph } from "./execution_graph.js";
 import * as guess from "./guess.js";
 import { missingState } from "./missing.js";
-import { wordsOf } from "./replays.js";
+import { contentsOf } from "./replays.js";
 import { namesOf } from "./reports.js";
 import { siteNode, tintsOf } from "./tint.js";
 import { showError } from "./errors.js";
@@ -60,7 +60,7 @@ export class Why {
     this.missing = missingState(report, questionOf(this.editor.text));
     this.isOfAll = this.missing === null && telling === null;
     const state = this.missing ?? telling ?? missingState(report) ?? report.states[0].line;
-    const words = new Map(wordsOf(state));
+    const words = new Map(contentsOf(state));
     this.fields = namesOf(report).map((name) => ({ name, field: this.fieldOf(name, words.get(name)) }));
     const fields = this.fields.map(({ name, field }) => el("label", { class: "site-field" }, siteNode(name, this.tints), "=", field));
     const asked = button("Why not?", () => this.ask(), { class: "main why-not" });
@@ -93,7 +93,7 @@ export class Why {
 
   /** Asks about a state. */
   set(line) {
-    const words = new Map(wordsOf(line));
+    const words = new Map(contentsOf(line));
     for (const { name, field } of this.fields) field.value = words.get(name) ?? field.value;
     return this.ask();
   }

@@ -48,7 +48,7 @@ function constantsOf(test) {
  * @param {Set<number>} constants
  * @returns {string[]}
  */
-function kindsOf(execution, cycle, constants) {
+function kindsOfCandidate(execution, cycle, constants) {
   const events = cycle.map((it) => it.source);
   const locations = new Set(events.map((it) => execution.instruction(it).location).filter((it) => it !== undefined));
   const kinds = locations.size === 1 ? [ONE_LOCATION] : [];
@@ -91,7 +91,7 @@ function forbiddenStates(test, wanted) {
     }
     const names = new Names(execution);
     const events = violation.cycle.map((each) => names.line(each.source));
-    const kinds = kindsOf(execution, violation.cycle, constants);
+    const kinds = kindsOfCandidate(execution, violation.cycle, constants);
     const way = { axiom: violation.axiom, cycle: names.cycle(violation.cycle), events, times: 0, execution: execution, violation, kinds };
     const { ways } = forbidden.get(String(words)) ?? forbidden.set(String(words), { words, ways: new Map() }).get(String(words));
     const key = JSON.stringify([way.axiom, way.cycle, events]);

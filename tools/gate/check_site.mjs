@@ -630,7 +630,7 @@ function compareHints(page, program, tally) {
     const text = right.replace(part, () => wrong);
     const { fault } = page.questions.answerTo(program, "states", { text });
     const hint = page.faults.hintOn(fault, text);
-    const row = page.faults.endOfRowBefore(fault, text).match(/^Line (\d+) has no `;`/)?.[1];
+    const row = page.faults.explainMissingRowEnd(fault, text).match(/^Line (\d+) has no `;`/)?.[1];
     tally.compare(`the words on ${wrong}`, [true, line, proposed], [hint.words.includes(words), row && Number(row), hint.change?.text]);
   }
 }
