@@ -38,8 +38,9 @@ pub use Rattle.lw_mesi.specs.declared.protocol.Protocol.TheVariants.{Mesi, Moesi
 pub use Rattle.lw_mesi.specs.inner.EachIndex.{at_each, cpu_set_of_bits, empty_cpu_set, is_owner}
 pub use Rattle.lw_mesi.specs.inner.Packed.{IsPacked, copy_at, owner_copy, sharer_copy, unpacked}
 pub use Rattle.lw_mesi.specs.laws.Cases.{copy_in-invalid_if_none_held, copy_word-copy_from}
-pub use Rattle.lw_mesi.specs.laws.Coherent.{at_index, clean, copy_in, copy_in-map, copy_in-set_other}
-pub use Rattle.lw_mesi.specs.laws.Coherent.{copy_in-set_same, copy_word-none_if_invalid, dirty}
+pub use Rattle.lw_mesi.specs.laws.Coherent.{at_index, copy_in, copy_in-map, copy_in-set_other}
+pub use Rattle.lw_mesi.specs.laws.Coherent.{copy_in-set_same, copy_word-none_if_invalid}
+pub use Rattle.lw_mesi.specs.laws.Coherent.{dirty_word_or-if_clean, dirty_word_or-if_dirty}
 pub use Rattle.lw_mesi.specs.laws.ProtocolCases.{invalid_state, shared_invalid}
 pub use Rattle.lw_mesi.specs.laws.ProtocolLaws.{evict_kept, kept_cache_line, load_kept, protocol_lawful}
 pub use Rattle.lw_mesi.specs.laws.ProtocolLaws.{set_kept, write_kept}

@@ -5,8 +5,9 @@ use Rattle.lw_mesi.proofs.Common.{List, [], ◌∷◌, refl, sym, ap, ap₂, ◌
 use Rattle.lw_mesi.proofs.Common.{slice_index_or, eqb-true, eq-eqb, cases_lt, or_left, or_right, get_or_past}
 use Rattle.lw_mesi.proofs.Common.{most_threads, S, is_held, Copy, Owned, Shared, Invalid, CacheLine, copy_of}
 use Rattle.lw_mesi.proofs.Common.{copy_state, copy_word, coherent_word, is_owner, is_held_anywhere}
-use Rattle.lw_mesi.proofs.Common.{IsOnlyCopy, IsDirty, copy_in, clean, dirty, Inside, IsPacked, owner_copy}
-use Rattle.lw_mesi.proofs.Common.{sharer_copy, copy_at, unpacked}
+use Rattle.lw_mesi.proofs.Common.{IsOnlyCopy, IsDirty, copy_in, dirty_word_or-if_clean}
+use Rattle.lw_mesi.proofs.Common.{dirty_word_or-if_dirty, Inside, IsPacked, owner_copy, sharer_copy, copy_at}
+use Rattle.lw_mesi.proofs.Common.{unpacked}
 use Rattle.lw_mesi.proofs.IndexLemmas.{length-at_each, get_or-at_each}
 
 -- ---- one processor's copy
@@ -123,11 +124,13 @@ pub coherent_word-unpacked : (p : Inside) → IsPacked p → coherent_word (unpa
 coherent_word-unpacked p ok = go p.is_dirty refl p.owner refl
   where
     go : (d : Bool) → p.is_dirty ≡ d → (owner : Option ℕ) → p.owner ≡ owner → coherent_word (unpacked p) ≡ p.word
-    go false ed owner eo = clean _ (unpacked p).copies (λ t h. let k = (is_owner-if_dirty p t h).1 in cc) ∙ ok.clean ed
+    go false ed owner eo =
+        dirty_word_or-if_clean _ (unpacked p).copies (λ t h. let k = (is_owner-if_dirty p t h).1 in cc) ∙ ok.clean ed
     go true ed None eo = absurd (let k = ok.unowned eo in cc)
     go true ed (Some o) eo =
         let at = copy_of-unpacked_owner p o (ok.in_range o eo) eo ∙ ap (λ (x : Bool). owner_copy x p.is_owned p.word) ed in
-        dirty p.memory p.word (unpacked p).copies o (subst IsDirty (sym at) (IsDirty-owner_copy p.is_owned p.word))
+        dirty_word_or-if_dirty p.memory p.word (unpacked p).copies o
+        (subst IsDirty (sym at) (IsDirty-owner_copy p.is_owned p.word))
         (ap copy_word at ∙ copy_word-dirty_owner p.is_owned p.word) (λ u ne h.
         let e : p.owner ≡ Some u = is_owner-sound p.owner u (is_owner-if_dirty p u h).0 in ne (let same : o ≡ u = cc in same))
 
