@@ -596,7 +596,7 @@ def list_examples() -> list[str]:
 
 def check_readmes() -> Iterator[Comparison]:
     """Yields whether each crate has a README.md with the present list of files, and links to names that the files declare."""
-    yield from make_readmes.comparisons()
+    yield from make_readmes.make_comparisons()
 
 
 def check_times() -> Iterator[Comparison]:
@@ -663,21 +663,21 @@ def list_checks() -> Iterator[Check]:
             yield check_transcript, name, block
     yield from list_fault_checks()
     yield from list_table_checks()
-    yield (check_card.comparisons,)
+    yield (check_card.make_comparisons,)
     yield from list_example_checks()
     yield from list_program_checks()
 
 
 def list_proof_checks() -> Iterator[Check]:
     """Yields the checks of builds, proofs and definitions, and of what documents say of them."""
-    yield (check_build.comparisons,)
+    yield (check_build.make_comparisons,)
     yield (check_times,)
     yield (check_wings_apart,)
-    yield (proof_layout.comparisons,)
-    yield (check_lemmas.comparisons,)
-    yield (cases.comparisons, test_free_names)
-    yield (cases.comparisons, test_names)
-    yield (cases.comparisons, test_wings)
+    yield (proof_layout.make_comparisons,)
+    yield (check_lemmas.make_comparisons,)
+    yield (cases.make_comparisons, test_free_names)
+    yield (cases.make_comparisons, test_names)
+    yield (cases.make_comparisons, test_wings)
     yield (check_semantic_core,)
     yield (check_believe,)
     yield (check_classics,)
@@ -693,7 +693,7 @@ def list_example_checks() -> Iterator[Check]:
         yield check_transcript, f"examples/{name}.page", read_file(f"examples/{name}.page").splitlines()
     yield (check_tables.check_table_names,)
     for name in check_tables.TABLES:
-        yield check_tables.comparisons, PROGRAM, name
+        yield check_tables.make_comparisons, PROGRAM, name
     for name in check_tables.FOLDERS:
         yield check_tables.compare_folder, PROGRAM, name
     yield (check_index,)
@@ -720,7 +720,7 @@ def list_program_checks() -> Iterator[Check]:
         if read_file(f"examples/{name}.litmus").startswith("SRC"):
             yield check_compiled, f"examples/{name}.litmus"
     for language, seed in random_tests.list_jobs(RANDOM_TESTS):
-        yield random_tests.comparisons, language, seed
+        yield random_tests.make_comparisons, language, seed
     for program, test, *words in REFUSED_MEMORY:
         yield check_refused_memory, program, test, *words
 
@@ -729,7 +729,7 @@ def list_tool_checks() -> list[Callable[[], Iterator[Comparison]]]:
     """Returns the checks of single tools for which it matters neither how long things take nor what runs beside them."""
     tested = (test_plain, test_commands, test_editor, test_replay_state, test_python, test_types, test_herd, test_assume, test_original,
               test_from_c, test_shapes, test_answers, test_machine_parts)
-    return [*(partial(cases.comparisons, it) for it in tested), check_graph.comparisons, check_slides.comparisons]
+    return [*(partial(cases.make_comparisons, it) for it in tested), check_graph.make_comparisons, check_slides.make_comparisons]
 
 
 def run_tool_check(index: int) -> list[Comparison]:
@@ -747,24 +747,24 @@ def run_tool_checks() -> Iterator[Comparison]:
 
 def list_last_checks() -> Iterator[Iterator[Comparison]]:
     """Yields the checks for which it matters how long things take: they run one after another, when all others have ended."""
-    yield cases.comparisons(test_completion)
-    yield cases.comparisons(test_build)
-    yield check_lab.comparisons()
-    yield check_quiz.comparisons()
-    yield check_many.comparisons()
-    yield cases.comparisons(test_run_all)
-    yield cases.comparisons(test_fences)
-    yield cases.comparisons(test_on_machine)
-    yield cases.comparisons(test_seen_here)
+    yield cases.make_comparisons(test_completion)
+    yield cases.make_comparisons(test_build)
+    yield check_lab.make_comparisons()
+    yield check_quiz.make_comparisons()
+    yield check_many.make_comparisons()
+    yield cases.make_comparisons(test_run_all)
+    yield cases.make_comparisons(test_fences)
+    yield cases.make_comparisons(test_on_machine)
+    yield cases.make_comparisons(test_seen_here)
     yield check_page.check_by_client()
     yield check_page.check_by_browser()
-    yield check_site.comparisons()
-    yield check_library.comparisons()
-    yield check_pack.comparisons()
-    yield cases.comparisons(test_packages)
+    yield check_site.make_comparisons()
+    yield check_library.make_comparisons()
+    yield check_pack.make_comparisons()
+    yield cases.make_comparisons(test_packages)
 
 
-def comparisons(is_quick: bool) -> Iterator[Comparison]:
+def make_comparisons(is_quick: bool) -> Iterator[Comparison]:
     """Yields all comparisons: what is compared, what is expected, and what was found."""
     with ThreadPoolExecutor(len(os.sched_getaffinity(0))) as pool:
         for compared in pool.map(lambda check: list(check[0](*check[1:])), list_checks()):
@@ -778,7 +778,7 @@ def comparisons(is_quick: bool) -> Iterator[Comparison]:
 def list_skipped() -> Iterable[str]:
     """Returns the lines that say which checks were skipped."""
     parts = (test_types, test_completion, test_editor, test_from_c, test_run_all, test_on_machine, check_lab, check_page, check_site, check_library, check_pack, test_packages)
-    return filter(None, (it.skipped() for it in parts))
+    return filter(None, (it.describe_skipped() for it in parts))
 
 
 def main() -> int:
@@ -792,7 +792,7 @@ def main() -> int:
         with open(f"{HOME}/examples/SB.litmus", "rb") as file:
             subprocess.run([f"{HOME}/{words[0]}", *words[1:]], stdin=file, stdout=subprocess.DEVNULL)
     passed = failed = 0
-    for subject, expected, actual in comparisons(is_quick):
+    for subject, expected, actual in make_comparisons(is_quick):
         passed, failed = passed + (expected == actual), failed + (expected != actual)
         if expected != actual:
             print(f"{subject}\n  wanted: {expected!r}\n  found:  {actual!r}")

@@ -279,7 +279,7 @@ def compare_lists(subject: str, text: str, test: plain.Test) -> Iterator[Compari
     yield from compare_schedules(subject, text, test, plain.collect_states(test, outcomes))
 
 
-def comparisons(language: str, seed: int) -> Iterator[Comparison]:
+def make_comparisons(language: str, seed: int) -> Iterator[Comparison]:
     """Returns all comparisons of one random test: what is compared, what plain.py says, what the program says."""
     writer = Writer(language, seed)
     subject, text = f"random test {seed} of {language}", writer.draw_test()
@@ -296,7 +296,7 @@ def comparisons(language: str, seed: int) -> Iterator[Comparison]:
 
 def list_comparisons(job: tuple[str, int]) -> list[Comparison]:
     """Returns the same as a list, for a language and a seed."""
-    return list(comparisons(*job))
+    return list(make_comparisons(*job))
 
 
 def list_jobs(count: int, first: int = 1) -> list[tuple[str, int]]:

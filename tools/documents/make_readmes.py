@@ -114,7 +114,7 @@ def find_link_faults(crate: str, text: str) -> Iterator[str]:
                 yield f"{crate}/README.md links {name} to {path}, which does not declare it"
 
 
-def comparisons() -> Iterator[tuple[str, object, object]]:
+def make_comparisons() -> Iterator[tuple[str, object, object]]:
     """Yields the comparisons of tools/check_documents.py: the name, the expected value, and the value that was found."""
     for crate, _ in read_dependencies():
         text = read_readme(crate)
@@ -129,7 +129,7 @@ def main() -> int:
         text = read_readme(crate) or f"# {crate}\n"
         with open(path, "w", encoding="utf-8") as file:
             file.write(replace_list(text, make_list(crate)))
-    return close_check(comparisons())
+    return close_check(make_comparisons())
 
 
 if __name__ == "__main__":

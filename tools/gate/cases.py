@@ -59,7 +59,7 @@ class Count(unittest.TestResult):
             self.held_count += test.held_count
 
 
-def comparisons(module: ModuleType) -> Iterator[Comparison]:
+def make_comparisons(module: ModuleType) -> Iterator[Comparison]:
     """Returns all comparisons of a module's tests, for tools/check_documents.py: what is compared, what is expected, and what was found."""
     yield from run_suite(unittest.defaultTestLoader.loadTestsFromModule(module))
 
@@ -73,13 +73,13 @@ def run_suite(suite: unittest.TestSuite) -> Iterator[Comparison]:
         yield f"{test.id()}\n{why}", "holds", "fails"
 
 
-def main(skipped: Callable[[], str | None] = lambda: None) -> int:
-    """Runs the tests of the file that is run, a command without words. `skipped` returns the line that says what is left out, or None."""
+def main(describe_skipped: Callable[[], str | None] = lambda: None) -> int:
+    """Runs the tests of the file that is run, a command without words. `describe_skipped` returns the line that says what is left out, or None."""
     module = sys.modules["__main__"]
 
     def run() -> int:
         """Runs all tests. Returns the exit status."""
         given.set_output_encoding()
-        return close_check(comparisons(module), skipped=skipped)
+        return close_check(make_comparisons(module), describe_skipped=describe_skipped)
 
     return command.run_command(run, module.__doc__)

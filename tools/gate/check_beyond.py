@@ -266,7 +266,7 @@ def checks() -> Iterator[tuple[Any, ...]]:
         yield check_fault, text
 
 
-def comparisons() -> Iterator[Comparison]:
+def make_comparisons() -> Iterator[Comparison]:
     """Yields all comparisons: what is compared, what is expected, and what was found."""
     for check, *words in checks():
         yield from check(*words)
@@ -277,7 +277,7 @@ def main() -> int:
     reader = command.Reader(__doc__)
     reader.add_argument("--write", action="store_true")
     if not reader.read().write:
-        return close_check(comparisons())
+        return close_check(make_comparisons())
     write_visited()
     return 0
 

@@ -259,7 +259,7 @@ def check_other_program(checkout: Checkout, folder: str) -> Iterator[Comparison]
     yield "./beyond does", sorted(checkout.further), list_begun_crates(checkout.run_command("beyond", "states")[2])
 
 
-def comparisons() -> Iterator[Comparison]:
+def make_comparisons() -> Iterator[Comparison]:
     """Yields all comparisons: what is compared, what is expected, and what was found."""
     with tempfile.TemporaryDirectory() as folder:
         checkout = Checkout(folder)
@@ -271,7 +271,7 @@ def comparisons() -> Iterator[Comparison]:
 
 def main() -> int:
     """Runs the command that the arguments describe. Returns the exit status."""
-    wrong = [it for it in comparisons() if it[1] != it[2]]
+    wrong = [it for it in make_comparisons() if it[1] != it[2]]
     for subject, expected, actual in wrong:
         print(f"{subject}\n  wanted: {expected!r}\n  found:  {actual!r}")
     return 1 if wrong else 0

@@ -57,7 +57,7 @@ def list_code_spans(cell: str) -> list[str]:
     return re.findall(r"`([^`]*)`", cell)
 
 
-def comparisons() -> Iterator[Comparison]:
+def make_comparisons() -> Iterator[Comparison]:
     """Yields all comparisons: what is compared, what is expected, and what was found."""
     card, form = read_file("docs/CARD.md"), " ".join(read_file("docs/FORMAT.md").split())
     tests = read_tests(card)
@@ -80,7 +80,7 @@ def comparisons() -> Iterator[Comparison]:
 
 def main() -> int:
     """Runs the command that the arguments describe. Returns the exit status."""
-    return close_check(comparisons())
+    return close_check(make_comparisons())
 
 
 if __name__ == "__main__":

@@ -286,7 +286,7 @@ def check_tool() -> Iterator[Comparison]:
             yield path, graph.draw_document_picture(*arguments), file.read()
 
 
-def comparisons() -> Iterator[Comparison]:
+def make_comparisons() -> Iterator[Comparison]:
     """Yields all comparisons: what is compared, what is expected, and what was found."""
     paths = sorted(glob.glob(f"{HOME}/examples/*.litmus"))
     in_x86 = [it for it in paths if it.endswith("-x86.litmus")]
@@ -304,7 +304,7 @@ def comparisons() -> Iterator[Comparison]:
 
 def main() -> int:
     """Runs the command that the arguments describe. Returns the exit status."""
-    return close_check(comparisons())
+    return close_check(make_comparisons())
 
 
 if __name__ == "__main__":

@@ -293,13 +293,13 @@ def check_played(folder: str) -> Iterator[Comparison]:
     yield "how much of the lab is played", True, len(ran.stdout.splitlines()) >= MIN_PLAYED
 
 
-def skipped() -> str | None:
+def describe_skipped() -> str | None:
     """Returns the line that says what was left out, or None if nothing was."""
     missing = list_missing()
     return f"the lab: it was not played in a browser, since this is missing: {', '.join(missing)}" if missing else None
 
 
-def comparisons() -> Iterator[Comparison]:
+def make_comparisons() -> Iterator[Comparison]:
     """Yields all comparisons: what is compared, what is expected, and what was found."""
     lab = read_file("docs/LAB.md")
     tests = make_tests(lab)
@@ -317,7 +317,7 @@ def comparisons() -> Iterator[Comparison]:
 def main() -> int:
     """Runs the command that the arguments describe. Returns the exit status."""
     given.set_output_encoding()
-    return close_check(comparisons(), skipped=skipped)
+    return close_check(make_comparisons(), describe_skipped=describe_skipped)
 
 
 if __name__ == "__main__":

@@ -307,7 +307,7 @@ def check_caches(student: Student, answers: Solutions) -> Iterator[Comparison]:
     yield "6.3: the list", [1, 3], student.guess_and_count_states()
 
 
-def comparisons(folder: str) -> Iterator[Comparison]:
+def make_comparisons(folder: str) -> Iterator[Comparison]:
     """Yields all comparisons: what is compared, what is expected, and what was found."""
     with tempfile.TemporaryDirectory(prefix="lw-student-") as temporary_folder:
         student = Student(folder, temporary_folder)
@@ -341,7 +341,7 @@ def main() -> int:
     reader.add_argument("folder", metavar="FOLDER")
     folder = reader.read().folder
     enable_loopback()
-    for comparison in comparisons(folder):
+    for comparison in make_comparisons(folder):
         print(json.dumps(comparison), flush=True)
     return 0
 

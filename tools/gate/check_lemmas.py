@@ -328,7 +328,7 @@ def find_faults(files: Files) -> Iterator[str]:
         yield f"{declaration.place}: no comment says what {declaration.name} is for"
 
 
-def comparisons() -> Iterator[Comparison]:
+def make_comparisons() -> Iterator[Comparison]:
     """Returns all comparisons, for tools/check_documents.py."""
     files = Files()
     yield "there are lemmas to look at", True, sum(len(it.declarations) for it in files.all) > 5000

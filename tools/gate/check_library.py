@@ -241,20 +241,20 @@ def is_built() -> bool:
     return os.path.exists(LIBRARY) and shutil.which("cc") is not None
 
 
-def skipped() -> str | None:
+def describe_skipped() -> str | None:
     """Returns the line that says what was left out, or None if nothing was."""
     return None if is_built() else "the library: checks were skipped, since it is not built, or cc is missing"
 
 
-def comparisons() -> Iterator[Comparison]:
+def make_comparisons() -> Iterator[Comparison]:
     """Yields the comparisons if the library is there; with CI=true it must be."""
     if is_built():
-        yield from all_comparisons()
+        yield from make_all_comparisons()
     elif os.environ.get("CI") == "true":
-        yield "the library: where CI=true, it is there", None, skipped()
+        yield "the library: where CI=true, it is there", None, describe_skipped()
 
 
-def all_comparisons() -> Iterator[Comparison]:
+def make_all_comparisons() -> Iterator[Comparison]:
     """Yields all comparisons of the library, in C and in Python."""
     with tempfile.TemporaryDirectory(prefix="lw-library-") as folder, ThreadPoolExecutor(2) as pool:
         cases = list(list_cases())
@@ -275,7 +275,7 @@ def all_comparisons() -> Iterator[Comparison]:
 
 def main() -> int:
     """Runs the command that the arguments describe. Returns the exit status."""
-    return close_check(comparisons(), check_page.format_fault)
+    return close_check(make_comparisons(), check_page.format_fault)
 
 
 if __name__ == "__main__":

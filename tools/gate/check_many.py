@@ -207,7 +207,7 @@ def check_beyond() -> Iterator[Comparison]:
     yield "beyond.py, a fault", ("", "-:1:1: found 'X86_64', expected 'SRC' or 'X86'\n", 1), run(["beyond.py"], "X86_64 A\n")
 
 
-def comparisons() -> Iterator[Comparison]:
+def make_comparisons() -> Iterator[Comparison]:
     """Yields all comparisons: what is compared, what is expected, and what was found."""
     for check in (check_tables, check_past_limits, check_faults, check_against, check_times, check_search, check_beyond):
         yield from check()
@@ -216,7 +216,7 @@ def comparisons() -> Iterator[Comparison]:
 def main() -> int:
     """Runs the checks. Returns the exit status."""
     given.set_output_encoding()
-    return close_check(comparisons())
+    return close_check(make_comparisons())
 
 
 if __name__ == "__main__":

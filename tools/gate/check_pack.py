@@ -170,21 +170,21 @@ def check_refusals() -> Iterator[Comparison]:
     yield "a gate that has passed is not reported", [], pack.make_warning(GATE)
 
 
-def skipped() -> str | None:
+def describe_skipped() -> str | None:
     """Returns the line that says what was left out, or None if nothing was."""
     lacking = None if check_library.is_built() and web_files.read_module() else "the library, its module or cc is missing"
     return lacking and f"the pack: checks were skipped, since {lacking}"
 
 
-def comparisons() -> Iterator[Comparison]:
+def make_comparisons() -> Iterator[Comparison]:
     """Yields all comparisons: what is compared, what is expected, and what was found. With CI=true nothing may be missing."""
-    if not skipped():
-        yield from all_comparisons()
+    if not describe_skipped():
+        yield from make_all_comparisons()
     elif os.environ.get("CI") == "true":
-        yield "the pack: where CI=true, all is there", None, skipped()
+        yield "the pack: where CI=true, all is there", None, describe_skipped()
 
 
-def all_comparisons() -> Iterator[Comparison]:
+def make_all_comparisons() -> Iterator[Comparison]:
     """Yields all comparisons of a pack that is made here."""
     yield from ((f"the pack: {subject}", expected, actual) for subject, expected, actual in check_refusals())
     folder = tempfile.mkdtemp(prefix="lw-packed-")
@@ -200,7 +200,7 @@ def all_comparisons() -> Iterator[Comparison]:
 
 def main() -> int:
     """Runs the command that the arguments describe. Returns the exit status."""
-    return close_check(comparisons(), check_page.format_fault)
+    return close_check(make_comparisons(), check_page.format_fault)
 
 
 if __name__ == "__main__":

@@ -776,7 +776,7 @@ def check_by_browser() -> Iterator[Comparison]:
     """Yields all comparisons in a browser, if there is one. CI has to have one."""
     if not user.is_there():
         if os.environ.get("CI") == "true":
-            yield name_comparison(("there is a browser where CI=true", "", skipped()))
+            yield name_comparison(("there is a browser where CI=true", "", describe_skipped()))
         return
     for check in (check_browser, check_browser_by_server, check_browser_misbehaving):
         yield from run_check(check)
@@ -806,7 +806,7 @@ def check_browser_misbehaving() -> Iterator[Comparison]:
 def try_subjects(page: Page, chosen: Iterable[type[page_case.PageCase]], where: str) -> Iterator[Comparison]:
     """Yields the comparisons of subjects on a page, which ends after them."""
     try:
-        yield from page_case.comparisons(page.origin + "/", chosen, where)
+        yield from page_case.make_comparisons(page.origin + "/", chosen, where)
     finally:
         page.end_server()
 
@@ -879,7 +879,7 @@ def format_fault(comparison: Comparison) -> str | None:
     return None if expected == actual else f"{subject}\n  wanted: {expected!r}\n  found:  {actual!r}"[:2000]
 
 
-def skipped() -> str | None:
+def describe_skipped() -> str | None:
     """Returns the line that says what was left out, or None if nothing was."""
     if user.is_there():
         return None
@@ -889,7 +889,7 @@ def skipped() -> str | None:
 
 def main() -> int:
     """Runs the command that the arguments describe. Returns the exit status."""
-    return close_check((it for compared in (check_by_client(), check_by_browser()) for it in compared), format_fault, skipped)
+    return close_check((it for compared in (check_by_client(), check_by_browser()) for it in compared), format_fault, describe_skipped)
 
 
 if __name__ == "__main__":

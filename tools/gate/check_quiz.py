@@ -310,7 +310,7 @@ def check_commands(folder: str) -> Iterator[Comparison]:
     yield "no file is left of what is refused", False, os.path.exists(f"{folder}/no.html")
 
 
-def comparisons() -> Iterator[Comparison]:
+def make_comparisons() -> Iterator[Comparison]:
     """Yields all comparisons: what is compared, what is expected, and what was found."""
     for seed in SEEDS:
         yield from check_verdicts(seed)
@@ -330,7 +330,7 @@ def comparisons() -> Iterator[Comparison]:
 def main() -> int:
     """Runs the command that the arguments describe. Returns the exit status."""
     given.set_output_encoding()
-    return close_check(comparisons())
+    return close_check(make_comparisons())
 
 
 if __name__ == "__main__":

@@ -467,7 +467,7 @@ def check_by_browser() -> Iterator[Comparison]:
                 in_browser = lambda it: ((f"in {name}, {subject}", expected, actual) for subject, expected, actual in it)
                 yield from in_browser(check_page.run_twice_if_needed(compare_module_answers, comparing, modules, cases, start))
                 for subject, address in opened.items():
-                    yield from check_page.run_check(page_case.comparisons, address, choose_subjects(subject, name), f"{subject}, in {name}", start)
+                    yield from check_page.run_check(page_case.make_comparisons, address, choose_subjects(subject, name), f"{subject}, in {name}", start)
             if is_there():
                 yield from check_page.run_twice_if_needed(check_offline, f"{folder}/site")
 
@@ -481,7 +481,7 @@ def report_missing(requirement: str) -> Iterator[Comparison]:
         yield f"the site: where CI=true, {requirement} is there", "", "it is missing"
 
 
-def skipped() -> str | None:
+def describe_skipped() -> str | None:
     """Returns the line that says what was left out, or None if nothing was."""
     requirements: dict[str, object] = {"node": NODE, "Chromium": is_there(), "Firefox": firefox.is_there()}
     requirements["the module of the sources as they are"] = web_files.read_module()
@@ -489,7 +489,7 @@ def skipped() -> str | None:
     return f"the site: checks were skipped, since this is missing: {', '.join(lacking)}" if lacking else None
 
 
-def comparisons() -> Iterator[Comparison]:
+def make_comparisons() -> Iterator[Comparison]:
     """Yields all comparisons: what is compared, what is expected, and what was found."""
     for check in (
         check_bundles, check_files, check_documents, check_answers, check_condition_words, check_commands, check_origin, check_packed, check_words,
@@ -501,7 +501,7 @@ def comparisons() -> Iterator[Comparison]:
 
 def main() -> int:
     """Runs the command that the arguments describe. Returns the exit status."""
-    return close_check(comparisons(), check_page.format_fault, skipped)
+    return close_check(make_comparisons(), check_page.format_fault, describe_skipped)
 
 
 if __name__ == "__main__":

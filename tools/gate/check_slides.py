@@ -236,7 +236,7 @@ def check_browser(folder: str) -> Iterator[Comparison]:
         driver.quit()
 
 
-def comparisons() -> Iterator[Comparison]:
+def make_comparisons() -> Iterator[Comparison]:
     """Yields all comparisons: what is compared, what is expected, and what was found."""
     tests = slides.read_texts()
     page = make_slides.make_page()
@@ -250,7 +250,7 @@ def comparisons() -> Iterator[Comparison]:
 def main() -> int:
     """Runs the command that the arguments describe. Returns the exit status."""
     given.set_output_encoding()
-    return close_check(comparisons())
+    return close_check(make_comparisons())
 
 
 if __name__ == "__main__":

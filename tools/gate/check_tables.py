@@ -135,7 +135,7 @@ def check_table_names() -> Iterator[Comparison]:
     yield "what there is in tables/", sorted([*FOLDERS, *(f"{name}.txt" for name in TABLES)]), names
 
 
-def comparisons(program: str, name: str) -> Iterator[Comparison]:
+def make_comparisons(program: str, name: str) -> Iterator[Comparison]:
     """Returns, for each case of a table, what is compared, what is expected, and what was found. A table without cases is a fault."""
     cases = list(read_cases(f"{HOME}/tables/{name}.txt"))
     yield f"tables/{name}.txt has cases", True, bool(cases)

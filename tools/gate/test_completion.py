@@ -64,7 +64,7 @@ def list_missing_shells() -> list[str]:
     return [it for it in ("bash", "zsh", "fish") if not shutil.which(it)]
 
 
-def skipped() -> str | None:
+def describe_skipped() -> str | None:
     """Returns the line that says which shells were not tried, if any were not. None if all were."""
     return f"completions of {', '.join(list_missing_shells())} were not tried, since they are not here" if list_missing_shells() else None
 
@@ -176,4 +176,4 @@ class Shells(cases.Case):
 
 
 if __name__ == "__main__":
-    sys.exit(cases.main(skipped))
+    sys.exit(cases.main(describe_skipped))

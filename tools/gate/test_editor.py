@@ -289,7 +289,7 @@ class Engine(cases.Case):
         """Leaves these out if the library is not here."""
         library = oniguruma.load_library()
         if library is None:
-            self.skipTest(skipped())
+            self.skipTest(describe_skipped())
         self.library = library
 
     def test_compiled(self) -> None:
@@ -324,10 +324,10 @@ class Engine(cases.Case):
                 self.assertEqual(by_python.find_scopes(text), by_library.find_scopes(text))
 
 
-def skipped() -> str | None:
+def describe_skipped() -> str | None:
     """Returns the line that says what is left out, if Oniguruma is not here. None if it is."""
     return None if oniguruma.load_library() else "the grammar for editors was not tried by Oniguruma, which is not here (Debian: libonig5)"
 
 
 if __name__ == "__main__":
-    sys.exit(cases.main(skipped))
+    sys.exit(cases.main(describe_skipped))

@@ -609,7 +609,7 @@ class Compiled(cases.Case):
     def setUp(self) -> None:
         """Leaves these out if no compiler is there."""
         if not list_compilers(".c"):
-            self.skipTest(skipped())
+            self.skipTest(describe_skipped())
 
     def compare(self, folder: str, compiler: str, name: str, expected: object, actual: object) -> None:
         """Compares what a compiler makes of an example. If its version is not that of the lists, a difference is reported and no fault."""
@@ -821,7 +821,7 @@ def parse_needed_lines(printed: str) -> list[tuple[int, ...]]:
     return [tuple(map(int, it)) for it in rows]
 
 
-def skipped() -> str | None:
+def describe_skipped() -> str | None:
     """Returns the lines that say what is left out, if compilers are missing, and what other versions of compilers make. None if nothing is."""
     lines = list(OTHER_VERSIONS)
     if not list_compilers(".c"):
@@ -832,4 +832,4 @@ def skipped() -> str | None:
 
 
 if __name__ == "__main__":
-    sys.exit(cases.main(skipped))
+    sys.exit(cases.main(describe_skipped))

@@ -8,7 +8,7 @@
 - Runs with fewer processors than threads, under a tracer, and on a machine that catches the trap flag.
 - The messages and statuses of the command, and the column of tools/run_all.py.
 
-If this machine lacks what a control needs, the control is left out, and `skipped` says so. The programs are not needed.
+If this machine lacks what a control needs, the control is left out, and `describe_skipped` says so. The programs are not needed.
 tools/gate/test_machine_parts.py tries what needs no processor. tools/check_documents.py calls all this (tools/gate/cases.py).
 """
 from __future__ import annotations
@@ -72,7 +72,7 @@ def has_fewer_processors(count: int = 2) -> bool:
     return len(os.sched_getaffinity(0)) < count
 
 
-def skipped() -> str | None:
+def describe_skipped() -> str | None:
     """Returns the line that says which controls are left out, if any are. None if none is."""
     lacking = list_missing() or (["there are fewer than two processors"] if has_fewer_processors() else [])
     return f"the controls of on_machine.py were left out: {', '.join(lacking)}" if lacking else None
@@ -214,7 +214,7 @@ class Commands(cases.Case):
         self.assertEqual(("", "on_machine: nowhere: No such file or directory\n", 1), (out, err, status))
 
 
-@unittest.skipIf(skipped(), "something is missing")
+@unittest.skipIf(describe_skipped(), "something is missing")
 class Controls(cases.Case):
     """Runs that have to notice something. What races show is no fixed number, so each is tried again, longer, up to a limit."""
 
@@ -356,7 +356,7 @@ exists (0:r0=0 /\\ 1:r0=0)
 """
 
 
-@unittest.skipIf(skipped() or not shutil.which("gcc"), "something is missing")
+@unittest.skipIf(describe_skipped() or not shutil.which("gcc"), "something is missing")
 class Programs(cases.Case):
     """Programs in C and Rust, as the tests that they are converted to."""
 
@@ -564,4 +564,4 @@ class Surroundings(cases.Case):
 
 
 if __name__ == "__main__":
-    sys.exit(cases.main(skipped))
+    sys.exit(cases.main(describe_skipped))

@@ -93,7 +93,7 @@ def describe_missing() -> str | None:
     return None if is_there else "the program, the library or its module is not built, or cc is missing"
 
 
-def skipped() -> str | None:
+def describe_skipped() -> str | None:
     """Returns the line that says what is left out, or None."""
     if describe_missing():
         return f"the wheel and the package for Debian were not tried, since {describe_missing()}"

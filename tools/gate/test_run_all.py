@@ -469,7 +469,7 @@ class Answers(cases.Case):
         self.assertEqual([*rows.ALWAYS, "seen", "converted", "cause"], table.list_columns([row._replace(seen="1 of 1", converted="by")]))
 
 
-def skipped() -> str | None:
+def describe_skipped() -> str | None:
     """Returns the line on skipped parts. None if there are none."""
     return None if HAS_GCC else "run_all.py on C was left out: there is no gcc"
 

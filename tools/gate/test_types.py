@@ -21,7 +21,7 @@ MYPY = shutil.which("mypy", path=f"/usr/bin{os.pathsep}{os.environ.get('PATH', '
 WRONG = "from shared.matches import require_match\n\n\ndef read_name(text: str) -> int:\n    return require_match(None)[0]\n"
 
 
-def skipped() -> str | None:
+def describe_skipped() -> str | None:
     """Returns the line that says what was left out, or None if nothing was."""
     return None if MYPY else "the types of tools/: skipped, since mypy is missing"
 
@@ -53,4 +53,4 @@ class Types(cases.Case):
 
 
 if __name__ == "__main__":
-    sys.exit(cases.main(skipped))
+    sys.exit(cases.main(describe_skipped))

@@ -39,7 +39,7 @@ def format_difference(comparison: tuple[str, object, object]) -> str | None:
 def close_check(
     comparisons: Iterable[tuple[str, object, object]], fault_of: Callable[
         [tuple[str, object, object]], str | None
-    ] = format_difference, skipped: Callable[[], str | None] = lambda: None
+    ] = format_difference, describe_skipped: Callable[[], str | None] = lambda: None
 ) -> int:
     """Ends a check: prints what differs, what was left out, and the numbers of comparisons. Returns the exit status.
 
@@ -50,7 +50,7 @@ def close_check(
         passed, failed = passed + (fault is None), failed + (fault is not None)
         if fault:
             print(fault, flush=True)
-    if line := skipped():
+    if line := describe_skipped():
         print(line)
     print(f"{passed} passed, {failed} failed")
     return 1 if failed else 0

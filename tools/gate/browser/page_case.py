@@ -67,7 +67,7 @@ def number_of(subjects: Iterable[type[PageCase]]) -> int:
     return tests_of(subjects, None).countTestCases()
 
 
-def comparisons(
+def make_comparisons(
     address: str, subjects: Iterable[type[PageCase]], where: str = "in a browser", start: Start | None = None
 ) -> Iterator[Comparison]:
     """Returns all comparisons on the page at an address, for tools/check_documents.py: what is compared, what is expected, and what was
