@@ -15,6 +15,10 @@ STANDARD_INPUT = "-"
 class Fault(Exception):
     """A fault of a text: the cause in words, and the place, counted in characters from 0."""
 
+    def __init__(self, cause: str, offset: int) -> None:
+        super().__init__(cause, offset)
+        self.cause, self.offset = cause, offset
+
 
 def read_bytes(name: str) -> bytes:
     """Returns the bytes of a file, or of standard input."""
@@ -39,8 +43,7 @@ def format_place(text: str, offset: int) -> str:
 
 def format_fault(name: str, data: bytes, fault: Fault) -> str:
     """Returns the line on a fault in the bytes of a file."""
-    cause, offset = fault.args
-    return f"{name}:{format_place(data.decode('utf-8', 'replace'), offset)}: {cause}"
+    return f"{name}:{format_place(data.decode('utf-8', 'replace'), fault.offset)}: {fault.cause}"
 
 
 def refuse(line: str) -> int:

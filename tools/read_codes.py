@@ -115,7 +115,7 @@ def main() -> int:
     except OSError as why:
         return given.refuse(f"read_codes: {why.filename}: {why.strerror}")
     except given.Fault as fault:
-        return given.refuse(f"read_codes: {arguments.quiz}: {fault.args[0]}")
+        return given.refuse(f"read_codes: {arguments.quiz}: {fault.cause}")
     except (quiz.NoQuiz, NoCycle, films.NoFilm) as why:
         return given.refuse(f"read_codes: {why}")
 

@@ -20,7 +20,7 @@ def collect_answers(name: str, compilers: list[str], by: Callable[[str], Answer]
             answers[compiler] = by(compiler)
         except (Refused, given.Fault) as why:
             answers[compiler] = None
-            print(why.format_line(f"{name} by {compiler}") if isinstance(why, Refused) else f"{name} by {compiler}: {why.args[0]}", file=sys.stderr)
+            print(why.format_line(f"{name} by {compiler}") if isinstance(why, Refused) else f"{name} by {compiler}: {why.cause}", file=sys.stderr)
     return answers
 
 

@@ -317,7 +317,7 @@ def answer_why_not(text: bytes, state: str) -> Answer:
     try:
         lines, _, cycles = graph.explain_states_of_any(plain.read_test(text.decode()), state)
     except given.Fault as why:
-        message = why.args[0]
+        message = why.cause
         raise NoAnswer(f"{message[0].upper()}{message[1:]}.") from None
     drawn = [{"graph": it.picture, "words": it.words, "kind": it.kind} for it in cycles]
     return {"lines": lines, "cycles": drawn, "language": read_language(text)}

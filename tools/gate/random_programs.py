@@ -366,7 +366,7 @@ def compare_program(program: Program, compiler: str) -> str:
     try:
         states = list_listed(program, compiler)
     except (Refused, given.Fault) as why:
-        return f"refused: {why.args[0]}"
+        return f"refused: {why.cause}"
     shown = {it.partition("=")[0] for line in states for it in line.replace(";", "").split()}
     expected = list_expected(program, shown)
     if states == expected:

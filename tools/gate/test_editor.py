@@ -207,7 +207,7 @@ class Words(cases.Case):
                 plain.read_test(text)
                 why = ""
             except plain.NoTest as fault:
-                why = fault.args[0]
+                why = fault.cause
             self.assertEqual(word == "NOP", "is no instruction that is read" in why)
 
     def test_files(self) -> None:

@@ -122,7 +122,7 @@ def find_cause(text: str, condition: str = "exists (x=0)", tries: int = 1) -> st
     try:
         answer_assembly(text, condition, tries)
     except (Refused, given.Fault) as why:
-        return why.args[0]
+        return why.cause
     return ""
 
 
@@ -240,7 +240,7 @@ def find_refusal(work: Callable[..., object]) -> str:
     try:
         work()
     except (Refused, given.Fault) as why:
-        return f"refused: {why.args[0]}"
+        return f"refused: {why.cause}"
     return ""
 
 
@@ -586,7 +586,7 @@ class Sources(cases.Case):
 
 
 def is_known(compiler: str, folder: str) -> bool:
-    """Says whether the compiler is one that made the lists of a folder's README.md, of the same version."""
+    """Returns whether the compiler is one that made the lists of a folder's README.md, of the same version."""
     name = compiler.split()[0]
     return f"{name} {read_version(name)}" in program_lists.read_versions(folder)
 

@@ -191,7 +191,7 @@ class Rows(cases.Case):
             try:
                 lines = plain.make_report(convert(row.make_text()).conversions[0].test).splitlines()[1:3]
             except given.Fault as fault:
-                lines = ["LEA" if fault.args[0].startswith("LEA leaves the flags alone") else fault.args[0]]
+                lines = ["LEA" if fault.cause.startswith("LEA leaves the flags alone") else fault.cause]
             expected = ["LEA"] if lines == ["LEA"] and any("LEA" in cell for cell in row.cells) else ["States 1", row.format_state()]
             with self.subTest(row.make_text()):
                 self.assertEqual(expected, lines)

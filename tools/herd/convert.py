@@ -241,7 +241,7 @@ def read_back(test: plain.Test, offset: int) -> None:
     try:
         plain.read_test(text)
     except plain.NoTest as fault:
-        raise Refused(f"the converted test is too large, or not one of lw: {fault.args[0]}", offset) from None
+        raise Refused(f"the converted test is too large, or not one of lw: {fault.cause}", offset) from None
 
 
 def convert(text: str, tries: int = 0, is_att: bool | None = None) -> Converted:

@@ -112,7 +112,7 @@ def answer_test(file: str, text: str, choices: Choices, run: spawn.Run) -> rows.
     try:
         test_answers = collect_answers(result.conversions)
     except given.Fault as fault:
-        return rows.make_refusal(file, f"{file}: {fault.args[0]}", description, notes)
+        return rows.make_refusal(file, f"{file}: {fault.cause}", description, notes)
     report = merge_reports(result.conversions, test_answers)
     if answers.filter_state_lines(report):
         report = translate_report(report, result)
@@ -126,16 +126,15 @@ def answer_test(file: str, text: str, choices: Choices, run: spawn.Run) -> rows.
 def choose_fault(file: str, text: str, run: spawn.Run, lw_offset: int, fault: given.Fault) -> str:
     """Returns the line of what is wrong in a text that neither lw, at a place, nor tools/from_herd.py takes: of the two, what the one says that
     reads further, and what both say if they end in one line and differ."""
-    cause, herd_offset = fault.args
     try:
         is_x86 = read_heading(text)[0] == "X86"
     except given.Fault:
         return batch.format_fault(run)
-    line_of_lw, line_of_herd = text.count("\n", 0, lw_offset), text.count("\n", 0, herd_offset)
+    line_of_lw, line_of_herd = text.count("\n", 0, lw_offset), text.count("\n", 0, fault.offset)
     if not is_x86 or line_of_lw < line_of_herd:
         return given.format_fault(file, text.encode(), fault)
     line = batch.format_fault(run)
-    return line if line_of_lw > line_of_herd or line.endswith(cause) else f"{line}; in herd's form: {cause}"
+    return line if line_of_lw > line_of_herd or line.endswith(fault.cause) else f"{line}; in herd's form: {fault.cause}"
 
 
 # Programs.

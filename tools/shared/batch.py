@@ -24,7 +24,7 @@ def run_function(report_of: Callable[[plain.Test], str], file: str) -> spawn.Run
             read = stream.read()
         printed, status = report_of(plain.read_test(given.decode(read))), 0
     except answers.NoList as why:
-        printed = why.args[0]
+        printed = why.cause
     except (given.Fault, RecursionError, OSError):
         pass  # `format_fault` says why.
     return spawn.Run(file, printed, status, time.process_time() - begin)
@@ -63,9 +63,9 @@ def find_fault(text: str) -> int | None:
     try:
         plain.read_test(text)
     except given.Fault as fault:
-        return fault.args[1]
+        return fault.offset
     except RecursionError:
-        pass
+        pass  # Nested too deeply for this tool: that is no fault of the text.
     return None
 
 
