@@ -108,25 +108,19 @@ def make_report(test: plain.Test) -> str:
 
 
 def list_makers() -> set[answers.Maker]:
-    """Returns the makers of the lists."""
+    """Returns the makers of all lists so far."""
     return {it.by for it in lists.values()}
 
 
 def list_states(test: plain.Test) -> list[str]:
     """Returns the lines of the states of a test."""
-    return filter_state_lines(make_report(test))
+    return answers.filter_state_lines(make_report(test))
 
 
 def count_unwanted_states(test: plain.Test) -> int:
     """Returns in how many states what a question is against is present: its proposition, or of `forall` its contrary."""
     numbers = require_match(re.search(r"^Positive: (\d+) Negative: (\d+)$", make_report(test), re.M))
     return int(numbers[2 if test.quantifier == "forall" else 1])
-
-
-def filter_state_lines(report: str) -> list[str]:
-    """Returns the lines of the states of a report."""
-    lines = report.splitlines()
-    return lines[2 : 2 + int(lines[1].split()[1])]
 
 
 def format_place(test: plain.Test, fence: Place) -> str:
@@ -160,7 +154,7 @@ def make_table(test: plain.Test) -> Table:
     """
     lists.clear()
     fences, report = list_fences(test), make_report(test)
-    states, positive = filter_state_lines(report), int(require_match(re.search(r"^Positive: (\d+) ", report, re.M))[1])
+    states, positive = answers.filter_state_lines(report), int(require_match(re.search(r"^Positive: (\d+) ", report, re.M))[1])
     before = set(states)
     rows: list[Row] = []
     for fence in fences:
@@ -243,7 +237,7 @@ def convert_unread_text(text: str, fault: plain.NoTest, choices: Choices) -> Con
     try:
         return convert(text, choices.tries, ORDERS[choices.order])
     except given.Fault as other:
-        raise (fault if fault.args[1] >= other.args[1] else other) from None
+        raise (fault if fault.offset >= other.offset else other) from None
 
 
 def print_converted(choices: Choices, text: str, name: str, conversion: Converted) -> int:

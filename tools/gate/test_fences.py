@@ -93,7 +93,7 @@ def find_all_smallest(items: Sequence[Any], is_enough: Callable[[Any], bool]) ->
 
 def list_states_with(test: plain.Test, places: list[tuple[int, int]], kept_places: frozenset[tuple[int, int]]) -> list[str]:
     """Returns the lines of the states of a test with those of its fences that are kept."""
-    return fences.filter_state_lines(make_report_by_search(fences.remove_fences(test, [it for it in places if it not in kept_places])))
+    return answers.filter_state_lines(make_report_by_search(fences.remove_fences(test, [it for it in places if it not in kept_places])))
 
 
 class BySearch(cases.Case):
@@ -158,12 +158,12 @@ class Exchanges(BySearch):
         texts = [text for _, text in examples()] + [random_tests.Writer("X86", seed).draw_test() for seed in range(1, RANDOM_TESTS // 2)]
         for text in texts:
             test = plain.compile_test(plain.read_test(text))
-            before = set(fences.filter_state_lines(make_report_by_search(test)))
+            before = set(answers.filter_state_lines(make_report_by_search(test)))
             for place in list_exchanges(test):
                 instructions = make_unlocked_instructions(test, place)
                 if instructions:
                     with self.subTest(test.name, place=place):
-                        lines = fences.filter_state_lines(make_report_by_search(replace_instruction(test, place, instructions)))
+                        lines = answers.filter_state_lines(make_report_by_search(replace_instruction(test, place, instructions)))
                         self.assertEqual([], sorted(before - set(lines)))
 
 
@@ -366,9 +366,10 @@ class Makers(cases.Case):
         with hide_programs():
             with mock.patch.object(answers, "MAX_STATES", 10):
                 try:
-                    why = answers.make_answer(["states"], test)
+                    answers.make_answer(["states"], test)
+                    why = ""
                 except answers.NoList as fault:
-                    why = fault.args[0]
+                    why = fault.cause
         message = "there is no whole list: lw makes none here, and a search for the states of Tickets ends at 10 states of the machine"
         self.assertEqual(message, why)
 
