@@ -241,7 +241,7 @@ class Assembly(cases.Case):
         eight = plain.read_test(ALL)
         subject = subjects.Subject(eight, eight, [])
         message = "stores=nontemporal needs a free register, and a test of 8 locations has none"
-        self.assertEqual(message, find_refusal(list_threads, subject, knobs.make_knobs([("stores", 1)])))
+        self.assertEqual(message, find_refusal(list_threads, subject, knobs.make_knobs([knobs.parse_knob("stores=nontemporal")])))
 
 
 class Disassembly(cases.Case):
@@ -390,10 +390,10 @@ def make_log_result() -> Result:
 
 
 class Logs(cases.Case):
-    """Logs in litmus7's form, and what follows them."""
+    """Logs in litmus7's form, and the summaries after them."""
 
     def test_text(self) -> None:
-        """A log, and what follows, word for word."""
+        """A log and its summary, word for word."""
         self.assertEqual(LOG, summary.format_result(make_log_result()))
 
     def test_read(self) -> None:
@@ -460,7 +460,7 @@ class Logs(cases.Case):
         self.assertEqual(["lw, of the test that lw compiled, proved complete", "lw, of the test that tools/plain.py compiled, not proved"], makers)
 
     def test_json(self) -> None:
-        """JSON has the same."""
+        """The JSON of a run has its states with their counts, the states that were not seen, and the notes."""
         summary_read = json.loads(json.dumps(summary.make_json(make_log_result())))
         rows = [(it["state"], it["count"], it["how"], it["holds"], it["listed"]) for it in summary_read["seen"]]
         expected = [("0:EAX=0; 1:EAX=0;", 7, "by a halt", True, True), ("0:EAX=0; 1:EAX=1;", 12345678, "by a race", False, True)]

@@ -2,9 +2,11 @@
 
     python3 tools gate.test_on_machine, or in tools/ python3 -m unittest gate.test_on_machine
 
-- Controls, which run tests: SB compared with the list of SB with fences; stores past the caches, which break 2+2W and MP; a program with two
-  instructions swapped, or anything else changed, which is refused. A control that needs a race is tried again, longer, up to a limit.
-- Programs in C and Rust, by the tests that they are converted to, with the same controls.
+- Three controls, which run tests. One that needs a race is tried again, longer, up to a limit.
+  1. SB is compared with the list of SB with fences: a state is seen that is not listed.
+  2. Stores past the caches break 2+2W and MP: a forbidden state is seen.
+  3. A program with two instructions swapped, or anything else changed, is refused.
+- Programs in C and Rust, by the tests that they are converted to, with the controls 1 and 2. Here control 3 is a test whose list lacks a state.
 - Runs with fewer processors than threads, under a tracer, and on a machine that catches the trap flag.
 - The messages and statuses of the command, and the column of tools/run_all.py.
 
@@ -135,7 +137,7 @@ class Compiled(cases.Case):
                 self.assertEqual("", self.find_fault(test))
 
     def test_refused(self) -> None:
-        """Code in which anything is changed is refused: the third control."""
+        """Code in which anything is changed is refused. Control 3."""
         for old, new, message in CHANGES:
             with self.subTest(old, new=new):
                 self.assertIn(message, self.find_fault(plain.read_test(MP), partial(replace_once, old=old, new=new)))
@@ -237,7 +239,7 @@ class Controls(cases.Case):
         return any(is_shown(self.run_test(text, limits=Limits(seconds), **settings)) for seconds in TRIES)
 
     def test_against(self) -> None:
-        """SB compared with the list of SB with fences: its fourth state is seen and not listed, with status 3. The first control."""
+        """SB compared with the list of SB with fences: its fourth state is seen and not listed, with status 3. Control 1."""
         for seconds in TRIES:
             words = ["--seconds", str(seconds), "--against", "examples/SB+mfences-x86.litmus", "examples/SB-x86.litmus"]
             out, err, status = run(["on_machine.py", *words])
@@ -248,8 +250,8 @@ class Controls(cases.Case):
         self.assertTrue(last.startswith(f"  {summary.NOT_LISTED}: ") and last.endswith(": 0:EAX=0; 1:EAX=0;"))
 
     def test_nontemporal(self) -> None:
-        """Stores past the caches break the order of stores: the forbidden states of 2+2W and of MP are seen. The second control."""
-        past = knobs.make_knobs([("stores", 1)])
+        """Stores past the caches break the order of stores: the forbidden states of 2+2W and of MP are seen. Control 2."""
+        past = knobs.make_knobs([knobs.parse_knob("stores=nontemporal")])
         for name, state in (("2+2W-x86", (1, 1)), ("MP-x86", (1, 0))):
             with self.subTest(name):
                 self.assertTrue(self.shows_in_some_run(lambda result, state=state: result.list_not_listed() == [state], read(f"examples/{name}.litmus"), knobs=past))
@@ -263,7 +265,7 @@ class Controls(cases.Case):
                 self.assertTrue(result.seen.runs > 0 and result.list_seen_and_listed())
 
     def test_swapped(self) -> None:
-        """A program with two instructions swapped is not run. The third control."""
+        """A program with two instructions swapped is not run. Control 3."""
         text_of = assembly.format_assembly
         swapped = lambda *words: replace_once(text_of(*words), *STORES)
         with mock.patch.object(assembly, "format_assembly", swapped), mock.patch.object(runs, "run_plan", side_effect=AssertionError):
@@ -426,7 +428,7 @@ class Programs(cases.Case):
 
     def test_against(self) -> None:
         """Store buffering by plain stores, as release makes them or a fake compiler, is compared with the list of the program with seq_cst: its
-        fourth state is seen and not listed, with status 3. The first control."""
+        fourth state is seen and not listed, with status 3. Control 1."""
         code = self.write_file("plain.s", PLAIN_STORES)
         fake = self.write_file("fake-cc", f'#!/bin/sh\nwhile [ "$1" != -o ]; do shift; done\ncp {code} "$2"\n')
         os.chmod(fake, 0o755)
@@ -445,15 +447,15 @@ class Programs(cases.Case):
         self.assertTrue(last.startswith(f"  {summary.NOT_LISTED}: ") and last.endswith(": 0:r0=0; 1:r0=0;"))
 
     def test_nontemporal(self) -> None:
-        """Stores past the caches show the forbidden state of a program. The second control."""
-        past = knobs.make_knobs([("stores", 1)])
+        """Stores past the caches show the forbidden state of a program. Control 2."""
+        past = knobs.make_knobs([knobs.parse_knob("stores=nontemporal")])
         program = self.make_program("examples/from_c/MessagePassing.c")
         forbidden = "1:sees_data=0; 1:sees_flag=1;"
         list_unlisted = lambda seconds: [program.subject.format_state(it) for it in self.run_program(program, seconds, knobs=past).list_not_listed()]
         self.assertTrue(any(list_unlisted(it) == [forbidden] for it in SHORT_TRIES))
 
     def test_given_up(self) -> None:
-        """A state of a test that its own list lacks is a contradiction, also if its run is given up. The third control."""
+        """A state of a test that its own list lacks is a contradiction, also if its run is given up. Control 3."""
         program = self.make_program("examples/from_c/TreiberStack.c")
         short = [
             it._replace(listed=it.listed._replace(states=[w for w in it.listed.states if it.find_program_state(w) is not None]))
