@@ -60,7 +60,7 @@ def replay_all(test: plain.Test, text: str, exploration: Found) -> str:
 
 
 def format_last_line(exploration: Found, by: str) -> str:
-    """Returns the kind of the list."""
+    """Returns the last line of the output: what listed and replayed the states, and where the search ended if it is not whole."""
     end = "" if exploration.is_whole else f"; the search ended at {exploration.seen} state{'s' * (exploration.seen != 1)} of the machine"
     return f"Listed by tools/beyond.py and not claimed complete; each state is replayed by {by}{end}"
 

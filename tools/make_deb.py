@@ -71,7 +71,7 @@ Installed = Dict[str, Union[bytes, Link]]
 
 
 def compress(content: bytes) -> bytes:
-    """Returns some bytes in gzip's form. The same bytes give the same ones."""
+    """Returns bytes in gzip's form. No time is in it, so the result depends only on these bytes."""
     stream = io.BytesIO()
     with gzip.GzipFile("", "wb", mtime=0, fileobj=stream) as zipper:
         zipper.write(content)

@@ -125,7 +125,7 @@ def add_module(name: str, web: str, done: dict[str, str], importers: tuple[str, 
 
 
 def rewrite_import(statement: re.Match[str]) -> str:
-    """Returns the replacement of an import."""
+    """Returns the statement in place of an import: it takes the names from what the module's function returned."""
     namespace, names, name = statement.groups()
     return f"const {namespace} = from_{name};\n" if namespace else f"const {{{names}}} = from_{name};\n"
 

@@ -80,7 +80,7 @@ class Drawing:
         return x + width
 
     def make_svg(self, width: float, height: float, title: str) -> str:
-        """Returns the picture."""
+        """Returns the picture as a text in SVG, with its title and the style of its classes."""
         ground = f'<rect width="{width:g}" height="{height:g}" class="ground"/>'
         size = f'width="{width:g}" height="{height:g}" viewBox="0 0 {width:g} {height:g}"'
         title_element = f"<title>{escape(title, quote=False)}</title>\n<style>{STYLE}</style>"
@@ -267,7 +267,7 @@ def draw_strip(film: Film) -> str:
 
 
 def draw_document_picture(example: str, schedule: str, is_strip: bool) -> str:
-    """Returns a picture of the documents."""
+    """Returns one of the pictures in the documents: of this example's run by this schedule."""
     with open(f"{HOME}/examples/{example}.litmus", "rb") as file:
         film = films.make_film(file.read(), schedule, "mesi")
     return draw_strip(film) if is_strip else draw_film_state(film, len(film["events"]))

@@ -295,7 +295,7 @@ def make_comparisons(language: str, seed: int) -> Iterator[Comparison]:
 
 
 def list_comparisons(job: tuple[str, int]) -> list[Comparison]:
-    """Returns the same as a list, for a language and a seed."""
+    """Returns the comparisons of one random test as a list, which a process can pass to another. The job is its language and its seed."""
     return list(make_comparisons(*job))
 
 

@@ -70,7 +70,9 @@ def format_fences(answer: Answer, converter: Converter) -> str:
 
 
 def format_fences_together(answer: Answer, converter: Converter) -> str:
-    """Returns the same of a program that is several tests. What is of one line is one place."""
+    """Returns what tools/fences.py says of the fences and exchanges of a program that is several tests. Instructions of the same source lines are one
+    place.
+    """
     origin = lambda lines: tuple(sorted(lines))
     parts = [Part(it.conversion, [list(map(origin, lines)) for lines in it.lines], it.begins) for it in answer.tests]
     format_place = lambda place: f"P{place[0]} {format_lines(place[1])}"

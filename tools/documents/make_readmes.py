@@ -63,7 +63,7 @@ def read_dependencies() -> list[tuple[str, list[str]]]:
 
 
 def make_list(crate: str) -> str:
-    """Returns a crate's list as it should be."""
+    """Returns the list of a crate's files and of the commands that check it, as its README.md should have it."""
     lines = [BEGIN]
     for folder, suffix, title in FOLDERS:
         rows = [*list_files(crate, folder, suffix)]

@@ -31,7 +31,7 @@ def format_row(name: str, proof: str, wrong: str, number: str, tests: str) -> st
 
 
 def make_table() -> str:
-    """Returns the table's text."""
+    """Returns the text of the table of docs/TIMES.md, by the times of tools/program/minutes.txt."""
     of_crates = [it for it in read_lines() if it[0] not in OTHERS]
     rows = [format_row(*it) for it in of_crates] + [format_sum_row([cells for _, *cells in of_crates])]
     rows += [f"| {OTHERS[name]} | {cells[0]} | | |" for name, *cells in read_lines() if name in OTHERS]
@@ -39,12 +39,12 @@ def make_table() -> str:
 
 
 def replace_table(text: str) -> str:
-    """Returns the page with the table."""
+    """Returns the text of the page with its table written anew."""
     return TABLE.sub(lambda _: make_table(), text, count=1)
 
 
 def is_current() -> bool:
-    """Returns whether the page has the table."""
+    """Returns whether the page's table is the one that would be written."""
     with open(TIMES, encoding="utf-8") as file:
         text = file.read()
     return TABLE.search(text) is not None and replace_table(text) == text

@@ -42,12 +42,12 @@ def make_span(scope: str, begin: str, end: str, patterns: list[Rule], captures: 
 
 
 def include_rules(*names: str) -> list[Rule]:
-    """Returns rules of the repository."""
+    """Returns rules that include those of these names in the grammar's `repository`."""
     return [{"include": f"#{name}"} for name in names]
 
 
 def make_word_pattern(alternatives: Iterable[str], ignores_case: bool = False) -> str:
-    """Returns the pattern of a word that is one of some."""
+    """Returns the pattern of a whole word that is one of the alternatives."""
     return f"\\b{'(?i:' if ignores_case else '(?:'}{words.make_pattern(alternatives)})\\b"
 
 

@@ -24,7 +24,7 @@ LANGUAGES = tuple(REGISTERS)
 
 
 def make_pattern(words: Iterable[str]) -> str:
-    """Returns the pattern of one of some words."""
+    """Returns the pattern that matches any of these words."""
     return "|".join(words)
 
 

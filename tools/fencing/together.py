@@ -66,7 +66,7 @@ class CombinedTest:
         self.question = parts[0].conversion.question
 
     def show_sites(self, sites: set[plain.Site]) -> "CombinedTest":
-        """Returns the same with more sites shown."""
+        """Returns a combination of these tests in which each test shows these sites too."""
         shown = lambda test: replace(test, listed=test.listed | sites)
         conversions = [replace(it.conversion, test=shown(it.test), question=shown(it.conversion.question)) for it in self.parts]
         parts = [it._replace(conversion=shown_conversion) for it, shown_conversion in zip(self.parts, conversions)]
@@ -91,7 +91,7 @@ class CombinedTest:
         return negative if self.question.quantifier == "forall" else positive
 
     def collect_places(self, find_places: Callable[[Part], set[Place]]) -> list[Place]:
-        """Places in the order of the original: of instructions of lw that a function finds in each test."""
+        """Returns all places that a function finds in the tests, in the order of the original."""
         return sorted(set().union(*map(find_places, self.parts)))
 
     # Fences.

@@ -65,7 +65,7 @@ def make_comparisons(module: ModuleType) -> Iterator[Comparison]:
 
 
 def run_suite(suite: unittest.TestSuite) -> Iterator[Comparison]:
-    """Returns the same for some tests."""
+    """Returns the comparisons of some tests: one for each assertion that holds, and one for each test that fails."""
     count = Count()
     suite.run(count)
     yield from [("an assertion", "holds", "holds")] * count.held_count

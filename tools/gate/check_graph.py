@@ -194,7 +194,7 @@ def check_example(path: str) -> list[Comparison]:
 
 
 def check_random(seed: int) -> list[Comparison]:
-    """Returns a random x86 test."""
+    """Returns the comparisons of a random x86 test; none if the text that was drawn is no test."""
     try:
         test = plain.read_test(random_tests.Writer("X86", seed).draw_test())
     except plain.NoTest:

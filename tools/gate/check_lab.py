@@ -170,7 +170,7 @@ def read_tasks(text: str) -> list[tuple[str, str, int, int, str]]:
 
 
 def check_points(lab: str) -> Iterator[Comparison]:
-    """Points and minutes."""
+    """Compares the points and minutes of the tasks with those of their items, of docs/SOLUTIONS.md and of the timetable."""
     tasks = read_tasks(find_section(lab, "The sheet"))
     solved = read_tasks(find_section(read_file("docs/SOLUTIONS.md"), "The lab"))
     yield "docs/SOLUTIONS.md has the tasks", [it[:4] for it in tasks], [it[:4] for it in solved]

@@ -150,7 +150,7 @@ def check_server(home: str, system: System) -> Iterator[Comparison]:
 
 
 def check_in_container(home: str) -> Iterator[Comparison]:
-    """Compares the same in a container with only glibc, a shell and Python."""
+    """Compares what a pack prints, and what its page answers, in a container with only glibc, a shell and Python."""
     if not container.can_be_made():
         return
     with container.Container() as system:

@@ -144,7 +144,7 @@ def make_comparisons(program: str, name: str) -> Iterator[Comparison]:
 
 
 def compare_folder(program: str, name: str) -> Iterator[Comparison]:
-    """Returns the same for each file of a folder."""
+    """Returns, for each file of a folder, what is compared, what is expected, and what was found. A folder without files is a fault."""
     files = sorted(os.listdir(f"{HOME}/tables/{name}"))
     yield f"tables/{name} has cases", True, bool(files)
     for file_name in files:

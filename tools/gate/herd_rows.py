@@ -243,7 +243,7 @@ class SpelledRow:
         return self.spell_instruction(*text)
 
     def make_text(self) -> str:
-        """Returns the test."""
+        """Returns the text of a test whose only thread has these instructions."""
         body = "".join(f" {cell} ;\n" for cell in self.cells)
         initial = "{ 0:eax=1; 0:ebx=2; 0:ecx=3; x=5; y=6; }"
         return f"{self.language} Spelled\n{initial}\n P0 ;\n{body}locations [0:eax; 0:ebx; 0:ecx; x; y;]\nforall (true)\n"

@@ -26,7 +26,7 @@ class Fault(Exception):
 
 
 class Library:
-    """The library."""
+    """The library Oniguruma, which compiles patterns."""
 
     def __init__(self, dll: ctypes.CDLL) -> None:
         """Prepares the library for patterns in UTF-8."""

@@ -70,7 +70,7 @@ def describe_skipped() -> str | None:
 
 
 class Table(cases.Case):
-    """The table."""
+    """The table of words and options, from which the completions are made."""
 
     def test_options(self) -> None:
         """A tool has the options that its --help names, and --help."""

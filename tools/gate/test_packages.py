@@ -215,7 +215,7 @@ class Words(cases.Case):
 
 
 class Wheel(Packed):
-    """The wheel."""
+    """The wheel of the built tree: its name, its description and its files."""
 
     path: str
     inside: dict[str, tuple[bytes, int]]  # for each name its bytes and its mode

@@ -275,7 +275,7 @@ class Answers(cases.Case):
 
 
 class Command(cases.Case):
-    """The command."""
+    """The output and the statuses of tools/cycles.py."""
 
     def test_no_cycles(self) -> None:
         """Words that are no cycle are refused with their cause."""

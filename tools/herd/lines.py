@@ -36,7 +36,7 @@ class Text:
         return f"P{place[0]}, line {self.find_line(place[1])}, {self.read_instruction(place[1])}"
 
     def describe_place_briefly(self, place: tuple[int, int]) -> str:
-        """Returns the same without the instruction."""
+        """Returns a shorter name of a place: its thread and its line, without the instruction."""
         return f"P{place[0]} line {self.find_line(place[1])}"
 
 

@@ -8,7 +8,7 @@ from interpreter.tests import And, Constant, Eq, LocationSite, Not, Or, Outcome,
 
 
 def list_parts(proposition: Not | And | Or) -> tuple[Proposition, ...]:
-    """Returns the propositions of which one is made."""
+    """Returns the propositions that a negation, a conjunction or a disjunction is made of."""
     return (proposition.part,) if isinstance(proposition, Not) else (proposition.left, proposition.right)
 
 

@@ -29,7 +29,7 @@ def list_paths(statements: Sequence[Statement], position: int = 0) -> list[tuple
 
 
 def count_accesses(statements: Sequence[Statement], path: Sequence[int], is_x86: bool) -> Accesses:
-    """Returns the part of a thread's path in the orders."""
+    """Returns the accesses on a thread's path, its number of items, and its number of conflicts within."""
     accesses: list[tuple[int, bool]] = []
     waiting: list[int] = []
     inner = 0

@@ -19,7 +19,7 @@ def count_runs(subject: Subject, seen: Seen) -> list[int]:
 
 
 def format_log(subject: Subject, seen: Seen) -> list[str]:
-    """Returns the lines of a log."""
+    """Returns the lines of a run's log, in litmus7's form."""
     test = subject.shown
     positive, negative = count_runs(subject, seen)
     is_ok = {"exists": positive > 0, "~exists": positive == 0, "forall": negative == 0}[test.quantifier]

@@ -54,7 +54,9 @@ def format_count(number: int, noun: str) -> str:
 
 
 def format_summary(result: Result) -> list[str]:
-    """Returns the lines after the log."""
+    """Returns the lines that compare a run with the list: the notes, the numbers of runs and of listed states, the listed states that were seen most
+    rarely or not at all, and the states that are not listed.
+    """
     seen, seen_and_listed = result.seen, result.list_seen_and_listed()
     on = format_count(result.processors, "processor")
     lines = [
@@ -76,12 +78,12 @@ def format_contradiction(seen: Seen, words: Words, line: str) -> str:
 
 
 def format_result(result: Result) -> str:
-    """Returns the log and what follows."""
+    """Returns the text that is printed of a run: its log in litmus7's form, its summary, and an empty line."""
     return "".join(f"{line}\n" for line in [*logs.format_log(result.subject, result.seen), *format_summary(result), ""])
 
 
 def make_json(result: Result) -> dict[str, object]:
-    """Returns the same as a value of JSON."""
+    """Returns the log and the summary of a run as an object of JSON. Each seen state has its count, and says whether it is listed."""
     seen, subject, line_of = result.seen, result.subject, result.subject.format_state
     listed = set(result.listed.states)
     states: list[dict[str, object]] = []

@@ -60,7 +60,7 @@ def report_machine_log(answers: list[Answered], name: str) -> int:
 
 
 def can_be_run(answer: Answered) -> bool:
-    """Says whether an answer can be run: that of a program, or of one test of lw, as it is or converted, whose runs are all runs."""
+    """Returns whether an answer can be run: that of a program, or of one test of lw, as it is or converted, whose runs are all runs."""
     converted = answer.row.converted
     is_one_test = converted is None or converted.startswith("from_c.py") or len(answer.tests) == 1 and not answer.tries
     return bool(answer.row.listed) and is_one_test

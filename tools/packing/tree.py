@@ -111,7 +111,7 @@ def describe_provenance(origin: Origin, has_beyond: bool) -> str:
 
 
 def make_warning(origin: Origin, has_beyond: bool) -> list[str]:
-    """Returns the lines on standard error that say what is lacking."""
+    """Returns the lines on standard error that say what a package lacks: a gate that has passed, or the program beyond."""
     return pack.make_warning(origin.gate) + ([] if has_beyond else ["note: the program beyond is not built, and left out"])
 
 

@@ -54,7 +54,7 @@ class Listed(NamedTuple):
 
 
 def read_text(view: View) -> str:
-    """Returns the text that a view of the page has."""
+    """Returns the text of the test that a link to the page opens."""
     if "text" in view.fields:
         return view.fields["text"]
     with open(f"{HOME}/examples/{view.fields['example']}.litmus", encoding="utf-8") as file:
@@ -199,7 +199,7 @@ def draw_compiled(test: Test, output: list[str]) -> str:
 
 
 def ask_plain(arguments: list[str], text: bytes) -> str:
-    """Returns what tools/plain.py prints."""
+    """Returns what tools/plain.py prints for these arguments of `lw` and this text."""
     return plain.answer_command(arguments, text.decode())[0]
 
 

@@ -135,6 +135,6 @@ def run_pipeline(pipeline: str) -> str | None:
 
 
 def read_file(path: str) -> str:
-    """Returns a text of the repository."""
+    """Returns the text of a file of the repository."""
     with open(f"{HOME}/{path}", encoding="utf-8") as file:
         return file.read()

@@ -96,7 +96,7 @@ def for_each(tool: str, names: list[str], work: Callable[[str, str], int | None]
 
 
 def for_one(tool: str, name: str, work: Callable[[str, str], int | None]) -> int:
-    """Does the same for one file."""
+    """Calls `work` with the name and the text of one file, and reports a fault of the file. Returns the exit status."""
     try:
         read = given.read_bytes(name)
     except OSError as why:
