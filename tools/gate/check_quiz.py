@@ -287,7 +287,7 @@ def check_links(page: str, folder: str) -> Iterator[Comparison]:
         views = [dict(parse_qsl(href.partition("site/index.html#")[2])) for _, href in links]
         data = read_data(page)
         expected = [
-            {"text": text, **({"view": "hand", "schedule": reason["schedule"]} if "schedule" in reason else {"view": "why"})}
+            {"text": text, **({"view": "hand", "schedule": str(reason["schedule"])} if "schedule" in reason else {"view": "why"})}
             for text, both in zip(data["tests"], quiz.read_reasons(data)) for reason in both
         ]
         yield "each answer opens its test on the page, with its run", expected, views

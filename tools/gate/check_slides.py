@@ -100,7 +100,7 @@ def check_links(tests: dict[str, bytes]) -> Iterator[Comparison]:
     for number, slide in enumerate(linked, 1):
         shown = re.findall(r'data-kind="(\w+)" data-test="([\w-]+)"(?: data-schedule="([^"]*)")?', slide)
         links = [unescape(it) for it in re.findall(r'<a class="open" target="lw" href="index\.html#([^"]*)">', slide)]
-        more = {"code": {"predict": "1"}, "states": {}}
+        more: dict[str, dict[str, str]] = {"code": {"predict": "1"}, "states": {}}
         expected = [{"text": tests[name].decode(), **more.get(kind, {"view": "hand", "schedule": schedule})} for kind, name, schedule in shown]
         yield f"what slide {number} opens", expected, [dict(parse_qsl(it)) for it in links]
 
@@ -179,7 +179,9 @@ def check_figures(page: str, tests: dict[str, bytes]) -> Iterator[Comparison]:
 def check_command() -> Iterator[Comparison]:
     """Checks the command."""
     with tempfile.TemporaryDirectory(prefix="lw-slides-") as folder:
-        for words, made in (([], make_slides.make_page()), (["--page", "site/index.html"], make_slides.make_page("site/index.html"))):
+        address = "site/index.html"
+        cases: tuple[tuple[list[str], str], ...] = (([], make_slides.make_page()), (["--page", address], make_slides.make_page(address)))
+        for words, made in cases:
             yield f"make_slides.py OUT.html {' '.join(words)}", ("", "", 0), run(["make_slides.py", f"{folder}/slides.html", *words])
             with open(f"{folder}/slides.html", encoding="utf-8") as file:
                 yield f"what it makes, {words}", True, file.read() == made

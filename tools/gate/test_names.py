@@ -44,7 +44,7 @@ CRATE_PATHS: tuple[tuple[str, str, list[str]], ...] = (
     ("a path of some crate", "`specs/inner/`, `proofs/api/`, `src/none.rt`", ["src/none.rt of a crate"]),
     ("another item, paragraph or row", "- lw_base\n- `src/cpu_set.rt`\n\nlw_base\n\n`src/cpu_set.rt`\n| lw_base |\n| `src/cpu_set.rt` |", []),
     ("a word that is no crate", "lw_base, `lw_states`, `src/limits`", []),
-    ("a declaration", "`specs/laws/Cases.written`, `specs/laws/Cases.none` of lw_mesi", ["specs/laws/Cases.none of lw_mesi"]),
+    ("a declaration", "`specs/laws/Cases.LineAfterRequest-after_write`, `specs/laws/Cases.none` of lw_mesi", ["specs/laws/Cases.none of lw_mesi"]),
     ("a placeholder", "lw_base: `proofs/FILE/FUNCTION/Answers.antt`", []),
 )
 LOGIC = "logic dac8208d650f15bf"
