@@ -173,9 +173,9 @@ pub not-IsCommand-if_bad_option : (words : Arguments)
     → IsCommand (codes "replay" ∷ argument_texts words) task
     → ⊥
 not-IsCommand-if_bad_option words many none (Replay schedule protocol) said =
-    let behind_it =
+    let after_it =
     cons-injective_tail (cons-injective_tail (ap (λ l. codes "replay" ∷ l) (sym (texts-first_and_rest words many)) ∙ said.1)) in
-    none protocol (subst (λ l. IsProtocolOption l protocol) (sym behind_it) said.2)
+    none protocol (subst (λ l. IsProtocolOption l protocol) (sym after_it) said.2)
 not-IsCommand-if_bad_option words many none Compile said = omega (arith, cons-head_eq 114 99 _ _ (cons-head_eq _ _ _ _ said))
 not-IsCommand-if_bad_option words many none _ said = omega (arith, cons-head_eq 114 115 _ _ (cons-head_eq _ _ _ _ said))
 

@@ -114,8 +114,8 @@ IsRegisterName-eax = (omega arith, refl)
 -- The tokens of the condition say the quantifier and the terminals.
 condition : Condition X86 2 condition_tokens [] Exists syntax.terminals
 condition = record {
-  behind_list = condition_tokens;
-  behind_quant = _;
+  after_list = condition_tokens;
+  after_quant = _;
   lists = inr (refl, refl, refl);
   threads_exist = tt;
   quantifies = refl;
@@ -149,9 +149,9 @@ ends_no_cell-by_test (t ∷ cell) h =
 -- All tokens are the block, the header, the rows and the condition of this syntax.
 ParsesTest-store_buffering : ParsesTest X86 all_tokens syntax
 ParsesTest-store_buffering = record {
-  behind_block = tokens_after_block;
-  behind_header = tokens_after_header;
-  behind_rows = condition_tokens;
+  after_block = tokens_after_block;
+  after_header = tokens_after_header;
+  after_rows = condition_tokens;
   block = (codes "}" ∷ tokens_after_block, refl, refl);
   header = ((codes "P1" ∷ codes ";" ∷ tokens_after_header, refl, refl), omega arith);
   threads_exist = tt;

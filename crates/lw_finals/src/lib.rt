@@ -28,7 +28,7 @@ pub use laws::{
     trace_equivalent_x86_orders_have_one_outcome, x86_outcomes_are_those_of_path_assignments,
 };
 pub use list::{list_source, list_source_outcomes, list_x86, list_x86_outcomes};
-pub use lw_outcome_map::{Listing, OutcomeList, outcomes_stand_once};
+pub use lw_outcome_map::{Listing, OutcomeList, outcomes_are_distinct};
 pub use lw_paths::{
     ListFault, Path, PathAssignment, Visitor, path_assignments_are_complete,
     source_tests_have_few_items, visit_assignments,

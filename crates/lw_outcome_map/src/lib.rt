@@ -6,4 +6,4 @@
 
 mod listing;
 
-pub use listing::{Listing, OutcomeList, OutcomeMap, outcomes_stand_once};
+pub use listing::{Listing, OutcomeList, OutcomeMap, outcomes_are_distinct};

@@ -170,8 +170,8 @@ impl<A: Allocator> Listing<A> {
     }
 }
 
-/// States that an outcome of a listing is at one index only.
-pub fn outcomes_stand_once()
+/// States that an outcome of a listing is at one index only: the outcomes are distinct.
+pub fn outcomes_are_distinct()
     ensures { (entries : OutcomeEntries) (i j : ℕ) (outcome : FinalState) → IsStrictlySorted entries
         → slice_get (outcomes_of entries) i ≡ Some outcome → slice_get (outcomes_of entries) j ≡ Some outcome → i ≡ j }
 {}

@@ -92,7 +92,7 @@ fn read_cell<'a, L: StatementReader, A: Allocator + Copy>(
         (CellRefused (grammar_of L.spelling) (draft_of L.spelling) cell.now column.old locs.old) }
 {
     let start = read_labels(cell.tokens.as_slice(), column.count, &mut column.labels)?;
-    let phrase = Phrase::behind(cell, start);
+    let phrase = Phrase::after_labels(cell, start);
     let stmt = maybe_statement::<L, A>(&phrase, column.count, locs)?;
     let _names = locs.len();
     column.count += statement_count(&stmt);
@@ -197,7 +197,7 @@ fn resolve_cell<L: StatementReader, A: Allocator + Copy>(
     let Some(stmt) = stmt else {
         return Ok(());
     };
-    let phrase = Phrase::behind(cell, start);
+    let phrase = Phrase::after_labels(cell, start);
     let stmt = resolve_draft::<L, A>(stmt, phrase.tokens, code.len(), labels)?;
     push(code, stmt)
 }

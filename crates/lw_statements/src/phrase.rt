@@ -14,8 +14,8 @@ pub(crate) struct Phrase<'t, 'a> {
 }
 
 impl<'t, 'a> Phrase<'t, 'a> {
-    /// Returns what follows the first `start` tokens of a cell, which are its labels.
-    pub(crate) fn behind<A: Allocator>(cell: &'t Cell<'a, A>, start: usize) -> Phrase<'t, 'a>
+    /// Returns the tokens of a cell after the first `start`, which are its labels.
+    pub(crate) fn after_labels<A: Allocator>(cell: &'t Cell<'a, A>, start: usize) -> Phrase<'t, 'a>
         requires { start ≤ length cell.now.tokens }
         ensures tokens { result.tokens.now ≡ drop start cell.now.tokens }
         ensures end { result.end ≡ cell.now.end }

@@ -29,8 +29,8 @@ ParsedCondition-of_parts {arch = arch} {threads} {before} {behind} {first} {name
     record {
       terminals = prop.terminals;
       parsed = record {
-        behind_list = remaining_texts behind;
-        behind_quant = end;
+        after_list = remaining_texts behind;
+        after_quant = end;
         lists = subst (λ l. Listed arch (remaining_texts before) l (remaining_texts behind)) (sym along.0) taken.parsed;
         threads_exist = subst (AllByRecursion (ThreadExists threads)) (sym along.0) taken.threads_exist;
         quantifies = quantifies;
@@ -74,9 +74,9 @@ HasSyntax-of_parts {arch = arch} {before} {behind} {first} {b} block rest end he
     record {
       terminals = condition.terminals;
       parts = record {
-        behind_block = remaining_texts behind;
-        behind_header = rest;
-        behind_rows = end;
+        after_block = remaining_texts behind;
+        after_header = rest;
+        after_rows = end;
         block = subst (λ l. Block arch (remaining_texts before) l (remaining_texts behind)) (sym along.0) block.parsed;
         header = header;
         threads_exist =

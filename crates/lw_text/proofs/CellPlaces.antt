@@ -143,5 +143,5 @@ pub HasRows-within : {A : Type 0} (len : ℕ) (arch : Arch) (tokens : List Token
     → All (λ row. All (EndsBefore len) row) rows
 HasRows-within len arch tokens threads rows has all =
     let each = AllByRecursion-map _ with_span tokens (AllByRecursion-of_All tokens (λ (t : Token). t.at ≤ len) all) in
-    let behind = (All-append_inv _ has.front has.behind_header (subst (Within len) has.parts each)).1 in
-    All-from_recursion _ rows (rows_within len has.behind_header rows has.behind_rows has.cut behind)
+    let behind = (All-append_inv _ has.front has.after_header (subst (Within len) has.parts each)).1 in
+    All-from_recursion _ rows (rows_within len has.after_header rows has.after_rows has.cut behind)

@@ -387,19 +387,19 @@ module _ (arch : Arch) (threads : ℕ) where
         → FailsInCondition arch threads names ts rest because
         → NoCondition arch threads ts names
     not-FailsInCondition-if_parsed ts rest because (in_list fails) listed quant ss p is fits =
-        not-FailsInList-if_parsed arch threads names ts rest is.behind_list because listed fails is.lists is.threads_exist
+        not-FailsInList-if_parsed arch threads names ts rest is.after_list because listed fails is.lists is.threads_exist
         (omega (arith, fits.room, insert_names-longer (with_sites names listed) (site_names (sites_in ss))))
     not-FailsInCondition-if_parsed ts rest because (in_quantifier other {mid = mid} lists there room fails) listed quant ss p is fits =
-        not-FailsInQuantifier-if_parsed mid rest is.behind_quant because quant fails
-        (subst (λ l. Quantified l quant is.behind_quant)
-        (sym (Listed-unique arch ts other listed mid is.behind_list lists is.lists).1) is.quantifies)
+        not-FailsInQuantifier-if_parsed mid rest is.after_quant because quant fails
+        (subst (λ l. Quantified l quant is.after_quant)
+        (sym (Listed-unique arch ts other listed mid is.after_list lists is.lists).1) is.quantifies)
     not-FailsInCondition-if_parsed ts rest because (in_proposition other another {mid = mid} {after = after} lists there room asks fails) listed quant ss p is fits =
-        let u = Listed-unique arch ts other listed mid is.behind_list lists is.lists in
+        let u = Listed-unique arch ts other listed mid is.after_list lists is.lists in
         let v =
-        Quantified-unique mid another quant after is.behind_quant asks
-        (subst (λ l. Quantified l quant is.behind_quant) (sym u.1) is.quantifies) in
-        not-FailsInProposition-if_parsed rest because first_place 0 (with_sites names listed) is.behind_quant initial_reader_state
+        Quantified-unique mid another quant after is.after_quant asks
+        (subst (λ l. Quantified l quant is.after_quant) (sym u.1) is.quantifies) in
+        not-FailsInProposition-if_parsed rest because first_place 0 (with_sites names listed) is.after_quant initial_reader_state
         ss p
-        (subst (λ sites. FailsInProposition arch threads rest because first_place 0 (with_sites names sites) is.behind_quant) u.0
+        (subst (λ sites. FailsInProposition arch threads rest because first_place 0 (with_sites names sites) is.after_quant) u.0
         (subst (FailsInProposition arch threads rest because first_place 0 (with_sites names other)) v.1 fails)) refl is.says
         (result-IsProposition fits.says) (omega (arith, fits.few_nodes)) fits.room

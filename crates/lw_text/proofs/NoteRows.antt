@@ -76,9 +76,9 @@ space_no_key b h =
     not-true (is_key_byte b) (list_all-member (λ x y. x == y) byte_eq-sound (λ x. not (is_key_byte x)) (32 ∷ 9 ∷ []) b refl h)
 
 -- No key continues after the spaces and `=`.
-behind_key : (spaces more : Bytes) → Spaces spaces → first_byte_is is_key_byte (spaces ++ 61 ∷ more) ≡ false
-behind_key [] more all = refl
-behind_key (b ∷ spaces) more all = space_no_key b all.0
+after_key : (spaces more : Bytes) → Spaces spaces → first_byte_is is_key_byte (spaces ++ 61 ∷ more) ≡ false
+after_key [] more all = refl
+after_key (b ∷ spaces) more all = space_no_key b all.0
 
 -- The two groupings of the parts of a line `Key=value` are equal.
 line_parts : (key spaces value rest : Bytes) → key ++ spaces ++ 61 ∷ value ++ rest ≡ key ++ (spaces ++ 61 ∷ (value ++ rest))
@@ -95,7 +95,7 @@ module _ (text key rest spaces left : Bytes) (e : text ≡ key ++ rest) (all : K
       IsLongestPrefix-unique is_key_byte p.key key (record {
         parts = p.parts ∙ line_parts p.key p.spaces p.value end;
         bytes_pass = p.are_key_bytes;
-        longest = behind_key p.spaces (p.value ++ end) p.spaced;
+        longest = after_key p.spaces (p.value ++ end) p.spaced;
       }) (record { parts = e; bytes_pass = all; longest = longest }) in
       let inner =
       IsLongestPrefix-unique is_space p.spaces spaces (record { parts = sym outer.1; bytes_pass = p.spaced; longest = refl })
@@ -134,7 +134,7 @@ pub KeyLine-unique : (text a b : Bytes) → KeyLine text a → KeyLine text b �
 KeyLine-unique text a b p q =
     let k =
     KeyLine-parts text q.key (q.spaces ++ 61 ∷ (q.value ++ b)) q.spaces (61 ∷ (q.value ++ b))
-    (q.parts ∙ line_parts q.key _ q.value b) q.are_key_bytes (behind_key q.spaces _ q.spaced) refl q.spaced refl a p in
+    (q.parts ∙ line_parts q.key _ q.value b) q.are_key_bytes (after_key q.spaces _ q.spaced) refl q.spaced refl a p in
     let ends : p.value ++ a ≡ q.value ++ b = cc in
     (IsLongestPrefix-unique (λ b. not (b == 10)) p.value q.value {text = p.value ++ a}
     (record { parts = refl; bytes_pass = Without-of_all 10 _ p.one_line; longest = p.longest })

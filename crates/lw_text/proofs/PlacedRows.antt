@@ -76,20 +76,20 @@ HasRows-unique : (arch : Arch) (tokens : List PlacedToken) (m n : ℕ) (x y : Li
     → (m ≡ n) × (x ≡ y)
 HasRows-unique arch tokens m n x y p q =
     let block =
-    Block-unique arch (texts_of_tokens tokens) p.initializers q.initializers p.behind_block q.behind_block p.block q.block in
-    let header = Names-unique 0 m n q.behind_block _ _ (rw block.1 at p.header).0 q.header.0 in
+    Block-unique arch (texts_of_tokens tokens) p.initializers q.initializers p.after_block q.after_block p.block q.block in
+    let header = Names-unique 0 m n q.after_block _ _ (rw block.1 at p.header).0 q.header.0 in
     let whole = sym p.parts ∙ q.parts in
     let fronts : length p.front ≡ length q.front = omega (
       arith,
       ap length whole,
-      length-append p.front p.behind_header,
-      length-append q.front q.behind_header,
-      length_equal-same_texts p.behind_header q.behind_header header.1,
+      length-append p.front p.after_header,
+      length-append q.front q.after_header,
+      length_equal-same_texts p.after_header q.after_header header.1,
     ) in
-    let behind = (append-equal_parts p.front q.front p.behind_header q.behind_header fronts whole).1 in
+    let behind = (append-equal_parts p.front q.front p.after_header q.after_header fronts whole).1 in
     let says = rw (header.0, header.1) at p.says in
     let rows = Rows-unique n _ _ _ (texts_of_grid x) (texts_of_grid y) says q.says in
-    (header.0, RowsFrom-unique _ _ _ x y (subst (λ l. RowsFrom l x p.behind_rows) behind p.cut) q.cut rows.0)
+    (header.0, RowsFrom-unique _ _ _ x y (subst (λ l. RowsFrom l x p.after_rows) behind p.cut) q.cut rows.0)
 
 -- The cells of a text, with their positions, are unique.
 pub HasCells-unique : (text : Bytes) (c d : List (List PlacedCell)) → HasCells text c → HasCells text d → c ≡ d

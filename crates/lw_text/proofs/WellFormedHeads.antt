@@ -181,21 +181,21 @@ head_well_formed : (arch : Arch) (ts : List (List ℕ)) (name : List ℕ) (s : T
     → IsWellFormedHead (head_of_syntax arch name s p)
 head_well_formed arch ts name s p allowed parts whole =
     let c = parts.condition in
-    let fit = AreValidTerminals-of_read arch s.threads c.behind_quant s.terminals c.says in
+    let fit = AreValidTerminals-of_read arch s.threads c.after_quant s.terminals c.says in
     let right =
     AllByRecursion-append IsValidSite (sites_of s.initializers ++ s.listed) (sites_in s.terminals)
     (AllByRecursion-append IsValidSite (sites_of s.initializers) s.listed
-    (IsValidSite-block arch ts parts.behind_block s.initializers parts.block)
-    (IsValidSite-listed arch parts.behind_rows c.behind_list s.listed c.lists))
+    (IsValidSite-block arch ts parts.after_block s.initializers parts.block)
+    (IsValidSite-listed arch parts.after_rows c.after_list s.listed c.lists))
     (sites_in-all (IsValidTerminal s.threads) IsValidSite (λ s n h. h.0) s.terminals fit) in
     let named =
     rw (← table_parts s) at
     (insert_names-contains_all (with_sites (with_sites [] (sites_of s.initializers)) s.listed)
     (site_names (sites_in s.terminals))) in
-    let begins = IsWordNumber-initial_word _ s.initializers (block_words arch ts parts.behind_block s.initializers parts.block) in
+    let begins = IsWordNumber-initial_word _ s.initializers (block_words arch ts parts.after_block s.initializers parts.block) in
     record {
       name = allowed;
-      has_thread = header_some parts.behind_block parts.behind_header s.threads parts.header;
+      has_thread = header_some parts.after_block parts.after_header s.threads parts.header;
       bounded = parts.header.1;
       table = record {
         bounded = parts.few_names;

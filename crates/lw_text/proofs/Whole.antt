@@ -112,9 +112,9 @@ pub no_condition-if_no_proposition : {arch : Arch} {threads : ℕ} {before behin
     → NoCondition arch threads (remaining_texts before) first
 no_condition-if_no_proposition {arch} {threads} {before} {behind} {first} {names} {made} taken quant end quantifies never all q ss p c fits =
     let u =
-    Listed-unique arch (remaining_texts before) all (map (site_by_name names) made) c.behind_list (remaining_texts behind) c.lists
+    Listed-unique arch (remaining_texts before) all (map (site_by_name names) made) c.after_list (remaining_texts behind) c.lists
     taken.parsed in
-    let v = Quantified-unique (remaining_texts behind) q quant c.behind_quant end (rw u.1 at c.quantifies) quantifies in
+    let v = Quantified-unique (remaining_texts behind) q quant c.after_quant end (rw u.1 at c.quantifies) quantifies in
     never ss p (rw v.1 at c.says) (rw (ap (with_sites first) u.0 ∙ sym taken.names_are) at fits)
 
 -- ---- if the parts end early
@@ -122,25 +122,25 @@ no_condition-if_no_proposition {arch} {threads} {before} {behind} {first} {names
 module _ (arch : Arch) (ts a : TokenList) (initializers : List InitializerSyntax) (block : Block arch ts initializers a) where
   -- If the tokens are a test, its block is this one, and its header follows.
   ParsesTest-header_inv : (s : TestSyntax) (p : ParsesTest arch ts s)
-      → (s.initializers ≡ initializers) × Header a s.threads p.behind_header
+      → (s.initializers ≡ initializers) × Header a s.threads p.after_header
   ParsesTest-header_inv s p =
-      let e = Block-unique arch ts s.initializers initializers p.behind_block a p.block block in
-      (e.0, subst (λ l. Header l s.threads p.behind_header) e.1 p.header)
+      let e = Block-unique arch ts s.initializers initializers p.after_block a p.block block in
+      (e.0, subst (λ l. Header l s.threads p.after_header) e.1 p.header)
 
   -- If no header follows the block, the tokens are no test.
   pub no_test-if_no_header : ParsesNothing (Header a) → HoldsOfNothing (ParsesTest arch ts)
-  no_test-if_no_header never s p = never s.threads p.behind_header (ParsesTest-header_inv s p).1
+  no_test-if_no_header never s p = never s.threads p.after_header (ParsesTest-header_inv s p).1
 
   module _ (n : ℕ) (b : TokenList) (header : Header a n b) where
     -- If they are a test, its threads are these, and its rows follow.
     ParsesTest-rows_inv : (s : TestSyntax) (p : ParsesTest arch ts s)
         → (s.initializers ≡ initializers)
         × (s.threads ≡ n)
-        × Rows n b s.rows p.behind_rows
-        × Condition arch n p.behind_rows s.listed s.quant s.terminals
+        × Rows n b s.rows p.after_rows
+        × Condition arch n p.after_rows s.listed s.quant s.terminals
     ParsesTest-rows_inv s p =
         let e = ParsesTest-header_inv s p in
-        let u = Names-unique 0 s.threads n a p.behind_header b e.1.0 header.0 in
+        let u = Names-unique 0 s.threads n a p.after_header b e.1.0 header.0 in
         (e.0, u.0, rw (u.0, u.1) at p.rows, rw u.0 at p.condition)
 
     -- If the thread of an initializer is not one of the header's, the tokens are no test.
@@ -158,7 +158,7 @@ module _ (arch : Arch) (ts a : TokenList) (initializers : List InitializerSyntax
 
     -- If no rows follow the header, the tokens are no test.
     pub no_test-if_no_rows : ParsesNothing (Rows n b) → HoldsOfNothing (ParsesTest arch ts)
-    no_test-if_no_rows never s p = never s.rows p.behind_rows (ParsesTest-rows_inv s p).2
+    no_test-if_no_rows never s p = never s.rows p.after_rows (ParsesTest-rows_inv s p).2
 
     module _ (rows : CellGrid) (c : TokenList) (are_rows : Rows n b rows c) (first : TokenList)
         (is_first : first ≡ with_sites [] (sites_of initializers)) where
@@ -168,7 +168,7 @@ module _ (arch : Arch) (ts a : TokenList) (initializers : List InitializerSyntax
           → (s.initializers ≡ initializers) × (s.threads ≡ n) × (s.rows ≡ rows) × Condition arch n c s.listed s.quant s.terminals
       ParsesTest-condition_inv s p =
           let h = ParsesTest-rows_inv s p in
-          let u = Rows-unique n b p.behind_rows c s.rows rows h.2 are_rows in
+          let u = Rows-unique n b p.after_rows c s.rows rows h.2 are_rows in
           (h.0, h.1, u.0, subst (λ l. Condition arch n l s.listed s.quant s.terminals) u.1 h.3)
 
       -- If no condition follows the rows, the tokens are no test.
@@ -189,9 +189,9 @@ pub ParsesTest-unique : (arch : Arch) (ts : TokenList) (s t : TestSyntax) → Pa
 ParsesTest-unique arch ts s t p q =
     let h = ParsesTest-condition_inv arch ts _ t.initializers q.block t.threads _ q.header t.rows _ q.rows _ refl s p in
     let u =
-    Listed-unique arch q.behind_rows s.listed t.listed h.3.behind_list q.condition.behind_list h.3.lists q.condition.lists in
+    Listed-unique arch q.after_rows s.listed t.listed h.3.after_list q.condition.after_list h.3.lists q.condition.lists in
     let v =
-    Quantified-unique q.condition.behind_list s.quant t.quant h.3.behind_quant q.condition.behind_quant (rw u.1 at h.3.quantifies)
+    Quantified-unique q.condition.after_list s.quant t.quant h.3.after_quant q.condition.after_quant (rw u.1 at h.3.quantifies)
     q.condition.quantifies in
     let w = Terminals-unique arch t.threads s.terminals t.terminals _ (rw v.1 at h.3.says) q.condition.says in
     let made =

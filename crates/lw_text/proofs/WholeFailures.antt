@@ -241,9 +241,9 @@ module _ (arch : Arch) where
   abbrev header_of_test : (ts : TokenList) (s : TestSyntax) → ParsesTest arch ts s → ReadsHeader arch ts
   header_of_test ts s p = record {
     initializers = s.initializers;
-    after_block = p.behind_block;
+    after_block = p.after_block;
     threads = s.threads;
-    after_header = p.behind_header;
+    after_header = p.after_header;
     block = (p.block, HasRoomFor-initial_block arch ts s p);
     header = p.header;
   }

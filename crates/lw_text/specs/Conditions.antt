@@ -92,9 +92,9 @@ Quantified ts Forall rest = ts ≡ codes "forall" ∷ rest
 
 -- The condition of a test: the list of names, a quantifier, and a proposition's terminals, with threads below `threads`.
 pub record Condition (arch : Arch) (threads : ℕ) (ts : TokenList) (listed : List SiteSyntax) (quant : Quant) (ss : List (Terminal AtomSyntax)) : Type 0 where
-  pub behind_list : TokenList
-  pub behind_quant : TokenList
-  pub lists : Listed arch ts listed behind_list
+  pub after_list : TokenList
+  pub after_quant : TokenList
+  pub lists : Listed arch ts listed after_list
   pub threads_exist : AllByRecursion (ThreadExists threads) listed
-  pub quantifies : Quantified behind_list quant behind_quant
-  pub says : Terminals arch threads behind_quant ss
+  pub quantifies : Quantified after_list quant after_quant
+  pub says : Terminals arch threads after_quant ss

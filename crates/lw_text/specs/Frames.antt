@@ -57,14 +57,14 @@ location_table s =
 -- The initial block, the header, the rows and the condition, on existing threads and with registers of the language, and with at most as
 -- many locations and nodes as a test may have.
 pub record ParsesTest (arch : Arch) (ts : TokenList) (s : TestSyntax) : Type 0 where
-  pub behind_block : TokenList
-  pub behind_header : TokenList
-  pub behind_rows : TokenList
-  pub block : Block arch ts s.initializers behind_block
-  pub header : Header behind_block s.threads behind_header
+  pub after_block : TokenList
+  pub after_header : TokenList
+  pub after_rows : TokenList
+  pub block : Block arch ts s.initializers after_block
+  pub header : Header after_block s.threads after_header
   pub threads_exist : AllByRecursion (λ e. ThreadExists s.threads e.site) s.initializers
-  pub rows : Rows s.threads behind_header s.rows behind_rows
-  pub condition : Condition arch s.threads behind_rows s.listed s.quant s.terminals
+  pub rows : Rows s.threads after_header s.rows after_rows
+  pub condition : Condition arch s.threads after_rows s.listed s.quant s.terminals
   pub few_names : length (location_table s) ≤ most_locations
   pub few_nodes : HasFewNodes s.terminals
 

@@ -35,15 +35,15 @@ RowsFrom ts rows rest = ParsesMany CellsFrom ts rows rest
 -- The tokens are a block, the header of this number of threads, and these rows.
 pub record HasRows (arch : Arch) (tokens : List PlacedToken) (threads : ℕ) (rows : List (List PlacedCell)) : Type 0 where
   pub initializers : List InitializerSyntax
-  pub behind_block : TokenList
+  pub after_block : TokenList
   pub front : List PlacedToken
-  pub behind_header : List PlacedToken
-  pub behind_rows : List PlacedToken
-  pub block : Block arch (texts_of_tokens tokens) initializers behind_block
-  pub header : Header behind_block threads (texts_of_tokens behind_header)
-  pub parts : tokens ≡ front ++ behind_header
-  pub says : Rows threads (texts_of_tokens behind_header) (texts_of_grid rows) (texts_of_tokens behind_rows)
-  pub cut : RowsFrom behind_header rows behind_rows
+  pub after_header : List PlacedToken
+  pub after_rows : List PlacedToken
+  pub block : Block arch (texts_of_tokens tokens) initializers after_block
+  pub header : Header after_block threads (texts_of_tokens after_header)
+  pub parts : tokens ≡ front ++ after_header
+  pub says : Rows threads (texts_of_tokens after_header) (texts_of_grid rows) (texts_of_tokens after_rows)
+  pub cut : RowsFrom after_header rows after_rows
 
 -- The cells of a text's frame, for each thread from top to bottom: the columns of the rows of its token stream.
 pub record HasCells (text : Bytes) (cells : List (List PlacedCell)) : Type 0 where

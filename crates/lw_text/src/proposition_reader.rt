@@ -50,7 +50,7 @@ impl<A: Allocator + Copy> PropositionReader<A> {
     {
         match self.part.take() {
             None => self.before_part(terminal),
-            Some(part) => self.behind_part(part, terminal),
+            Some(part) => self.after_part(part, terminal),
         }
     }
 
@@ -80,7 +80,7 @@ impl<A: Allocator + Copy> PropositionReader<A> {
     }
 
     /// Shifts a terminal after a part, which was taken out.
-    fn behind_part(&mut self, part: Prop<A>, terminal: Terminal) -> Result<bool, AllocError>
+    fn after_part(&mut self, part: Prop<A>, terminal: Terminal) -> Result<bool, AllocError>
         requires { self.old.part ≡ None }
         ensures { IfOk result (λ b. next_state (reader_state_in (Some (formula_of part)) (group_of self.old.group)
             (reverse (map group_of self.old.outer.items))) (terminal_of terminal)

@@ -184,9 +184,9 @@ module _ (p : X86Test) (well : IsWellFormedProgram p) where
   -- The tokens are the parts of a test, and no others.
   ParsesTest-of_tokens : ParsesTest X86 (tokens_in p) (syntax_in p)
   ParsesTest-of_tokens = record {
-    behind_block = tokens_behind_block p;
-    behind_header = tokens_behind_header p;
-    behind_rows = tokens_behind_rows p;
+    after_block = tokens_behind_block p;
+    after_header = tokens_behind_header p;
+    after_rows = tokens_behind_rows p;
     block = Block-block_tokens p.head well.head (tokens_behind_block p);
     header = Header-header_tokens p.head.threads (tokens_behind_header p) well.head.has_thread well.head.bounded;
     threads_exist = initializers_exist p.head well.head;

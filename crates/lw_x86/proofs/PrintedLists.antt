@@ -145,8 +145,8 @@ module _ (head : TestHead) (well : IsWellFormedHead head) where
   pub Condition-condition_tokens : Condition X86 head.threads (listed_tokens head.locs head.listed ++ condition_tokens head)
       (named_sites head.locs head.listed) head.quant (terminals_in head)
   Condition-condition_tokens = record {
-    behind_list = condition_tokens head;
-    behind_quant = flat_map (terminal_tokens X86) (terminals_in head);
+    after_list = condition_tokens head;
+    after_quant = flat_map (terminal_tokens X86) (terminals_in head);
     lists = Listed-listed_tokens head.listed (condition_tokens head) listed_printable (quantifier_begins head.quant _).0;
     threads_exist =
         All-mono _ _ (λ site p. site_exists X86 head.threads well.bounded head.locs site p) (named_sites head.locs head.listed)

@@ -46,16 +46,16 @@ row_end =
     (Spells-append_anything (Spells-mark 59 refl (λ c. refl) refl (omega arith)) Spells-newline)
 
 -- The text of the cells after the first spells their tokens.
-behind_spelled : (cells : List Bytes) (ts : Cells)
+after_spelled : (cells : List Bytes) (ts : Cells)
     → AllZip IsPrintedCell cells ts
     → Spells Anything (153 * length cells + 3) (text_after_first cells) (tokens_after_first ts)
-behind_spelled [] [] h = Spells-mono (153 * 0 + 3) (omega arith) row_end
-behind_spelled (c ∷ cells) (t ∷ ts) h =
+after_spelled [] [] h = Spells-mono (153 * 0 + 3) (omega arith) row_end
+after_spelled (c ∷ cells) (t ∷ ts) h =
     rw (append_assoc c)
     (Spells-mono (153 * suc (length cells) + 3) (omega arith)
     (Spells-append_anything Spells-bar
-    (Spells-append (λ more g. blank_after_cell cells more) h.0.spells (behind_spelled cells ts h.1))))
-behind_spelled cells ts h = absurd h
+    (Spells-append (λ more g. blank_after_cell cells more) h.0.spells (after_spelled cells ts h.1))))
+after_spelled cells ts h = absurd h
 
 -- The text of a row spells its tokens.
 pub row_spelled : (cells : List Bytes) (ts : Cells)
@@ -68,7 +68,7 @@ row_spelled (c ∷ cells) (t ∷ ts) some h =
     rw (append_assoc c)
     (Spells-mono (153 * suc (length cells) + 1) (omega arith)
     (Spells-append_anything Spells-space
-    (Spells-append (λ more g. blank_after_cell cells more) h.0.spells (behind_spelled cells ts h.1))))
+    (Spells-append (λ more g. blank_after_cell cells more) h.0.spells (after_spelled cells ts h.1))))
 
 -- ---- what the tokens of a row are
 

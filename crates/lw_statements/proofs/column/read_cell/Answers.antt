@@ -8,8 +8,8 @@ use Rattle.lw_statements.proofs.Drafts.{at_most_room, ColumnDrafted-push}
 use Rattle.lw_statements.proofs.CellsRefused.{labels_refused, statement_refused, column_out_of_memory}
 use Rattle.lw_statements.proofs.column.read_cell.Goals as goal
 
-pub behind-phrase-requires : goal.behind-phrase-requires
-behind-phrase-requires g c = let taken = rw c.as_slice.ensures at c.in_ok-start.ensures in taken.read.within
+pub after_labels-phrase-requires : goal.after_labels-phrase-requires
+after_labels-phrase-requires g c = let taken = rw c.as_slice.ensures at c.in_ok-start.ensures in taken.read.within
 
 pub returns-in_err-start : goal.returns-in_err-start
 returns-in_err-start g c =
@@ -25,14 +25,14 @@ returns-in_err-stmt g c =
     let taken = rw c.as_slice.ensures at c.in_ok-start.ensures in
     Err-clause_known _ _ _ c.from_residual-in_err-stmt.ensures.1 (λ front rest before drafted.
     statement_refused (grammar_of spelling) (is_grammar spelling g.L.StatementReader.made c.requires.lawful) (draft_of spelling)
-    front before _ _ drafted c.args.cell.now rest _ _ _ taken c.behind-phrase.result c.behind-phrase.ensures.tokens
-    c.behind-phrase.ensures.end c.behind-phrase.ensures.within c.in_err-stmt.ensures)
+    front before _ _ drafted c.args.cell.now rest _ _ _ taken c.after_labels-phrase.result c.after_labels-phrase.ensures.tokens
+    c.after_labels-phrase.ensures.end c.after_labels-phrase.ensures.within c.in_err-stmt.ensures)
 
 pub returns : goal.returns
 returns g c =
     let spelling = g.L.StatementReader.spelling in
     let taken = rw c.as_slice.ensures at c.in_ok-start.ensures in
-    let stmt = rw c.behind-phrase.ensures.tokens at c.in_ok-stmt.ensures in
+    let stmt = rw c.after_labels-phrase.ensures.tokens at c.in_ok-stmt.ensures in
     MatchResult-weaker c.push.result c.push.ensures (λ done pushed front before drafted.
     ColumnDrafted-push (grammar_of spelling) (draft_of spelling) front before c.args.locs.now c.args.column.now drafted (record {
       cells = c.push.new.items;

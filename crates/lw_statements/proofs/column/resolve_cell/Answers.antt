@@ -6,15 +6,15 @@ use Rattle.lw_statements.proofs.column.resolve_cell.Goals as goal
 
 pub resolve_draft-requires-clause-resolvable : goal.resolve_draft-requires-clause-resolvable
 resolve_draft-requires-clause-resolvable g c lifetimes lives =
-    rw c.behind-phrase.ensures.tokens (rw c.in-Some.is at c.requires.resolvable)
+    rw c.after_labels-phrase.ensures.tokens (rw c.in-Some.is at c.requires.resolvable)
 
 pub returns-in_err-stmt : goal.returns-in_err-stmt
 returns-in_err-stmt g c =
-    let lost = rw (c.behind-phrase.ensures.tokens, c.len.ensures) at c.in_err-stmt.ensures in
+    let lost = rw (c.after_labels-phrase.ensures.tokens, c.len.ensures) at c.in_err-stmt.ensures in
     Err-clause_known _ _ _ c.from_residual.ensures.1 (inr (c.in-Some.stmt, c.in-Some.is, lost))
 
 pub returns : goal.returns
 returns g c =
-    let resolved = rw (c.behind-phrase.ensures.tokens, c.len.ensures) at c.in_ok-stmt.ensures in
+    let resolved = rw (c.after_labels-phrase.ensures.tokens, c.len.ensures) at c.in_ok-stmt.ensures in
     MatchResult-weaker c.push.result c.push.ensures (λ done pushed. rw c.in-Some.is (c.in_ok-stmt.stmt, resolved, pushed))
     (λ f memory. inl memory)

@@ -25,7 +25,7 @@ pub returns-in_err-initializers : goal.returns-in_err-initializers
 returns-in_err-initializers g c = Err-clause_known _ _ _ c.from_residual.ensures.1 (λ ne.
     let lost = rw c.new-locs.ensures at (c.in_err-initializers.ensures ne) in (
       λ s f p whole.
-          lost.0 s.initializers p.behind_block p.block
+          lost.0 s.initializers p.after_block p.block
           (HasRoomFor-initial_block c.args.arch (remaining_texts c.args.self.now) s p),
       Fails-later ([], refl) (λ rest cause w. in_block w) lost.1,
     ))
@@ -133,10 +133,10 @@ returns-in-Ok g c =
           c.in-Ok.ensures c.len-len.ensures.table.bounded,
       record {
         initializers = map (named_initializer c.parse_block.new.locs) c.in_ok-initializers.initializers;
-        behind_block = remaining_texts c.parse_block.new.self;
+        after_block = remaining_texts c.parse_block.new.self;
         front = with_spans advances.0;
-        behind_header = with_spans behind;
-        behind_rows = with_spans (remaining c.parse_rows.new.self);
+        after_header = with_spans behind;
+        after_rows = with_spans (remaining c.parse_rows.new.self);
         block =
             subst (λ ts.
             Block c.args.arch ts (map (named_initializer c.parse_block.new.locs) c.in_ok-initializers.initializers)

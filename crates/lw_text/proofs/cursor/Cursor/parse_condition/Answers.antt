@@ -18,7 +18,7 @@ pub returns-in_err-listed : goal.returns-in_err-listed
 returns-in_err-listed g c = Err-clause_known _ _ _ c.from_residual.ensures.1 (λ ne.
     let lost = c.in_err-listed.ensures ne in (
       λ all q ss p condition fits.
-          lost.0 all condition.behind_list condition.lists condition.threads_exist
+          lost.0 all condition.after_list condition.lists condition.threads_exist
           (omega (arith, fits.room, insert_names-longer (with_sites c.args.locs.now all) (site_names (sites_in ss)))),
       Fails-later ([], refl) (λ rest cause w. in_list w) lost.1,
     ))
@@ -27,9 +27,9 @@ pub returns-in_err-quant : goal.returns-in_err-quant
 returns-in_err-quant g c = Err-clause_known _ _ _ c.from_residual-in_err-quant.ensures.1 (λ ne. (
   λ all q ss p condition fits.
       let u =
-      Listed-unique c.args.arch (remaining_texts c.args.self.now) all _ condition.behind_list
+      Listed-unique c.args.arch (remaining_texts c.args.self.now) all _ condition.after_list
       (remaining_texts c.parse_listed.new.self) condition.lists c.in_ok-listed.ensures.parsed in
-      c.in_err-quant.ensures.0 q condition.behind_quant (rw u.1 at condition.quantifies),
+      c.in_err-quant.ensures.0 q condition.after_quant (rw u.1 at condition.quantifies),
   Fails-later c.in_ok-listed.ensures.advances (λ rest cause w.
       in_quantifier _ c.in_ok-listed.ensures.parsed c.in_ok-listed.ensures.threads_exist
       (subst (λ (table : NameTable). length table ≤ 8) c.in_ok-listed.ensures.names_are c.in_ok-listed.ensures.bounded) w)

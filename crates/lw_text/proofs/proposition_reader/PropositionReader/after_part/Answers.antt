@@ -1,8 +1,8 @@
--- `behind_part` promises the state after a terminal that follows a part, or that this terminal is impossible
+-- `after_part` promises the state after a terminal that follows a part, or that this terminal is impossible
 -- there. One goal for each arm; a `)` is impossible if no group is open outside this one.
 use Rattle.lw_text.proofs.Common.{reverse-append, ◌≡◌, [], inl, inr, map-append, nil_from_length, refl, sym}
 use Rattle.lw_text.proofs.Common.{◌∙◌}
-use Rattle.lw_text.proofs.proposition_reader.PropositionReader.behind_part.Goals as goal
+use Rattle.lw_text.proofs.proposition_reader.PropositionReader.after_part.Goals as goal
 
 pub returns-in_ok-conjoin-in-Conjunction : goal.returns-in_ok-conjoin-in-Conjunction
 returns-in_ok-conjoin-in-Conjunction g c = rw (c.in-Conjunction.is, c.requires, c.in_ok-conjoin-in-Conjunction.ensures) refl
