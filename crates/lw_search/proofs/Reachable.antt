@@ -20,13 +20,13 @@ Contains-index (y ∷ xs) x c = elim (Contains-cons y x xs c) [
 ]
 
 -- An item at an index is a member.
-slice_get-Contains : {X : Type 0} (xs : List X) (i : ℕ) (x : X) → slice_get xs i ≡ Some x → Contains xs x
-slice_get-Contains [] i x at = absurd cc
-slice_get-Contains (y ∷ xs) zero x at = Contains-head y x xs (Some-injective y x at)
+Contains-of_slice_get : {X : Type 0} (xs : List X) (i : ℕ) (x : X) → slice_get xs i ≡ Some x → Contains xs x
+Contains-of_slice_get [] i x at = absurd cc
+Contains-of_slice_get (y ∷ xs) zero x at = Contains-head y x xs (Some-injective y x at)
   where
     Some-injective : {X : Type 0} (y x : X) → Some y ≡ Some x → y ≡ x
     Some-injective y x e = cc
-slice_get-Contains (y ∷ xs) (suc i) x at = Contains-tail y x xs (slice_get-Contains xs i x at)
+Contains-of_slice_get (y ∷ xs) (suc i) x at = Contains-tail y x xs (Contains-of_slice_get xs i x at)
 
 -- A list of which each item has only one index has no duplicates.
 IsDuplicateFree-of_unique_indices : {X : Type 0} (xs : List X) → HasUniqueIndices xs → IsDuplicateFree xs
@@ -74,7 +74,7 @@ module _ (test : X86Test) (tables : Components) (visited : FoundStates) (found :
         let at =
         final_state-found test.threads (initial_machine_state test test.head.init_words) tables visited found all events s ran
         final in
-        slice_get-Contains found at.0 s at.1;
+        Contains-of_slice_get found at.0 s at.1;
   }
 
   -- A search that found more states than its budget exceeds it.
