@@ -83,7 +83,7 @@ impl Shelf {
         }
     }
 
-    /// Returns whether its blocks have `units` units.
+    /// Returns whether the blocks of this shelf have `units` units.
     pub(crate) fn holds(&self, units: usize) -> bool
         ensures { result ≡ true → self.now.units ≡ units }
     {

@@ -221,7 +221,7 @@ module _ {test : X86Test} (well_scoped : IsWellScopedProgram test) {x : Executio
       keeps = IsLinearExtension-by_time;
     }
 
-    -- ---- what is newest by the times is so by the indices
+    -- ---- what is newest by the times is newest by the indices
 
     -- When an event is done: an index in the order.
     abbrev done_index : MemoryEvent → ℕ

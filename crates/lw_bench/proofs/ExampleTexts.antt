@@ -14,7 +14,8 @@ use Rattle.lw_bench.proofs.Common.{ends_cell, TestSyntax, ParsesTest, HasFrame, 
 use Rattle.lw_bench.proofs.Common.{x86_spelling, printed_form}
 use Rattle.lw_text.specs.Preambles.{none as no_notes}
 use Rattle.lw_bench.proofs.Classics.{one_letter}
-use Rattle.lw_bench.proofs.TokenTexts.{are_tokens, Tokens-by_test, token_of, plain_comment, ascii_by_test}
+use Rattle.lw_bench.proofs.TokenTexts.{are_tokens, Tokens-by_test, IsToken-by_test, plain_comment}
+use Rattle.lw_bench.proofs.TokenTexts.{ascii_by_test}
 use Rattle.lw_litmus.specs.declared.instr.Instr.TheVariants as instr
 
 -- ---- the tokens
@@ -63,7 +64,10 @@ preamble : Preamble store_buffering_text X86 (codes "SB-x86") store_buffering_bo
 preamble = (
   codes " SB-x86\n(*" ++ (store_buffering_notes ++ (codes "*)\n" ++ store_buffering_body)),
   codes "\n(*" ++ (store_buffering_notes ++ (codes "*)\n" ++ store_buffering_body)),
-  (none, token_of (codes "X86") (codes " SB-x86\n(*" ++ (store_buffering_notes ++ (codes "*)\n" ++ store_buffering_body))) refl),
+  (
+    none,
+    IsToken-by_test (codes "X86") (codes " SB-x86\n(*" ++ (store_buffering_notes ++ (codes "*)\n" ++ store_buffering_body))) refl,
+  ),
   record {
     blanks = codes " ";
     parts = refl;

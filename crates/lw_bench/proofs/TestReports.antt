@@ -52,13 +52,13 @@ module _ (agree : SameWordsAgree) (test : LitmusTest) (outcomes : List FinalStat
       (subst (λ d. AreListedStates d outcomes states) same listed)
       (subst (λ d. text ≡ marked_list_text d (map projection_of states)) same is)
 
--- The outcomes have the test's threads and locations.
-pub HasOutcomeShape-of_listing : (test : LitmusTest) (outcomes : List FinalState)
+-- Outcomes with the shape of the test's head have the shape of an equal head.
+pub HasOutcomeShape-of_same_head : (test : LitmusTest) (outcomes : List FinalState)
     → All (HasOutcomeShape (head_of_test test).threads (length (head_of_test test).locs)) outcomes
     → (head : TestHead)
     → head ≡ head_of_test test
     → All (HasOutcomeShape head.threads (length head.locs)) outcomes
-HasOutcomeShape-of_listing test outcomes shapes head same =
+HasOutcomeShape-of_same_head test outcomes shapes head same =
     subst (λ d. All (HasOutcomeShape d.threads (length d.locs)) outcomes) (sym same) shapes
 
 module _ (test : LitmusTest) (entries : OutcomeEntries) (list : IsListOf test entries) (head : TestHead)

@@ -17,8 +17,8 @@ is_kind_text (d ∷ []) = is_ascii_digit d || is_name_text (d ∷ [])
 is_kind_text w = is_name_text w
 
 -- Tests whether a text is a name or a digit, and ends before this rest.
-abbrev is_name_shaped : Bytes → Bytes → Bool
-is_name_shaped t rest = list_all is_name_byte t && (not (first_byte_is is_name_byte rest) && is_kind_text t)
+abbrev is_word_text : Bytes → Bytes → Bool
+is_word_text t rest = list_all is_name_byte t && (not (first_byte_is is_name_byte rest) && is_kind_text t)
 
 -- Tests whether a text is a symbol, and ends before this rest.
 abbrev is_symbol_text : Bytes → Bytes → Bool
@@ -30,7 +30,7 @@ is_symbol_text (b ∷ c ∷ d ∷ more) rest = false
 
 -- Tests whether a text is a token, and ends before this rest.
 abbrev pub is_token_text : Bytes → Bytes → Bool
-is_token_text t rest = is_name_shaped t rest || is_symbol_text t rest
+is_token_text t rest = is_word_text t rest || is_symbol_text t rest
 
 -- If a disjunction of tests is true, the first or the second is.
 or_true-cases : (a b : Bool) → (a || b) ≡ true → (a ≡ true) ⊎ (b ≡ true)
@@ -42,41 +42,41 @@ digit_value_below_10 : (d : ℕ) → is_ascii_digit d ≡ true → digit_value d
 digit_value_below_10 d h = grind (arith, nat_tests)
 
 -- A text that passes `is_kind_text` is a name or a number.
-kind_of : (w : Bytes) → is_kind_text w ≡ true → IsNameOrNumber w
-kind_of [] h = inl (name_by_test [] h)
-kind_of (d ∷ []) h = go (or_true-cases (is_ascii_digit d) (is_name_text (d ∷ [])) h)
+IsNameOrNumber-by_test : (w : Bytes) → is_kind_text w ≡ true → IsNameOrNumber w
+IsNameOrNumber-by_test [] h = inl (name_by_test [] h)
+IsNameOrNumber-by_test (d ∷ []) h = go (or_true-cases (is_ascii_digit d) (is_name_text (d ∷ [])) h)
   where
     go : (is_ascii_digit d ≡ true) ⊎ (is_name_text (d ∷ []) ≡ true) → IsNameOrNumber (d ∷ [])
     go (inl digit) =
         let small = digit_value_below_10 d digit in
         inr (digit_value d, (omega (arith, small), inl (omega arith, (small, omega arith))))
     go (inr name) = inl (name_by_test (d ∷ []) name)
-kind_of (d ∷ e ∷ w) h = inl (name_by_test (d ∷ e ∷ w) h)
+IsNameOrNumber-by_test (d ∷ e ∷ w) h = inl (name_by_test (d ∷ e ∷ w) h)
 
 -- A text that passes `is_symbol_text` is a symbol.
-symbol_of : (t rest : Bytes) → is_symbol_text t rest ≡ true → IsSymbol t rest
-symbol_of [] rest h = absurd (false≢true h)
-symbol_of (b ∷ []) rest h =
+IsSymbol-by_test : (t rest : Bytes) → is_symbol_text t rest ≡ true → IsSymbol t rest
+IsSymbol-by_test [] rest h = absurd (false≢true h)
+IsSymbol-by_test (b ∷ []) rest h =
     let parts = and_parts (is_one_byte_symbol b) _ h in
     let alone = and_parts (not (first_byte_is (is_two_byte_symbol b) rest)) _ parts.1 in
     (parts.0, not-true _ alone.0, not-true _ alone.1)
-symbol_of (b ∷ c ∷ []) rest h = h
-symbol_of (b ∷ c ∷ d ∷ more) rest h = absurd (false≢true h)
+IsSymbol-by_test (b ∷ c ∷ []) rest h = h
+IsSymbol-by_test (b ∷ c ∷ d ∷ more) rest h = absurd (false≢true h)
 
 -- A text that passes `is_token_text` is a token.
-pub token_of : (t rest : Bytes) → is_token_text t rest ≡ true → IsToken t rest
-token_of t rest h = go (or_true-cases (is_name_shaped t rest) (is_symbol_text t rest) h)
+pub IsToken-by_test : (t rest : Bytes) → is_token_text t rest ≡ true → IsToken t rest
+IsToken-by_test t rest h = go (or_true-cases (is_word_text t rest) (is_symbol_text t rest) h)
   where
-    go : (is_name_shaped t rest ≡ true) ⊎ (is_symbol_text t rest ≡ true) → IsToken t rest
+    go : (is_word_text t rest ≡ true) ⊎ (is_symbol_text t rest ≡ true) → IsToken t rest
     go (inl word) =
         let parts = and_parts (list_all is_name_byte t) _ word in
         let ends = and_parts (not (first_byte_is is_name_byte rest)) _ parts.1 in
         inl (record {
           are_name_bytes = list_all-AllByRecursion is_name_byte t parts.0;
           longest = not-true _ ends.0;
-          kind = kind_of t ends.1;
+          kind = IsNameOrNumber-by_test t ends.1;
         })
-    go (inr symbol) = inr (symbol_of t rest symbol)
+    go (inr symbol) = inr (IsSymbol-by_test t rest symbol)
 
 -- ---- sequences
 
@@ -120,7 +120,7 @@ module _ (t : Bytes) (ts : TokenList) (more : Bytes → Bool) (rows : (rest : By
   Tokens-first text None is h = absurd (false≢true h)
   Tokens-first text (Some rest) is h =
       let parts = and_parts (is_token_text t rest) _ h in
-      rw (rest_after-append t text rest is) (rest, (none, token_of t rest parts.0), rows rest parts.1)
+      rw (rest_after-append t text rest is) (rest, (none, IsToken-by_test t rest parts.0), rows rest parts.1)
 
   -- The text starts with a blank and the rest is these tokens, or it starts with the token.
   blank_or_first : (b : ℕ) (text : Bytes) (is : Bool) (so : Bool)

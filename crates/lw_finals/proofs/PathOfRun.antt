@@ -381,7 +381,7 @@ module _ {S : Type 0} (language : Language S) (program : List (List S)) where
             | inr f ↦ inl (before-contains_statement item_thread refl f)
           ]
 
-          -- What is still to be executed after the item is so before it.
+          -- What remains to be executed after the item remained before it, too.
           IsAhead-before_item : (x : Item) → IsAhead r.paths after x → IsAhead before pending x
           IsAhead-before_item x h = record {
             statement = h.statement;

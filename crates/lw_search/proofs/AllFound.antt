@@ -7,7 +7,7 @@ use Rattle.lw_search.proofs.Common.{MachineRunsTo, is_final, State, Components, 
 use Rattle.lw_search.proofs.Common.{SearchInvariant}
 
 module _ (program : List (List Instr)) (found : List State)
-    (served : (i : ℕ) (s : State) → slice_get found i ≡ Some s → (e : Event) → IsCovered program found s e) where
+    (is_covered : (i : ℕ) (s : State) → slice_get found i ≡ Some s → (e : Event) → IsCovered program found s e) where
   -- The state is among those found.
   abbrev pub IsFound : State → Type 0
   IsFound s = (i : ℕ) × (slice_get found i ≡ Some s)
@@ -22,7 +22,7 @@ module _ (program : List (List Instr)) (found : List State)
   run-found n [] s end few has ran final = subst IsFound (sym ran) has
   run-found zero (e ∷ es) s end few has ran final = absurd (omega (arith, few))
   run-found (suc n) (e ∷ es) s end few has (mid, done, ran) final =
-      let r = served has.0 s has.1 e mid done in
+      let r = is_covered has.0 s has.1 e mid done in
       let m = r.3 es end ran final in
       run-found n m.0 r.0 end (omega (arith, few, m.1)) (r.1, r.2) m.2 final
 
@@ -35,6 +35,6 @@ pub final_state-found : (program : List (List Instr)) (start : State) (tables : 
     → IsTrue (is_final program end)
     → (i : ℕ) × (slice_get found i ≡ Some end)
 final_state-found program start tables visited found invariant events end ran final =
-    let served : (i : ℕ) (s : State) → slice_get found i ≡ Some s → (e : Event) → IsCovered program found s e =
+    let is_covered : (i : ℕ) (s : State) → slice_get found i ≡ Some s → (e : Event) → IsCovered program found s e =
     λ i s at. invariant.covered i s (slice_get_within found i s at) at in
-    run-found program found served (length events) events start end (omega arith) (0, invariant.first) ran final
+    run-found program found is_covered (length events) events start end (omega arith) (0, invariant.first) ran final

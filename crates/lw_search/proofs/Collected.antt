@@ -61,9 +61,9 @@ module _ (program : List (List Instr)) (tables : Components) (key : List ℕ) wh
       → Represents tables key s
       → length s.processors ≡ length program
       → IsTrue (is_final program s)
-  is_final-all_done n done few s stands as_many =
+  is_final-all_done n done few s is_represented as_many =
       list_all_zip-of_each (λ (x : List Instr × Processor). has_terminated x.0 x.1) program s.processors (λ t code p at and.
-      let lt = slice_get_within program t code at in done t code p (omega (arith, lt, few)) at (stands.threads t p and))
+      let lt = slice_get_within program t code at in done t code p (omega (arith, lt, few)) at (is_represented.threads t p and))
 
   -- If a thread is reported as not terminated, no state that the key represents is final.
   pub not-is_final_if_unfinished : (n : ℕ) (code : List Instr) (answer : Bool)
@@ -75,13 +75,13 @@ module _ (program : List (List Instr)) (tables : Components) (key : List ℕ) wh
       → length s.processors ≡ length program
       → IsTrue (is_final program s)
       → ⊥
-  not-is_final_if_unfinished n code answer at is failed s stands as_many final =
+  not-is_final_if_unfinished n code answer at is failed s is_represented as_many final =
       let lt : n < length s.processors = subst (λ k. n < k) (sym as_many) (slice_get_within program n code at) in
       let p = slice_get-in_range s.processors n lt in
       let done : has_terminated code p.0 ≡ true =
       list_all_zip-at_index (λ (x : List Instr × Processor). has_terminated x.0 x.1) program s.processors n code p.0 final at
       p.1 in
-      true≢false (sym done ∙ sym (is p.0 (stands.threads n p.0 p.1)) ∙ failed)
+      true≢false (sym done ∙ sym (is p.0 (is_represented.threads n p.0 p.1)) ∙ failed)
 
   -- ---- the outcome
 
@@ -99,10 +99,10 @@ module _ (program : List (List Instr)) (tables : Components) (key : List ℕ) wh
       → n < length program
       → ((p : Processor) → slice_get tables.threads (slice_index key (n + 1)) ≡ Some p → r ≡ p.regs)
       → AreRegisters (regs ++ r ∷ []) (n + 1)
-  registers-more regs n r are lt is s stands as_many =
+  registers-more regs n r are lt is s is_represented as_many =
       let p = slice_get-in_range s.processors n (subst (λ k. n < k) (sym as_many) lt) in
       let next : suc n ≡ n + 1 = omega arith in
-      ap₂ (λ l w. l ++ w ∷ []) (are s stands as_many) (is p.0 (stands.threads n p.0 p.1))
+      ap₂ (λ l w. l ++ w ∷ []) (are s is_represented as_many) (is p.0 (is_represented.threads n p.0 p.1))
       ∙ sym (map-append (λ (q : Processor). q.regs) (take n s.processors) (p.0 ∷ []))
       ∙ ap (map (λ (q : Processor). q.regs)) (sym (take-suc s.processors n p.0 p.1) ∙ ap (λ k. take k s.processors) next)
 
@@ -138,13 +138,13 @@ pub reaches_index-next : (visited : FoundStates) (index : ℕ) (origin : Origin)
     → ReachesIndex visited origin.parent more
     → ReachesIndex visited index (more ++ events_at visited.runs origin.run)
 reaches_index-next visited zero origin more after at leads = absurd (after (omega arith))
-reaches_index-next visited (suc i) origin more after at leads = λ program start tables found closed s invariant stood.
-    let predecessor = invariant.predecessor i origin s at stood in
+reaches_index-next visited (suc i) origin more after at leads = λ program start tables found closed s invariant found_at.
+    let predecessor = invariant.predecessor i origin s at found_at in
     let is : events_at visited.runs origin.run ≡ events_of predecessor.run =
     ap events_of (get_or_from_slice_get visited.runs origin.run predecessor.run [] predecessor.listed) in
     subst (λ es. MachineRunsTo flat_memory program (more ++ es) start s) (sym is)
     (RunsTo-append (MachineTransition flat_memory program) more (events_of predecessor.run) start predecessor.from s
-    (leads program start tables found closed predecessor.from invariant predecessor.stood) predecessor.ran)
+    (leads program start tables found closed predecessor.from invariant predecessor.found_at) predecessor.ran)
 
 -- Each state that was found is reachable.
 pub found-reachable : (program : List (List Instr)) (start : State) (tables : Components) (visited : FoundStates)
@@ -163,7 +163,7 @@ found-reachable program start tables visited found closed invariant (suc n) (suc
     let predecessor = invariant.predecessor i origin.0 s origin.1 at in
     let before =
     found-reachable program start tables visited found closed invariant n origin.0.parent predecessor.from
-    (omega (arith, predecessor.before, lt)) predecessor.stood in (
+    (omega (arith, predecessor.before, lt)) predecessor.found_at in (
       before.0 ++ events_of predecessor.run,
       RunsTo-append (MachineTransition flat_memory program) before.0 (events_of predecessor.run) start predecessor.from s before.1
           predecessor.ran,
@@ -178,10 +178,10 @@ module _ (program : List (List Instr)) (tables : Components) (visited : FoundSta
       → ((s : State) → Represents tables key s → length s.processors ≡ length program → o ≡ machine_outcome flat_memory s)
       → Contains (outcomes_of es) o
       → CollectsState program tables visited at es es
-  collects-known at key o es keyed is there = record {
-    covered = λ start found closed s invariant stood final.
+  collects-known at key o es key_at is there = record {
+    covered = λ start found closed s invariant found_at final.
         subst (λ p. Contains (outcomes_of es) p)
-        (is s (invariant.represents at key s keyed stood) (invariant.thread_count at s stood)) there;
+        (is s (invariant.represents at key s key_at found_at) (invariant.thread_count at s found_at)) there;
     kept = λ p c. c;
     lead = λ start found closed invariant a. a;
   }
@@ -194,20 +194,20 @@ module _ (program : List (List Instr)) (tables : Components) (visited : FoundSta
       → ReachesIndex visited at schedule
       → fs ≡ es ++ (o, schedule) ∷ []
       → CollectsState program tables visited at es fs
-  collects-new at key o schedule es fs keyed is final leads grown = record {
-    covered = λ start found closed s invariant stood ends.
+  collects-new at key o schedule es fs key_at is final leads grown = record {
+    covered = λ start found closed s invariant found_at ends.
         subst (λ p. Contains (outcomes_of fs) p)
-        (is s (invariant.represents at key s keyed stood) (invariant.thread_count at s stood))
+        (is s (invariant.represents at key s key_at found_at) (invariant.thread_count at s found_at))
         (subst (λ ks. Contains ks o) (sym keys) (Contains-push (outcomes_of es) o));
     kept = λ p c. subst (λ ks. Contains ks p) (sym keys) (Contains-append_left (outcomes_of es) (o ∷ []) p c);
     lead = λ start found closed invariant a.
-        let lt : at < length found = subst (λ n. at < n) invariant.key_count (slice_get_within visited.keys at key keyed) in
+        let lt : at < length found = subst (λ n. at < n) invariant.key_count (slice_get_within visited.keys at key key_at) in
         let s = slice_get-in_range found at lt in
-        let stands = invariant.represents at key s.0 keyed s.1 in
+        let is_represented = invariant.represents at key s.0 key_at s.1 in
         let as_many = invariant.thread_count at s.0 s.1 in
         let ran = leads program start tables found closed s.0 invariant s.1 in
         let to : LeadsTo IsScheduleOf program start (o, schedule) =
-        (schedule, refl, (s.0, ran, final s.0 stands as_many, is s.0 stands as_many)) in
+        (schedule, refl, (s.0, ran, final s.0 is_represented as_many, is s.0 is_represented as_many)) in
         subst (λ gs. All (LeadsTo IsScheduleOf program start) gs) (sym grown)
         (All-push (LeadsTo IsScheduleOf program start) es (o, schedule) a to);
   }

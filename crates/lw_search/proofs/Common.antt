@@ -4,10 +4,10 @@ pub use Rattle.std.proofs.Common.{Some, [], ap, append-nil, append_assoc, ap₂,
 pub use Rattle.std.proofs.Common.{eq-eqb, eqb-true, false, get_or, get_or-set_other, get_or-set_same}
 pub use Rattle.std.proofs.Common.{if◌then◌else◌, inl, inr, leb-true, length, length-append, length-set}
 pub use Rattle.std.proofs.Common.{length-take-le, lt-ltb, map, nat_eq, nat_le, nat_lt, not, option_copied}
-pub use Rattle.std.proofs.Common.{option_to_list, position, pow_pos, refl, set-set, slice_get, slice_index}
-pub use Rattle.std.proofs.Common.{slice_set, subst, suc, sym, take, true, true≢false, w32, zero, ℕ, ⊎_elim}
-pub use Rattle.std.proofs.Common.{◌%◌, ◌&&◌, ◌*◌, ◌++◌, ◌+◌, ◌<◌, ◌==◌, ◌^◌, ◌||◌, ◌↔◌, ◌∙◌, ◌∷◌, ◌≡◌, ◌≢◌}
-pub use Rattle.std.proofs.Common.{◌≤◌, ◌⊎◌}
+pub use Rattle.std.proofs.Common.{option_map, option_to_list, position, pow_pos, refl, set-set, slice_get}
+pub use Rattle.std.proofs.Common.{slice_index, slice_set, subst, suc, sym, take, true, true≢false, w32, zero}
+pub use Rattle.std.proofs.Common.{ℕ, ⊎_elim, ◌%◌, ◌&&◌, ◌*◌, ◌++◌, ◌+◌, ◌<◌, ◌==◌, ◌^◌, ◌||◌, ◌↔◌, ◌∙◌, ◌∷◌}
+pub use Rattle.std.proofs.Common.{◌≡◌, ◌≢◌, ◌≤◌, ◌⊎◌}
 pub use Rattle.std.proofs.Math.Nat.{le-max_left, le-max_right}
 pub use Rattle.std.proofs.lemmas.Bool.{and_parts, cases_eq, cases_lt}
 pub use Rattle.std.proofs.lemmas.List.{get_or_past, length-map, map-append, take_more}
@@ -18,8 +18,8 @@ pub use Rattle.std.proofs.lemmas.List.Quantifiers.{position-Some}
 pub use Rattle.std.proofs.lemmas.List.Sorted.{All-permutation}
 pub use Rattle.std.proofs.lemmas.Nat.{one_shl}
 pub use Rattle.std.proofs.lemmas.Nat.Bits.{and_pow, bit_at-lt, bit_at_or, bit_at_set_other, bit_at_set_same}
-pub use Rattle.std.proofs.lemmas.Option.{get_or_from_slice_get, same_Some, slice_get-get_or, slice_get_past}
-pub use Rattle.std.proofs.lemmas.Option.{slice_get_read, slice_get_within}
+pub use Rattle.std.proofs.lemmas.Option.{get_or_from_slice_get, same_Some, slice_get-get_or, slice_get-map}
+pub use Rattle.std.proofs.lemmas.Option.{slice_get_past, slice_get_read, slice_get_within}
 pub use Rattle.std.proofs.lemmas.Result.{IfOk-weaker, err_from_is_err_and, on_ok_weaker}
 pub use Rattle.std.specs.Cmp.{booleans_Decides, first_so, second_so, unsigned_Decides}
 pub use Rattle.std.specs.Cmp.Lexicographic.{pointwise, pointwise_decides}

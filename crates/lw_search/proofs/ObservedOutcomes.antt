@@ -10,18 +10,11 @@ use Rattle.lw_search.proofs.Common.{Components, FoundStates, ObservedWords, Stat
 use Rattle.lw_search.proofs.Common.{is_final, final_words, machine_outcome, flat_memory, InsertsWords}
 use Rattle.lw_search.proofs.Common.{InsertsObserved, suc, arith, LeadsTo, IsOfSomeRun, SearchInvariant, ◌<◌}
 use Rattle.lw_search.proofs.Common.{slice_get_within, slice_get-in_range, AreObserved, ContainsWordsOf}
-use Rattle.lw_search.proofs.Common.{All-nil, ◌+◌, cases_lt, ◌≤◌, CollectsAll, HaveSameWords, ◌≡◌}
+use Rattle.lw_search.proofs.Common.{All-nil, ◌+◌, cases_lt, ◌≤◌, CollectsAll, HaveSameWords, ◌≡◌, option_map}
+use Rattle.lw_search.proofs.Common.{slice_get-map}
 use Rattle.lw_search.proofs.Collected.{found-reachable}
 
 -- ---- the words of a state
-
--- The item at an index of a mapped list is the image of the item there.
-slice_get-map : {X Y : Type 0} (f : X → Y) (xs : List X) (i : ℕ) (x : X)
-    → slice_get xs i ≡ Some x
-    → slice_get (map f xs) i ≡ Some (f x)
-slice_get-map f [] i x at = absurd cc
-slice_get-map f (y ∷ xs) zero x at = ap Some (ap f (same_Some y x at))
-slice_get-map f (y ∷ xs) (suc i) x at = slice_get-map f xs i x at
 
 -- The word of a thread's register in a final state is that of the thread.
 pub final_word-register : (s : State) (t r : ℕ) (p : Processor)
@@ -29,7 +22,8 @@ pub final_word-register : (s : State) (t r : ℕ) (p : Processor)
     → slice_index p.regs r ≡ final_word (machine_outcome flat_memory s) (Register t r)
 final_word-register s t r p at =
     let f : Processor → List ℕ = λ q. q.regs in
-    sym (ap (λ l. slice_index l r) (get_or_from_slice_get (map f s.processors) t p.regs [] (slice_get-map f s.processors t p at)))
+    sym (ap (λ l. slice_index l r)
+    (get_or_from_slice_get (map f s.processors) t p.regs [] (slice_get-map f s.processors t ∙ ap (option_map f) at)))
 
 module _ (program : List (List Instr)) (tables : Components) (key : List ℕ) (names : List Seen) where
   -- In each state that the key represents, the first n names have these words.
@@ -95,10 +89,10 @@ module _ (names : List Seen) (program : List (List Instr)) (tables : Components)
       → slice_get visited.keys at ≡ Some key
       → ((s : State) → Represents tables key s → length s.processors ≡ length program → IsTrue (is_final program s) → ⊥)
       → ObservesState names program tables visited at observed observed
-  observes-not_final at key observed keyed not = record {
+  observes-not_final at key observed key_at not = record {
     observed = λ start found closed invariant are. are;
-    covered = λ start found closed s invariant are stood final.
-        absurd (not s (invariant.represents at key s keyed stood) (invariant.thread_count at s stood) final);
+    covered = λ start found closed s invariant are found_at final.
+        absurd (not s (invariant.represents at key s key_at found_at) (invariant.thread_count at s found_at) final);
     kept = λ p c. c;
     lead = λ start found closed invariant all. all;
   }
@@ -113,7 +107,7 @@ module _ (names : List Seen) (program : List (List Instr)) (tables : Components)
       → InsertsWords old words is_new new
       → is_new ≡ false
       → ObservesState names program tables visited at old new
-  observes-known at key words is_new old new keyed are_words inserts known =
+  observes-known at key words is_new old new key_at are_words inserts known =
       let has = inserts.known known in
       let listed : (p : FinalState) → Contains (outcomes_of old.outcomes) p → Contains (outcomes_of new.outcomes) p =
       λ p c. subst (λ es. Contains (outcomes_of es) p) (sym inserts.outcomes) c in
@@ -122,8 +116,8 @@ module _ (names : List Seen) (program : List (List Instr)) (tables : Components)
           | inl before ↦ let p = are i others before in (p.0, listed p.0 p.1, p.2)
           | inr last ↦ let p = are has.0 words has.1 in (p.0, listed p.0 p.1, p.2 ∙ sym last)
         ];
-        covered = λ start found closed s invariant are stood final.
-            let is = are_words s (invariant.represents at key s keyed stood) (invariant.thread_count at s stood) in
+        covered = λ start found closed s invariant are found_at final.
+            let is = are_words s (invariant.represents at key s key_at found_at) (invariant.thread_count at s found_at) in
             let p = are has.0 words has.1 in
             (p.0, listed p.0 p.1, p.2 ∙ is);
         kept = listed;
@@ -142,7 +136,7 @@ module _ (names : List Seen) (program : List (List Instr)) (tables : Components)
       → ((s : State) → Represents tables key s → length s.processors ≡ length program → IsTrue (is_final program s))
       → InsertsObserved old words o new
       → ObservesState names program tables visited at old new
-  observes-new at key words o old new keyed are_words is final inserts = record {
+  observes-new at key words o old new key_at are_words is final inserts = record {
     observed = λ start found closed invariant are i others there. elim (inserts.words_are i others there) [
       | inl before ↦ let p = are i others before in (p.0, outcomes-kept old.outcomes new.outcomes o p.0 inserts.outcomes p.1, p.2)
       | inr last ↦
@@ -150,8 +144,8 @@ module _ (names : List Seen) (program : List (List Instr)) (tables : Components)
           let words_is = are_words s.0 s.1 s.2 in
           (o, added, ap (final_words names) (is s.0 s.1 s.2) ∙ sym words_is ∙ sym last)
     ];
-    covered = λ start found closed s invariant are stood ends.
-        let same = is s (invariant.represents at key s keyed stood) (invariant.thread_count at s stood) in
+    covered = λ start found closed s invariant are found_at ends.
+        let same = is s (invariant.represents at key s key_at found_at) (invariant.thread_count at s found_at) in
         (o, added, ap (final_words names) same);
     kept = λ p c. outcomes-kept old.outcomes new.outcomes o p inserts.outcomes c;
     lead = λ start found closed invariant all.
@@ -168,9 +162,9 @@ module _ (names : List Seen) (program : List (List Instr)) (tables : Components)
           (invariant : SearchInvariant program start tables visited found closed)
           → (s : State) × Represents tables key s × (length s.processors ≡ length program) × (slice_get found at ≡ Some s)
       state_at start found closed invariant =
-          let lt : at < length found = subst (λ n. at < n) invariant.key_count (slice_get_within visited.keys at key keyed) in
+          let lt : at < length found = subst (λ n. at < n) invariant.key_count (slice_get_within visited.keys at key key_at) in
           let s = slice_get-in_range found at lt in
-          (s.0, invariant.represents at key s.0 keyed s.1, invariant.thread_count at s.0 s.1, s.1)
+          (s.0, invariant.represents at key s.0 key_at s.1, invariant.thread_count at s.0 s.1, s.1)
 
   -- ---- the first states
 

@@ -50,10 +50,10 @@ module _ (program : List (List Instr)) where
     pub represents-others : (s : State) (q : Processor) (n : List ℕ)
         → Represents tables key s
         → RepresentsOthers tables key t (set_thread s t q n)
-    represents-others s q n stands = record {
-      size = stands.size;
-      threads = λ u p ne at. stands.threads u p (sym (get-set_other s.processors t u q (λ e. ne (sym e))) ∙ at);
-      unused = λ u le. stands.unused u (subst (λ k. k ≤ u) (length-set s.processors t q) le);
+    represents-others s q n is_represented = record {
+      size = is_represented.size;
+      threads = λ u p ne at. is_represented.threads u p (sym (get-set_other s.processors t u q (λ e. ne (sym e))) ∙ at);
+      unused = λ u le. is_represented.unused u (subst (λ k. k ≤ u) (length-set s.processors t q) le);
     }
 
   module _ (set t : ℕ) where
@@ -185,15 +185,15 @@ module _ (program : List (List Instr)) where
       → RepresentsThreads tables key s
       → length s.processors ≡ length program
       → DescribeState program s outlooks
-  describe-same_program key outlooks s same describe stands as_many =
-      subst (λ p. DescribeState p s outlooks) same (describe stands (as_many ∙ ap length (sym same)))
+  describe-same_program key outlooks s same describe is_represented as_many =
+      subst (λ p. DescribeState p s outlooks) same (describe is_represented (as_many ∙ ap length (sym same)))
 
   -- A key that represents a state represents its threads.
   pub represents-threads : (tables : Components) (key : List ℕ) (s : State)
       → Represents tables key s
       → RepresentsThreads tables key s
-  represents-threads tables key s stands =
-      record { size = stands.size; threads = λ u p at. stands.threads u p at; unused = stands.unused }
+  represents-threads tables key s is_represented =
+      record { size = is_represented.size; threads = λ u p at. is_represented.threads u p at; unused = is_represented.unused }
 
   -- With the loaded thread's number, the key represents all threads.
   represents-loaded : {old new : Components} (key next : List ℕ) (t : ℕ) (s : State) (p q : Processor) (n : List ℕ)
@@ -204,13 +204,13 @@ module _ (program : List (List Instr)) where
       → slice_get new.threads (slice_index next (t + 1)) ≡ Some q
       → ((u : ℕ) → u ≢ t → slice_index next (u + 1) ≡ slice_index key (u + 1))
       → RepresentsThreads new next (set_thread s t q n)
-  represents-loaded {old} {new} key next t s p q n stands there extended size thread others = record {
-    size = size ∙ stands.size;
+  represents-loaded {old} {new} key next t s p q n is_represented there extended size thread others = record {
+    size = size ∙ is_represented.size;
     threads = λ u r at. threads u r at;
     unused = λ u ge.
         let lt = slice_get_within s.processors t p there in
         let few : length s.processors ≤ u = subst (λ k. k ≤ u) (length-set s.processors t q) ge in
-        others u (λ e. absurd (omega (arith, e, lt, few))) ∙ stands.unused u few;
+        others u (λ e. absurd (omega (arith, e, lt, few))) ∙ is_represented.unused u few;
   }
     where
       threads : (u : ℕ) (r : Processor)
@@ -224,7 +224,7 @@ module _ (program : List (List Instr)) where
             ap (λ v. slice_get new.threads (slice_index next (v + 1))) same ∙ thread ∙ ap Some is
         | inr ne ↦
             ap (slice_get new.threads) (others u ne)
-            ∙ extended.threads _ r (stands.threads u r ne (sym (get-set_other s.processors t u q (λ e. ne (sym e))) ∙ at))
+            ∙ extended.threads _ r (is_represented.threads u r ne (sym (get-set_other s.processors t u q (λ e. ne (sym e))) ∙ at))
       ]
 
   -- What a loaded thread did, with its number in the key.
@@ -263,7 +263,7 @@ module _ (program : List (List Instr)) where
       → (RepresentsThreads tables key s → length s.processors ≡ length program → HasConflictsOfOthers program s t set)
       → IsWorking program tables key m s
       → IsLoaded program tables key set t p m s
-  working-loaded key set t code p m s coded loaded beside working =
+  working-loaded key set t code p m s coded loaded are_conflicts working =
       let lt : t < length s.processors = subst (λ k. t < k) (sym working.thread_count) (slice_get_within program t code coded) in
       let r = slice_get-in_range s.processors t lt in
       record {
@@ -272,7 +272,7 @@ module _ (program : List (List Instr)) where
           threads = λ u z ne at. working.represented.threads u z at;
           unused = working.represented.unused;
         };
-        conflicts = beside working.represented working.thread_count;
+        conflicts = are_conflicts working.represented working.thread_count;
         thread_count = working.thread_count;
         thread = r.1 ∙ ap Some (sym (loaded r.0 (working.represented.threads t r.0 r.1)));
         words = working.words;

@@ -108,8 +108,8 @@ pub start-invariant : {tables : Components} (test : X86Test) (key : List ℕ) (p
     → Extends (record { program = test.threads; threads = []; memories = [] }) tables
     → InsertsKey (record { keys = []; origins = []; runs = [] }) key parent run visited
     → IsStarted test tables visited
-start-invariant {tables} test key parent run visited formed stands extended (inr there) = absurd (let h = there.1 in cc)
-start-invariant {tables} test key parent run visited formed stands extended (inl adds) = (
+start-invariant {tables} test key parent run visited formed is_represented extended (inr there) = absurd (let h = there.1 in cc)
+start-invariant {tables} test key parent run visited formed is_represented extended (inl adds) = (
   start ∷ [],
   record {
     key_count = ap length adds.1;
@@ -135,7 +135,7 @@ start-invariant {tables} test key parent run visited formed stands extended (inl
         → Represents tables k s
     represents zero k s at and =
         subst (λ z. Represents tables k z) (same_Some start s and)
-        (subst (λ z. Represents tables z start) (same_Some key k at) stands)
+        (subst (λ z. Represents tables z start) (same_Some key k at) is_represented)
     represents (suc i) k s at and = absurd cc
 
     thread_count : (i : ℕ) (s : State) → slice_get (start ∷ []) i ≡ Some s → length s.processors ≡ length test.threads

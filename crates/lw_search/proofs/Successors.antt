@@ -80,11 +80,11 @@ represents-extended : {old new : Components} (key : List ℕ) (s : State)
     → Extends old new
     → Represents old key s
     → Represents new key s
-represents-extended key s extended stands = record {
-  size = stands.size;
-  memory = extended.memories _ _ stands.memory;
-  threads = λ t p at. extended.threads _ p (stands.threads t p at);
-  unused = stands.unused;
+represents-extended key s extended is_represented = record {
+  size = is_represented.size;
+  memory = extended.memories _ _ is_represented.memory;
+  threads = λ t p at. extended.threads _ p (is_represented.threads t p at);
+  unused = is_represented.unused;
 }
 
 -- Inserting a key preserves the keys at their indices, whether the key is new or known.
@@ -104,14 +104,14 @@ cpu_of-event r = go r.0 r.1
     go t false = refl
 
 module _ (program : List (List Instr)) where
-  -- A successor that is covered is so still when more states are found.
+  -- A covered successor remains covered when more states are found.
   covered-prefix : (found more : List State) (s : State) (e : Event)
       → IsPrefix found more
       → IsCovered program found s e
       → IsCovered program more s e
-  covered-prefix found more s e longer served next done = let r = served next done in (r.0, r.1, longer r.1 r.0 r.2, r.3)
+  covered-prefix found more s e longer is_covered next done = let r = is_covered next done in (r.0, r.1, longer r.1 r.0 r.2, r.3)
 
-  -- A state's predecessor is so still when more states and more runs are found.
+  -- A state's predecessor remains one when more states and more runs are found.
   pub predecessor-prefix : {runs longer_runs : List (List (ℕ × Bool))} {found more : List State} {at : ℕ} {origin : Origin}
       {s : State}
       → IsPrefix runs longer_runs
@@ -121,7 +121,7 @@ module _ (program : List (List Instr)) where
   predecessor-prefix longer_runs longer came = record {
     before = came.before;
     from = came.from;
-    stood = longer _ came.from came.stood;
+    found_at = longer _ came.from came.found_at;
     run = came.run;
     listed = longer_runs _ came.run came.listed;
     ran = came.ran;
@@ -161,8 +161,8 @@ module _ (program : List (List Instr)) where
 
   module _ (old new : Components) (visited now : FoundStates) (start : State) (found : List State) (closed : ℕ) (at : ℕ)
       (s end : State) (next : List ℕ) (parent : ℕ) (run : List (ℕ × Bool)) (extended : Extends old new)
-      (invariant : SearchInvariant program start old visited found closed) (stood : slice_get found at ≡ Some s)
-      (stands : Represents new next end) (size : length end.processors ≡ length program) (parent_is : parent ≡ at)
+      (invariant : SearchInvariant program start old visited found closed) (found_at : slice_get found at ≡ Some s)
+      (is_represented : Represents new next end) (size : length end.processors ≡ length program) (parent_is : parent ≡ at)
       (ran : MachineRunsTo flat_memory program (events_of run) s end) where
     -- If the key is known, nothing changes, and its state is the one that the run reaches.
     Inserted-known_key : (i : ℕ) → slice_get visited.keys i ≡ Some next → now ≡ visited → Inserted start new now found closed end
@@ -171,7 +171,7 @@ module _ (program : List (List Instr)) where
         let r = slice_get-in_range found i lt in
         let same : r.0 ≡ end =
         represents-unique new next r.0 end (represents-extended next r.0 extended (invariant.represents i next r.0 key r.1))
-        stands (invariant.thread_count i r.0 r.1 ∙ sym size) in
+        is_represented (invariant.thread_count i r.0 r.1 ∙ sym size) in
         record {
           more = found;
           longer = λ j x is. is;
@@ -227,7 +227,7 @@ module _ (program : List (List Instr)) where
             let same : key.0 ≡ next =
             key-unique new key.0 next end (extended.distinct_threads invariant.distinct_threads)
             (extended.distinct_memories invariant.distinct_memories)
-            (represents-extended key.0 end extended (invariant.represents i key.0 end key.1 at)) stands in
+            (represents-extended key.0 end extended (invariant.represents i key.0 end key.1 at)) is_represented in
             absent i (key.1 ∙ ap Some same)
 
         represents_each : (i : ℕ) (key : List ℕ) (z : State)
@@ -242,7 +242,7 @@ module _ (program : List (List Instr)) where
                 → (slice_get found i ≡ Some z) ⊎ ((i ≡ length found) × (end ≡ z))
                 → Represents new key z
             go (inl a) (inl b) = represents-extended key z extended (invariant.represents i key z a b)
-            go (inr a) (inr b) = subst (λ k. Represents new k z) a.1 (subst (λ y. Represents new next y) b.1 stands)
+            go (inr a) (inr b) = subst (λ k. Represents new k z) a.1 (subst (λ y. Represents new next y) b.1 is_represented)
             go (inl a) (inr b) =
                 absurd (let lt = slice_get_within visited.keys i key a in omega (arith, lt, b.0, invariant.key_count))
             go (inr a) (inl b) = absurd (let lt = slice_get_within found i z b in omega (arith, lt, a.0, invariant.key_count))
@@ -268,13 +268,13 @@ module _ (program : List (List Instr)) where
                 → HasPredecessor program now.runs (append_state found end) (suc i) o z
             go (inl a) (inl b) = predecessor-prefix appended.runs IsPrefix-append_state (invariant.predecessor i o z a b)
             go (inr a) (inr b) =
-                let lt = slice_get_within found at s stood in
+                let lt = slice_get_within found at s found_at in
                 let parent_at : appended.origin.parent ≡ at = appended.parent_is ∙ parent_is in
                 subst (λ p. HasPredecessor program now.runs (append_state found end) (suc i) p z) a.1
                 (subst (λ y. HasPredecessor program now.runs (append_state found end) (suc i) appended.origin y) b.1 (record {
                   before = omega (arith, parent_at, lt, b.0);
                   from = s;
-                  stood = ap (slice_get (append_state found end)) parent_at ∙ IsPrefix-append_state at s stood;
+                  found_at = ap (slice_get (append_state found end)) parent_at ∙ IsPrefix-append_state at s found_at;
                   run = run;
                   listed = appended.listed;
                   ran = ran;
@@ -314,7 +314,7 @@ module _ (program : List (List Instr)) where
       → ExpandsState program old visited new now at key (λ s.
       MachineTransition flat_memory program (event_of e) s (Ok tt) (set_thread s t p m) × HasConflictsOfOthers program s t set)
       (λ s more. IsCovered program more s (event_of e))
-  IsCovered-after_event {old} {settled_tables} {new} {visited} {now} at set t e key all next p m n parent run cpu settles extended size memory threads parent_is adds start found closed s invariant stood keyed is =
+  IsCovered-after_event {old} {settled_tables} {new} {visited} {now} at set t e key all next p m n parent run cpu settles extended size memory threads parent_is adds start found closed s invariant found_at key_at is =
       record {
         more = a.more;
         longer = a.longer;
@@ -337,9 +337,9 @@ module _ (program : List (List Instr)) where
 
       taken : Settled program settled_tables all n (events_of settles.more) mid
       taken = settles.settled mid (record {
-        represented = represents-others program old key t s p m (invariant.represents at key s keyed stood);
+        represented = represents-others program old key t s p m (invariant.represents at key s key_at found_at);
         conflicts = conflicts-set_thread program set t s p m is.1;
-        thread_count = length-set s.processors t p ∙ invariant.thread_count at s stood;
+        thread_count = length-set s.processors t p ∙ invariant.thread_count at s found_at;
         thread = get-set_same s.processors t p d.from was;
         words = refl;
       })
@@ -347,13 +347,14 @@ module _ (program : List (List Instr)) where
       ran : MachineRunsTo flat_memory program (events_of run) s taken.end
       ran = subst (λ r. MachineRunsTo flat_memory program (events_of r) s taken.end) (sym settles.appended) (mid, done, taken.ran)
 
-      stands : Represents new next taken.end
-      stands = represents-working program all next n taken.end taken.working extended size memory threads
+      is_represented : Represents new next taken.end
+      is_represented = represents-working program all next n taken.end taken.working extended size memory threads
 
       a : Inserted start new now found closed taken.end
       a =
           Inserted-either_case old new visited now start found closed at s taken.end next parent run
-          (extends-trans settles.extended extended) invariant stood stands taken.working.thread_count parent_is ran adds
+          (extends-trans settles.extended extended) invariant found_at is_represented taken.working.thread_count parent_is ran
+          adds
 
       covered_each : IsCovered program a.more s (event_of e)
       covered_each after f =
@@ -371,13 +372,13 @@ module _ (program : List (List Instr)) where
       → MachineTransition flat_memory program e s (Ok tt) next
       → ⊥)
       → ExpandsState program tables visited tables visited at key Is (λ s more. IsCovered program more s e)
-  covered-impossible at key e Is never start found closed s invariant stood keyed so = record {
+  covered-impossible at key e Is never start found closed s invariant found_at key_at so = record {
     more = found;
     longer = λ i x is. is;
     keys = λ i x is. is;
     invariant = invariant;
     holds = λ next done.
-        absurd (never s next found (invariant.represents at key s keyed stood) (invariant.thread_count at s stood) done);
+        absurd (never s next found (invariant.represents at key s key_at found_at) (invariant.thread_count at s found_at) done);
   }
 
   -- No event of a thread out of range is enabled.
@@ -412,10 +413,10 @@ module _ (program : List (List Instr)) where
       → slice_get program t ≡ Some code
       → ((r : Processor) → slice_get tables.threads (slice_index key (t + 1)) ≡ Some r → p ≡ r)
       → slice_get s.processors t ≡ Some p
-  slice_get-loaded_thread {tables} key s t code p stands as_many coded loaded =
+  slice_get-loaded_thread {tables} key s t code p is_represented as_many coded loaded =
       let lt : t < length s.processors = subst (λ n. t < n) (sym as_many) (slice_get_within program t code coded) in
       let r = slice_get-in_range s.processors t lt in
-      r.1 ∙ ap Some (sym (loaded r.0 (stands.threads t r.0 r.1)))
+      r.1 ∙ ap Some (sym (loaded r.0 (is_represented.threads t r.0 r.1)))
 
   -- An event that is refused in the loaded thread state is refused in each state with the key.
   pub expands-refused : {tables : Components} {visited : FoundStates} (at t : ℕ) (e : Event) (key : List ℕ) (code : List Instr)
@@ -427,9 +428,9 @@ module _ (program : List (List Instr)) where
       → (Is : State → Type 0)
       → ExpandsState program tables visited tables visited at key Is (λ s more. IsCovered program more s e)
   expands-refused at t e key code p stop cpu coded thread is Is =
-      covered-impossible at key e Is (λ s next found stands as_many done.
+      covered-impossible at key e Is (λ s next found is_represented as_many done.
       no_event-if_refused e s next p stop
-      (ap (slice_get s.processors) cpu ∙ slice_get-loaded_thread key s t code p stands as_many coded thread)
+      (ap (slice_get s.processors) cpu ∙ slice_get-loaded_thread key s t code p is_represented as_many coded thread)
       (is (length s.memory)) done)
 
   -- ---- events in sequence
@@ -445,9 +446,9 @@ module _ (program : List (List Instr)) where
       → ExpandsState program t0 m0 t1 m1 at key Is A
       → ExpandsState program t1 m1 t2 m2 at key Is B
       → ExpandsState program t0 m0 t2 m2 at key Is (λ s more. A s more × B s more)
-  expands-both at key Is A B monotone first second start found closed s invariant stood keyed u =
-      let a = first start found closed s invariant stood keyed u in
-      let b = second start a.more closed s a.invariant (a.longer at s stood) (a.keys at key keyed) u in
+  expands-both at key Is A B monotone first second start found closed s invariant found_at key_at u =
+      let a = first start found closed s invariant found_at key_at u in
+      let b = second start a.more closed s a.invariant (a.longer at s found_at) (a.keys at key key_at) u in
       record {
         more = b.more;
         longer = λ i x is. b.longer i x (a.longer i x is);
@@ -462,31 +463,32 @@ module _ (program : List (List Instr)) where
       → ((s : State) (more : List State) → A s more → B s more)
       → ExpandsState program t0 m0 t1 m1 at key Is A
       → ExpandsState program t0 m0 t1 m1 at key Is B
-  expands-weaker at key Is A B weaker first start found closed s invariant stood keyed u =
-      let a = first start found closed s invariant stood keyed u in
+  expands-weaker at key Is A B weaker first start found closed s invariant found_at key_at u =
+      let a = first start found closed s invariant found_at key_at u in
       record { more = a.more; longer = a.longer; keys = a.keys; invariant = a.invariant; holds = weaker s a.more a.holds }
 
-  -- What is expanded in each state of which one thing holds is expanded in each of which more holds.
+  -- If `Other` implies `Is`, an expansion of the states with `Is` is one of the states with `Other`.
   pub expands-if_more_holds : {t0 t1 : Components} {m0 m1 : FoundStates} (at : ℕ) (key : List ℕ) (Is Other : State → Type 0)
       (A : State → List State → Type 0)
       → ((s : State) → Other s → Is s)
       → ExpandsState program t0 m0 t1 m1 at key Is A
       → ExpandsState program t0 m0 t1 m1 at key Other A
-  expands-if_more_holds at key Is Other A weaker goes start found closed s invariant stood keyed other =
-      goes start found closed s invariant stood keyed (weaker s other)
+  expands-if_more_holds at key Is Other A weaker goes start found closed s invariant found_at key_at other =
+      goes start found closed s invariant found_at key_at (weaker s other)
 
-  -- A successor that is covered is so when more states are found.
+  -- A covered successor remains covered when more states are found.
   pub covered-monotone : (e : Event) → IsMonotone (λ s more. IsCovered program more s e)
-  covered-monotone e s found more longer served = covered-prefix found more s e longer served
+  covered-monotone e s found more longer is_covered = covered-prefix found more s e longer is_covered
 
   -- The successors by the first n threads are covered.
   abbrev pub CoversThreads : ℕ → State → List State → Type 0
   CoversThreads n s more = (t : ℕ) → t < n → CoversThread program t s more
 
-  -- Successors by the first n threads that are covered are so when more states are found.
+  -- Covered successors by the first n threads remain covered when more states are found.
   pub covers_threads-monotone : (n : ℕ) → IsMonotone (CoversThreads n)
-  covers_threads-monotone n s found more longer served t lt =
-      let a = served t lt in (covered-prefix found more s (Step t) longer a.0, covered-prefix found more s (Drain t) longer a.1)
+  covers_threads-monotone n s found more longer is_covered t lt =
+      let a = is_covered t lt in
+      (covered-prefix found more s (Step t) longer a.0, covered-prefix found more s (Drain t) longer a.1)
 
   -- If the successors by the first n threads and by thread n are covered, so are those by the first n + 1.
   pub covers_threads-more : (n : ℕ) (s : State) (more : List State)
@@ -525,15 +527,15 @@ module _ (program : List (List Instr)) where
       → ((s : State) → Represents t0 key s → length s.processors ≡ length program → Is s)
       → ExpandsState program t0 m0 t1 m1 at key Is (CoversThreads n)
       → ExpandsUpTo program t0 m0 at t1 m1 (at + 1)
-  ExpandsUpTo-all_threads {t0} {t1} {m0} {m1} at n key Is few keyed is goes start found invariant = (a.more, now)
+  ExpandsUpTo-all_threads {t0} {t1} {m0} {m1} at n key Is few key_at is goes start found invariant = (a.more, now)
     where
       there : (s : State) × (slice_get found at ≡ Some s)
-      there = slice_get-in_range found at (subst (λ k. at < k) invariant.key_count (slice_get_within m0.keys at key keyed))
+      there = slice_get-in_range found at (subst (λ k. at < k) invariant.key_count (slice_get_within m0.keys at key key_at))
 
       a : Expansion program start t1 m0 m1 found at (CoversThreads n there.0)
       a =
-          goes start found at there.0 invariant there.1 keyed
-          (is there.0 (invariant.represents at key there.0 keyed there.1) (invariant.thread_count at there.0 there.1))
+          goes start found at there.0 invariant there.1 key_at
+          (is there.0 (invariant.represents at key there.0 key_at there.1) (invariant.thread_count at there.0 there.1))
 
       now : SearchInvariant program start t1 m1 a.more (at + 1)
       now = record {

@@ -109,9 +109,10 @@ module _ (program : List (List Instr)) where
       → AppendsRows old visited mid prepared
       → ExpandsState program mid prepared new now at key Is Holds
       → ExpandsState program old visited new now at key Is Holds
-  expands-prepared at key Is Holds rows expands start found closed s invariant stood keyed is =
+  expands-prepared at key Is Holds rows expands start found closed s invariant found_at key_at is =
       let a =
-      expands start found closed s (invariant-prepared rows invariant) stood (ap (λ l. slice_get l at) rows.keys ∙ keyed) is in
+      expands start found closed s (invariant-prepared rows invariant) found_at (ap (λ l. slice_get l at) rows.keys ∙ key_at)
+      is in
       record {
         more = a.more;
         longer = a.longer;
@@ -173,15 +174,16 @@ module _ (program : List (List Instr)) where
       → slice_get program t ≡ Some code
       → slice_get tables.threads (slice_index key (t + 1)) ≡ None
       → IsNeverEnabled program tables key e
-  IsNeverEnabled-without_thread key t e code coded none s next stands as_many done =
+  IsNeverEnabled-without_thread key t e code coded none s next is_represented as_many done =
       let lt : t < length s.processors = subst (λ n. t < n) (sym as_many) (slice_get_within program t code coded) in
       let r = slice_get-in_range s.processors t lt in
-      absurd (let row = sym none ∙ stands.threads t r.0 r.1 in cc)
+      absurd (let row = sym none ∙ is_represented.threads t r.0 r.1 in cc)
 
   pub IsNeverEnabled-without_memory : {tables : Components} (key : List ℕ) (e : ℕ × Bool)
       → slice_get tables.memories (slice_index key 0) ≡ None
       → IsNeverEnabled program tables key e
-  IsNeverEnabled-without_memory key e none s next stands as_many done = absurd (let row = sym none ∙ stands.memory in cc)
+  IsNeverEnabled-without_memory key e none s next is_represented as_many done =
+      absurd (let row = sym none ∙ is_represented.memory in cc)
 
   pub IsNeverEnabled-refused : {tables : Components} (key : List ℕ) (t : ℕ) (e : ℕ × Bool) (code : List Instr) (p q : Processor)
       (m n : List ℕ)
@@ -190,24 +192,25 @@ module _ (program : List (List Instr)) where
       → slice_get tables.threads (slice_index key (t + 1)) ≡ Some p
       → ((locs : ℕ) → ActResult (event_effect program locs (event_of e) p) p m false q n)
       → IsNeverEnabled program tables key e
-  IsNeverEnabled-refused {tables} key t e code p q m n cpu coded row refused s next stands as_many done =
+  IsNeverEnabled-refused {tables} key t e code p q m n cpu coded row refused s next is_represented as_many done =
       let r = refused (length s.memory) in
       no_event-if_refused program (event_of e) s next p r.0.0
       (ap (slice_get s.processors) (cpu_of-event e ∙ cpu)
-      ∙ slice_get-loaded_thread program key s t code p stands as_many coded (λ z at. same_Some p z (sym row ∙ at))) r.0.1 done
+      ∙ slice_get-loaded_thread program key s t code p is_represented as_many coded (λ z at. same_Some p z (sym row ∙ at))) r.0.1
+      done
 
   -- Of an event that is enabled in no state of the key, nothing has to be covered.
   pub expands-never_enabled : {tables : Components} {visited : FoundStates} (at : ℕ) (key : List ℕ) (e : ℕ × Bool)
       (Is : State → Type 0)
       → IsNeverEnabled program tables key e
       → ExpandsState program tables visited tables visited at key Is (λ s more. IsCovered program more s (event_of e))
-  expands-never_enabled at key e Is never start found closed s invariant stood keyed so = record {
+  expands-never_enabled at key e Is never start found closed s invariant found_at key_at so = record {
     more = found;
     longer = λ i x is. is;
     keys = λ i x is. is;
     invariant = invariant;
-    holds =
-        λ next done. absurd (never s next (invariant.represents at key s keyed stood) (invariant.thread_count at s stood) done);
+    holds = λ next done.
+        absurd (never s next (invariant.represents at key s key_at found_at) (invariant.thread_count at s found_at) done);
   }
 
   -- ---- the state after a transition
@@ -232,8 +235,8 @@ module _ (program : List (List Instr)) where
       → InsertsKey visited next parent run now
       → ExpandsState program old visited new now at key (λ s. HasConflictsOfOthers program s c t.conflicts)
       (λ s more. IsCovered program more s (event_of t.event))
-  IsCovered-transition {old} {settled} {new} {visited} {now} at c t code key own all next n parent run is cpu coded from_thread from_memory size thread others settles extended next_size memory threads parent_is adds start found closed s invariant stood keyed has =
-      after start found closed s invariant stood keyed (done, has)
+  IsCovered-transition {old} {settled} {new} {visited} {now} at c t code key own all next n parent run is cpu coded from_thread from_memory size thread others settles extended next_size memory threads parent_is adds start found closed s invariant found_at key_at has =
+      after start found closed s invariant found_at key_at (done, has)
     where
       moved : SettlesFrom program (IsLoaded program old key t.conflicts c is.acted is.written) old old own is.left (t.event ∷ [])
           (t.event ∷ is.more)
@@ -253,16 +256,17 @@ module _ (program : List (List Instr)) where
           IsCovered-after_event program at t.conflicts c t.event key all next is.acted is.written n parent run cpu both extended
           next_size memory threads parent_is adds
 
-      stands : Represents old key s
-      stands = invariant.represents at key s keyed stood
+      is_represented : Represents old key s
+      is_represented = invariant.represents at key s key_at found_at
 
       was : slice_get s.processors c ≡ Some is.from
       was =
-          slice_get-loaded_thread program key s c code is.from stands (invariant.thread_count at s stood) coded
+          slice_get-loaded_thread program key s c code is.from is_represented (invariant.thread_count at s found_at) coded
           (λ z row. same_Some is.from z (sym is.thread_row ∙ ap (slice_get old.threads) from_thread ∙ row))
 
       words : s.memory ≡ is.words
-      words = same_Some s.memory is.words (sym stands.memory ∙ ap (slice_get old.memories) (sym from_memory) ∙ is.memory_row)
+      words =
+          same_Some s.memory is.words (sym is_represented.memory ∙ ap (slice_get old.memories) (sym from_memory) ∙ is.memory_row)
 
       done : MachineTransition flat_memory program (event_of t.event) s (Ok tt) (set_thread s c is.acted is.written)
       done =

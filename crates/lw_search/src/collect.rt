@@ -47,12 +47,23 @@ fn is_done<A: Allocator>(tables: &Tables<'_, A>, key: &StateKey, cpu: Cpu, count
     }
 }
 
-/// Returns the registers of a thread of a state, or 0 in each if the key's number has no row.
-pub(crate) fn registers_of<A: Allocator>(
+/// Returns the word of a register of a thread of a state, or 0 if the key's number has no row.
+pub(crate) fn register_of<A: Allocator>(
     tables: &Tables<'_, A>,
     key: &StateKey,
     cpu: Cpu,
-) -> [Word; REGISTERS]
+    reg: Reg,
+) -> Word
+    ensures { (p : Processor) → slice_get tables.now.threads (slice_index key.now (cpu + 1)) ≡ Some p → result ≡ slice_index p.regs reg }
+{
+    match tables.thread(key[cpu.index() + 1]) {
+        Some(thread) => thread.reg(reg),
+        None => 0,
+    }
+}
+
+/// Returns the registers of a thread of a state, or 0 in each if the key's number has no row.
+fn registers_of<A: Allocator>(tables: &Tables<'_, A>, key: &StateKey, cpu: Cpu) -> [Word; REGISTERS]
     ensures { (p : Processor) → slice_get tables.now.threads (slice_index key.now (cpu + 1)) ≡ Some p → result ≡ p.regs }
 {
     match tables.thread(key[cpu.index() + 1]) {

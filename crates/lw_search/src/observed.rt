@@ -9,7 +9,7 @@ ghost use Rattle.lw_search.specs.inner.StateKeys.{State, Represents};
 ghost use Rattle.lw_search.specs.inner.Invariant.{CollectsAll, HaveSameWords, IsOfSomeRun};
 ghost use Rattle.lw_search.specs.inner.ObservedStates.{InsertsWords, ObservesState};
 
-use crate::collect::{is_final, outcome_of};
+use crate::collect::{is_final, outcome_of, register_of};
 use crate::search::Search;
 use crate::states::StateKey;
 use crate::tables::Tables;
@@ -23,7 +23,7 @@ use std::hash::{BuildHasherDefault, FoldHasher};
 use std::marker::Model;
 
 /// Returns the word of a thread's register in a state, or 0 if the program has no such thread.
-fn register_of<A: Allocator>(
+fn word_of_register<A: Allocator>(
     program: &Program<A>,
     tables: &Tables<'_, A>,
     key: &StateKey,
@@ -36,14 +36,11 @@ fn register_of<A: Allocator>(
     if program.threads.len() <= cpu.index() {
         return 0;
     }
-    match tables.thread(key[cpu.index() + 1]) {
-        Some(thread) => thread.reg(reg),
-        None => 0,
-    }
+    register_of(tables, key, cpu, reg)
 }
 
 /// Returns the word of a location in a state, or 0 if the state has no such location.
-fn location_of<A: Allocator>(tables: &Tables<'_, A>, key: &StateKey, loc: Loc) -> Word
+fn word_of_location<A: Allocator>(tables: &Tables<'_, A>, key: &StateKey, loc: Loc) -> Word
     ensures { (s : State) → Represents tables.now key.now s → result ≡ final_word (machine_outcome flat_memory s) (Location loc) }
 {
     match tables.memory(key[0]) {
@@ -63,8 +60,8 @@ fn word_of<A: Allocator>(
         → result ≡ final_word (machine_outcome flat_memory s) name }
 {
     match name {
-        Seen::Register(cpu, reg) => register_of(program, tables, key, cpu, reg),
-        Seen::Location(loc) => location_of(tables, key, loc),
+        Seen::Register(cpu, reg) => word_of_register(program, tables, key, cpu, reg),
+        Seen::Location(loc) => word_of_location(tables, key, loc),
     }
 }
 

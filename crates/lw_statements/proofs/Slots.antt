@@ -82,8 +82,8 @@ not-operand_and_location arch w (operand.Register r) h = not-register_and_locati
 not-operand_and_location arch w (operand.Number n) h = not-number_and_location w n h
 
 -- Texts that the comparison finds unequal are unequal.
-bytes_eq-false : (u v : Bytes) → not (bytes_eq u v) ≡ true → u ≡ v → ⊥
-bytes_eq-false u v e same = true≢false (sym e ∙ ap not ((bytes_eq-Decides u v).1 same))
+bytes_eq-false_inv : (u v : Bytes) → not (bytes_eq u v) ≡ true → u ≡ v → ⊥
+bytes_eq-false_inv u v e same = true≢false (sym e ∙ ap not ((bytes_eq-Decides u v).1 same))
 
 -- A `:` in lower case is a `:`.
 colon_case : (arch : Arch) → lowercase_if_x86 arch (codes ":") ≡ codes ":"
@@ -176,7 +176,7 @@ module _ {W Form Stmt : Type 0} (spelling : Spelling W Form Stmt) where
       → Gives spelling t a g
       → Gives spelling t b h
       → ⊥
-  not-given_to_differing_slots t (Keyword v) (Keyword w) g h d x y = bytes_eq-false _ _ d (x ∙ sym y)
+  not-given_to_differing_slots t (Keyword v) (Keyword w) g h d x y = bytes_eq-false_inv _ _ d (x ∙ sym y)
   not-given_to_differing_slots t (Keyword w) Register g r d x y = no_register-if_keyword t w r d x y
   not-given_to_differing_slots t Register (Keyword w) r h d x y = no_register-if_keyword t w r d y x
   not-given_to_differing_slots t Register Location r n d x y =
@@ -206,7 +206,7 @@ module _ {W Form Stmt : Type 0} (spelling : Spelling W Form Stmt) where
       → is_no_colon spelling (slot ∷ slots) ≡ true
       → Gives spelling (codes ":") slot g
       → ⊥
-  colon_gives (Keyword w) slots g apart h = bytes_eq-false _ _ apart (h ∙ colon_case spelling.language.arch)
+  colon_gives (Keyword w) slots g apart h = bytes_eq-false_inv _ _ apart (h ∙ colon_case spelling.language.arch)
   colon_gives Register slots r apart h = true≢false (sym (register_reserved _ (codes ":") r h))
   colon_gives Location slots x apart h = colon_location (subst IsLocationName (sym h.0) h.1)
   colon_gives Value slots (operand.Register r) apart h = true≢false (sym (register_reserved _ _ r h))

@@ -188,8 +188,7 @@ module _ (arch : Arch) (ts a : TokenList) (initializers : List InitializerSyntax
 pub ParsesTest-unique : (arch : Arch) (ts : TokenList) (s t : TestSyntax) → ParsesTest arch ts s → ParsesTest arch ts t → s ≡ t
 ParsesTest-unique arch ts s t p q =
     let h = ParsesTest-condition_inv arch ts _ t.initializers q.block t.threads _ q.header t.rows _ q.rows _ refl s p in
-    let u =
-    Listed-unique arch q.after_rows s.listed t.listed h.3.after_list q.condition.after_list h.3.lists q.condition.lists in
+    let u = Listed-unique arch q.after_rows s.listed t.listed h.3.after_list q.condition.after_list h.3.lists q.condition.lists in
     let v =
     Quantified-unique q.condition.after_list s.quant t.quant h.3.after_quant q.condition.after_quant (rw u.1 at h.3.quantifies)
     q.condition.quantifies in

@@ -43,7 +43,8 @@ cell_syntax names code k =
 
 -- ---- their texts
 
--- The text spells these tokens before a blank, they contain no end of a cell, and they do not start as an end of the rows does.
+-- The text spells these tokens before a blank, and has at most 150 bytes; the tokens contain no end of a cell, and do not start as an end of the
+-- rows does.
 pub record IsPrintedCell (text : Bytes) (tokens : TokenList) : Type 0 where
   pub spells : Spells IsBlankNext 150 text tokens
   pub plain : EndsNoCell tokens
@@ -69,7 +70,8 @@ front_starts : (needed : Bool) (k : ℕ) (more : TokenList)
 front_starts true k more h = refl
 front_starts false k more h = h
 
--- The cell after the last instruction, with the end's label or empty, is printed as a cell.
+-- The cell after the last instruction is a printed cell: `end_cells`, whose test for a jump is `needed` here. (`++ []` are the tokens of no
+-- instruction, as `maybe_printed` needs them.)
 end_printed : (needed : Bool) (k : ℕ)
     → k < 2 ^ 32
     → IsPrintedCell (slice_index_or (if needed then (label k ++ codes ":") ∷ [] else []) 0 []) (front_tokens needed k ++ [])

@@ -44,7 +44,7 @@ module _ (program : List (List Instr)) where
   pub record HasPredecessor (runs : List (List (ℕ × Bool))) (found : List State) (at : ℕ) (origin : Origin) (s : State) : Type 0 where
     pub before : origin.parent < at
     pub from : State
-    pub stood : slice_get found origin.parent ≡ Some from
+    pub found_at : slice_get found origin.parent ≡ Some from
     pub run : List (ℕ × Bool)
     pub listed : slice_get runs origin.run ≡ Some run
     pub ran : MachineRunsTo flat_memory program (events_of run) from s
@@ -75,7 +75,7 @@ module _ (program : List (List Instr)) where
     pub holds : Holds more
 
   -- From each list of found states with the invariant, whose state at the index `at` has this key and is as Is says, a longer list
-  -- with the invariant was made, of which Holds is so.
+  -- with the invariant was made, of which `Holds` is true.
   abbrev pub ExpandsState : Components → FoundStates → Components → FoundStates → ℕ → List ℕ → (State → Type 0) → (State → List State → Type 0) → Type 0
   ExpandsState old_tables old_visited new_tables new_visited at key Is Holds =
       (start : State) (found : List State) (closed : ℕ) (s : State) → SearchInvariant start old_tables old_visited found closed

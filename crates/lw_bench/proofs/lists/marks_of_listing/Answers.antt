@@ -2,7 +2,7 @@
 -- listing, which has exactly the test's outcomes, so the list depends only on the test (`marks_of_list`). The
 -- other goals are the bounds of a well-formed head.
 use Rattle.lw_bench.proofs.Common.{IsExactMarkedList, litmus_test_of, IfOk-weaker, outcomes_of}
-use Rattle.lw_bench.proofs.TestReports.{marks_of_list, HasOutcomeShape-of_listing}
+use Rattle.lw_bench.proofs.TestReports.{marks_of_list, HasOutcomeShape-of_same_head}
 use Rattle.lw_bench.proofs.lists.marks_of_listing.Goals as goal
 
 pub states_of-states-requires-clause-threads : goal.states_of-states-requires-clause-threads
@@ -13,7 +13,7 @@ states_of-states-requires-clause-condition g c = c.head-head.ensures.formed.cond
 
 pub states_of-states-requires-clause-outcomes : goal.states_of-states-requires-clause-outcomes
 states_of-states-requires-clause-outcomes g c =
-    HasOutcomeShape-of_listing (litmus_test_of c.args.test.now) (outcomes_of c.args.listing) c.requires.shapes _
+    HasOutcomeShape-of_same_head (litmus_test_of c.args.test.now) (outcomes_of c.args.listing) c.requires.shapes _
     c.head-head.ensures.head
 
 pub write_marks-list-requires : goal.write_marks-list-requires

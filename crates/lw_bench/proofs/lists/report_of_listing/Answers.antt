@@ -1,9 +1,9 @@
 -- `report_of_listing` promises the report of the test's outcomes. The states are those of the listing, which
 -- has exactly these outcomes, so the printed text is the report of the set (`report_of_list`). The other
--- goals are the bounds of a well-formed head.
+-- goals are the bounds of a well-formed head, and that the outcomes have its shape.
 use Rattle.lw_bench.proofs.Common.{length, MentionsLocationsBelow-if_mentions_only, TestHead, head_of}
 use Rattle.lw_bench.proofs.Common.{litmus_test_of, IfOk-weaker, outcomes_of, IsExactReport}
-use Rattle.lw_bench.proofs.TestReports.{report_of_list, HasOutcomeShape-of_listing}
+use Rattle.lw_bench.proofs.TestReports.{report_of_list, HasOutcomeShape-of_same_head}
 use Rattle.lw_bench.proofs.lists.report_of_listing.Goals as goal
 
 pub states_of-states-requires-clause-threads : goal.states_of-states-requires-clause-threads
@@ -14,7 +14,7 @@ states_of-states-requires-clause-condition g c = c.head-head.ensures.formed.cond
 
 pub states_of-states-requires-clause-outcomes : goal.states_of-states-requires-clause-outcomes
 states_of-states-requires-clause-outcomes g c =
-    HasOutcomeShape-of_listing (litmus_test_of c.args.test.now) (outcomes_of c.args.listing) c.requires.shapes _
+    HasOutcomeShape-of_same_head (litmus_test_of c.args.test.now) (outcomes_of c.args.listing) c.requires.shapes _
     c.head-head.ensures.head
 
 pub write_report-report-requires-clause-locations : goal.write_report-report-requires-clause-locations

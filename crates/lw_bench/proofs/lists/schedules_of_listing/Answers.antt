@@ -3,7 +3,7 @@
 -- `schedules_of_list` goes from the listing to the test.
 use Rattle.lw_bench.proofs.Common.{IfOk-weaker, litmus_test_of, IsExactScheduleList}
 use Rattle.lw_bench.proofs.api.TestLists.{AreOutcomesOf-IsListOf}
-use Rattle.lw_bench.proofs.TestReports.{schedules_of_list, HasOutcomeShape-of_listing, IsEvent-of_schedules}
+use Rattle.lw_bench.proofs.TestReports.{schedules_of_list, HasOutcomeShape-of_same_head, IsEvent-of_schedules}
 use Rattle.lw_bench.proofs.lists.schedules_of_listing.Goals as goal
 
 pub states_of-requires-clause-threads : goal.states_of-requires-clause-threads
@@ -14,7 +14,7 @@ states_of-requires-clause-condition g c = c.head-head.ensures.formed.condition
 
 pub states_of-requires-clause-outcomes : goal.states_of-requires-clause-outcomes
 states_of-requires-clause-outcomes g c =
-    HasOutcomeShape-of_listing (litmus_test_of c.args.test.now) _ (AreOutcomesOf-IsListOf _ _ c.requires).shapes _
+    HasOutcomeShape-of_same_head (litmus_test_of c.args.test.now) _ (AreOutcomesOf-IsListOf _ _ c.requires).shapes _
     c.head-head.ensures.head
 
 pub write_schedules-list-requires-clause-threads : goal.write_schedules-list-requires-clause-threads

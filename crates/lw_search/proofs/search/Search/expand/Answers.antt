@@ -12,22 +12,23 @@ use Rattle.lw_search.proofs.search.Search.expand.Goals as goal
 pub loop-thread-preserved : goal.loop-thread-preserved
 loop-thread-preserved g c =
     let program = c.args.self.now.program.now.threads in
-    let n = c.loop-thread.thread in
+    let thread = c.loop-thread.thread in
     let key = c.key-key.result in
     let outlooks = c.outlooks-outlooks.result.threads in
-    let is : State → Type 0 = λ s. DescribeState program s outlooks in
-    let thread = rw (c.loop-thread.invariant.same, c.cpu_at-cpu.ensures) at c.in_ok-expand_thread.ensures.covered in
-    let beside = rw c.cpu_at-cpu.ensures at c.conflicts_with_others-conflicts.ensures in
+    let Described : State → Type 0 = λ s. DescribeState program s outlooks in
+    let thread_covered = rw (c.loop-thread.invariant.same, c.cpu_at-cpu.ensures) at c.in_ok-expand_thread.ensures.covered in
+    let are_conflicts = rw c.cpu_at-cpu.ensures at c.conflicts_with_others-conflicts.ensures in
     record {
       same = c.in_ok-expand_thread.ensures.program ∙ c.loop-thread.invariant.same;
       expands =
-          expands-weaker program c.args.at key is (λ s more. CoversThreads program n s more × CoversThread program n s more)
-          (CoversThreads program (n + 1)) (covers_threads-more program n)
-          (expands-both program c.args.at key is (CoversThreads program n) (CoversThread program n)
-          (covers_threads-monotone program n) c.loop-thread.invariant.expands
+          expands-weaker program c.args.at key Described
+          (λ s more. CoversThreads program thread s more × CoversThread program thread s more)
+          (CoversThreads program (thread + 1)) (covers_threads-more program thread)
+          (expands-both program c.args.at key Described (CoversThreads program thread) (CoversThread program thread)
+          (covers_threads-monotone program thread) c.loop-thread.invariant.expands
           (expands-if_more_holds program c.args.at key
-          (λ s. HasConflictsOfOthers program s n c.conflicts_with_others-conflicts.result) is (CoversThread program n)
-          (beside program) thread));
+          (λ s. HasConflictsOfOthers program s thread c.conflicts_with_others-conflicts.result) Described
+          (CoversThread program thread) (are_conflicts program) thread_covered));
       kept = rw c.loop-thread.invariant.same at c.in_ok-expand_thread.ensures.kept;
     }
 
@@ -38,6 +39,6 @@ returns-clause-expanded g c =
     let key = c.key-key.result in
     let outlooks = c.outlooks-outlooks.result.threads in
     ExpandsUpTo-all_threads program c.args.at c.loop-thread.thread key (λ s. DescribeState program s outlooks)
-    (omega (arith, c.loop-thread-test.false, ap length c.as_slice-code-items.ensures)) c.key-key.ensures (λ s stands.
+    (omega (arith, c.loop-thread-test.false, ap length c.as_slice-code-items.ensures)) c.key-key.ensures (λ s is_represented.
     describe-same_program program key outlooks s c.requires.kept.of_program (c.outlooks-outlooks.ensures s)
-    (represents-threads program tables key s stands)) c.loop-thread.invariant.expands
+    (represents-threads program tables key s is_represented)) c.loop-thread.invariant.expands

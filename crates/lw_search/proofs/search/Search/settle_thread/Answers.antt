@@ -17,39 +17,39 @@ returns-then-len-count-clause-settled g c =
     let program = c.args.self.now.program.now.threads in
     let tables = c.args.self.now.tables in
     let set = c.conflicts_with_others.result in
-    let beside : (s : State)
+    let are_conflicts : (s : State)
     → RepresentsThreads tables c.args.key.now s
     → length s.processors ≡ length program
-    → HasConflictsOfOthers program s c.args.cpu set = λ s stands as_many.
+    → HasConflictsOfOthers program s c.args.cpu set = λ s is_represented as_many.
     c.conflicts_with_others.ensures program s
     (describe-same_program program c.args.key.now c.outlooks-outlooks.result.threads s c.requires.of_program
-    (c.outlooks-outlooks.ensures s) stands as_many) in
+    (c.outlooks-outlooks.ensures s) is_represented as_many) in
     let a = c.in_ok-settle.ensures in
     settles_from-unmoved program c.args.key.now set c.args.cpu c.load_thread.new.thread c.settle.new.thread c.args.self.now.words
     c.settle.new.words c.args.self.now.run c.settle.new.run a.0 a.1
     (sym c.len.ensures ∙ c.if-len-count.true ∙ c.len-count.ensures) a.2 (λ s.
     working-loaded program c.args.key.now set c.args.cpu c.args.code.now c.load_thread.new.thread c.args.self.now.words s
-    c.requires.code (copied-row _ _ _ c.in_ok-load_thread.ensures) (beside s))
+    c.requires.code (copied-row _ _ _ c.in_ok-load_thread.ensures) (are_conflicts s))
 
 pub returns-clause-settled : goal.returns-clause-settled
 returns-clause-settled g c =
     let program = c.args.self.now.program.now.threads in
     let tables = c.args.self.now.tables in
     let set = c.conflicts_with_others.result in
-    let beside : (s : State)
+    let are_conflicts : (s : State)
     → RepresentsThreads tables c.args.key.now s
     → length s.processors ≡ length program
-    → HasConflictsOfOthers program s c.args.cpu set = λ s stands as_many.
+    → HasConflictsOfOthers program s c.args.cpu set = λ s is_represented as_many.
     c.conflicts_with_others.ensures program s
     (describe-same_program program c.args.key.now c.outlooks-outlooks.result.threads s c.requires.of_program
-    (c.outlooks-outlooks.ensures s) stands as_many) in
+    (c.outlooks-outlooks.ensures s) is_represented as_many) in
     let a = c.in_ok-settle.ensures in
     settles_from-weaker program
     (IsLoaded program tables c.args.key.now set c.args.cpu c.load_thread.new.thread c.args.self.now.words)
     (IsWorking program tables c.args.key.now c.args.self.now.words) c.with_numbers-next.result c.settle.new.words
     c.args.self.now.run c.settle.new.run (λ s.
     working-loaded program c.args.key.now set c.args.cpu c.args.code.now c.load_thread.new.thread c.args.self.now.words s
-    c.requires.code (copied-row _ _ _ c.in_ok-load_thread.ensures) (beside s))
+    c.requires.code (copied-row _ _ _ c.in_ok-load_thread.ensures) (are_conflicts s))
     (settles_from-loaded program c.args.key.now c.with_numbers-next.result set c.args.cpu c.load_thread.new.thread
     c.settle.new.thread c.args.self.now.words c.settle.new.words c.args.self.now.run c.settle.new.run a.0 a.1 a.2
     c.in_ok-thread.ensures.extended c.with_numbers-next.ensures.size

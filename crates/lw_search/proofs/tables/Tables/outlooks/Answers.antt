@@ -36,11 +36,11 @@ loop-index-preserved g c =
     }
 
 pub returns : goal.returns
-returns g c s stands as_many u p at =
+returns g c s is_represented as_many u p at =
     let tables = c.args.self.now in
     let lt : u < length tables.program = subst (λ k. u < k) as_many (slice_get_within s.processors u p at) in
     let few : length tables.program ≡ length c.self.inside.program.now.threads =
     ap (λ (t : Components). length t.program) (sym c.self.view_is) in
     let o = c.loop-index.invariant.holds u (omega (arith, lt, few, c.loop-index-test.false, c.len-index-end.ensures)) in
     let formed = c.self.inside.program.now.well_formed in
-    (omega (arith, lt, few, formed.as_many, formed.head.bounded), o.0, o.1, o.2 p lt (stands.threads u p at))
+    (omega (arith, lt, few, formed.as_many, formed.head.bounded), o.0, o.1, o.2 p lt (is_represented.threads u p at))
