@@ -13,7 +13,7 @@ use crate::run::RunEvent;
 use crate::search::{Search, cpu_at};
 use crate::states::{StateKey, StateTable};
 use crate::tables::Tables;
-use lw_base::{Cpu, Event, Outcome, REGISTERS, Sequence, Word};
+use lw_base::{Cpu, Event, Outcome, REGISTERS, Reg, Sequence, Word};
 use lw_litmus::Program;
 use lw_outcome_map::{Listing, OutcomeMap};
 use std::alloc::{AllocError, Allocator};
