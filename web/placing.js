@@ -8,8 +8,8 @@ const PHONE = "(max-width: 40rem)";
 
 /**
  * Places the parts: in one column the verdict and the machine come first, and the text is folded. The graph is beside the machine if it has room, and
- * otherwise below it. On a phone the words on the test are below the verdict, and otherwise above the text. `fit` is called when the room for the machine has changed, with `true` on a projector
- * and after it.
+ * otherwise below it. On a phone the words on the test are below the verdict, and otherwise above the text. `fit` is called when the room for the
+ * machine has changed, with `true` on a projector and after it.
  * @param {Present} present
  * @param {function(boolean): void} fit
  */
