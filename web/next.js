@@ -27,6 +27,6 @@ export function showNextStep(examples, name, { choose, compare, browse }) {
     button("compare both", () => compare(partner), { class: "link", id: "next-compare" }), ". ",
   ];
   const named = NAMED.filter(([name]) => documents.some(([file]) => file === name));
-  const links = named.map(([file, title, words]) => el("span", { class: "unbroken" }, el("a", { href: file, target: "reading" }, title), words, " "));
-  byId("next").replaceChildren(...step, ...links);
+  const link = ([file, title, words]) => el("span", { class: "unbroken" }, el("a", { href: file, target: "reading" }, title), words);
+  byId("next").replaceChildren(...step, ...named.flatMap((it, index) => [index ? " · " : "", link(it)]));
 }
