@@ -43,9 +43,9 @@ DOCUMENTS = {
     "proof.html": Document("PROOF", "The proof", "explained for graduate students"),
     "believe.html": Document("BELIEVE", "What to read to believe it", "the definitions, in order"),
     "trusted.html": Document("TRUSTED", "What is trusted", "assumptions on one page"),
-    "examples.html": Document("../examples/INDEX", "All examples", "by family, with what each shows and where it was published"),
-    "from-herd.html": Document("FROM-HERD", "From herd", "tests in herd's form, logs, and many files"),
-    "from-c.html": Document("FROM-C", "From C and Rust", "small programs as litmus tests"),
+    "examples.html": Document("../examples/INDEX", "All examples", "by family, and where published"),
+    "from-herd.html": Document("FROM-HERD", "From herd", "its tests, and logs"),
+    "from-c.html": Document("FROM-C", "From C and Rust", "programs as tests"),
     "on-machine.html": Document("ON-MACHINE", "On a machine", "what a processor shows of a test"),
     "solutions.html": Document("SOLUTIONS", "Solutions", "to the tutorial and the lab"),
 }
