@@ -235,7 +235,7 @@ export function explainMissingRowEnd(fault, text) {
  * @param {string} text
  * @returns {number[]}
  */
-function endsWithoutMark(fault, text) {
+function placesOfMissingEnds(fault, text) {
   const first = lineWithoutEnd(fault, text);
   if (first === null) return [];
   const code = withoutComments(text).split(QUESTION_OR_LIST, 1)[0];
@@ -248,18 +248,19 @@ function endsWithoutMark(fault, text) {
 }
 
 /**
- * Returns the explanation of a fault that is gone if each row of a text ends with a `;`, at the first row that has none; null if it is not.
+ * Returns a hint that rows have no `;` at their ends, if the text is read once each of them gets one; otherwise null. The hint is at the first such
+ * row.
  * @param {Fault} fault
  * @param {string} text
  * @returns {Hint | null}
  */
-function rowsWithoutEnd(fault, text) {
-  const ends = endsWithoutMark(fault, text);
+function hintOnRowsWithoutEnd(fault, text) {
+  const ends = placesOfMissingEnds(fault, text);
   if (!ends.length) return null;
   const [begin, end] = [ends[0], ends.at(-1)];
-  const put = ends.map((it, at) => `${text.slice(ends[at - 1] ?? begin, it)} ;`).join("");
+  const withEnds = ends.map((it, at) => `${text.slice(ends[at - 1] ?? begin, it)} ;`).join("");
   try {
-    readTest(text.slice(0, begin) + put + text.slice(end));
+    readTest(text.slice(0, begin) + withEnds + text.slice(end));
   } catch {
     return null;
   }
@@ -268,7 +269,7 @@ function rowsWithoutEnd(fault, text) {
   const words = ends.length === 1 ? "This row has no `;` at its end." : `This row and ${others} have no \`;\` at their ends.`;
   const title = ends.length === 1 ? "Put in the ;" : `Put in ${ends.length} ;`;
   const at = { row: front.length, column: [...front.at(-1)].length + 1, index: begin };
-  return { words, change: { begin, end, text: put, title }, at };
+  return { words, change: { begin, end, text: withEnds, title }, at };
 }
 
 /** Returns that a text is empty, and proposes a small test in its place, if that is so; or "". */
@@ -382,5 +383,5 @@ export function hintOn(fault, text) {
   const { kind, name, index } = fault;
   const place = new Place(text, index);
   const explain = () => ({ words: SENTENCES[`${kind} ${name}`]?.(place) ?? null, change: place.change });
-  return rowsWithoutEnd(fault, text) ?? explain();
+  return hintOnRowsWithoutEnd(fault, text) ?? explain();
 }

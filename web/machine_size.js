@@ -16,7 +16,7 @@ const FEW = { lines: 3, slots: 2 };
 const CACHE = 3.5;
 const HIGH = 860;
 // How wide a window is at least in which the page has two columns.
-const NARROW = 1120;
+const TWO_COLUMNS = 1120;
 
 /**
  * Returns the registers that a thread's code names, or that have a word other than 0 in one of some states.
@@ -64,9 +64,9 @@ function hasCaches({ state }) {
   return caches.isOn && state.threads.some((it) => it.lines);
 }
 
-/** Returns whether the window is too low for a machine in large type. */
+/** Returns whether the window, in which the page has two columns, is too low for a machine in large type. */
 function isLowForType() {
-  return largeType.isOn && innerHeight < HIGH && innerWidth > NARROW;
+  return largeType.isOn && innerHeight < HIGH && innerWidth > TWO_COLUMNS;
 }
 
 /**

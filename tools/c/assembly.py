@@ -155,6 +155,7 @@ class Reader:
         self.assembly = assembly
         self.section, self.section_name = Section.CODE, ".text"
         self.stack: list[tuple[Section, str]] = []
+        # The object that is read, whether it has only labels so far, and its alignment.
         self.object, self.is_new, self.alignment = DataObject(), False, 1
         self.label: str | None = None
         self.main_files: set[str] = set()
@@ -247,6 +248,7 @@ class Reader:
             self.stack.append(before)
             self.section_name = parts[0].strip('"') if word in (".section", ".pushsection") else word
             self.section = classify_section(self.section_name, parts[1].strip('"') if len(parts) > 1 and word != ".text" else None)
+        # The object that is read, whether it has only labels so far, and its alignment.
         self.object, self.is_new, self.alignment = DataObject(), False, 1
 
     def read_debug_directive(self, word: str, rest: str) -> None:

@@ -675,7 +675,9 @@ class Compiled(cases.Case):
                     self.assertTrue(any(number == int(thread) and first <= line < last for number, line in needed_lines))
 
     def test_orders(self) -> None:
-        """The instructions of C's orders are those of the table in docs/FENCES.md, by each compiler at -O1 to -O3. (None: it depends on the compiler.)"""
+        """C's operations compile to an instruction that waits, a locked one or a fence, or to none, as docs/FENCES.md says: by each compiler at -O1 to
+        -O3. Of each operation: whether it waits, or None if gcc's code waits and clang's does not. `return` means that the result is used.
+        """
         bodies = {
             "atomic_store(&x, 1)": True, "atomic_thread_fence(memory_order_seq_cst)": True,
             "return atomic_exchange_explicit(&x, 1, memory_order_relaxed)": True, "atomic_exchange_explicit(&x, 1, memory_order_acq_rel)": True,
@@ -694,11 +696,12 @@ class Compiled(cases.Case):
         text = f"#include <stdatomic.h>\natomic_int x;\n{functions}"
         for compiler in [it for it in list_compilers(".c") if not it.endswith("-O0")]:
             words = [*compiler.split(), "-fcf-protection=none", "-S", "-x", "c", "-o", "-", "-"]
-            preprocessed = subprocess.run(words, input=text.encode(), stdout=subprocess.PIPE, check=True).stdout.decode()
+            assembly = subprocess.run(words, input=text.encode(), stdout=subprocess.PIPE, check=True).stdout.decode()
             for number, (body, waits) in enumerate(bodies.items()):
-                code = require_match(re.search(rf"^f{number}:[^\n]*\n(.*?)^\s*ret", preprocessed, re.M | re.S))[1]
+                code = require_match(re.search(rf"^f{number}:[^\n]*\n(.*?)^\s*ret", assembly, re.M | re.S))[1]
                 with self.subTest(body, compiler=compiler):
-                    expected = compiler.startswith("gcc") if waits is None else waits
+                    waits_only_by_gcc = waits is None
+                    expected = compiler.startswith("gcc") if waits_only_by_gcc else waits
                     self.compare("from_c", compiler, body, expected, bool(re.search(r"\b(?:lock|xchg\w*|mfence)\b", code)))
 
     def test_documents(self) -> None:

@@ -96,11 +96,11 @@ class Renderer:
         return f"<p>{self.render_inline(words)}</p>\n"
 
     def render_heading(self, level: int, words: str) -> str:
-        """Returns a heading."""
+        """Returns a heading as HTML."""
         return f"<h{level}>{self.render_inline(words)}</h{level}>\n"
 
     def render_listing(self, lines: list[str]) -> str:
-        """Returns lines as they are, in a fixed pitch."""
+        """Returns lines as they are, in a fixed pitch, as HTML."""
         return "<pre>" + escape("\n".join(lines), quote=False) + "</pre>\n"
 
     def render_picture(self, words: str, path: str) -> str:
@@ -108,18 +108,18 @@ class Renderer:
         return f'<figure data-picture="{path}"><figcaption>{self.render_inline(words)}</figcaption></figure>\n'
 
     def render_table(self, lines: list[str]) -> str:
-        """Returns a table, of which the first row is a header."""
+        """Returns a table as HTML; its first row is a header."""
         head, _, *rows = lines
         tags = [("th", head), *(("td", row) for row in rows)]
         rows_of_cells = ("".join(f"<{tag}>{self.render_cell(it)}</{tag}>" for it in split_cells(row)) for tag, row in tags)
         return "<table>\n" + "".join(f"<tr>{it}</tr>\n" for it in rows_of_cells) + "</table>\n"
 
     def render_cell(self, text: str) -> str:
-        """Returns the content of a cell."""
+        """Returns the content of a cell as HTML."""
         return self.render_inline(text)
 
     def render_inline(self, text: str) -> str:
-        """Returns words with their marks: code, strong, emphasis, and links."""
+        """Returns words with their marks (code, strong, emphasis, and links) as HTML."""
         parts, end = [], 0
         for match in MARKED.finditer(text):
             parts += [self.render_plain(text[end : match.start()]), self.render_mark(match)]
@@ -127,7 +127,7 @@ class Renderer:
         return "".join(parts) + self.render_plain(text[end:])
 
     def render_plain(self, text: str) -> str:
-        """Returns words without marks."""
+        """Returns words that have no marks, as HTML."""
         return escape(text, quote=False)
 
     def render_mark(self, match: "re.Match[str]") -> str:

@@ -188,7 +188,7 @@ class SiteRenderer(markdown.Renderer):
         return len(text) >= self.shortest and is_example(text)
 
     def render_plain(self, text: str) -> str:
-        """Returns words without marks; the name of a document's file leads to it."""
+        """Returns words that have no marks, as HTML; the name of a document's file is a link to it."""
         return NAMED.sub(lambda it: self.render_link(it[0], it[1]) if it[1][: -len(".md")] in self.files else it[0], super().render_plain(text))
 
     def render_code(self, text: str) -> str:

@@ -203,6 +203,7 @@ class Verdicts(PageCase):
         self.assertSoon(schedule_to("SB-x86", 2), user.schedule)
         user.press(user.keys.END)
         self.assertStep("The run has ended")
+        # A register that the last event changed is read out with `put`.
         self.assertEqual(["EAX 1", "EAX 0"], [it.replace(" put", "") for it in user.texts("#watching .register")])
 
 
