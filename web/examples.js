@@ -32,8 +32,8 @@ const NAME = /(`?[\w.+]+-x86\b`?|`[\w.+]+`|(?<=\b[Ss]ee )[\w.+]*\w)/;
 
 // Why the outcome of an x86 test that is allowed surprises, or that it needs no store buffer: what is known of it by interleaving.
 const BY_INTERLEAVING = {
-  allowed: "Also by interleaving: it needs no store buffer.",
-  forbidden: "Never by interleaving: it needs store buffers.",
+  allowed: "Some interleaving gives this, too: it needs no store buffer.",
+  forbidden: "No interleaving gives this: it needs store buffers.",
 };
 // A sentence that says more of one test.
 const SURPRISES = {

@@ -62,9 +62,9 @@ class FirstView(PageCase):
         """Of an x86 example with an outcome that is allowed a note says whether interleaving allows it, too; of others there is none."""
         user = self.user
         for name, note in (
-            ("R-x86", ["Never by interleaving: it needs store buffers."]),
-            ("Peterson%2Bturnfirst-x86", ["Also by interleaving: it needs no store buffer."]),
-            ("Urcu%2Bphase-x86", ["Also by interleaving: it needs no store buffer."]),
+            ("R-x86", ["No interleaving gives this: it needs store buffers."]),
+            ("Peterson%2Bturnfirst-x86", ["Some interleaving gives this, too: it needs no store buffer."]),
+            ("Urcu%2Bphase-x86", ["Some interleaving gives this, too: it needs no store buffer."]),
             ("MP-x86", []), ("SB", []), ("Counter-x86", []),
         ):
             user.open_listed(f"#example={name}")
