@@ -26,7 +26,7 @@ use denote.Triple.Walked.{Stays, stay_dropped, walk_of, Goes-dropped}
 use Rattle.std.proofs.alloc.Calls.{Answer, answer_val, Answer-Ok, Answer-err}
 use Rattle.std.proofs.alloc.Shapes.{after, head, arm_body}
 use Rattle.std.proofs.raw_atomic.Calls.{fm}
-use Rattle.std.proofs.raw_atomic.ByHand.{proved_at, leaves}
+use Rattle.std.proofs.raw_atomic.Walks.{proved_at, leaves}
 use Rattle.lw_arena.specs.Ownership.{block_token}
 use Rattle.lw_arena.proofs.Taken.{TakeResult, TakeEnsures, goal-of_take_result, block_token-of_room}
 use Rattle.lw_arena.proofs.ByHand.{slot_of_index, then_runs}

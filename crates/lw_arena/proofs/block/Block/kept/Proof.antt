@@ -28,7 +28,7 @@ use Rattle.std.proofs.alloc.Calls.{Al, seen, Takes, at_takes, Answered, Takes-go
 use Rattle.std.proofs.alloc.Shapes.{after, head, arm_body}
 use Rattle.std.proofs.option.Made.{Some-of, none_of}
 use Rattle.std.proofs.raw_atomic.Calls.{fm}
-use Rattle.std.proofs.raw_atomic.ByHand.{proved_at, leaves}
+use Rattle.std.proofs.raw_atomic.Walks.{proved_at, leaves}
 use Rattle.lw_arena.specs.Ownership.{units, memory}
 use Rattle.lw_arena.proofs.Rooms.{memory-of_room}
 use Rattle.lw_arena.proofs.ByHand.{slot_of_index, then_runs, pointer_struct, owns_pointer_struct, owns_pointer_struct-always}

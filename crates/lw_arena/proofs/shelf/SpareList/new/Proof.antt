@@ -18,7 +18,7 @@ use denote.Signature.{types_at}
 use denote.Steps.{nothing}
 use denote.Triple.Entry.{alive}
 use denote.Triple.Walked.{Stays, stay_dropped, walk_of, Goes-dropped}
-use Rattle.std.proofs.raw_atomic.ByHand.{proved_at, leaves}
+use Rattle.std.proofs.raw_atomic.Walks.{proved_at, leaves}
 use Rattle.lw_arena.proofs.ByHand.{slot_of_index, pointer_struct, owns_pointer_struct, owns_pointer_struct-always}
 use Rattle.lw_arena.specs.contracts.shelf.SpareList as list
 use Rattle.lw_arena.specs.contracts.shelf.SpareList.new.{ended, clauses}
