@@ -73,6 +73,9 @@ document.head.append(script);
 });
 globalThis.site.coming.catch(() => null);
 """
+# A module of WebAssembly begins with a magic number and a version; after them are its sections, of which custom ones have this number.
+WASM_HEAD = 8
+CUSTOM_SECTION = 0
 # The quiz of a site: the number of its tests, and the seed.
 QUIZ = (10, "1")
 # The page of a site, as its documents link to it.
@@ -138,6 +141,32 @@ def pack_bytes(content: bytes) -> str:
     return letters.encode(gzip.compress(content, mtime=0))
 
 
+def remove_names(module: bytes) -> bytes:
+    """Returns a module of WebAssembly without the names of its functions, the custom section `name`, which browsers do not need. Other bytes are
+    returned as they are.
+    """
+    kept, at = [module[:WASM_HEAD]], WASM_HEAD
+    while module.startswith(b"\0asm") and at < len(module):
+        size, content = read_leb128(module, at + 1)
+        end = content + size
+        length, name = read_leb128(module, content)
+        is_names = module[at] == CUSTOM_SECTION and module[name : name + length] == b"name"
+        kept.append(b"" if is_names else module[at:end])
+        at = end
+    return b"".join(kept) if at == len(module) else module
+
+
+def read_leb128(module: bytes, at: int) -> tuple[int, int]:
+    """Returns the number that begins at a place of a module, in the format LEB128, and the place after it."""
+    number, shift = 0, 0
+    while at < len(module):
+        number |= (module[at] & 0x7F) << shift
+        shift, at = shift + 7, at + 1
+        if module[at - 1] < 0x80:
+            break
+    return number, at
+
+
 def make_unpacking_script(script: str) -> str:
     """Returns a script that unpacks another one and runs it: the page's own code is a third as long when it is packed."""
     return UNPACKING.replace("PACKED", format_literal(pack_bytes(script.encode())))
@@ -161,7 +190,7 @@ def make_scripts(modules: list[bytes], is_kept: bool, web: str, has_documents: b
     begin = f"globalThis.site = {format_literal(site)};\nglobalThis.site.bytesOf = {letters.DECODER};\n"
     scripts_by_name = {"tables.js": begin + first, "page.js": make_unpacking_script(bundle_module("main", web))}
     for name, module in zip(names, modules):
-        scripts_by_name[name] = f"globalThis.site.modules.push({format_literal(pack_bytes(module))});\nglobalThis.site.came?.();\n"
+        scripts_by_name[name] = f"globalThis.site.modules.push({format_literal(pack_bytes(remove_names(module)))});\nglobalThis.site.came?.();\n"
     return scripts_by_name
 
 

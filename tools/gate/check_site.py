@@ -295,7 +295,11 @@ def is_dead_link(link: str, file: str, texts: dict[str, str]) -> bool:
 
 
 def check_packed() -> Iterator[Comparison]:
-    """Checks that what is packed is unpacked again, and that one site is the same each time."""
+    """Checks that what is packed is unpacked again, that one site is the same each time, and what is left out of a module."""
+    head, names, types = b"\0asm\1\0\0\0", b"\0\x07\x04namexy", b"\1\1\0"
+    yield "a module without its names", head + types, make_site.remove_names(head + names + types)
+    for unchanged in (b"", b"no module", head, head + types, head + names[:-1]):
+        yield f"{unchanged!r}, without names", unchanged, make_site.remove_names(unchanged)
     content = bytes(range(256)) * 9
     packed = make_site.pack_bytes(content)
     if NODE:

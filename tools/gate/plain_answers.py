@@ -232,7 +232,7 @@ def answer_moves(text: bytes, schedule: str, protocol: str, whole: bool = False)
     film = make_film(text, schedule, protocol)
     effect, before = film["effects"][-1] if film["effects"] else None, film["states"][-2:][0]
     answer: Answer = {
-        "state": state, "before": before, "effect": effect, "put": list_set_registers(film) if whole else None, "ending": make_ending(text, state)
+        "state": state, "before": before, "effect": effect, "written": list_set_registers(film) if whole else None, "ending": make_ending(text, state)
     }
     return {**answer, "moves": moves, "cells": film["cells"], "language": read_language(text)}
 
