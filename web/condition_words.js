@@ -31,7 +31,7 @@ function testOf(text) {
  * @param {boolean} [isDenied]
  * @returns {Atom[][] | null}
  */
-function alternativesOf({ kind, parts, site, word }, isDenied = false) {
+export function alternativesOf({ kind, parts, site, word }, isDenied = false) {
   if (kind === "Eq") return [[{ site, word, isDenied }]];
   if (kind === "Not") return alternativesOf(parts[0], !isDenied);
   const [first, second] = parts.map((it) => alternativesOf(it, isDenied));
@@ -55,13 +55,15 @@ function readInto(test, { thread, register }) {
 }
 
 /**
- * Says what one thread does: its reads in the order of its code, and the words that it ends with.
+ * Says what one thread does: its reads in the order of its code, and the words that it ends with. A register that several of its atoms name is no
+ * read, since it has one word only.
  * @param {Test} test
  * @param {Atom[]} atoms
  * @returns {string}
  */
 function wordsOfThread(test, atoms) {
-  const observations = atoms.map((it) => ({ ...it, read: readInto(test, it.site) }));
+  const isNamedOnce = ({ site }) => atoms.filter((it) => it.site.register === site.register).length === 1;
+  const observations = atoms.map((it) => ({ ...it, read: isNamedOnce(it) ? readInto(test, it.site) : null }));
   const reads = observations.filter((it) => it.read).sort((first, second) => first.read.position - second.read.position);
   const others = observations.filter((it) => !it.read).map((it) => codeOf(siteName(test, it.site).slice(2), it));
   const parts = [];

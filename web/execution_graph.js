@@ -17,7 +17,7 @@ const ARROWS = [
   ["fr", { fr: "read before that write" }],
 ];
 const WITH_CYCLE = "The bold arrows are a cycle: this run is no interleaving. ";
-const WITHOUT_CYCLE = "No cycle: interleaving can end this way, too. ";
+const WITHOUT_CYCLE = "No cycle: some interleaving is like the run that is shown. ";
 // The number of graphs that were shown so far.
 let shownGraphs = 0;
 const SVG = "http://www.w3.org/2000/svg";

@@ -230,20 +230,20 @@ export function explainMissingRowEnd(fault, text) {
 }
 
 /**
- * Returns where in a text each row ends that has no `;`, from the row before a fault on: before the comments after it.
+ * Returns where in a text each row ends that has no `;`, from the header on, if the row before a fault has none: before the comments after it.
  * @param {Fault} fault
  * @param {string} text
  * @returns {number[]}
  */
 function placesOfMissingEnds(fault, text) {
-  const first = lineWithoutEnd(fault, text);
-  if (first === null) return [];
+  if (lineWithoutEnd(fault, text) === null) return [];
   const code = withoutComments(text).split(QUESTION_OR_LIST, 1)[0];
+  const first = code.slice(0, code.search(/^\s*P0\b/m)).trimEnd().split("\n").length;
   let begin = 0;
   return code.split("\n").flatMap((line, at) => {
     const end = begin + line.trimEnd().length;
     begin += line.length + 1;
-    return at + 1 < first || !line.trim() || line.trimEnd().endsWith(";") ? [] : [end];
+    return at < first || !line.trim() || line.trimEnd().endsWith(";") ? [] : [end];
   });
 }
 
@@ -323,6 +323,7 @@ function explainX86Form(place) {
   if (token === ";" || token === "|") return `The instruction before it is not complete. ${INSTRUCTIONS}`;
   if (/\block$/i.test(before)) return `\`LOCK\` comes before \`XADD\` or \`XCHG\`.${place.meant(["XADD", "XCHG"])}`;
   if (!LABELS.test(before) || MNEMONIC.test(token)) return INSTRUCTIONS;
+  if (/^[SL]FENCE$/i.test(token)) return `${token} orders nothing that x86-TSO does not order already: leave it out. Only MFENCE holds back a later load.`;
   return `lw has no instruction of this name.${place.meant(MNEMONICS)} ${INSTRUCTIONS}`;
 }
 

@@ -1,9 +1,11 @@
-// Finds slips in a test that lw takes: a question about a place that no instruction writes, and a load of a location that no thread writes. They
+// Finds slips in a test that lw takes: a question about a place that no instruction writes, or for two words of one place at once, and a load of a
+// location that no thread writes. They
 // are hints of the page's own, beside lw's answers. Not proved.
 
+import { alternativesOf } from "./condition_words.js";
 import { button, el, plainMark, sentence } from "./dom.js";
 import { nearest } from "./nearest.js";
-import { siteName, sitesIn, sortedSites } from "./propositions.js";
+import { siteKey, siteName, sitesIn, sortedSites } from "./propositions.js";
 import { readTest } from "./tests.js";
 import { REGISTERS } from "./token_reader.js";
 
@@ -35,6 +37,14 @@ export function applyChange(text, { written, name, isInQuestion }) {
   const pattern = new RegExp(`(?<![\\w:])${written.replace(":", "\\s*:\\s*")}\\b`, "g");
   const [rest, question] = [text.slice(0, index), text.slice(index)];
   return isInQuestion ? rest + question.replace(pattern, name) : rest.replace(pattern, name) + question;
+}
+
+/** Says that the question asks for two words of one place at once, if that is so. */
+function slipsOfTwoWords(test) {
+  const claims = (alternativesOf(test.proposition) ?? []).map((atoms) => atoms.filter((it) => !it.isDenied));
+  const isOther = (atom) => (it) => siteKey(it.site) === siteKey(atom.site) && it.word !== atom.word;
+  const names = claims.flatMap((atoms) => atoms.filter((it) => atoms.some(isOther(it)))).map((it) => siteName(test, it.site));
+  return [...new Set(names)].map((name) => makeSlip(`The question asks for two words of \`${name}\` at once: no state has both.`, name, null, true));
 }
 
 /** Returns the numbers of the registers that a thread's code writes. */
@@ -88,7 +98,7 @@ export function slipsIn(text) {
   }
   const askedSites = sortedSites(sitesIn(test.proposition));
   const registers = askedSites.filter((it) => it.location === undefined);
-  return [...registers.flatMap((site) => slipOfRegister(test, site, askedSites)), ...slipsOfLocations(test, text, askedSites)];
+  return [...slipsOfTwoWords(test), ...registers.flatMap((site) => slipOfRegister(test, site, askedSites)), ...slipsOfLocations(test, text, askedSites)];
 }
 
 /**

@@ -620,6 +620,8 @@ function compareSlips(page, tally) {
     "The question names `z`, but no thread writes z: it is 0 in every run.",
     "A thread loads `flga`, but no thread writes flga: it is 0 in every run. Did you mean `flag`?",
   ].sort(), page.slips.slipsIn(text).map((it) => it.words).sort());
+  const twice = "X86 A\n{}\n P0 | P1 ;\n MOV [y],$1 | MOV EAX,[y] ;\n | MOV EBX,[y] ;\nexists (1:EAX=0 /\\ 1:EAX=1)\n";
+  tally.compare("a place with two words", ["The question asks for two words of `1:EAX` at once: no state has both."], page.slips.slipsIn(twice).map((it) => it.words));
   tally.compare("no slips", [], page.slips.slipsIn(example("SB-x86")));
 }
 
@@ -642,12 +644,13 @@ const NO_END = "The initial values lack a `}` at their end.";
 // A part of a text, what is there in place of it, some of the page's words, the line of a row that lacks its end, and the proposed text.
 const HINTS = [
   ["[y],EAX ;", "[y],EAX", NO_END_OF_ROW, 5, " ;"],
+  ["MFENCE", "SFENCE", "SFENCE orders nothing that x86-TSO does not order already", undefined, undefined],
   ["[y],EAX ;", "[y],EAX (* ; *)\n\n(* a; b\n *)", NO_END_OF_ROW, 5, " ;"],
   ["[y],EAX ;", "[y],EAX\n locations [x;]\n", NO_END_OF_ROW, 5, " ;"],
   ["[y],EAX ;\n", "[y],EAX ", NO_END_OF_ROW, 5, " ;"],
   ["[x] ;", "[x]", NO_END_OF_ROW, 4, " ;"],
   ["P1 ;", "P1", NO_END_OF_ROW, 3, " ;"],
-  ["[x] ;\n MFENCE | XCHG [y],EAX ;", "[x]\n MFENCE | XCHG [y],EAX", "This row and another one have no `;`", 4, " ;\n MFENCE | XCHG [y],EAX ;"],
+  ["[x] ;\n MFENCE | XCHG [y],EAX ;", "[x]\n MFENCE | XCHG [y],EAX", "This row and another one have no `;`", 5, " ;\n MFENCE | XCHG [y],EAX ;"],
   ["[x] ;", "[y] [x]", "This row has too few or too many cells", 4, undefined],
   ["(x=1 /\\ 1:EAX=0)", "(x=1 /\\\n 2:EAX=0)", "There is no thread 2", undefined, undefined],
   ["{ x=0 }", "{ x=0", NO_END, undefined, undefined],

@@ -56,9 +56,13 @@ def format_atom(name: str, atom: Atom) -> str:
 
 
 def describe_thread(test: Test, atoms: list[Atom]) -> str:
-    """Says what one thread does: its reads in the order of its code, and the words that it ends with."""
-    reads = [(read, atom) for atom in atoms if isinstance(atom.site, RegisterSite) and (read := find_read(test, atom.site))]
-    others = [atom for atom in atoms if isinstance(atom.site, RegisterSite) and not find_read(test, atom.site)]
+    """Says what one thread does: its reads in the order of its code, and the words that it ends with. A register that several of its atoms name is no
+    read, since it has one word only.
+    """
+    registers = [atom for atom in atoms if isinstance(atom.site, RegisterSite)]
+    named_once = [atom for atom in registers if [it.site for it in registers].count(atom.site) == 1]
+    reads = [(read, atom) for atom in named_once if isinstance(atom.site, RegisterSite) and (read := find_read(test, atom.site))]
+    others = [atom for atom in registers if all(it is not atom for _, it in reads)]
     parts = []
     if reads:
         read_words = (format_atom(test.locations[read[1].location], atom) for read, atom in sorted(reads, key=lambda it: it[0][0]))

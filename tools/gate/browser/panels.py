@@ -79,7 +79,7 @@ class WhyNot(PageCase):
         user.click("table.strip tbody tr:first-child td[data-column='2']")
         user.click("#tab-why")
         self.assertSays("A run ends in this state: 0:EAX=1; 1:EAX=0;", "#why .why-head")
-        self.assertSays("No cycle: interleaving can end this way, too.", "#why .why-run")
+        self.assertSays("No cycle: some interleaving is like the run that is shown.", "#why .why-run")
         self.assertEqual([], user.all("#why .rule"))
         self.assertSays("Does a run end in", "#why .why-form")
         user.click(".watch-allowed")
