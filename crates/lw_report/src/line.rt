@@ -97,15 +97,13 @@ pub(crate) fn write_state<A: Allocator>(
     out.push_str("\n")
 }
 
-/// Writes a word in decimal, and `;`. Most words of most tests are below 4 and need no formatting.
+/// Writes a word in decimal, and `;`. Most words of most tests have one digit.
 fn write_word<A: Allocator>(out: &mut String<A>, word: Word) -> Result<(), AllocError>
     ensures { OnOk result (string_bytes out.new ≡ string_bytes out.old ++ (decimal word ++ codes ";")) }
 {
-    match word {
-        0 => out.push_str("0;"),
-        1 => out.push_str("1;"),
-        2 => out.push_str("2;"),
-        3 => out.push_str("3;"),
-        _ => write!(out, "{};", word),
+    if word < 10 {
+        out.push((b'0' + word as u8) as char)?;
+        return out.push(';');
     }
+    write!(out, "{};", word)
 }

@@ -1,5 +1,5 @@
 //! The states that a search has visited or is to visit, packed, each with the state before it.
-ghost use Rattle.std.specs.Prelude.{◌≡◌, ◌<◌, ℕ, Bool, List, [], Some, length, slice_get, option_copied, IfOk, OnOk};
+ghost use Rattle.std.specs.Prelude.{◌≡◌, ◌<◌, ℕ, Bool, List, [], Some, length, slice_get, option_copied, IfOk, IfSome, OnOk};
 ghost use Rattle.lw_search.specs.inner.StateKeys.{InsertsKey, AppendsOrigin, IsPrefix};
 
 use crate::run::Run;
@@ -29,6 +29,8 @@ pub(crate) struct StateTable<A: Allocator> {
     keys: IndexSet<StateKey, BuildHasherDefault<FoldHasher>, A>,
     origins: Vec<Origin, A>,
     runs: IndexSet<Run<A>, BuildHasherDefault<FoldHasher>, A>,
+    /// For each first event, by its number, the number of the last run that began with it. Most runs are equal to this one.
+    recent: [u32; 8],
 }
 
 impl<A: Allocator> Model for StateTable<A> {
@@ -37,6 +39,16 @@ impl<A: Allocator> Model for StateTable<A> {
     ghost Value = { FoundStates };
 
     ghost view = { λ s. record { keys = s.keys.keys; origins = s.origins.items; runs = s.runs.keys } };
+}
+
+/// Returns the number of a run's first event, which is below 8, or 0 if the run is empty.
+fn first_event<A: Allocator>(run: &Run<A>) -> usize
+    ensures { result < 8 }
+{
+    match run.as_slice().first() {
+        Some(event) => event.code() as usize % 8,
+        None => 0,
+    }
 }
 
 impl<A: Allocator + Copy> StateTable<A> {
@@ -49,11 +61,24 @@ impl<A: Allocator + Copy> StateTable<A> {
             keys: IndexSet::new(alloc),
             origins: Vec::new(alloc),
             runs: IndexSet::new(alloc),
+            recent: [0; 8],
         }
     }
 
+    /// Returns the number of a run if it is the last one that began with the same event.
+    fn recent_number(&self, run: &Run<A>) -> Option<u32>
+        ensures { IfSome result (λ n. slice_get self.now.runs n ≡ Some run.now) }
+    {
+        let number = self.recent[first_event(run)];
+        let recent = self.runs.get_index(number as usize)?;
+        if *recent == *run {
+            return Some(number);
+        }
+        None
+    }
+
     /// Returns the number of a run, which is inserted if it has none.
-    pub(crate) fn run_number(&mut self, run: &Run<A>) -> Result<u32, AllocError>
+    fn number_of_run(&mut self, run: &Run<A>) -> Result<u32, AllocError>
         ensures keys { OnOk result (self.new.keys ≡ self.old.keys) }
         ensures origins { OnOk result (self.new.origins ≡ self.old.origins) }
         ensures runs { OnOk result (IsPrefix self.old.runs self.new.runs) }
@@ -67,6 +92,21 @@ impl<A: Allocator + Copy> StateTable<A> {
                 row_number(index)
             }
         }
+    }
+
+    /// Returns the number of a run, which is inserted if it has none.
+    pub(crate) fn run_number(&mut self, run: &Run<A>) -> Result<u32, AllocError>
+        ensures keys { OnOk result (self.new.keys ≡ self.old.keys) }
+        ensures origins { OnOk result (self.new.origins ≡ self.old.origins) }
+        ensures runs { OnOk result (IsPrefix self.old.runs self.new.runs) }
+        ensures found { IfOk result (λ n. slice_get self.new.runs n ≡ Some run.now) }
+    {
+        if let Some(number) = self.recent_number(run) {
+            return Ok(number);
+        }
+        let number = self.number_of_run(run)?;
+        self.recent[first_event(run)] = number;
+        Ok(number)
     }
 
     /// Appends an origin with a parent and a run.

@@ -1,28 +1,17 @@
--- Of `write_word`, which appends a word in decimal and a semicolon. A word below 4 has its text in the code: the decimal of the
--- word is computed. The search proves the other case, which formats the word.
-use Rattle.lw_report.proofs.Common.{OnOk-push_str, arith, codes, decimal_digit, string_bytes}
+-- Of `write_word`, which appends a word in decimal and a semicolon. The case of a number below 10: its
+-- decimal is one character (`decimal_digit`). The search proves the other case, which formats the word.
+use Rattle.lw_report.proofs.Common.{◌++◌, ◌∙◌, ap, sym, codes, refl, arith, string_bytes, decimal_digit}
+use Rattle.lw_report.proofs.Common.{Bytes, written-two_parts, OnOk-push_str}
 use Rattle.lw_report.proofs.line.write_word.Goals as goal
 
-pub returns-in-0 : goal.returns-in-0
-returns-in-0 g c =
-    rw (c.in-0.is, decimal_digit 0 (omega arith))
-    (OnOk-push_str c.push_str.result (string_bytes c.args.out.now) (string_bytes c.push_str.new.self) (codes "0;")
-    c.push_str.ensures.bytes)
-
-pub returns-in-1 : goal.returns-in-1
-returns-in-1 g c =
-    rw (c.in-1.is, decimal_digit 1 (omega arith))
-    (OnOk-push_str c.push_str-in-1.result (string_bytes c.args.out.now) (string_bytes c.push_str-in-1.new.self) (codes "1;")
-    c.push_str-in-1.ensures.bytes)
-
-pub returns-in-2 : goal.returns-in-2
-returns-in-2 g c =
-    rw (c.in-2.is, decimal_digit 2 (omega arith))
-    (OnOk-push_str c.push_str-in-2.result (string_bytes c.args.out.now) (string_bytes c.push_str-in-2.new.self) (codes "2;")
-    c.push_str-in-2.ensures.bytes)
-
-pub returns-in-3 : goal.returns-in-3
-returns-in-3 g c =
-    rw (c.in-3.is, decimal_digit 3 (omega arith))
-    (OnOk-push_str c.push_str-in-3.result (string_bytes c.args.out.now) (string_bytes c.push_str-in-3.new.self) (codes "3;")
-    c.push_str-in-3.ensures.bytes)
+-- The word is a single digit, followed by the character that ends it.
+pub returns-then-word-lt10 : goal.returns-then-word-lt10
+unfolding lib.Utf8.encode
+returns-then-word-lt10 g c =
+    let out = string_bytes c.args.out.now in
+    let digit = string_bytes c.push.new.self in
+    let end = string_bytes c.push-then-word-lt10.new.self in
+    let is_digit =
+    c.in_ok-push.ensures.ascii (omega (arith, c.if-word-lt10.true)) ∙ sym (decimal_digit c.args.word c.if-word-lt10.true) in
+    written-two_parts _ out end _ (codes ";") (c.in_ok-push.ensures.bytes ∙ ap (λ (t : Bytes). out ++ t) is_digit) refl
+    (OnOk-push_str _ digit end (codes ";") c.push-then-word-lt10.ensures.bytes)

@@ -1,9 +1,9 @@
--- Of `run_number`, which returns the number of a run and inserts the run if it has none; keys and origins are
+-- Of `number_of_run`, which returns the number of a run and inserts the run if it has none; keys and origins are
 -- unchanged. `position-item` shows that a found index is that of an equal run; `prefix-insert_if` that an
 -- insertion keeps all earlier numbers.
 use Rattle.lw_search.proofs.Common.{◌≡◌, ◌∙◌, Some, sym, ap, slice_get, IfOk-weaker, FoundStates}
 use Rattle.lw_search.proofs.Rows.{run_eq, run_eq-sound, position-item, prefix-insert_if}
-use Rattle.lw_search.proofs.states.StateTable.run_number.Goals as goal
+use Rattle.lw_search.proofs.states.StateTable.number_of_run.Goals as goal
 
 pub returns-in-Some-clause-found : goal.returns-in-Some-clause-found
 returns-in-Some-clause-found g c =
