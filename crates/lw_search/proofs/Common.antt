@@ -5,9 +5,9 @@ pub use Rattle.std.proofs.Common.{eq-eqb, eqb-true, false, get_or, get_or-set_ot
 pub use Rattle.std.proofs.Common.{if◌then◌else◌, inl, inr, leb-true, length, length-append, length-set}
 pub use Rattle.std.proofs.Common.{length-take-le, lt-ltb, map, nat_eq, nat_le, nat_lt, not, option_copied}
 pub use Rattle.std.proofs.Common.{option_map, option_to_list, position, pow_pos, refl, set-set, slice_get}
-pub use Rattle.std.proofs.Common.{slice_index, slice_set, subst, suc, sym, take, true, true≢false, w32, zero}
-pub use Rattle.std.proofs.Common.{ℕ, ⊎_elim, ◌%◌, ◌&&◌, ◌*◌, ◌++◌, ◌+◌, ◌<◌, ◌==◌, ◌^◌, ◌||◌, ◌↔◌, ◌∙◌, ◌∷◌}
-pub use Rattle.std.proofs.Common.{◌≡◌, ◌≢◌, ◌≤◌, ◌⊎◌}
+pub use Rattle.std.proofs.Common.{slice_index, slice_index_or, slice_set, subst, suc, sym, take, true}
+pub use Rattle.std.proofs.Common.{true≢false, w32, zero, ℕ, ⊎_elim, ◌%◌, ◌&&◌, ◌*◌, ◌++◌, ◌+◌, ◌<◌, ◌==◌, ◌^◌}
+pub use Rattle.std.proofs.Common.{◌||◌, ◌↔◌, ◌∙◌, ◌∷◌, ◌≡◌, ◌≢◌, ◌≤◌, ◌⊎◌}
 pub use Rattle.std.proofs.Math.Nat.{le-max_left, le-max_right}
 pub use Rattle.std.proofs.lemmas.Bool.{and_parts, cases_eq, cases_lt}
 pub use Rattle.std.proofs.lemmas.List.{get_or_past, length-map, map-append, take_more}

@@ -1,6 +1,6 @@
 -- Of `recent_number`: the number has a run that is equal to the argument, since the comparison decides equality.
-use Rattle.std.proofs.Common.{slice_index_or}
-use Rattle.lw_search.proofs.Common.{◌≡◌, ◌∙◌, Some, sym, ap, slice_get, option_copied, FoundStates}
+use Rattle.lw_search.proofs.Common.{slice_index_or, ◌≡◌, ◌∙◌, Some, sym, ap, slice_get, option_copied}
+use Rattle.lw_search.proofs.Common.{FoundStates}
 use Rattle.lw_search.proofs.Rows.{run_eq-sound}
 use Rattle.lw_search.proofs.states.StateTable.recent_number.Goals as goal
 
