@@ -588,7 +588,7 @@ impl<'a, A: Allocator + Copy> Search<'a, A> {
         let mut search = Search {
             program,
             tables: Tables::new(alloc, program),
-            states: StateTable::new(alloc),
+            states: StateTable::new(alloc)?,
             transitions: TransitionCache::new(alloc),
             thread: ThreadState::new(alloc, [0; REGISTERS]),
             words: Sequence::new(alloc),

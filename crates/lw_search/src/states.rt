@@ -41,6 +41,9 @@ impl<A: Allocator> Model for StateTable<A> {
     ghost view = { λ s. record { keys = s.keys.keys; origins = s.origins.items; runs = s.runs.keys } };
 }
 
+/// The number of states for which a table has room at first: so many are inserted before its keys are hashed into a larger one.
+const INITIAL_STATES: usize = 4096;
+
 /// Returns the number of a run's first event, which is below 8, or 0 if the run is empty.
 fn first_event<A: Allocator>(run: &Run<A>) -> usize
     ensures { result < 8 }
@@ -53,16 +56,16 @@ fn first_event<A: Allocator>(run: &Run<A>) -> usize
 
 impl<A: Allocator + Copy> StateTable<A> {
     /// Creates a table without states.
-    pub(crate) fn new(alloc: A) -> Self
-        ensures { result ≡ record { keys = []; origins = []; runs = [] } }
+    pub(crate) fn new(alloc: A) -> Result<Self, AllocError>
+        ensures { IfOk result (λ t. t ≡ record { keys = []; origins = []; runs = [] }) }
     {
-        StateTable {
+        Ok(StateTable {
             alloc,
-            keys: IndexSet::new(alloc),
-            origins: Vec::new(alloc),
+            keys: IndexSet::with_capacity(alloc, INITIAL_STATES)?,
+            origins: Vec::with_capacity(alloc, INITIAL_STATES)?,
             runs: IndexSet::new(alloc),
             recent: [0; 8],
-        }
+        })
     }
 
     /// Returns the number of a run if it is the last one that began with the same event.
