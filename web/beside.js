@@ -5,6 +5,8 @@ import * as address from "./address.js";
 import { ask } from "./ask.js";
 import { button, byId, el, plainMark } from "./dom.js";
 import { differenceOf, keyOf } from "./differences.js";
+import { textWithoutFence, withoutComments } from "./fence_edit.js";
+import { fencedText } from "./fences.js";
 import * as guess from "./guess.js";
 import { Lockstep } from "./lockstep.js";
 import { Side } from "./side.js";
@@ -12,7 +14,9 @@ import { showError } from "./errors.js";
 import { nameOf } from "./tokens.js";
 
 // The second tests that are made from the first one, by the names that an answer has for them.
-const MADE = { compiled: "what it is compiled to", bare: "that without its fences" };
+const MADE = { compiled: "what it is compiled to", bare: "that without its fences", fenced: "that with the fewest fences it needs" };
+
+const NO_FENCES = "No fence makes a difference to what this test asks.";
 
 /** The view of two tests side by side. */
 export class Beside {
@@ -72,10 +76,18 @@ export class Beside {
     }
   }
 
-  /** Sets beside the first test the example to compare it with. */
-  open() {
-    this.take({ beside: this.examples.partnerOf(this.examples.name || nameOf(this.editor.text)) });
-    this.second.select.focus();
+  /** Sets beside an example the one to compare it with; beside another test the same without its fences, or with the fewest that forbid it. */
+  async open() {
+    const { name } = this.examples;
+    const hasFences = /^\s*SRC|\bMFENCE\b/i.test(withoutComments(this.editor.text));
+    if (name) this.takeExample(name);
+    else await this.make(hasFences ? "bare" : "fenced");
+    if (this.isOpen) this.second.select.focus();
+  }
+
+  /** Sets beside the first test the example that is compared with one of a name. */
+  takeExample(name) {
+    this.take({ beside: this.examples.partnerOf(name) });
   }
 
   /** Shows only the first test again. */
@@ -124,18 +136,29 @@ export class Beside {
     this.notices.append(notice("You have not written a test yet. Go back to one test, and write it in the editor."));
   }
 
-  /** Takes for the second test what the first is compiled to, or that without its fences. */
+  /**
+   * Takes for the second test what the first is compiled to, or that without its fences or with the fewest. If there is none, and no second test is
+   * shown yet, it takes an example.
+   */
   async make(kind) {
     const { text } = this.editor;
     this.follow();
+    const place = this.isOpen ? this.notices : byId("unknown");
     const first = "First say what you expect of the first test.";
-    if (guess.isAwaited(text)) return guess.wait(text, this.notices, notice(first), () => this.notices.replaceChildren());
-    const answer = await ask(this.second.sheet, "compile", { text }, { place: this.notices });
+    if (guess.isAwaited(text)) return guess.wait(text, place, notice(first), () => place.replaceChildren());
+    const answer = await ask(this.second.sheet, kind === "fenced" ? "more fences" : "compile", { text }, { place });
     if (!answer || text !== this.editor.text) return;
-    this.notices.replaceChildren();
-    if (!answer[kind]) return showError(answer, this.notices, this.second.sheet);
-    this.made = { of: text, text: answer[kind], kind };
-    this.take({ beside_text: answer[kind] });
+    place.replaceChildren();
+    const [set] = answer.fenced?.sets ?? [];
+    const made = kind === "fenced" ? set && fencedText(text, set) : kind === "bare" && answer.fences ? bareText(text, answer) : answer[kind];
+    if (made) {
+      this.made = { of: text, text: made, kind };
+      return this.take({ beside_text: made });
+    }
+    const { isOpen } = this;
+    if (!isOpen) this.takeExample(nameOf(text));
+    if ("fenced" in answer) this.notices.append(notice(NO_FENCES));
+    else if (isOpen) showError(answer, this.notices, this.first.sheet);
   }
 
   /** Fits the code of both machines, after something of one side is shown: both have their parts in the same rows. */
@@ -162,6 +185,11 @@ export class Beside {
     const isAlso = key !== null && source.report.states.some(({ line }) => keyOf(line) === key);
     return isAlso ? `${x86.asked.replace(/;$/, "")} is reached also by interleaving. ` : "";
   }
+}
+
+/** Returns a test without its fences: its own text without them if they can be taken out, or else the canonical one. */
+function bareText(text, { fences, bare }) {
+  return fences.reduceRight((it, place) => it && textWithoutFence(it, place), text) ?? bare;
 }
 
 /** Returns a notice that is read out at once. */

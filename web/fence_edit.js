@@ -15,7 +15,7 @@ const END_OF_ROWS = /^\s*(?:locations|exists|forall|filter|~)/;
  * @param {string} text
  * @returns {string}
  */
-function withoutComments(text) {
+export function withoutComments(text) {
   let [depth, blanked] = [0, ""];
   for (let index = 0; index < text.length; index += 1) {
     const mark = text.slice(index, index + 2);

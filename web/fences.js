@@ -89,7 +89,7 @@ export class Fences {
     const rows = sets.map(({ places, text, states }) => {
       const placeWords = places.map((it) => it.replace(/^(P\d) at \d+, before (.*)$/, "in $1 before `$2`")).join(" and ");
       const result = isForall ? `it holds in all ${statesOf(states)}` : `it holds in none of ${statesOf(states)}`;
-      const tryIt = () => this.take(textWithFences(this.editor.text, places.map(parsePlace)) ?? text);
+      const tryIt = () => this.take(fencedText(this.editor.text, { places, text }));
       return el("li", {}, `An MFENCE `, sentence(placeWords), `: ${result}. `, button("Try it", tryIt, { class: "take" }));
     });
     const others = more ? [el("p", { class: "small" }, `And ${more} other sets of as many fences.`)] : [];
@@ -147,6 +147,16 @@ export class Fences {
 function parsePlace(words) {
   const [, thread, at] = /^P(\d) at (\d+)/.exec(words);
   return [Number(thread), Number(at)];
+}
+
+/**
+ * Returns a test with a set of fences that an answer has: the test's own text if the fences can be put into it, or else the canonical one.
+ * @param {string} text
+ * @param {{places: string[], text: string}} set
+ * @returns {string}
+ */
+export function fencedText(text, set) {
+  return textWithFences(text, set.places.map(parsePlace)) ?? set.text;
 }
 
 /** Returns a number of states in words. */

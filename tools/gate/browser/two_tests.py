@@ -10,6 +10,15 @@ from gate.browser.predicting import open_anew
 
 BOTH = "#example=SB-x86&beside=SB%2Bmfences-x86"
 OWN = "SRC Own\n{}\n P0 ;\n x = 1 ;\nexists (x=1)\n"
+# A test that is no example, and the rows that are shown of both tests.
+MINE = """X86 Mine
+{}
+ P0          | P1          ;
+ MOV [x],$1  | MOV [y],$1  ;
+ MOV EAX,[y] | MOV EAX,[x] ;
+exists (0:EAX=0 /\\ 1:EAX=0)
+"""
+ROWS = "return [...document.querySelectorAll('.side .program')].map((it) => it.textContent.split('\\n').slice(3))"
 # The texts of the steps of both sides.
 STEPS = "return [...document.querySelectorAll('.side .step')].map((it) => it.textContent.split(':')[0])"
 
@@ -49,6 +58,24 @@ class Compared(PageCase):
         self.assertSoon(["Step 0 of 6", "Step 0 of 8"], lambda: user.run(STEPS))
         self.assertIn("&beside=SB%2Bmfences-x86", user.link())
         self.assertEqual("SB-x86 beside SB+mfences-x86 - lw", user.driver.title)
+
+    def test_partner_of_own(self) -> None:
+        """Beside a test of the reader's own is the same with its fewest fences, in its own text, or without its fences; or else an example."""
+        user = self.user
+        user.open_listed(f"#text={quote(MINE)}")
+        user.click("#set-beside")
+        bare = MINE.splitlines()[3:]
+        self.assertSoon([bare, [bare[0], " MFENCE      | MFENCE      ;", *bare[1:]]], lambda: user.run(ROWS))
+        self.assertEqual("=fenced", user.value("#second-example"))
+        self.assertSays("3 states in both, 1 only left, 0 only right. not proved", ".compared")
+        user.open_listed(f"#text={quote(user.run('return new URLSearchParams(location.hash.slice(1)).get(`beside_text`)'))}")
+        user.click("#set-beside")
+        self.assertSoon(bare, lambda: user.run(ROWS)[-1])
+        self.assertEqual("=bare", user.value("#second-example"))
+        user.open_listed(f"#text={quote(MINE.replace('0:EAX=0', '0:EAX=9'))}")
+        user.click("#set-beside")
+        self.assertSays("No fence makes a difference to what this test asks.", "#beside .notice")
+        self.assertEqual("Mine", user.texts(".side h2")[0])
 
     def test_difference(self) -> None:
         """Each has its verdict, and a state of only one is marked; all is in sight at 1280 by 720."""
