@@ -58,8 +58,8 @@ const states = new States(byId("outcome"), editor, () => updateOffers(), {
   onFence: changeFence,
 });
 const panels = {
-  compile: new Compile(byId("compile"), editor, (text) => take(text, { text }), openSource),
-  fences: new Fences(byId("fences"), editor, (text) => take(text, { text })),
+  compile: new Compile(byId("compile"), editor, takeKnown, openSource),
+  fences: new Fences(byId("fences"), editor, takeKnown),
 };
 const tabs = new Tabs(followTab);
 let examples;
@@ -208,6 +208,12 @@ async function take(text, where, isOwn = false) {
   if (tabs.view !== "hand" && tabs.view !== "why") tabs.show(VIEWS[0]);
   await list();
   scrollToAnswers();
+}
+
+/** Puts a text into the editor of which a panel has shown the answer: there is nothing left to predict. */
+function takeKnown(text) {
+  if (guess.isAwaited(text)) guess.settle(text, null);
+  take(text, { text });
 }
 
 /** Shows which example the text in the editor is, if it is one, whether it is the reader's own, and what is beside it. */

@@ -150,7 +150,7 @@ class SiteRenderer(markdown.Renderer):
             return self.render_commands(lines)
         views = [it for line in lines if line.startswith("$ ") for it in list_views(line[len("$ ") :])]
         above = make_links([make_page_link(escape(f"▸ {it.words}"), **it.fields) for it in views])
-        below = make_links([make_page_link("▸ Open this test on the page", predict="1", text="\n".join(lines) + "\n")] if is_test(lines) else [])
+        below = make_links([make_page_link("▸ Open this test on the page", text="\n".join(lines) + "\n")] if is_test(lines) else [])
         return above + self.render_lines(lines) + below
 
     def render_lines(self, lines: list[str]) -> str:

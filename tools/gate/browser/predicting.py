@@ -147,6 +147,24 @@ class Kept(PageCase):
         user.click("#predict")
         self.assertEqual(QUESTION, read_question(user, "#outcome"))
 
+    def test_shown_before(self) -> None:
+        """A text is not asked about if a panel has shown its answer: that of *Try it* in Fences, and a compiled program."""
+        user = self.user
+        open_anew(user, "#example=SB-x86&predict=1")
+        user.click("#yes")
+        user.click("#tab-fences")
+        user.click(".find-fences")
+        user.click("#fences .take")
+        self.assertSays("Forbidden.", "#outcome .verdict")
+        self.assertEqual([], user.all("#yes"))
+        open_anew(user, "#example=MP&predict=1")
+        user.click("#no")
+        user.click("#tab-compile")
+        user.click("#compile .take")
+        self.assertSoon("X86 MP", lambda: user.value()[:6])
+        self.assertSays("Forbidden.", "#outcome .verdict")
+        self.assertEqual([], user.all("#yes"))
+
     def test_by_hand(self) -> None:
         """A reader who looks for the states by hand does not see the verdict with the guess; Watch shows it."""
         user = self.user

@@ -58,12 +58,11 @@ class Reading(PageCase):
         self.assertSays("Allowed", "#outcome .verdict")
 
     def test_test_of_a_document(self) -> None:
-        """A test that a document shows opens as a text of the reader's own, asks for a prediction, and is answered."""
+        """A test that a document shows opens as a text of the reader's own, and is answered at once, as the document itself answers it."""
         user = self.user
         self.read("tutorial.html")
         self.follow(".open a[href*='text=']")
         self.assertSoon(True, lambda: "SRC SB" in user.value("#text"))
-        user.click("#just-show")
         self.assertSays("Forbidden", "#outcome .verdict")
 
     def test_walk(self) -> None:
