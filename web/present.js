@@ -82,11 +82,13 @@ export class Present {
     const most = Math.max(MAX_TYPE, least * 2);
     const { dataset, style } = document.documentElement;
     style.removeProperty("--code-room");
+    document.documentElement.classList.remove("close");
     this.keepUsual();
     for (const place of GRAPH_PLACES) {
       dataset.graph = place;
       if (this.fits(least)) break;
     }
+    document.documentElement.classList.toggle("close", !this.fits(least));
     if (!this.fits(least)) return this.foldCode();
     const isShort = hasShortVerdict();
     const size = largest([least, most, 0.5], (it) => this.fits(it) && (!isShort || hasShortVerdict()));
@@ -123,7 +125,7 @@ export class Present {
     root.style.fontSize = `${size}px`;
     root.style.setProperty("--of-machine", ofMachine);
     const isWhole = (box) => box.scrollWidth <= box.clientWidth + 1 && box.scrollHeight <= box.clientHeight + 1;
-    const scrolled = [...document.querySelectorAll(".code, .wide")].filter((it) => it.offsetParent !== null);
+    const scrolled = [...document.querySelectorAll(".code, .wide, .registers")].filter((it) => it.offsetParent !== null);
     return scrolled.every(isWhole) && root.scrollHeight <= innerHeight && root.scrollWidth <= innerWidth;
   }
 }

@@ -278,6 +278,13 @@ class Theme(PageCase):
         grips = "return [...document.querySelectorAll('*')].filter((it) => getComputedStyle(it).resize !== 'none').map((it) => it.id || it.tagName)"
         self.assertEqual([], user.run(grips))
 
+# The registers over which a store buffer lies.
+BELOW_BUFFERS = """
+const boxes = (css) => [...document.querySelectorAll(`#watching ${css}`)].map((it) => it.getBoundingClientRect());
+const isOver = (one, it) => one.left < it.right - 1 && it.left < one.right - 1 && one.top < it.bottom - 1 && it.top < one.bottom - 1;
+return boxes(".register").filter((it) => boxes(".buffer").some((one) => isOver(one, it))).map((it) => it.left);
+"""
+
 
 def present(user: User) -> None:
     """Opens the view for a projector, which fills the window."""
@@ -350,6 +357,16 @@ class Projector(PageCase):
             self.assertTrue(user.run(MIN_TYPE) >= 12, (link, width))
             user.press(user.keys.ESCAPE)
             self.assertSoon(False, lambda: "present" in user.run("return document.documentElement.className"))
+
+    def test_room(self) -> None:
+        """No register lies below the wall of a store buffer, and code of up to 16 lines is shown as a whole, at 1280 by 720 and at 1920 by 1080."""
+        user = self.user
+        for size in ((1280, 720), (1920, 1080)):
+            for name in ("IRIW-x86", "Peterson-x86", "SpinLock-x86", "ChaseLev-x86"):
+                self.present(f"#example={name}", *size)
+                self.assertSoon([], lambda: user.run(BELOW_BUFFERS))
+                self.assertEqual([], user.texts(".lines-in-sight"), (name, size))
+                self.assertTrue(user.run(IN_SIGHT, "#watching .machine"), (name, size))
 
     def test_graph(self) -> None:
         """The condition with its quantifier is shown, and the graph if it has room; it goes back to its place then."""
