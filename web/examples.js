@@ -128,10 +128,15 @@ export class Examples {
     return [...this.tests.values()].find((it) => it.text === text)?.name;
   }
 
-  /** Returns a note on the outcome of an x86 example that x86-TSO allows: whether interleaving allows it, too. Of another text it is "". */
-  noteOn(text) {
+  /**
+   * Returns a note on the outcome of an x86 example that x86-TSO allows: whether interleaving allows it, too. Of an x86 test that is no example it is
+   * null, and otherwise "".
+   */
+  noteOn(text, isAllowed) {
     const name = this.nameOf(aligned(text));
-    const by = text.startsWith("X86") ? KNOWN.exec(this.tests.get(name)?.known)?.[1] : undefined;
+    const isX86 = /^\s*X86\b/.test(text);
+    if (isX86 && !name) return null;
+    const by = isX86 && isAllowed ? KNOWN.exec(this.tests.get(name)?.known)?.[1] : undefined;
     return by ? (SURPRISES[name] ?? BY_INTERLEAVING[by]) : "";
   }
 

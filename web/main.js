@@ -54,7 +54,7 @@ const states = new States(byId("outcome"), editor, () => updateOffers(), {
   next: byId("next"),
   onVeil: keepBack,
   ownOf: (text) => examples.scheduleOf(text),
-  noteOf: (text) => examples.noteOn(text),
+  noteOf: (text, isAllowed) => examples.noteOn(text, isAllowed),
   onFence: changeFence,
 });
 const panels = {

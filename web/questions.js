@@ -9,7 +9,7 @@ import { canonicalText, sourceCells, x86Cells } from "./canonical.js";
 import { effectOf, refusal } from "./effects.js";
 import { executionOf } from "./executions.js";
 import { cellsOf, compiledSchedule, filmOf, sourceFilm, toTheEnd } from "./films.js";
-import { setsOfFences } from "./fencing.js";
+import { placesOf, setsOfFences, withFences } from "./fencing.js";
 import { graphOf, explanationOf } from "./graphs.js";
 import { endingOf, isTooDeep, listOrNull, reportOf, scheduleTo } from "./lists.js";
 import { pictureOf, stripOf } from "./pictures.js";
@@ -190,6 +190,16 @@ function answerMoreFences(program, text, { search = false }, onProgress) {
   return { fenced: setsOfFences(readTest(program.ask(["compile"], text)), listOf) };
 }
 
+/**
+ * Returns the lines of the states of an x86 test that interleaving gives, too: those with a fence before each load that may pass a store. They are
+ * null if lw refuses that list.
+ */
+function answerInterleaved(program, text, { search = false }, onProgress) {
+  const test = readTest(program.ask(["compile"], text));
+  const list = listOrNull(program, bytesOf(canonicalText(withFences(test, placesOf(test)))), { search, onProgress });
+  return { interleaved: list && list.lines };
+}
+
 /** Returns a picture of the last state of a schedule, or a strip of all its states. */
 function answerPicture(program, text, { schedule, protocol, strip }) {
   const film = filmOf(program, text, schedule, protocol);
@@ -246,6 +256,7 @@ const QUESTIONS = {
   compile: answerCompile,
   fences: answerFences,
   "more fences": answerMoreFences,
+  interleaved: answerInterleaved,
   picture: answerPicture,
   graph: answerGraph,
   "why not": answerWhyNot,

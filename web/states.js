@@ -16,8 +16,10 @@ import { SeenHere } from "./seen_here.js";
 import { Strip } from "./strip.js";
 import { codeNodes, testName, tintedSentence, tintsOf } from "./tint.js";
 import { showError, clearFault } from "./errors.js";
-import { countWords, headlineOf } from "./verdicts.js";
+import { countWords, headlineOf, interleavedWords } from "./verdicts.js";
 
+// How many milliseconds it may take to find which states interleaving gives.
+const MAX_MILLISECONDS = 10000;
 // Of how many states at most the list is shown as lw prints it.
 const MAX_PRINTED = 500;
 // The two ways in which a list is made, in words.
@@ -48,8 +50,8 @@ export class States {
    * `why` is called with a missing state, `onWatch` with one whose run the reader wants to see, `onDraw` when another run is shown, `onStep` when
    * it is at another step, `onFence` if a fence is put into the test or taken out, and `onVeil` with whether the verdict is kept back. Runs are
    * shown in `runPanel`, and their graph in `graphPlace`. `firstStep` is the step at which the first run is shown: "telling", or a number. `ownOf`
-   * returns the schedule that a text has of its own, or null, and `noteOf` a note on a text whose outcome is allowed, or "". `next` is shown below
-   * the run.
+   * returns the schedule that a text has of its own, or null, and `noteOf` a note on a text, given whether its outcome is allowed, or "", or null if it
+   * is to be found out which states interleaving gives. `next` is shown below the run.
    */
   constructor(panel, editor, onReveal = () => null, more = {}) {
     const { why = null, runPanel = panel, graphPlace = null, firstStep = "telling", next = null, ...others } = more;
@@ -204,7 +206,9 @@ export class States {
     if (guessed !== null) countPrediction(text, guessed === words.is_so);
     const [kind, word, sentence] = headlineOf(this.language, report, conditionWords(text));
     const [by, way] = BY[this.isSearched ? "searched" : "enumerated"];
-    const note = kind === "can" || kind === "wrong" ? this.noteOf(text) : "";
+    const note = this.noteOf(text, kind === "can" || kind === "wrong");
+    const noted = note === "" ? "" : el("p", { class: "small note" }, note ?? "…");
+    if (note === null) setTimeout(() => this.noteInterleaved(noted, report));
     this.verdict.className = `verdicts ${kind}`;
     this.verdict.replaceChildren(
       guess.wasAsked(text) ? guessedWords(guessed, words.is_so, () => this.askAgain(), this.reason()) : "",
@@ -214,8 +218,15 @@ export class States {
         el("span", { class: "count-words" }, ` ${countWords(report)}`), " ",
         el("span", { class: "by", title: way }, el("span", { class: "long-by" }, "The list is "), `${by}.`),
         report.is_proved ? "" : [" ", el("span", { class: "by" }, "Its ticks are "), plainMark(), "."]),
-      note && el("p", { class: "small note" }, note),
+      noted,
     );
+  }
+
+  /** Says in a place which states of a report of an x86 test interleaving gives, too. */
+  async noteInterleaved(place, report) {
+    const fields = { text: this.editor.text, search: this.isSearched };
+    const answer = place.isConnected && (await ask(this.editor, "interleaved", fields, { timeout: MAX_MILLISECONDS }));
+    if (answer) place.replaceChildren(...sentence(interleavedWords(report, report.left_out ? null : answer.interleaved)), " ", plainMark());
   }
 
   /** Returns in a sentence which state shows the answer, with its run, or which is missing, with why; nothing if no single state shows it. */

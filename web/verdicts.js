@@ -65,3 +65,21 @@ export function countWords({ positive, number }) {
   const states = `${format(number)} final state${number === 1 ? "" : "s"}`;
   return `The condition holds in ${positive === number && number > 1 ? "all" : positive ? `${format(positive)} of` : "none of"} ${states}.`;
 }
+
+// Of how many states that interleaving does not give a sentence has the lines at most.
+const MAX_LINES = 3;
+
+/**
+ * Returns a sentence that says which states of an x86 test interleaving gives, too, given the lines of these; null if they are not known.
+ * @param {Report} report
+ * @param {string[] | null} interleaved
+ * @returns {string}
+ */
+export function interleavedWords({ states, number }, interleaved) {
+  if (!interleaved) return "Which of these states interleaving gives, too, is not known: the list that would say so is refused.";
+  const lines = new Set(interleaved);
+  const others = states.filter(({ line }) => !lines.has(line)).map(({ line }) => `\`${line.replace(/;$/, "")}\``);
+  if (!others.length) return "Interleaving gives all of this, too: it needs no store buffer.";
+  const more = others.length > MAX_LINES ? `, and ${others.length - MAX_LINES} others` : "";
+  return `Interleaving gives ${lines.size} of the ${number} states, too. Only with store buffers: ${others.slice(0, MAX_LINES).join(", ")}${more}.`;
+}

@@ -211,10 +211,11 @@ function questionsOn(text) {
 // The most accesses of a test in which places for fences are looked for.
 const FEW_ACCESSES = 14;
 
-/** Returns the question where further fences would answer that of a test, if the test is small. */
+/** Returns the questions where further fences would answer that of a test, and of an x86 test what interleaving gives, if the test is small. */
 function moreFencesOf(text) {
   const number = (String(text).match(/\[|:=/g) ?? []).length;
-  return number <= FEW_ACCESSES ? [["more fences", {}]] : [];
+  const interleaved = /^\s*X86/.test(text) ? [["interleaved", {}]] : [];
+  return number <= FEW_ACCESSES ? [["more fences", {}], ...interleaved] : [];
 }
 
 // A test of so many accesses and fences, compiled, has few executions.

@@ -290,6 +290,13 @@ def answer_more_fences(text: bytes) -> Answer:
     return {"fenced": {"number": number, "isAnswered": not fences.count_unwanted_states(test), "sets": shown, "more": len(sets) - len(shown)}}
 
 
+def answer_interleaved(text: bytes) -> Answer:
+    """Returns the lines of the states of an x86 test that interleaving on one memory gives."""
+    test = plain.read_test(ask(["compile"], text))
+    reached = plain.explore_states(test, plain.make_x86_start(test), plain.list_interleaved_moves)[0]
+    return {"interleaved": [plain.format_state(test, words) for words, _ in plain.collect_states(test, reached)]}
+
+
 def answer_picture(text: bytes, schedule: str, protocol: str, strip: bool) -> Answer:
     """Returns a picture of the last state of a schedule, or a strip of all of them."""
     film = make_film(text, schedule, protocol)
@@ -330,6 +337,7 @@ QUESTIONS: dict[str, Callable[..., Answer]] = {
     "compile": answer_compile,
     "fences": answer_fences,
     "more fences": answer_more_fences,
+    "interleaved": answer_interleaved,
     "picture": answer_picture,
     "graph": answer_graph,
     "why not": answer_why_not,

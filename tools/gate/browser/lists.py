@@ -70,6 +70,19 @@ class FirstView(PageCase):
             user.open_listed(f"#example={name}")
             self.assertEqual(note, user.texts("#outcome .note"), name)
 
+    def test_own_by_interleaving(self) -> None:
+        """Of an x86 test that is no example a note says which of its states interleaving gives, too; it is marked as not proved."""
+        user = self.user
+        own = "X86 Mine\n{}\n P0 | P1 ;\n MOV [x],$1 | MOV [y],$1 ;\n MOV EAX,[y] | MOV EAX,[x] ;\nexists (0:EAX=0 /\\ 1:EAX=0)\n"
+        some = "Interleaving gives 3 of the 4 states, too. Only with store buffers: 0:EAX=0; 1:EAX=0. not proved"
+        all_of_it = "Interleaving gives all of this, too: it needs no store buffer. not proved"
+        fenced = own.replace(" MOV EAX", " MFENCE | MFENCE ;\n MOV EAX", 1)
+        for text, words in ((own, some), (fenced, all_of_it), (own.replace("exists", "~exists"), some)):
+            user.open_listed(f"#text={quote(text)}")
+            self.assertSoon([words], lambda: user.texts("#outcome .note"))
+        user.open_listed(f"#text={quote(read('examples/SB.litmus').replace('SRC SB', 'SRC Mine'))}")
+        self.assertEqual([], user.texts("#outcome .note"))
+
     def test_in_sight_together(self) -> None:
         """Code, buffers, memory, verdict and list are in sight together at 1280 by 720."""
         self.user.resize(1280, 720)
