@@ -1,6 +1,7 @@
 // Explains a fault of a text in a sentence for beginners: what is at its place, what lw expects there, and what may be meant, which a button puts
 // into the text. The sentence depends on the fault's name and on the token at its place; lw's own line is shown beside it. Not proved.
 
+import { explainLacked } from "./instead.js";
 import { nearest } from "./nearest.js";
 import { explainCode, explainHead, otherRegister } from "./other_language.js";
 import { TEMPLATE } from "./template.js";
@@ -47,11 +48,11 @@ function wordsOfToken(token) {
   return `\`${token}\``;
 }
 
-/** The place of a fault: its token, what is before it in its cell and after it, and the change of the text that is proposed there. */
+/** The place of a fault: its token, what is before it in its cell and after it, the change of the text that is proposed, and where that is. */
 class Place {
   constructor(text, index) {
     const token = tokenAt(text, index);
-    Object.assign(this, { text, index, token, tokenWords: wordsOfToken(token), change: null, isX86: /^\s*X86\b/.test(text) });
+    Object.assign(this, { text, index, token, tokenWords: wordsOfToken(token), change: null, at: undefined, isX86: /^\s*X86\b/.test(text) });
     Object.assign(this, { before: cellBefore(text, index), after: text.slice(index + token.length) });
   }
 
@@ -63,6 +64,17 @@ class Place {
    */
   put(text, begin = this.index, end = this.index + this.token.length) {
     this.change = { begin, end, text };
+  }
+
+  /**
+   * Says that the text is to be changed at an index, and not at the fault; there a `mark` is missing, if it is known.
+   * @param {number} index
+   * @param {string} [mark]
+   */
+  lacks(index, mark = "") {
+    const front = this.text.slice(0, index).split("\n");
+    this.at = { row: front.length, column: [...front.at(-1)].length + 1, index };
+    if (mark) this.change = { begin: index, end: index, text: mark, title: `Put in the ${mark.trim()}` };
   }
 
   /** Proposes the same, and returns a question that does. */
@@ -136,12 +148,18 @@ function misspeltQuestion(text) {
 function explainMissingInQuestion(place) {
   const { text } = place;
   const misspelt = misspeltQuestion(text);
-  if (misspelt) return `lw has no question of the name \`${misspelt}\`.${place.meant(QUESTIONS, misspelt, text.lastIndexOf(misspelt))}`;
+  if (misspelt) {
+    place.lacks(text.lastIndexOf(misspelt));
+    return `lw has no question of the name \`${misspelt}\`.${place.meant(QUESTIONS, misspelt, text.lastIndexOf(misspelt))}`;
+  }
   const question = questionIn(text);
+  const end = withoutComments(text).trimEnd().length;
+  place.lacks(end);
   if (question === null || question.includes("(*")) return "";
   const missing = question.split("(").length - question.split(")").length;
   if (!/(?:=\s*\w+|\)|\btrue|\bfalse)\s*$/.test(question)) return "The question is not complete. It is for instance `exists (x=1)`.";
   if (missing < 1) return "";
+  place.lacks(end, ")".repeat(missing));
   return `The question lacks ${missing === 1 ? "a `)`" : `${missing} \`)\``} at its end.`;
 }
 
@@ -195,8 +213,27 @@ function explainFirstWord(place) {
 }
 
 /** Returns that the initial values have no end, if that is so; or "". */
-function explainOpenBlock({ text }) {
-  return isInBlock(withoutComments(text)) ? "The initial values lack a `}` at their end." : "";
+function explainOpenBlock(place) {
+  const code = withoutComments(place.text);
+  if (!isInBlock(code)) return "";
+  const front = /^([^]*\{[^]*?)\s*^[ \t]*P0\b/m.exec(code)?.[1];
+  if (front) place.lacks(front.length);
+  return "The initial values lack a `}` at their end.";
+}
+
+/** Returns that the threads' names are written in small letters, if that is so, and proposes them in capital letters; or "". */
+function explainThreadNames(place) {
+  const { text, index, token } = place;
+  const header = /^p\d$/.test(token) && /[^;\n]*/.exec(text.slice(index))[0].trimEnd();
+  return header ? `The threads are \`P0\`, \`P1\` and so on.${place.propose(header.toUpperCase(), index, index + header.length)}` : "";
+}
+
+/** Returns that the list of locations before the question has no end, if that is so; or "". */
+function explainOpenList(place) {
+  const front = withoutComments(place.text.slice(0, place.index)).trimEnd();
+  if (!/^(?:exists|forall|~)$/.test(place.token) || !/\blocations\s*\[[^\]]*$/.test(front)) return "";
+  place.lacks(front.length, "]");
+  return "The list of locations lacks a `]` at its end.";
 }
 
 /** Returns that a constant is negative or no whole number, if that is so; or "". */
@@ -327,6 +364,13 @@ function explainX86Form(place) {
   return `lw has no instruction of this name.${place.meant(MNEMONICS)} ${INSTRUCTIONS}`;
 }
 
+/** Returns a question that proposes the location of a name that lacks its brackets, in an instruction that takes a location there; or "". */
+function meantLocation(place) {
+  const { isX86, before, token, after } = place;
+  const isLocation = isX86 && /\b(?:MOV|XCHG|XADD)(?:\s+\w+\s*,)?$/i.test(before) && /^(?!r\d)[A-Za-z_]\w*$/i.test(token) && /^\s*[,;|\n]/.test(after);
+  return isLocation ? place.propose(`[${token}]`) : "";
+}
+
 // Of each fault, by its kind and name, what is wrong and what is expected. `tokenWords` is the token in words.
 const SENTENCES = {
   "text NotUtf8": () => "The text is not UTF-8 from here on.",
@@ -339,12 +383,14 @@ const SENTENCES = {
   "text Unexpected": (place) =>
     explainOpenBlock(place) ||
     explainConstant(place) ||
+    explainThreadNames(place) ||
     explainNotation(place) ||
     explainFirstWord(place) ||
     `${place.tokenWords} is not expected here. A test is \`SRC\` or \`X86\` and a name, the initial values in \`{ }\`, the row \`P0 | P1 ;\`, ` +
     "the rows of code, and a question.",
   "text Number": ({ tokenWords }) => `${tokenWords} is no constant. ${CONSTANT} In base 16 it begins with \`0x\`.`,
   "text Name": (place) =>
+    explainOpenList(place) ||
     explainMissingThread(place) ||
     (otherRegister(place.token, place.isX86) !== null && explainHead(place)) ||
     `${place.tokenWords} can't be a name here. A question names a location, as \`x=1\`, or a register with its thread, as ` +
@@ -354,14 +400,16 @@ const SENTENCES = {
   "text TooManyRows": () => "A test has 64 rows at most.",
   "text TooManyLocations": () => "A test has eight locations at most.",
   "text Condition": (place) =>
+    explainOpenList(place) ||
     explainNotation(place) ||
     `${place.tokenWords} does not fit into the question. It is \`exists\`, \`~exists\` or \`forall\`, and then for instance \`(x=1 /\\ 0:r0=0)\`, ` +
     "with `/\\` (and), `\\/` (or) and `~` (not).",
-  "cell Form": (place) => `${place.tokenWords} does not fit here. ${explainCode(place) || (place.isX86 ? explainX86Form(place) : explainSourceForm(place))}`,
+  "cell Form": (place) =>
+    `${place.tokenWords} does not fit here. ${explainLacked(place) || explainCode(place) || (place.isX86 ? explainX86Form(place) : explainSourceForm(place))}`,
   "cell Register": (place) =>
     explainCode(place) ||
     `${place.tokenWords} is no register, and one is needed here: ${place.isX86 ? "`EAX`, `EBX`, `ECX`, `EDX`, `ESI` or `EDI`" : "`r0` to `r5`"}.` +
-    `${place.meantRegister()} ` +
+    `${place.meantRegister() || meantLocation(place)} ` +
     (place.isX86 ? "A location has brackets: `[x]`." : "A location is loaded into a register first: `r0 := y`."),
   "cell LabelMissing": (place) =>
     `The thread has no label ${place.tokenWords} to jump to.` +
@@ -383,6 +431,6 @@ const SENTENCES = {
 export function hintOn(fault, text) {
   const { kind, name, index } = fault;
   const place = new Place(text, index);
-  const explain = () => ({ words: SENTENCES[`${kind} ${name}`]?.(place) ?? null, change: place.change });
+  const explain = () => ({ words: SENTENCES[`${kind} ${name}`]?.(place) ?? null, change: place.change, at: place.at });
   return hintOnRowsWithoutEnd(fault, text) ?? explain();
 }

@@ -93,6 +93,19 @@ export function explainHead(place) {
 }
 
 /**
+ * Returns the code of the cell that has an index of a text, and the index at which the code begins.
+ * @param {string} text
+ * @param {number} index
+ * @returns {{begin: number, code: string}}
+ */
+export function cellAt(text, index) {
+  const begin = Math.max(...["|", ";"].map((it) => text.lastIndexOf(it, index - 1))) + 1;
+  const cell = text.slice(begin, begin + text.slice(begin).search(/[|;]|$/));
+  const code = cell.trim();
+  return { begin: begin + cell.indexOf(code), code };
+}
+
+/**
  * Returns that the code at a fault's place is in the other language, if that is so, and proposes the other first word if all code is, or else the
  * same in the language of the test; or "".
  * @param {Place} place
@@ -101,15 +114,11 @@ export function explainHead(place) {
 export function explainCode(place) {
   const { text, index, isX86 } = place;
   const other = isX86 ? "SRC" : "X86";
-  const begin = Math.max(...["|", ";"].map((it) => text.lastIndexOf(it, index - 1))) + 1;
-  const end = begin + text.slice(begin).search(/[|;]|$/);
-  const cell = text.slice(begin, end);
-  const code = cell.trim();
+  const { begin: start, code } = cellAt(text, index);
   if (!CODE[other].test(code)) return "";
   const proposal = explainHead(place);
   if (proposal) return proposal;
   const translated = isX86 ? inX86(code) : inSource(code);
   if (translated === null) return SAID[other];
-  const start = begin + cell.indexOf(code);
   return `${SAID[other]}${place.propose(translated, start, start + code.length)}`;
 }

@@ -629,20 +629,24 @@ function compareSlips(page, tally) {
 /** Compares the page's words on faults, each made by a change of a text; and the texts that it proposes in place of a part. */
 function compareHints(page, program, tally) {
   const right = "X86 A\n{ x=0 }\n P0 | P1 ;\n MOV [x],$1 | MOV EAX,[x] ;\n MFENCE | XCHG [y],EAX ;\nexists (x=1 /\\ 1:EAX=0)\n";
-  for (const [part, wrong, words, line, proposed] of HINTS) {
+  for (const [part, wrong, words, line, proposed, changed] of HINTS) {
     const text = right.replace(part, () => wrong);
     const { fault } = page.questions.answerTo(program, "states", { text });
     const hint = page.faults.hintOn(fault, text);
     const row = page.faults.explainMissingRowEnd(fault, text).match(/^Line (\d+) has no `;`/)?.[1];
-    tally.compare(`the words on ${wrong}`, [true, line, proposed], [hint.words.includes(words), row && Number(row), hint.change?.text]);
+    const expected = [true, line, proposed, changed ?? hint.at?.row];
+    tally.compare(`the words on ${wrong}`, expected, [hint.words.includes(words), row && Number(row), hint.change?.text, hint.at?.row]);
   }
 }
 
 const NO_COMMA = "The operands of an instruction have a comma between them.";
 const NO_CONSTANT = "A constant is a whole number from 0 to 4294967295.";
 const NO_END_OF_ROW = "This row has no `;` at its end.";
+// A cell of the other thread, as it is in rows that are put in.
+const OTHER = "            |";
 const NO_END = "The initial values lack a `}` at their end.";
-// A part of a text, what is there in place of it, some of the page's words, the line of a row that lacks its end, and the proposed text.
+// A part of a text, what is there in place of it, some of the page's words, the line of a row that lacks its end, the proposed text, and the line that is
+// to be changed, if it is not that of the fault.
 const HINTS = [
   ["[y],EAX ;", "[y],EAX", NO_END_OF_ROW, 5, " ;"],
   ["MFENCE", "SFENCE", "SFENCE orders nothing that x86-TSO does not order already", undefined, undefined],
@@ -654,15 +658,31 @@ const HINTS = [
   ["[x] ;\n MFENCE | XCHG [y],EAX ;", "[x]\n MFENCE | XCHG [y],EAX", "This row and another one have no `;`", 5, " ;\n MFENCE | XCHG [y],EAX ;"],
   ["[x] ;", "[y] [x]", "This row has too few or too many cells", 4, undefined],
   ["(x=1 /\\ 1:EAX=0)", "(x=1 /\\\n 2:EAX=0)", "There is no thread 2", undefined, undefined],
-  ["{ x=0 }", "{ x=0", NO_END, undefined, undefined],
-  ["{ x=0 }", "{x=1;", NO_END, undefined, undefined],
-  ["{ x=0 }", "{(* } *)", NO_END, undefined, undefined],
+  ["{ x=0 }", "{ x=0", NO_END, undefined, undefined, 2],
+  ["{ x=0 }", "{x=1;", NO_END, undefined, undefined, 2],
+  ["{ x=0 }", "{(* } *)", NO_END, undefined, undefined, 2],
+  ["exists", "exist", "lw has no question of the name `exist`.", undefined, "exists", 6],
+  ["EAX=0)\n", "EAX=0\n\n", "The question lacks a `)` at its end.", undefined, ")", 6],
+  ["/\\ 1:EAX=0)", "", "The question lacks a `)` at its end.", undefined, ")", 6],
+  ["exists", "locations [x;\nexists", "The list of locations lacks a `]` at its end.", undefined, "]", 6],
+  ["P0 | P1", "p0 | p1", "The threads are `P0`, `P1` and so on.", undefined, "P0 | P1"],
+  ["P1 ;", "p1 ;", "The threads are `P0`, `P1` and so on.", undefined, "P1"],
+  ["MOV EAX,[x]", "INC [y]", "lw does this by `MOV EBX,[y]`, then `ADD EBX,$1`", undefined, `MOV EBX,[y] ;\n${OTHER} ADD EBX,$1 ;\n${OTHER} MOV [y],EBX ;`],
+  ["MOV EAX,[x]", "L: ADD [y],1", "lw does this by `MOV EBX,[y]`", undefined, `MOV EBX,[y] ;\n${OTHER} ADD EBX,1    ;\n${OTHER} MOV [y],EBX  ;`],
+  ["MOV EAX,[x]", "LOCK INC [y]", "lw does this by `MOV EBX,$1`", undefined, `MOV EBX,$1 ;\n${OTHER} LOCK XADD [y],EBX ;`],
+  ["MOV EAX,[x]", "LOCK XADD [y],$2", "lw does this by `MOV EBX,$2`", undefined, `MOV EBX,$2 ;\n${OTHER} LOCK XADD [y],EBX ;`],
+  ["MOV EAX,[x]", "DEC EAX", "lw does this by `ADD EAX,$4294967295`.", undefined, "ADD EAX,$4294967295 ;"],
+  ["MOV EAX,[x]", "CMP [x],EAX", "lw does this by `MOV EBX,[x]`", undefined, `MOV EBX,[x] ;\n${OTHER} CMP EBX,EAX ;`],
+  ["MOV [x],$1", "MOV $1,x", "lw does this by `MOV [x],$1`.", undefined, "MOV [x],$1 | MOV EAX,[x] ;"],
+  ["MOV [x],$1", "MOV x,$1", "Did you mean `[x]`?", undefined, "[x]"],
+  ["MOV EAX,[x]", "LOCK CMPXCHG [x],EBX", "lw has no compare-and-swap", undefined, undefined],
+  ["MOV EAX,[x]", "AND EAX,$1", "lw has no `AND`, and nothing that does the same.", undefined, undefined],
   ["{ x=0 }", "{ x=0 && y=1 }", "Initial values have a `;` between them.", undefined, ";"],
   ["EAX,[x]", "EAX [x]", NO_COMMA, undefined, "MOV EAX,[x]"],
   ["[x],$1", "[x] $1", NO_COMMA, undefined, "MOV [x],$1"],
   ["[y],EAX", "[y] EAX", NO_COMMA, undefined, "XCHG [y],EAX"],
   ["EAX,[x]", "EAX [", NO_COMMA, undefined, "MOV EAX,["],
-  ["MOV EAX,[x]", "ADD EAX,[x]", "Only `MOV`, `XCHG` and `LOCK XADD` take a location.", undefined, undefined],
+  ["MOV EAX,[x]", "ADD EAX,[x]", "lw does this by `MOV EBX,[x]`, then `ADD EAX,EBX`.", undefined, `MOV EBX,[x] ;\n${OTHER} ADD EAX,EBX ;`],
   ["$1", "$-1", NO_CONSTANT, undefined, undefined],
   ["$1", "1.5", NO_CONSTANT, undefined, undefined],
   ["x=0", "x=-1", NO_CONSTANT, undefined, undefined],

@@ -36,12 +36,13 @@ class Faults(PageCase):
         user.open_listed()
         rows = lambda row: f"X86 A\n{{}}\n P0 ;\n {row} ;\nexists (0:EAX=1)\n"
         for text, token, sentence in (
-            (rows("INC EAX"), "INC", "lw has no instruction of this name."),
+            (rows("INC EAX"), "INC", "INC does not fit here. lw does this by ADD EAX,$1."),
+            (rows("PAUSES"), "PAUSES", "lw has no instruction of this name."),
             (rows("MOV [x],[y]"), "[", "An instruction has one location at most: load it into a register first."),
             (rows("MOV EAX,flag"), "flag", "flag is no register, and one is needed here: EAX, EBX, ECX, EDX, ESI or EDI."),
             (rows("MOV [x],$1").replace("exists (0:EAX=1)", "exists (x=1 x)"), "x", "does not fit into the question."),
             (rows("MOV [x],$1 | MFENCE"), ";", "This row has too few or too many cells"),
-            (rows("MOV [x],$1").replace("exists", "exist"), "", "lw has no question of the name exist. Did you mean exists?"),
+            (rows("MOV [x],$1").replace("exists", "exist"), "exist", "Line 5, column 1: lw has no question of the name exist. Did you mean exists?"),
         ):
             user.run_text(text)
             self.assertSays(sentence, "#fault")
@@ -63,8 +64,24 @@ class Faults(PageCase):
         ):
             user.run_text(text)
             self.assertSays(sentence, "#fault")
-        user.run_text(rows("INC EAX"))
+        user.run_text(rows("PAUSES"))
         self.assertSays("lw has no instruction of this name. An instruction is", "#fault")
+
+    def test_instead(self) -> None:
+        """What does the same as an instruction that lw lacks is put into the text by a button, in rows of its own; what lw can't do is named."""
+        user = self.user
+        user.open_listed()
+        text = "X86 A\n{}\n P0         | P1        ;\n MOV [x],$1 | INC [x] ;\nexists (x=1)\n"
+        user.run_text(text)
+        self.assertSays("lw does this by MOV EAX,[x], then ADD EAX,$1, then MOV [x],EAX.", "#fault")
+        self.assertEqual("Put in these 3", user.text("#fault .apply"))
+        user.click("#fault .apply")
+        rows = " MOV [x],$1 | MOV EAX,[x] ;\n            | ADD EAX,$1 ;\n            | MOV [x],EAX ;\n"
+        self.assertSoon(text.replace(" MOV [x],$1 | INC [x] ;\n", rows), user.value)
+        self.assertSays("Allowed.", "#outcome .verdict")
+        user.run_text(text.replace("INC [x]", "LOCK CMPXCHG [x],EBX"))
+        self.assertSays("lw has no compare-and-swap", "#fault")
+        self.assertEqual([], user.all("#fault .apply"))
 
     def test_other_notations(self) -> None:
         """A message names notations of other tools or of the other language, and a button replaces them in the text."""
@@ -82,6 +99,9 @@ class Faults(PageCase):
             (text, "MOV EAX,[x]", "r0 := x", "This is a statement of a source test, and the text begins with X86. Did you mean MOV EAX,[x]?"),
             (text, "MOV EAX,[x]", "MOV EAX [x]", "The operands of an instruction have a comma between them. Did you mean MOV EAX,[x]?"),
             (text, "[x],$1", "[x] $1", "Did you mean MOV [x],$1?"),
+            (text, "MOV [x]", "MOV x", "x is no register, and one is needed here: EAX, EBX, ECX, EDX, ESI or EDI. Did you mean [x]?"),
+            (text, "MOV [x],$1", "MOV $1,x", "lw does this by MOV [x],$1."),
+            (text, "P0 | P1", "p0 | p1", "The threads are P0, P1 and so on. Did you mean P0 | P1?"),
             (text, "X86", "X86_64", "A test begins with SRC or X86. Did you mean X86?"),
             (source, "SRC", "X86", "All code is that of a source test, and the text begins with X86. Did you mean SRC?"),
             (text, "X86", "SRC", "All code is x86 code, and the text begins with SRC. Did you mean X86?"),
@@ -102,13 +122,16 @@ class Faults(PageCase):
         user.open_listed()
         rows = "X86 A\n{}\n P0 | P1 ;\n MOV [x],$1 | MOV EAX,[x] ;\nexists "
         for question, sentence in (
-            ("(x=1 /\\ 1:EAX=0", "The question lacks a ) at its end."),
-            ("(x=1 /\\", "The question is not complete."),
-            ("(x=1 /\\\n 2:EAX=0)", "There is no thread 2: the test has P0 and P1."),
+            ("(x=1 /\\ 1:EAX=0", "Line 5, column 24: The question lacks a ) at its end."),
+            ("(x=1 /\\", "Line 5, column 15: The question is not complete."),
+            ("(x=1 /\\\n 2:EAX=0)", "Line 6, column 2: There is no thread 2: the test has P0 and P1."),
         ):
             user.run_text(f"{rows}{question}\n")
             self.assertSays(sentence, "#fault")
             self.assertFalse("perhaps" in user.text("#fault"))
+        user.run_text(f"{rows}(x=1\n")
+        user.click("#fault .apply")
+        self.assertSoon(f"{rows}(x=1)\n", user.value)
 
     def test_end_of_row(self) -> None:
         """A row that lacks its end is named and marked, and a button puts the end in; also if several rows lack it."""
@@ -141,7 +164,7 @@ class Faults(PageCase):
         user = self.user
         user.open_listed()
         user.run_text("X86 Open\n{x=1;\n P0 | P1 ;\n MOV [x],$1 | MOV EAX,[x] ;\nexists (x=1)\n")
-        self.assertSays("The initial values lack a } at their end.", "#fault")
+        self.assertSays("Line 2, column 6: The initial values lack a } at their end.", "#fault")
         self.assertEqual([], user.all("#fault .apply"))
 
     def test_constant(self) -> None:
