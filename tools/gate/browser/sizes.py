@@ -296,6 +296,8 @@ class Phone(PageCase):
         user.open_listed("#example=Peterson-x86")
         self.assertSoon([], lambda: user.run(UNSEEN))
         self.assertSoon(True, lambda: all(it.startswith("lines ") for it in user.texts("#watching .lines-in-sight")))
+        lines = "const it = document.querySelector('#watching .code'); return it.clientHeight / it.firstElementChild.offsetHeight"
+        self.assertTrue(user.run(lines) > 4.2, user.run(lines))
 
     def test_list(self) -> None:
         """Most of a list of 15 states is in sight, and so is the chosen one; the list is scrolled sideways, below the titles of its rows."""
