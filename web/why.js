@@ -161,7 +161,9 @@ export class Why {
     const isOfOrder = cycles.some(({ words }) => !words.includes(OF_ONE_LOCATION));
     const explained = el("p", { class: "small" }, ARROWS, this.cyclesWords(lines, drawn));
     const notes = el("div", { class: "why-notes" }, explained, legend(...drawn), isOfOrder && ruleNote(RULE));
-    return [head, el("div", { class: "why-drawn" }, el("div", { class: "figures" }, drawn), notes), inWords];
+    const [first, ...others] = drawn;
+    const folded = others.length ? el("details", {}, el("summary", {}, `${others.length} more drawn`), el("div", { class: "figures" }, others)) : "";
+    return [head, el("div", { class: "why-drawn" }, el("div", { class: "figures" }, first), notes), folded, inWords];
   }
 
   /** Returns the sentence of an answer. That a state is forbidden is proved if the whole list is shown: it lacks the state. */

@@ -118,6 +118,19 @@ class WhyNot(PageCase):
         user.find("#why input").send_keys("1", user.keys.ENTER)
         self.assertSoon(True, lambda: chosen() not in ([], ["never"]))
 
+    def test_folded(self) -> None:
+        """Of several cycles the first is drawn, and the others are folded below it."""
+        user = self.user
+        user.resize(1280, 720)
+        user.open_listed("#example=SpinLock-x86&view=why")
+        user.find("#why figure svg.graph")
+        shown = "return [...document.querySelectorAll('#why figure')].filter((it) => it.checkVisibility()).length"
+        self.assertEqual(1, user.run(shown))
+        self.assertSoon(True, lambda: user.run(IN_SIGHT, "#why .why-drawn figure, #why .legend"))
+        self.assertEqual(["2 more drawn", "In words"], user.texts("#why summary"))
+        user.click("#why summary")
+        self.assertSoon(3, lambda: user.run(shown))
+
     def test_other_words(self) -> None:
         """A state of words that no thread has is answered in one sentence, and the answer before it disappears."""
         user = self.user
