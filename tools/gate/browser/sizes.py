@@ -248,6 +248,21 @@ class InSight(PageCase):
             user.click("#forward")
             self.assertTrue(user.run(script), user.step())
 
+    def test_drain(self) -> None:
+        """The arrow of the oldest entry of a store buffer does not lie over its word, nor outside of it."""
+        user = self.user
+        over = """
+        const boxOf = (it) => it.getBoundingClientRect();
+        const isClear = (it, { parentElement: entry }) => it.left > boxOf(entry.querySelector(".value")).right - 1 && it.right < boxOf(entry).right;
+        return [...document.querySelectorAll("#watching .drain")].filter((it) => !isClear(boxOf(it), it)).map((it) => it.parentElement.textContent);
+        """
+        for size in ((1280, 720), (390, 844)):
+            user.resize(*size)
+            for name in ("ProducerQueue-x86", "IRIW-x86", "SB-x86"):
+                user.open_listed(f"#example={name}")
+                user.find("#watching .drain")
+                self.assertEqual([], user.run(over), (size, name))
+
     def test_step_is_announced(self) -> None:
         """A live sentence above the machine says what has happened in a step, with the number of the step."""
         user = self.user
