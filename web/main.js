@@ -25,6 +25,7 @@ import { States } from "./states.js";
 import { hasServer, keep, table } from "./supplies.js";
 import { Tabs, VIEWS } from "./tabs.js";
 import { loadSentences, clearFault } from "./errors.js";
+import { nearest } from "./nearest.js";
 import { showNextStep } from "./next.js";
 import { slipNotes } from "./slips.js";
 import { listenToPrint } from "./paper.js";
@@ -265,10 +266,14 @@ function follow() {
   list({ link: link.state || link.view === "hand" ? link : null, timeout: MAX_MILLISECONDS });
 }
 
-/** Says that a link names examples that do not exist. */
-function showUnknown(names) {
-  const words = `There is no example named ${names[0]}. The button at the top opens all examples.`;
-  byId("unknown").replaceChildren(...(names[0] ? [el("p", { class: "notice" }, words)] : []));
+/** Says that a link names examples that do not exist, and offers to open one of nearly the name of the first. */
+function showUnknown([name]) {
+  const all = [...examples.tests.keys()];
+  const meant = name && (all.find((it) => it.toLowerCase() === name.toLowerCase()) ?? nearest(name, all));
+  const words = name && `There is no example named ${name}. ${meant ? "Did you mean " : "The button at the top opens all examples."}`;
+  const open = () => (address.read().beside === name ? beside.take({ beside: meant }) : choose(meant));
+  const link = meant ? [button(meant, open, { class: "link" }), "?"] : [];
+  byId("unknown").replaceChildren(...(name ? [el("p", { class: "notice" }, words, link)] : []));
 }
 
 /** Follows a link on the open page. If it names the same first test, everything shown of that test stays. */

@@ -59,6 +59,15 @@ class Links(PageCase):
         self.assertEqual("SB-x86", user.text("#example-name"))
         user.open_listed("#example=MP-x86")
         self.assertEqual([], user.all("#unknown p"))
+        for link, name in (("mp-X86", "MP-x86"), ("Petersen-x86", "Peterson-x86")):
+            user.open_listed(f"#example={link}")
+            self.assertSays(f"There is no example named {link}. Did you mean {name}?", "#unknown .notice")
+            user.click("#unknown .link")
+            self.assertSoon(name, lambda: user.text("#example-name"))
+            self.assertSoon([], lambda: user.texts("#unknown p"))
+        user.open_listed("#example=SB-x86&beside=sb")
+        user.click("#unknown .link")
+        self.assertSoon(["SB-x86", "SB"], lambda: user.texts(".side h2"))
 
     def test_pasted(self) -> None:
         """A link that is pasted is followed, also right after a change."""
