@@ -31,6 +31,8 @@ const WAYS = ["", "beside", "small", "beside small", "small low", "beside small 
 const KINDS = WAYS.at(-1).split(" ");
 // More lines than any code has, for a machine that is out of sight in part.
 const OUT_OF_SIGHT = 10000;
+// Of how many steps of a run at most the sentences are measured.
+const MAX_MEASURED = 100;
 const LOCKED = "First say what you expect: then the machine runs.";
 const OF_COMPILED = "This is the compiled run: ";
 const NO_GRAPH = "Only a run of an x86 program has a graph. ";
@@ -134,7 +136,8 @@ export class RunView {
     this.stage.draw(shown);
     this.player.show(run.events, run.step, { isOpen: run.isByHand, places });
     this.showStep();
-    if (!direction) this.fit();
+    if (direction) this.keepRoom();
+    else this.fit();
   }
 
   /** Says how high the threads' boxes are at least, in letters of the page's size. */
@@ -142,8 +145,24 @@ export class RunView {
     for (const it of [this.place, this.place.parentElement]) it?.style.setProperty("--least", String(height));
   }
 
-  /** Fits the machine into its room: draws it in the first way in which it is in sight with all of its code, or else with the most of it. */
+  /**
+   * Fits the machine into its room. The sentence has the room of the highest one of the run, unless a part of the machine, or what letters of cache
+   * lines mean, is out of sight then.
+   */
   fit() {
+    this.reserveRoom();
+    if (this.chooseWay() >= OUT_OF_SIGHT || (caches.isOn && this.hint.scrollHeight > this.hint.clientHeight + 2)) {
+      this.words.parentElement.style.minHeight = "";
+      this.chooseWay();
+    }
+    this.stage.fit();
+  }
+
+  /**
+   * Draws the machine in the first way in which it is in sight with all of its code, or else with the most of it. Returns how much of it is cut, as
+   * `drawIn` does.
+   */
+  chooseWay() {
     const least = leastHeight(this.stage.shown);
     let [best, fewest] = ["", Infinity];
     for (const way of isScrolled(this.stage.place) ? WAYS : [""]) {
@@ -152,7 +171,7 @@ export class RunView {
       if (cut < fewest) [best, fewest] = [way, cut];
     }
     if (fewest) this.drawIn(best, least);
-    this.stage.fit();
+    return fewest;
   }
 
   /** Fits the machine again after the room for it has changed: if a part of it is cut, or in any case. */
@@ -182,6 +201,28 @@ export class RunView {
     const { effect } = this.run.frame;
     this.words.className = effect ? `step ${threadClass(effect.thread)}` : "step";
     this.words.replaceChildren(...stepWords(this.run));
+  }
+
+  /** Gives the row of the sentence the height that it needs at any known step of the run, so that the machine stays where it is. */
+  reserveRoom() {
+    const { run, words } = this;
+    const row = words.parentElement;
+    if (!run.editor.isAlone) return;
+    const wordsAt = (step) => stepWords(Object.create(run, { step: { value: step }, isOpening: { value: run.isOpening && step === run.step } }));
+    const probes = run.frames.slice(0, MAX_MEASURED).map((_, step) => el("p", { class: "step" }, wordsAt(step)));
+    const box = el("div", { class: "probe" }, probes.filter(Boolean));
+    box.style.width = `${words.offsetWidth}px`;
+    row.style.minHeight = "";
+    row.append(box);
+    const missing = Math.max(...[...box.children, words].map((it) => it.offsetHeight)) - words.offsetHeight;
+    box.remove();
+    row.style.minHeight = `${row.offsetHeight + missing}px`;
+  }
+
+  /** Lets the row of the sentence become no lower. */
+  keepRoom() {
+    const row = this.words.parentElement;
+    row.style.minHeight = `${row.offsetHeight}px`;
   }
 
   /** Says why what is clicked can't be carried out. */

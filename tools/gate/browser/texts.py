@@ -122,7 +122,7 @@ class Faults(PageCase):
         user.open_listed()
         rows = "X86 A\n{}\n P0 | P1 ;\n MOV [x],$1 | MOV EAX,[x] ;\nexists "
         for question, sentence in (
-            ("(x=1 /\\ 1:EAX=0", "Line 5, column 24: The question lacks a ) at its end."),
+            ("(x=1 /\\ 1:EAX=0", "Line 5, column 23: The question lacks a ) at its end."),
             ("(x=1 /\\", "Line 5, column 15: The question is not complete."),
             ("(x=1 /\\\n 2:EAX=0)", "Line 6, column 2: There is no thread 2: the test has P0 and P1."),
         ):
