@@ -40,7 +40,7 @@ html, body { margin: 0; background: #fff; color: #111 }
 .slide footer { position: absolute; right: 2vw; bottom: 1vh; font-size: .6em; color: #555 }
 .running .slide { display: none }
 .running .slide.shown { display: flex }
-.controls { display: none; position: fixed; right: 1.2vw; bottom: 1vh; align-items: center; gap: .4em; color: #444;
+.controls { display: none; position: fixed; right: 1.2vw; bottom: 1vh; align-items: center; gap: .4em; color: #444; background: #fff;
   font: max(13px, min(1.4vw, 2.4vh))/1 "Segoe UI", "DejaVu Sans", sans-serif }
 .running .controls { display: flex }
 .running .slide footer { display: none }
@@ -48,6 +48,16 @@ html, body { margin: 0; background: #fff; color: #111 }
 .controls button:hover { background: #e8ecf4 }
 .controls button:focus-visible { outline: 3px solid #1849a9 }
 .controls [aria-disabled="true"] { color: #767676; border-color: #ccc; cursor: default }
+/* A screen is dark if the system is; paper is white. */
+@media screen and (prefers-color-scheme: dark) {
+  html, body { background: #16181c; color: #ececec; color-scheme: dark }
+  .slide aside, .slide footer, .controls { color: #b0b0b0 }
+  .slide .open { color: #8ab4ff }
+  .controls button, .controls { background: #16181c }
+  .controls button:hover { background: #303743 }
+  .controls button:focus-visible { outline-color: #8ab4ff }
+  .controls [aria-disabled="true"] { color: #8d939c; border-color: #4a505a }
+}
 /* On a phone that is held upright a slide is as high as it has to be, in type that can be read. */
 @media screen and (max-width: 40rem) and (orientation: portrait) {
   .running .slide, .slide { width: 100%; height: auto; min-height: 100vh; overflow: visible; justify-content: flex-start; gap: 1rem;
@@ -58,7 +68,7 @@ html, body { margin: 0; background: #fff; color: #111 }
   .slide svg { height: auto }
   .slide .open { position: static; font-size: .9em }
   .slide footer { right: 1rem; font-size: .8em }
-  .controls { right: 0; bottom: 0; padding: .4rem 1rem; font-size: 1.25rem; background: #fff; border-radius: .3em }
+  .controls { right: 0; bottom: 0; padding: .4rem 1rem; font-size: 1.25rem; border-radius: .3em }
 }
 @media print {
   .running .controls, .slide .open { display: none }

@@ -9,7 +9,7 @@
 - The slides are in the order of the timetable. Before the tasks none shows a test of tasks 2 to 4, except the text of A1 and A2 and the
   list of A1 by turns, and no picture shows cache lines. Slide and sheet ask the same.
 - In Chromium, if it is there with its driver and python3-selenium: keys, clicks and two buttons lead from slide to slide, the buttons cover
-  nothing, a key shows notes, and each is a page of paper.
+  nothing, a key shows notes, they are dark if the system is, and each is a white page of paper.
 
 tools/check_documents.py calls all this; the program has to be built.
 """
@@ -232,6 +232,13 @@ def check_browser(folder: str) -> Iterator[Comparison]:
         size = "return parseFloat(getComputedStyle([...document.querySelectorAll('.slide p')].find((it) => it.offsetHeight)).fontSize)"
         yield "the slides can be read on a phone", True, driver.execute_script(size) >= 16
         driver.execute_cdp_cmd("Emulation.clearDeviceMetricsOverride", {})
+        for media, scheme, ground in (("", "dark", "rgb(22, 24, 28)"), ("", "light", "rgb(255, 255, 255)"), ("print", "dark", "rgb(255, 255, 255)")):
+            emulated = {"media": media, "features": [{"name": "prefers-color-scheme", "value": scheme}]}
+            driver.execute_cdp_cmd("Emulation.setEmulatedMedia", emulated)
+            body = driver.execute_script("return getComputedStyle(document.body).backgroundColor")
+            picture = driver.execute_script("return getComputedStyle(document.querySelector('svg .ground')).fill")
+            yield f"the ground of slides and pictures, {scheme} {media}", (ground, ground), (body, picture)
+        driver.execute_cdp_cmd("Emulation.setEmulatedMedia", {"media": "", "features": []})
         printed = driver.execute_cdp_cmd("Page.printToPDF", {"preferCSSPageSize": True})
         yield "each slide is a page", COUNT, len(PAGE.findall(base64.b64decode(printed["data"])))
     finally:

@@ -20,7 +20,7 @@ from lab.tests import list_examples, neutralize, read_file
 MORE_TESTS = {"A1-turns": "SB"}
 # Tests that are no examples. The machine is shown on one that no task is about.
 TYPED = {"Slip": "X86 Slip\n{}\n P0         | P1          ;\n MOV [x],$1 | MOV EAX,[x] ;\nexists (1:EAX=0)\n"}
-DARK = re.compile(r"@media \(prefers-color-scheme: dark\) \{\n(?:.*\n)*?\}\n")
+DARK = "@media (prefers-color-scheme: dark)"
 
 
 class Words(NamedTuple):
@@ -141,12 +141,8 @@ def read_texts() -> dict[str, bytes]:
     return {name: text.encode() for name, text in {**{name: neutralize(name, it) for name, it in examples.items()}, **TYPED}.items()}
 
 
-def keep_light_styles(style: str) -> str:
-    """Returns styles without the rules for dark mode, for paper and projectors."""
-    return DARK.sub("", style)
-
-
-STYLE_OF_PICTURES = keep_light_styles(picture.STYLE) + keep_light_styles(graph.STYLE)
+# The styles of pictures: paper is light, and a screen is as the system has it.
+STYLE_OF_PICTURES = (picture.STYLE + graph.STYLE).replace(DARK, DARK.replace("(", "screen and (", 1))
 
 
 def embed_picture(svg: str) -> str:
