@@ -146,7 +146,7 @@ export class States {
     this.showVerdict();
     this.showNotes();
     this.here.offer(this.isByHand ? null : this.editor.text);
-    this.strip.show(report, tintsOf(this.editor.text), this.missing);
+    this.showList();
     this.onReveal();
     if (this.isByHand) return this.beginByHand(link?.view === "hand" ? link : {});
     if (link?.view === "hand" && link.schedule !== undefined) return this.run.begin(link);
@@ -194,6 +194,21 @@ export class States {
     if (!this.isVeiled) return;
     this.isVeiled = false;
     this.showVerdict();
+    this.showList();
+  }
+
+  /** Returns whether the number of states is kept back, too: it is a part of the answer to a prediction that is still open. */
+  get isUncounted() {
+    return this.isVeiled && guess.isOpen(this.editor.text);
+  }
+
+  /** Shows the list; by hand only the words of the states that are found, and if their number is kept back no others. */
+  showList() {
+    const { report, found, isByHand, isUncounted } = this;
+    const known = report.states.filter(({ line }) => isUncounted && found.has(keyOf(line))).map((it, index) => ({ ...it, index }));
+    this.strip.hide(isByHand ? found : null);
+    const shown = isUncounted ? { ...report, states: known, number: known.length, positive: 0 } : report;
+    this.strip.show(shown, tintsOf(this.editor.text), this.missing);
   }
 
   /** Shows the verdict, and how good the guess was. */
@@ -301,7 +316,7 @@ export class States {
     this.isByHand = true;
     if (!this.report) return null;
     if (this.found.size < this.report.number && this.isKeptBack(true)) this.veil();
-    this.strip.hide(this.found);
+    this.showList();
     this.strip.select(null);
     this.showFound();
     return this.run.begin(link);
@@ -333,8 +348,8 @@ export class States {
     this.found.add(key);
     this.strip.select(state.line);
     if (!this.isByHand) return;
-    this.strip.hide(this.found);
     this.showFound(isNew, isNew && this.decides(state));
+    this.showList();
   }
 
   /** Returns whether one run to a state decides what the condition asks: it ends in one that shows the verdict. */
@@ -371,7 +386,8 @@ export class States {
     if (isAll || decides) this.unveil();
     const decided = decides ? " This run decides the question." : "";
     const more = isAll ? " These are all: no run ends otherwise." : isNew ? " Start again with |◀ and look for another." : "";
-    const words = el("b", {}, `Found ${this.found.size} of ${number} states.`);
+    const counted = this.isUncounted ? `States found so far: ${this.found.size}.` : `Found ${this.found.size} of ${number} states.`;
+    const words = el("b", {}, counted);
     this.list.replaceChildren(el("p", { class: `found${isNew ? " new" : ""}`, role: "status" }, words, decided, more));
   }
 }

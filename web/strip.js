@@ -135,7 +135,7 @@ export class Strip {
   draw() {
     if (!this.report) return;
     const { states } = this.report;
-    if (!states.length) return this.place.replaceChildren(el("p", { class: "small" }, "No run ends."));
+    if (!states.length) return this.place.replaceChildren(this.found ? "" : el("p", { class: "small" }, "No run ends."));
     const [room, { columns, rows }] = [this.room(), this.widths()];
     this.drawnIn = room;
     const beside = room - (largeType.isOn ? LARGE_VERDICT : VERDICT);

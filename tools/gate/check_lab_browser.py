@@ -128,7 +128,7 @@ class Student(User):
         """Begins by hand, with a guess."""
         self.click("#tab-hand")
         self.click(f"#{guess}")
-        self.text_with("#outcome .found", "Found 0 of ")
+        self.text_with("#outcome .found", "States found so far: 0.")
         self.find("#watching [data-event=P0]")
 
     def play_schedule(self, schedule: Sequence[str]) -> tuple[list[str], bool]:

@@ -170,19 +170,33 @@ class Kept(PageCase):
         user = self.user
         open_anew(user, "#example=SB-x86&predict=1&view=hand")
         user.click("#yes")
-        self.assertSays("Found 0 of 4 states.", "#outcome .found")
+        self.assertSays("States found so far: 0.", "#outcome .found")
+        self.assertEqual([], user.all("table.strip"))
         verdict = f"{user.text('#outcome .verdict > span:last-child')} {user.text('#outcome .asked code')}"
         self.assertEqual((QUESTION, []), (verdict, user.texts("table.strip .holds")))
         self.assertSays("Your guess is kept.", "#outcome .by")
         user.click("#tab-states")
         self.assertSays("The condition holds in 1 of 4 final states.", "#outcome .asked")
 
+    def test_number(self) -> None:
+        """While the prediction is open, the number of states, which says a part of the answer, is not shown; with the verdict it is."""
+        user = self.user
+        open_anew(user, "#example=SB-x86&predict=1&view=hand")
+        user.click("#no")
+        user.carry_out("P0", "P0", "D0", "P1", "P1", "D1")
+        self.assertSays("States found so far: 1.", "#outcome .found")
+        self.assertEqual(["0", "1"], [it.split()[-1] for it in user.texts("#outcome table.strip tbody tr")[:2]])
+        self.assertEqual(1, len(user.all("#outcome table.strip thead .watch")))
+        user.click(".unveil")
+        self.assertEqual(4, len(user.all("#outcome table.strip thead .watch")))
+        self.assertEqual(3, len(user.all("#outcome table.strip thead .unfound")))
+
     def test_open(self) -> None:
         """While the prediction is open, no other tab shows the answer; the button that shows it shows them, too."""
         user = self.user
         open_anew(user, "#example=SB-x86&predict=1&view=hand")
         user.click("#yes")
-        self.assertSays("Found 0 of 4 states.", "#outcome .found")
+        self.assertSays("States found so far: 0.", "#outcome .found")
         self.assertEqual([], user.all("#printed-place"))
         for view in ("why", "compile", "fences"):
             user.click(f"#tab-{view}")
