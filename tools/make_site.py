@@ -10,7 +10,8 @@ documents of tools/page/documents.py, whose links open on the page what they sho
 loaded from elsewhere.
 
 A page that was opened as a file may load neither JSON nor modules of JavaScript. So those of web/ are joined to one classic script each for
-the page and its worker, and tables and modules come in scripts too, all packed as gzip in letters. In a folder the page
+the page and its worker, which are packed together, since they share modules; tables and modules come in scripts too, all packed as gzip in letters.
+In a folder the page
 asks for a module as soon as it has the tables, and for the second only if the browser does not take the first.
 """
 from __future__ import annotations
@@ -54,12 +55,17 @@ STYLE_SPARE = re.compile(r"(?<=[:,]) +| *(>) *|(?<![\w.])0(?=\.\d)|;(?=\})| +(?=
 EXPORT = re.compile(r"^export ((?:async )?(?:function\*?|class|const) (\w+))", re.M)
 # The colours of the page, by light and by dark: the first rules of its style sheet.
 COLOURS = re.compile(r":root \{.*?\n\}\n:root\[data-theme=\"light\"\].*?\n:root\[data-theme=\"dark\"\].*?\n", re.S)
-# Unpacks a script in the browser, and runs it.
+# What is between the parts of the page's code, when they are packed.
+BETWEEN_PARTS = "\0"
+# Unpacks the parts of the page's code in the browser, keeps the worker's script, and runs the page's.
 UNPACKING = """"use strict";
 (async () => {
 const bytes = globalThis.site.bytesOf(PACKED);
+const text = await new Response(new Blob([bytes]).stream().pipeThrough(new DecompressionStream("gzip"))).text();
+const [shared, page, worker] = text.split("\\0");
+globalThis.site.worker = shared + worker;
 const script = document.createElement("script");
-script.text = await new Response(new Blob([bytes]).stream().pipeThrough(new DecompressionStream("gzip"))).text();
+script.text = shared + page;
 document.body.append(script);
 })();
 """
@@ -103,10 +109,31 @@ def read_source(name: str, web: str) -> str:
 
 def bundle_module(entry: str, web: str) -> str:
     """Returns one classic script that does what a module and all its imports do. Raises NoSite if it has what no script inside the page may have."""
+    return '"use strict";\n' + join_modules(collect_modules(entry, web), entry)
+
+
+def bundle_page(web: str) -> tuple[str, str, str]:
+    """Returns the code of the page in three parts: what the page and its worker share, with which the scripts of both begin; the rest of the page's
+    script; and the rest of the worker's. Raises NoSite as `bundle_module` does.
+    """
+    of_page, of_worker = collect_modules("main", web), collect_modules("worker", web)
+    shared = {name: text for name, text in of_page.items() if name in of_worker}
+    rest_of = lambda modules: {name: text for name, text in modules.items() if name not in shared}
+    begin = '"use strict";\n' + join_modules(shared, "main")
+    return begin, join_modules(rest_of(of_page), "main"), join_modules(rest_of(of_worker), "worker")
+
+
+def collect_modules(entry: str, web: str) -> dict[str, str]:
+    """Returns a module and all its imports, each after those that it imports. Raises NoSite if a module imports itself."""
     done: dict[str, str] = {}
     add_module(entry, web, done, ())
-    text = '"use strict";\n' + INDENT.sub("", COMMENT.sub("", "".join(done.values())))
-    if re.search(r"</script|<!--|^\s*(?:import|export)\b", text, re.M | re.I):
+    return done
+
+
+def join_modules(modules: dict[str, str], entry: str) -> str:
+    """Returns modules that an entry imports as one text. Raises NoSite if it has what no script inside the page may have."""
+    text = INDENT.sub("", COMMENT.sub("", "".join(modules.values())))
+    if re.search(r"</script|<!--|^\s*(?:import|export)\b|\0", text, re.M | re.I):
         raise NoSite(f"web/{entry}.js, or what it imports, has what no script inside the page may have, or an import of another form")
     return text
 
@@ -167,14 +194,14 @@ def read_leb128(module: bytes, at: int) -> tuple[int, int]:
     return number, at
 
 
-def make_unpacking_script(script: str) -> str:
-    """Returns a script that unpacks another one and runs it: the page's own code is a third as long when it is packed."""
-    return UNPACKING.replace("PACKED", format_literal(pack_bytes(script.encode())))
+def make_unpacking_script(parts: tuple[str, str, str]) -> str:
+    """Returns a script that unpacks the parts of the page's code and runs it: packed it is a third as long."""
+    return UNPACKING.replace("PACKED", format_literal(pack_bytes(BETWEEN_PARTS.join(parts).encode())))
 
 
 def make_scripts(modules: list[bytes], is_kept: bool, web: str, has_documents: bool = False) -> Files:
     """Returns the scripts of the page, in their order: what `site` is, which web/supplies.js takes, the page's own code, and the modules."""
-    tables = {"examples": web_files.list_families(), "sentences": web_files.list_sentences(), "worker": bundle_module("worker", web)}
+    tables = {"examples": web_files.list_families(), "sentences": web_files.list_sentences()}
     names = [f"workbench{number}.js" for number, _ in enumerate(modules, 1)]
     site = {
         "tables": pack_bytes(json.dumps(tables).encode()),
@@ -188,7 +215,7 @@ def make_scripts(modules: list[bytes], is_kept: bool, web: str, has_documents: b
     }
     first = FETCHING.replace("FILE", format_literal(names[0])) if is_kept and names else ""
     begin = f"globalThis.site = {format_literal(site)};\nglobalThis.site.bytesOf = {letters.DECODER};\n"
-    scripts_by_name = {"tables.js": begin + first, "page.js": make_unpacking_script(bundle_module("main", web))}
+    scripts_by_name = {"tables.js": begin + first, "page.js": make_unpacking_script(bundle_page(web))}
     for name, module in zip(names, modules):
         scripts_by_name[name] = f"globalThis.site.modules.push({format_literal(pack_bytes(remove_names(module)))});\nglobalThis.site.came?.();\n"
     return scripts_by_name

@@ -69,7 +69,7 @@ function fetchScript(name) {
  */
 export async function newWorker() {
   if (!site) return new Worker("worker.js", { type: "module" });
-  const address = URL.createObjectURL(new Blob([(await tables).worker], { type: "text/javascript" }));
+  const address = URL.createObjectURL(new Blob([site.worker], { type: "text/javascript" }));
   const worker = new Worker(address);
   setTimeout(() => URL.revokeObjectURL(address), 10000);
   return worker;

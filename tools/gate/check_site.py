@@ -126,6 +126,11 @@ def check_bundles() -> Iterator[Comparison]:
             script = f"const told = [];\n{text}console.log(told.join());"
             ran = subprocess.run([NODE, "-e", script.replace('"use strict";', "", 1)], capture_output=True, text=True, check=False)
             yield "a bundle runs", "2,1,undefined\n", ran.stdout + ran.stderr
+        shared, *rest = make_site.bundle_page(make_site.WEB)
+        for entry, part in zip(("main", "worker"), rest):
+            whole = make_site.bundle_module(entry, make_site.WEB)
+            modules = [sorted(re.findall(r"^const from_\w+ = \(", it, re.M)) for it in (whole, shared + part)]
+            yield f"the parts of the page's code have each module that {entry}.js needs once", *modules
         for fault, text in REFUSED:
             make_site.write_file(f"{web}/main.js", text)
             message = ""
