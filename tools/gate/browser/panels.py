@@ -48,7 +48,7 @@ class WhyNot(PageCase):
         for name in ("MCS-x86", "TicketLock", "Peterson%2Bmfences-x86"):
             user.open_listed(f"#example={name}&view=why")
             user.find("#why figure svg.graph")
-            self.assertEqual([], [it for it in user.texts("#why .cycle-words") if not it.startswith("global happens-before: ")], name)
+            self.assertEqual([], [it for it in user.texts("#why .cycle-words") if it and not it.startswith("global happens-before: ")], name)
             self.assertEqual([], [it for it in user.texts("#why figure svg.graph text") if "?" in it], name)
             self.assertEqual([], user.all("#why .kind"))
         user.open_listed("#example=Counter-x86&view=why")
