@@ -129,8 +129,8 @@ def check_bundles() -> Iterator[Comparison]:
         shared, *rest = make_site.bundle_page(make_site.WEB)
         for entry, part in zip(("main", "worker"), rest):
             whole = make_site.bundle_module(entry, make_site.WEB)
-            modules = [sorted(re.findall(r"^const from_\w+ = \(", it, re.M)) for it in (whole, shared + part)]
-            yield f"the parts of the page's code have each module that {entry}.js needs once", *modules
+            needed, found = (sorted(re.findall(r"^const from_\w+ = \(", it, re.M)) for it in (whole, shared + part))
+            yield f"the parts of the page's code have each module that {entry}.js needs once", needed, found
         for fault, text in REFUSED:
             make_site.write_file(f"{web}/main.js", text)
             message = ""
