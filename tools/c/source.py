@@ -36,7 +36,7 @@ class Source:
 
     @property
     def is_rust(self) -> bool:
-        """Returns whether it is Rust."""
+        """Returns whether the source is Rust."""
         return self.ending == ".rs"
 
 

@@ -65,7 +65,7 @@ pub use Rattle.lw_orders.proofs.api.Indices.{index_in-injective, index_in-order_
 pub use Rattle.lw_paths.proofs.Common.{IsPathAssignment, JumpsForward, constraints_of, item_at, items_of}
 pub use Rattle.lw_paths.proofs.Common.{statement_needs_empty_buffer, statement_of}
 pub use Rattle.lw_paths.proofs.api.Members.{Contains-cons, Contains-head, Contains-map, Contains-map_inv}
-pub use Rattle.lw_paths.proofs.api.Members.{Contains-tail, not-Contains-nil}
+pub use Rattle.lw_paths.proofs.api.Members.{Contains-singleton, Contains-tail, not-Contains-nil}
 pub use Rattle.lw_paths.proofs.api.Numbering.{HasItem, HasItem-on_path, IsAscendingFrom}
 pub use Rattle.lw_paths.proofs.api.Numbering.{IsAscendingFrom-flow_path, IsAscendingFrom-lower_bound}
 pub use Rattle.lw_paths.proofs.api.Numbering.{IsItemOnPath, IsItemOnPath-of_member, IsMember, IsStoring}

@@ -1,20 +1,21 @@
 -- The spin lock with two threads counts both if both were inside. The critical section of one, a, is over when the other, b, acquires
 -- the lock. So b loads the count that a has stored, which is 1, since a cannot have loaded what b stores; b stores 2, and last.
-use Rattle.lw_axiomatic.proofs.Common.{◌&&◌, Contains, or_left, is_true, one_is_lost, ◌≡◌, ◌≢◌, ℕ, ◌<◌, ◌⊎◌}
-use Rattle.lw_axiomatic.proofs.Common.{◌==◌, inl, inr, true, false, Option, Some, None, List, [], refl, sym}
-use Rattle.lw_axiomatic.proofs.Common.{ap, ◌∙◌, subst, arith, none-some, cases_Bool, cases_eq, eqb-true}
-use Rattle.lw_axiomatic.proofs.Common.{and_parts, slice_index, slice_index_or, thread_code, FinalState}
-use Rattle.lw_axiomatic.proofs.Common.{x86_language, writes, X86Test, MemoryEvent, Execution, IsEvent, Po}
-use Rattle.lw_axiomatic.proofs.Common.{reads, Reads, Writes, Rf, Fr, operation_is, IsCandidate, IsReadFrom}
-use Rattle.lw_axiomatic.proofs.Common.{SatisfiesAxioms, IsAllowed, IsOverBefore, spin_lock, wrapping_sum}
+use Rattle.lw_axiomatic.proofs.Common.{Contains-singleton, ◌&&◌, Contains, or_left, is_true, one_is_lost, ◌≡◌}
+use Rattle.lw_axiomatic.proofs.Common.{◌≢◌, ℕ, ◌<◌, ◌⊎◌, ◌==◌, inl, inr, true, false, Option, Some, None}
+use Rattle.lw_axiomatic.proofs.Common.{List, [], refl, sym, ap, ◌∙◌, subst, arith, none-some, cases_Bool}
+use Rattle.lw_axiomatic.proofs.Common.{cases_eq, eqb-true, and_parts, slice_index, slice_index_or}
+use Rattle.lw_axiomatic.proofs.Common.{thread_code, FinalState, x86_language, writes, X86Test, MemoryEvent}
+use Rattle.lw_axiomatic.proofs.Common.{Execution, IsEvent, Po, reads, Reads, Writes, Rf, Fr, operation_is}
+use Rattle.lw_axiomatic.proofs.Common.{IsCandidate, IsReadFrom, SatisfiesAxioms, IsAllowed, IsOverBefore}
+use Rattle.lw_axiomatic.proofs.Common.{spin_lock, wrapping_sum}
 use Rattle.lw_axiomatic.proofs.Anchored.{Po-Rf_in_thread}
 use Rattle.lw_axiomatic.proofs.CoherenceLaws.{Co_total-of_writes}
 use Rattle.lw_axiomatic.proofs.EventLists.{event}
 use Rattle.lw_axiomatic.proofs.Locks.{IsOverBefore-total, ordered-sections}
 use Rattle.lw_axiomatic.proofs.WorkedLocks.{EntersSection, SpinLockRun-of_thread, IsEvent-of_inside}
 use Rattle.lw_axiomatic.proofs.WorkedLocks.{event_in_indices_of, kind_at, location_at, Acquires-of_inside}
-use Rattle.lw_axiomatic.proofs.WorkedLocks.{IsUsedAsLock-lock, lock_write_positions, Contains-singleton}
-use Rattle.lw_axiomatic.proofs.WorkedLocks.{thread_in_range-of_event, inside_path}
+use Rattle.lw_axiomatic.proofs.WorkedLocks.{IsUsedAsLock-lock, lock_write_positions, thread_in_range-of_event}
+use Rattle.lw_axiomatic.proofs.WorkedLocks.{inside_path}
 
 module _ {x : Execution} {o : FinalState} (candidate : IsCandidate x86_language (spin_lock 2) x o)
     (axioms : SatisfiesAxioms (spin_lock 2) x) where

@@ -1,19 +1,19 @@
 -- The spin lock of examples/SpinLock-x86.litmus, worked, for any number of threads: each thread goes along one of three paths, by what
 -- it reads of the lock; so the location is used as a lock, and critical sections do not overlap.
-use Rattle.lw_axiomatic.proofs.Common.{subst₂, ◌&&◌, ◌+◌, cond-true, Contains-head, Contains-tail, cond-false}
-use Rattle.lw_axiomatic.proofs.Common.{and_from, eq-eqb, Contains-cons, not-Contains-nil, All-contains}
-use Rattle.lw_axiomatic.proofs.Common.{All-from_recursion, slice_index, wrapping_sum, spin_lock_code}
-use Rattle.lw_axiomatic.proofs.Common.{spin_lock, ◌≡◌, ℕ, zero, suc, ◌<◌, ◌⊎◌, ◌==◌, inl, inr, Bool, true}
-use Rattle.lw_axiomatic.proofs.Common.{false, Option, Some, None, List, [], ◌∷◌, refl, sym, ap, ◌∙◌, subst}
-use Rattle.lw_axiomatic.proofs.Common.{arith, true≢false, none-some, same_Some, cases_Bool, slice_get}
-use Rattle.lw_axiomatic.proofs.Common.{slice_index_or, slice_get_past, replicate, not, if◌then◌else◌}
-use Rattle.lw_axiomatic.proofs.Common.{option_map, option_map_or, option_and_then, eqb-true, AllByRecursion}
-use Rattle.lw_axiomatic.proofs.Common.{Contains, Instr, Operation, location_of, is_store, is_locked, writes}
-use Rattle.lw_axiomatic.proofs.Common.{x86_language, x86_operation, X86Test, thread_code, MemoryEvent}
-use Rattle.lw_axiomatic.proofs.Common.{Execution, IsEvent, operation_is, location, Writes, ThreadState}
-use Rattle.lw_axiomatic.proofs.Common.{first_state, state_after, word_written, ThreadExecutes, IsCandidate}
-use Rattle.lw_axiomatic.proofs.Common.{FinalState, Acquires, IsUsedAsLock, Number, Register, length-replicate}
-use Rattle.lw_axiomatic.proofs.Common.{reads}
+use Rattle.lw_axiomatic.proofs.Common.{Contains-singleton, subst₂, ◌&&◌, ◌+◌, cond-true, Contains-head}
+use Rattle.lw_axiomatic.proofs.Common.{Contains-tail, cond-false, and_from, eq-eqb, Contains-cons}
+use Rattle.lw_axiomatic.proofs.Common.{not-Contains-nil, All-contains, All-from_recursion, slice_index}
+use Rattle.lw_axiomatic.proofs.Common.{wrapping_sum, spin_lock_code, spin_lock, ◌≡◌, ℕ, zero, suc, ◌<◌, ◌⊎◌}
+use Rattle.lw_axiomatic.proofs.Common.{◌==◌, inl, inr, Bool, true, false, Option, Some, None, List, [], ◌∷◌}
+use Rattle.lw_axiomatic.proofs.Common.{refl, sym, ap, ◌∙◌, subst, arith, true≢false, none-some, same_Some}
+use Rattle.lw_axiomatic.proofs.Common.{cases_Bool, slice_get, slice_index_or, slice_get_past, replicate, not}
+use Rattle.lw_axiomatic.proofs.Common.{if◌then◌else◌, option_map, option_map_or, option_and_then, eqb-true}
+use Rattle.lw_axiomatic.proofs.Common.{AllByRecursion, Contains, Instr, Operation, location_of, is_store}
+use Rattle.lw_axiomatic.proofs.Common.{is_locked, writes, x86_language, x86_operation, X86Test, thread_code}
+use Rattle.lw_axiomatic.proofs.Common.{MemoryEvent, Execution, IsEvent, operation_is, location, Writes}
+use Rattle.lw_axiomatic.proofs.Common.{ThreadState, first_state, state_after, word_written, ThreadExecutes}
+use Rattle.lw_axiomatic.proofs.Common.{IsCandidate, FinalState, Acquires, IsUsedAsLock, Number, Register}
+use Rattle.lw_axiomatic.proofs.Common.{length-replicate, reads}
 use Rattle.lw_axiomatic.proofs.EventLists.{event}
 use Rattle.lw_axiomatic.proofs.FencedTests.{event_thread_in_range}
 use Rattle.lw_litmus.specs.declared.instr.Instr.TheVariants as instr
@@ -115,11 +115,6 @@ indices_of-contains kind l j code has_kind location_is = contains-of_instruction
         Contains-indices_of (is_kind_on kind l) code 0 j j i found_at
         (and_from (kind (x86_operation i)) _ has_kind
         (ap (λ q. option_map_or (λ k. k == l) q false) location_is ∙ eq-eqb l l refl)) (omega arith)
-
--- A list of one item has no other.
-pub Contains-singleton : (k j : ℕ) → Contains (k ∷ []) j → j ≡ k
-Contains-singleton k j is_member =
-    elim (Contains-cons k j [] is_member) [ inl is_head ↦ sym is_head | inr in_tail ↦ absurd (not-Contains-nil j in_tail) ]
 
 -- A list of two items has no other.
 Contains-pair : (k m j : ℕ) → Contains (k ∷ m ∷ []) j → (j ≡ k) ⊎ (j ≡ m)

@@ -1,6 +1,7 @@
 -- Outcomes of classic tests, whose values are in lw_bench's Classics, a test with a spare fence, and a spin lock.
 use Rattle.std.specs.Prelude.{ℕ, List, replicate, [], ◌∷◌, codes}
 use Rattle.lw_base.specs.Formula.{Formula, And, Reg_is, Word_is}
+use Rattle.lw_base.specs.Limits.{registers}
 use Rattle.lw_base.specs.Outcomes.{FinalState}
 use Rattle.lw_base.specs.declared.head.Arch.TheVariants.{X86}
 use Rattle.lw_base.specs.declared.head.Quant.TheVariants.{NotExists}
@@ -12,7 +13,7 @@ use Rattle.lw_litmus.specs.declared.instr.Instr.TheVariants.{Add, Cmp, Jne, Load
 
 -- The outcome of store buffering in which both loads read the initial 0.
 abbrev pub both_loads_early : FinalState
-both_loads_early = record { regs = replicate 2 (replicate 6 0); words = replicate 2 1 }
+both_loads_early = record { regs = replicate 2 (replicate registers 0); words = replicate 2 1 }
 
 -- `MOV [x],1; MOV EAX,[x]` beside `MOV [y],1; MOV EAX,[y]`: each thread loads a location that no other thread writes.
 abbrev pub own_loads : X86Test

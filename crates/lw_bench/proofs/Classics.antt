@@ -1,15 +1,15 @@
 -- The classic tests: they are well-formed, searches through their runs find what is forbidden, and a run of
 -- store buffering in x86 has both loads early. The laws on classic tests cite these lemmas.
-use Rattle.lw_bench.proofs.Common.{◌≡◌, ℕ, zero, suc, ◌^◌, ◌<◌, ◌≤◌, ◌==◌, not, Bool, true, false, List, []}
-use Rattle.lw_bench.proofs.Common.{◌∷◌, refl, sym, ap, ◌∙◌, subst, arith, slice_index, length, None, Some}
-use Rattle.lw_bench.proofs.Common.{slice_get, codes, replicate, slice_index_or, Contains, is_ascii_digit}
-use Rattle.lw_bench.proofs.Common.{AllByRecursion, ForSome, false≢true, All-nil, All-cons, none-some}
-use Rattle.lw_bench.proofs.Common.{same_Some, is_name_byte, Formula, nodes, is_reserved, IsLocationName}
-use Rattle.lw_bench.proofs.Common.{IsTestName, FinalState, IsRegisterIndex, IsWordNumber, MentionsOnly}
-use Rattle.lw_bench.proofs.Common.{IsWellFormedHead, Arch, X86, Quant, Exists, NotExists, Number}
-use Rattle.lw_bench.proofs.Common.{branch_target, x86_language, x86_operation, IsWellFormedProgram, X86Test}
-use Rattle.lw_bench.proofs.Common.{IsWellFormedStatement, IsWellFormedThread, Instr, Event, Step, Drain}
-use Rattle.lw_bench.proofs.Common.{initial_state, SourceOutcome, flat_memory, is_true, MachineState}
+use Rattle.lw_bench.proofs.Common.{registers, ◌≡◌, ℕ, zero, suc, ◌^◌, ◌<◌, ◌≤◌, ◌==◌, not, Bool, true, false}
+use Rattle.lw_bench.proofs.Common.{List, [], ◌∷◌, refl, sym, ap, ◌∙◌, subst, arith, slice_index, length, None}
+use Rattle.lw_bench.proofs.Common.{Some, slice_get, codes, replicate, slice_index_or, Contains}
+use Rattle.lw_bench.proofs.Common.{is_ascii_digit, AllByRecursion, ForSome, false≢true, All-nil, All-cons}
+use Rattle.lw_bench.proofs.Common.{none-some, same_Some, is_name_byte, Formula, nodes, is_reserved}
+use Rattle.lw_bench.proofs.Common.{IsLocationName, IsTestName, FinalState, IsRegisterIndex, IsWordNumber}
+use Rattle.lw_bench.proofs.Common.{MentionsOnly, IsWellFormedHead, Arch, X86, Quant, Exists, NotExists}
+use Rattle.lw_bench.proofs.Common.{Number, branch_target, x86_language, x86_operation, IsWellFormedProgram}
+use Rattle.lw_bench.proofs.Common.{X86Test, IsWellFormedStatement, IsWellFormedThread, Instr, Event, Step}
+use Rattle.lw_bench.proofs.Common.{Drain, initial_state, SourceOutcome, flat_memory, is_true, MachineState}
 use Rattle.lw_bench.proofs.Common.{Processor, IsMachineOutcome, MachineRunsTo, initial_machine_state}
 use Rattle.lw_bench.proofs.Common.{machine_outcome, state, MachineTransition, Ok, two_threads}
 use Rattle.lw_bench.proofs.Common.{both_loads_are_early, flag_without_message, store_buffering}
@@ -106,7 +106,7 @@ head_formed name arch quant condition named few speaks = record {
 }
   where
     -- Six zeros are words: the registers at the start.
-    IsWordNumber-zeros : AllByRecursion IsWordNumber (replicate 6 0)
+    IsWordNumber-zeros : AllByRecursion IsWordNumber (replicate registers 0)
     IsWordNumber-zeros = (omega arith, (omega arith, (omega arith, (omega arith, (omega arith, (omega arith, tt))))))
 
 -- The instruction is a well-formed one of a test of two locations, and no jump.
@@ -126,7 +126,7 @@ store_plain x n there word = record {
 }
 
 -- A load of one of the two locations is a plain instruction.
-load_plain : (d x : ℕ) → d < 6 → x < 2 → IsPlain (instr.Load d x)
+load_plain : (d x : ℕ) → d < registers → x < 2 → IsPlain (instr.Load d x)
 load_plain d x register there = record {
   formed = (
     λ y same. subst (λ k. k < 2) (same_Some x y same) there,
@@ -231,7 +231,7 @@ early_events = Step 0 ∷ Step 1 ∷ Step 0 ∷ Step 1 ∷ Drain 0 ∷ Drain 1 �
 
 -- A processor at this position with this store buffer, whose registers are all 0.
 abbrev state_at : ℕ → List (ℕ × ℕ) → Processor
-state_at k buffer = record { position = k; regs = replicate 6 0; zero_flag = false; buffer = buffer }
+state_at k buffer = record { position = k; regs = replicate registers 0; zero_flag = false; buffer = buffer }
 
 -- The initial state of store buffering.
 abbrev store_buffering_start : MachineState (List ℕ)

@@ -29,7 +29,7 @@ pub use Rattle.lw_base.proofs.Common.{IsSchedule, IsTestName, IsWellFormedHead, 
 pub use Rattle.lw_base.proofs.Common.{NameTable, Reg_is, TestHead, TokenList, final_state_cmp, final_word}
 pub use Rattle.lw_base.proofs.Common.{first_byte_is, head_of, is_blank, is_name_byte, is_reserved}
 pub use Rattle.lw_base.proofs.Common.{most_locations, most_text_bytes, most_threads, nodes, register_name}
-pub use Rattle.lw_base.proofs.Common.{stop_code, stop_name, thread_code}
+pub use Rattle.lw_base.proofs.Common.{registers, stop_code, stop_name, thread_code}
 pub use Rattle.lw_base.proofs.api.Formulas.{MentionsLocationsBelow-if_mentions_only}
 pub use Rattle.lw_base.proofs.api.Lists.{cons-head_eq, slice_get-in_range}
 pub use Rattle.lw_base.proofs.api.Returns.{Err-clause_propagated}

@@ -114,7 +114,7 @@ drop-at_end : (n : ℕ) (input : List ℕ) → length input ≤ n → drop n inp
 drop-at_end n [] le = drop-nil n
   where
     -- The empty list without its first items is empty.
-    drop-nil : (k : ℕ) → drop k (let e : List ℕ = [] in e) ≡ []
+    drop-nil : (k : ℕ) → drop {A = ℕ} k [] ≡ []
     drop-nil zero = refl
     drop-nil (suc k) = refl
 drop-at_end zero (b ∷ input) le = absurd (omega arith)

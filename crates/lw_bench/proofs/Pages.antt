@@ -1,13 +1,14 @@
 -- The page of a replay, written part by part, is the page of the definitions: `AllWritten` is the invariant
 -- of each loop that writes an item for each index, and the other lemmas join the parts.
-use Rattle.lw_bench.proofs.Common.{◌≡◌, ℕ, suc, ◌<◌, ◌≤◌, ◌+◌, Some, List, [], ◌∷◌, ◌++◌, length, map, drop}
-use Rattle.lw_bench.proofs.Common.{slice_get, refl, sym, ap, ◌∙◌, append_assoc, codes, Result, Ok, Err, OnOk}
-use Rattle.lw_bench.proofs.Common.{is_ok, if◌then◌else◌, arith, option_map, decimal, append-nil, drop-cons}
-use Rattle.lw_bench.proofs.Common.{drop_all, slice_get-map, slice_get_within, get_or_from_slice_get}
-use Rattle.lw_bench.proofs.Common.{on_ok_weaker, written-append, TestHead, Arch, Replay, Stop, End, Stopped}
-use Rattle.lw_bench.proofs.Common.{register_name, stop_code, stop_name, State, Thread, Processor, LineState}
-use Rattle.lw_bench.proofs.Common.{numbered, first_lines, end_text, register_names, thread_line, word_line}
-use Rattle.lw_bench.proofs.Common.{processor_title, processor_lines, source_page, machine_page}
+use Rattle.lw_bench.proofs.Common.{registers, ◌≡◌, ℕ, suc, ◌<◌, ◌≤◌, ◌+◌, Some, List, [], ◌∷◌, ◌++◌, length}
+use Rattle.lw_bench.proofs.Common.{map, drop, slice_get, refl, sym, ap, ◌∙◌, append_assoc, codes, Result, Ok}
+use Rattle.lw_bench.proofs.Common.{Err, OnOk, is_ok, if◌then◌else◌, arith, option_map, decimal, append-nil}
+use Rattle.lw_bench.proofs.Common.{drop-cons, drop_all, slice_get-map, slice_get_within}
+use Rattle.lw_bench.proofs.Common.{get_or_from_slice_get, on_ok_weaker, written-append, TestHead, Arch}
+use Rattle.lw_bench.proofs.Common.{Replay, Stop, End, Stopped, register_name, stop_code, stop_name, State}
+use Rattle.lw_bench.proofs.Common.{Thread, Processor, LineState, numbered, first_lines, end_text}
+use Rattle.lw_bench.proofs.Common.{register_names, thread_line, word_line, processor_title, processor_lines}
+use Rattle.lw_bench.proofs.Common.{source_page, machine_page}
 
 -- The items from an index on are the item there, followed by those from the next index on.
 drop-get : {X : Type 0} (xs : List X) (k : ℕ) (x : X) → slice_get xs k ≡ Some x → drop k xs ≡ x ∷ drop (k + 1) xs
@@ -91,7 +92,7 @@ AllWritten-three {one} {two} {new} start a b c e f g =
     written-append _ two new _ c (written-append _ one two a b e f) g ∙ ap (λ t. start ++ t) (append_assoc a b c)
 
 -- In the list of a language's register names, the name of register k is at index k.
-pub register_names-get : (arch : Arch) (k : ℕ) → k < 6 → slice_get (register_names arch) k ≡ Some (register_name arch k)
+pub register_names-get : (arch : Arch) (k : ℕ) → k < registers → slice_get (register_names arch) k ≡ Some (register_name arch k)
 register_names-get arch (suc (suc (suc (suc (suc (suc k)))))) below = absurd (omega (arith, below))
 register_names-get arch _ below = refl
 

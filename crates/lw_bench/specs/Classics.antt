@@ -2,6 +2,7 @@
 use Rattle.std.specs.Prelude.{ℕ, List, [], ◌∷◌, codes, replicate}
 use Rattle.lw_base.specs.Formula.{Formula, And, Reg_is}
 use Rattle.lw_base.specs.Heads.{TestHead}
+use Rattle.lw_base.specs.Limits.{registers}
 use Rattle.lw_base.specs.declared.head.Arch.{Arch}
 use Rattle.lw_base.specs.declared.head.Arch.TheVariants.{Source, X86}
 use Rattle.lw_base.specs.declared.head.Quant.{Quant}
@@ -18,7 +19,7 @@ two_threads name arch quant condition = record {
   arch = arch;
   threads = 2;
   locs = codes "x" ∷ codes "y" ∷ [];
-  init_regs = replicate 2 (replicate 6 0);
+  init_regs = replicate 2 (replicate registers 0);
   init_words = replicate 2 0;
   listed = [];
   quant = quant;

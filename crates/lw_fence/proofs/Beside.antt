@@ -1,13 +1,14 @@
 -- A state of the source and one of the machine, thread by thread with its processor. Both directions of the
 -- compiler's theorem instantiate it: with a processor that has executed as much as its thread
 -- (`SourceToMachine`), and with one that is ahead of it (`Simulation`).
-use Rattle.lw_fence.proofs.Common.{IsWellScopedSource, ◌≡◌, ℕ, ◌<◌, List, length, map, Some, refl, sym, ap}
-use Rattle.lw_fence.proofs.Common.{ap₂, ◌∙◌, subst₂, arith, length-set, slice_get, slice_set, length-map}
-use Rattle.lw_fence.proofs.Common.{All-from_recursion, same_Some, slice_get_within, get_or_from_slice_get}
-use Rattle.lw_fence.proofs.Common.{TestHead, FinalState, X86, OfFellows-set_both, slice_get-in_range, get-map}
-use Rattle.lw_fence.proofs.Common.{maps_equal-at_each_index, flat_memory, SourceTest, X86Test, Thread, State}
-use Rattle.lw_fence.proofs.Common.{initial_state, source_outcome, state_of, MachineState, Processor}
-use Rattle.lw_fence.proofs.Common.{initial_processor, initial_machine_state, machine_outcome, state}
+use Rattle.lw_fence.proofs.Common.{registers, IsWellScopedSource, ◌≡◌, ℕ, ◌<◌, List, length, map, Some, refl}
+use Rattle.lw_fence.proofs.Common.{sym, ap, ap₂, ◌∙◌, subst₂, arith, length-set, slice_get, slice_set}
+use Rattle.lw_fence.proofs.Common.{length-map, All-from_recursion, same_Some, slice_get_within}
+use Rattle.lw_fence.proofs.Common.{get_or_from_slice_get, TestHead, FinalState, X86, OfFellows-set_both}
+use Rattle.lw_fence.proofs.Common.{slice_get-in_range, get-map, maps_equal-at_each_index, flat_memory}
+use Rattle.lw_fence.proofs.Common.{SourceTest, X86Test, Thread, State, initial_state, source_outcome}
+use Rattle.lw_fence.proofs.Common.{state_of, MachineState, Processor, initial_processor}
+use Rattle.lw_fence.proofs.Common.{initial_machine_state, machine_outcome, state}
 use Rattle.lw_interleaving.specs.Runs.{initial_thread as thread_starting}
 
 -- The state in which the machine starts a compiled source: its registers and words, empty buffers.
@@ -69,7 +70,7 @@ module _ (source : SourceTest) (At : ℕ → Thread → Processor → Type 0) wh
   pub ThreadsCorrespond-start : IsWellScopedSource source
       → ((t : ℕ) (regs : List ℕ)
       → t < length source.threads
-      → length regs ≡ 6
+      → length regs ≡ registers
       → At t (thread_starting regs) (initial_processor regs))
       → ThreadsCorrespond (initial_state source) (compiled_start source)
   ThreadsCorrespond-start well_scoped each = record {

@@ -1,14 +1,14 @@
 -- The instructions of a lowering execute its statement: the last one does to its processor and to memory what the statement does to its
 -- thread, and an instruction before it leaves memory and the store buffer unchanged. Both directions of the compiler's theorem use this, by
 -- Statements and by ThreadSimulation.
-use Rattle.lw_fence.proofs.Common.{◌≡◌, ℕ, ◌+◌, ◌<◌, ◌==◌, ◌%◌, ◌^◌, add_comm, Bool, true, false, not}
-use Rattle.lw_fence.proofs.Common.{true≢false, None, Some, List, [], ◌∷◌, ◌++◌, length, if◌then◌else◌, refl}
-use Rattle.lw_fence.proofs.Common.{sym, ap, ap₂, ◌∙◌, subst, subst₂, arith, slice_set, slice_index, eqb-true}
-use Rattle.lw_fence.proofs.Common.{All, set-set, get_or-set_same, get_or-set_other, eqb-false, set-get_or}
-use Rattle.lw_fence.proofs.Common.{wrapping_sum, operand_value, IsRegisterIndex, Operand, Register, Number}
-use Rattle.lw_fence.proofs.Common.{SwapWaits, FenceWaits, Operation, Stmt, Store, Load, Swap, FetchAdd, Set}
-use Rattle.lw_fence.proofs.Common.{Sum, IfEq, IfNe, Goto, Instr, location_of, is_store, is_load, registers_of}
-use Rattle.lw_fence.proofs.Common.{source_operation, Thread, thread_after, words_after}
+use Rattle.lw_fence.proofs.Common.{registers, ◌≡◌, ℕ, ◌+◌, ◌<◌, ◌==◌, ◌%◌, ◌^◌, add_comm, Bool, true, false}
+use Rattle.lw_fence.proofs.Common.{not, true≢false, None, Some, List, [], ◌∷◌, ◌++◌, length, if◌then◌else◌}
+use Rattle.lw_fence.proofs.Common.{refl, sym, ap, ap₂, ◌∙◌, subst, subst₂, arith, slice_set, slice_index}
+use Rattle.lw_fence.proofs.Common.{eqb-true, All, set-set, get_or-set_same, get_or-set_other, eqb-false}
+use Rattle.lw_fence.proofs.Common.{set-get_or, wrapping_sum, operand_value, IsRegisterIndex, Operand}
+use Rattle.lw_fence.proofs.Common.{Register, Number, SwapWaits, FenceWaits, Operation, Stmt, Store, Load}
+use Rattle.lw_fence.proofs.Common.{Swap, FetchAdd, Set, Sum, IfEq, IfNe, Goto, Instr, location_of, is_store}
+use Rattle.lw_fence.proofs.Common.{is_load, registers_of, source_operation, Thread, thread_after, words_after}
 use Rattle.lw_fence.proofs.Common.{thread_after-no_location, Processor, newest_buffered, advance_processor}
 use Rattle.lw_fence.proofs.Common.{set_register, jump_or_advance_processor, LocalStep, load_effect}
 use Rattle.lw_fence.proofs.Common.{step_effect, EffectLeadsTo, Lowered, One, Two, with_move_if, lower_compare}
@@ -247,27 +247,27 @@ module _ (starts : List ℕ) (v : Thread) where
 
     -- The lowering of a statement, with or without a fence, executes the statement.
     pub ExecutesLowering-lowered : (s : Stmt) {fence : Bool}
-        → length v.regs ≡ 6
+        → length v.regs ≡ registers
         → All IsRegisterIndex (registers_of (source_operation s))
         → (is_load (source_operation s) ≡ true → fence ≡ false → p.buffer ≡ [])
         → ExecutesFrom s (lowered starts fence s)
-    ExecutesLowering-lowered (Store x w) six registers empty = λ next. EffectExecutesStatement-store p next x w regs
-    ExecutesLowering-lowered (Load d x) {fence = fence} six registers empty =
+    ExecutesLowering-lowered (Store x w) count are_registers empty = λ next. EffectExecutesStatement-store p next x w regs
+    ExecutesLowering-lowered (Load d x) {fence = fence} count are_registers empty =
         both_cases-selected (ExecutesFrom (Load d x)) fence (Two x86.Mfence (x86.Load d x)) (One (x86.Load d x))
         (λ is. ExecutesLowering-fenced d x) (λ is next. EffectExecutesStatement-load p next d x regs (empty refl is))
-    ExecutesLowering-lowered (Swap d x a) six registers empty =
+    ExecutesLowering-lowered (Swap d x a) count are_registers empty =
         ExecutesLowering-moved (Swap d x a) d a (x86.Xchg x d)
-        (λ q next moved. EffectExecutesStatement-swap q next d a (omega (arith, registers 0 0 (omega arith))) moved x)
-    ExecutesLowering-lowered (FetchAdd d x a) six registers empty =
+        (λ q next moved. EffectExecutesStatement-swap q next d a (omega (arith, are_registers 0 0 (omega arith))) moved x)
+    ExecutesLowering-lowered (FetchAdd d x a) count are_registers empty =
         ExecutesLowering-moved (FetchAdd d x a) d a (x86.Xadd x d)
-        (λ q next moved. EffectExecutesStatement-fetch_add q next d a (omega (arith, registers 0 0 (omega arith))) moved x)
-    ExecutesLowering-lowered (Set d w) six registers empty =
+        (λ q next moved. EffectExecutesStatement-fetch_add q next d a (omega (arith, are_registers 0 0 (omega arith))) moved x)
+    ExecutesLowering-lowered (Set d w) count are_registers empty =
         λ next. EffectExecutesStatement-local refl (λ b. refl) (sym next) (ap (λ r. slice_set r d (operand_value w r)) regs)
-    ExecutesLowering-lowered (Sum d a (Number k)) six registers empty =
+    ExecutesLowering-lowered (Sum d a (Number k)) count are_registers empty =
         ExecutesLowering-moved (Sum d a (Number k)) d a (x86.Add d (Number k)) (λ q next moved.
-        EffectExecutesStatement-add q next d a (omega (arith, registers 0 0 (omega arith))) moved (Number k) refl)
-    ExecutesLowering-lowered (Sum d a (Register b)) six registers empty =
-        let in_range : d < length v.regs = omega (arith, registers 0 0 (omega arith)) in
+        EffectExecutesStatement-add q next d a (omega (arith, are_registers 0 0 (omega arith))) moved (Number k) refl)
+    ExecutesLowering-lowered (Sum d a (Register b)) count are_registers empty =
+        let in_range : d < length v.regs = omega (arith, are_registers 0 0 (omega arith)) in
         both_cases-selected (ExecutesFrom (Sum d a (Register b))) (d == b) (One (x86.Add d (Register a))) _ (λ is next.
         EffectExecutesStatement-local refl (λ c. refl) (sym next)
         (ap (λ r. slice_set r d (wrapping_sum (slice_index r d) (slice_index r a))) regs
@@ -277,6 +277,8 @@ module _ (starts : List ℕ) (v : Thread) where
         (λ q next moved.
         EffectExecutesStatement-add q next d a in_range moved (Register b)
         (ap (λ r. slice_index r b) moved ∙ get_or-set_other v.regs d b (slice_index v.regs a) 0 (λ e. eqb-false d b is (sym e)))))
-    ExecutesLowering-lowered (IfEq a k to) six registers empty = ExecutesLowering-jump a k to (λ flag. flag) refl (λ q. refl) refl
-    ExecutesLowering-lowered (IfNe a k to) six registers empty = ExecutesLowering-jump a k to not refl (λ q. refl) refl
-    ExecutesLowering-lowered (Goto to) six registers empty = λ next. EffectExecutesStatement-local refl (λ b. refl) refl regs
+    ExecutesLowering-lowered (IfEq a k to) count are_registers empty =
+        ExecutesLowering-jump a k to (λ flag. flag) refl (λ q. refl) refl
+    ExecutesLowering-lowered (IfNe a k to) count are_registers empty = ExecutesLowering-jump a k to not refl (λ q. refl) refl
+    ExecutesLowering-lowered (Goto to) count are_registers empty =
+        λ next. EffectExecutesStatement-local refl (λ b. refl) refl regs

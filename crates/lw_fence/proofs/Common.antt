@@ -20,7 +20,7 @@ pub use Rattle.std.proofs.lemmas.Option.{slice_get_past, slice_get_read, slice_g
 pub use Rattle.std.specs.List.{AllByRecursion}
 pub use Rattle.std.specs.Option.{ForSome, option_map_or}
 pub use Rattle.lw_base.proofs.Common.{FinalState, IsRegisterIndex, IsWellFormedHead, IsWordNumber, TestHead}
-pub use Rattle.lw_base.proofs.Common.{operand_value, thread_code, wrapping_sum}
+pub use Rattle.lw_base.proofs.Common.{operand_value, registers, thread_code, wrapping_sum}
 pub use Rattle.lw_base.proofs.api.Lists.{OfFellows-set_both, at_index, get-set_same, length-set_word_if_some}
 pub use Rattle.lw_base.proofs.api.Lists.{set-get_same, slice_get-append_cases, slice_get-in_range}
 pub use Rattle.lw_base.proofs.api.Replays.{RunsTo-append}

@@ -1,11 +1,11 @@
 -- A processor with an empty buffer executes a statement by its lowering, followed by a drain if it is a
 -- store. It is one step of the direction from source to machine (`SourceToMachine`).
-use Rattle.lw_fence.proofs.Common.{◌≡◌, ℕ, List, [], ◌∷◌, ◌++◌, length, replicate, Some, Bool, false, refl}
-use Rattle.lw_fence.proofs.Common.{sym, ap, ◌∙◌, subst, subst₂, if◌then◌else◌, slice_get, slice_set}
-use Rattle.lw_fence.proofs.Common.{slice_index, append-nil, thread_code, operand_value, Event, Step, Drain}
-use Rattle.lw_fence.proofs.Common.{Instr, Stmt, is_store, source_operation, Thread, thread_after, words_after}
-use Rattle.lw_fence.proofs.Common.{words_after-no_location, Processor, Lowered, One, Two, lowered, instrs_of}
-use Rattle.lw_fence.proofs.Common.{IsEnabledEffect-operation}
+use Rattle.lw_fence.proofs.Common.{registers, ◌≡◌, ℕ, List, [], ◌∷◌, ◌++◌, length, replicate, Some, Bool}
+use Rattle.lw_fence.proofs.Common.{false, refl, sym, ap, ◌∙◌, subst, subst₂, if◌then◌else◌, slice_get}
+use Rattle.lw_fence.proofs.Common.{slice_set, slice_index, append-nil, thread_code, operand_value, Event}
+use Rattle.lw_fence.proofs.Common.{Step, Drain, Instr, Stmt, is_store, source_operation, Thread, thread_after}
+use Rattle.lw_fence.proofs.Common.{words_after, words_after-no_location, Processor, Lowered, One, Two}
+use Rattle.lw_fence.proofs.Common.{lowered, instrs_of, IsEnabledEffect-operation}
 use Rattle.lw_fence.proofs.Carried.{BuffersStatement, apart, buffered, at_once, ExecutesStatement}
 use Rattle.lw_fence.proofs.Carried.{ExecutesLowering, no_store_no_load-if_unlocated, ExecutesLowering-lowered}
 use Rattle.lw_fence.proofs.Moves.{ProcessorMoves, ProcessorMoves-append, ProcessorMoves-step}
@@ -122,7 +122,7 @@ module _ (program : List (List Instr)) (t : ℕ) (starts : List ℕ) (th : Threa
   -- Processor t executes the statement x at its thread's position: the steps of the lowering, and a drain if it is a store.
   pub StatementTurn-of_statement : {code : List Stmt}
       → IsAllowedStatement code th.position x
-      → length th.regs ≡ 6
+      → length th.regs ≡ registers
       → (s : HasLowering (thread_code program t) starts th.position x)
       → StatementTurn program t starts th z m x (events_for t (length (instrs_of (lowered starts s.fence x))) x)
   StatementTurn-of_statement ok six s =

@@ -41,7 +41,7 @@ IsAllowedStatement-in_source s well_scoped t j x found_at =
 
 -- What always holds of a thread of a source: six registers, and at most at its end.
 pub record IsThreadInBounds (code : List Stmt) (th : Thread) : Type 0 where
-  pub register_count : length th.regs ≡ 6
+  pub register_count : length th.regs ≡ registers
   pub position_in_range : th.position ≤ length code
 
 -- A step changes registers' words, and not their number.

@@ -83,28 +83,28 @@ impl Operation {
         }
     }
 
-    /// Returns whether it is a plain store, which x86 puts into the store buffer.
+    /// Returns whether the operation is a plain store, which x86 puts into the store buffer.
     pub fn is_store(&self) -> bool
         ensures { result ≡ operations.is_store self.now }
     {
         matches!(self, Operation::Store { .. })
     }
 
-    /// Returns whether it is an atomic read-modify-write.
+    /// Returns whether the operation is an atomic read-modify-write.
     pub fn is_locked(&self) -> bool
         ensures { result ≡ operations.is_locked self.now }
     {
         matches!(self, Operation::Swap { .. } | Operation::FetchAdd(..))
     }
 
-    /// Returns whether it writes its location.
+    /// Returns whether the operation writes its location.
     pub fn writes(&self) -> bool
         ensures { result ≡ operations.writes self.now }
     {
         self.is_store() || self.is_locked()
     }
 
-    /// Returns whether x86 executes it only if the store buffer is empty.
+    /// Returns whether x86 executes the operation only if the store buffer is empty.
     pub fn waits(&self) -> bool
         ensures { result ≡ operations.needs_empty_buffer self.now }
     {

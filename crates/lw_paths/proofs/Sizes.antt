@@ -1,4 +1,4 @@
--- The maximal number of items of paths and of path assignments, as the code computes it: with a table of
+-- The maximum number of items of paths and of path assignments, as the code computes it: with a table of
 -- maxima for each position, filled from the end of the code. Lemmas for `size.rt`.
 use Rattle.lw_paths.proofs.Common.{◌≡◌, ◌⊎◌, inl, inr, ℕ, suc, ◌+◌, ◌<◌, ◌≤◌, Option, Some, None, List, []}
 use Rattle.lw_paths.proofs.Common.{◌∷◌, length, refl, sym, ap, ap₂, ◌∙◌, slice_get, length-append, arith}
@@ -61,7 +61,7 @@ module _ {S : Type 0} (language : Language S) where
       ∙ ap (λ n. n + path_size language code path)
       (ap (λ o. length (items_at language 0 j o)) found_at ∙ length-items_of_statement 0 j s)
 
--- `most` is the maximal number of items of a path from position j, and is at most two for each position from there on.
+-- `most` is the maximum number of items of a path from position j, and is at most two for each position from there on.
 pub record IsKnown {S : Type 0} (language : Language S) (code : List S) (j most : ℕ) : Type 0 where
   pub is_most : IsMost (IsFlowPathFrom language code j) (path_size language code) most
   pub at_most_two_each : most + (j + j) ≤ length code + length code
@@ -130,15 +130,15 @@ module _ {S : Type 0} {language : Language S} {code : List S} where
               largest.none_more next c,
             )
 
--- For each position from k to the end of the code, the table `most` has the maximal number of items of a path from there.
+-- For each position from k to the end of the code, the table `most` has the maximum number of items of a path from there.
 pub record AreKnownFrom {S : Type 0} (language : Language S) (code : List S) (k : ℕ) (most : List ℕ) : Type 0 where
-  pub room : length most ≡ 33
+  pub room : length most ≡ suc most_instructions
   pub each : (j : ℕ) → k ≤ j → j ≤ length code → IsKnown language code j (slice_index most j)
 
 module _ {S : Type 0} {language : Language S} {code : List S} {most : List ℕ} where
   -- Before the loop the table is right at the end of the code, from where paths have no items.
   pub AreKnownFrom-end : (k : ℕ)
-      → length most ≡ 33
+      → length most ≡ suc most_instructions
       → k ≡ length code
       → slice_index most (length code) ≡ 0
       → AreKnownFrom language code k most

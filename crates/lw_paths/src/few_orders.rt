@@ -43,7 +43,8 @@ fn has_no_access<S: Statement, A: Allocator>(program: &[Sequence<S, A>]) -> bool
     program.iter().all(|code| code_has_no_access(code))
 }
 
-/// Returns whether it is clear without a visit that no items of a program conflict, on any paths.
+/// Returns whether no items of a program conflict on any paths because no statement accesses a location. If it returns false, some may
+/// conflict.
 pub fn has_no_conflicts<S: Statement, A: Allocator>(program: &[Sequence<S, A>]) -> bool
     ensures { result ≡ true → (items : List Item) → (constraints_of S.language program.now items).conflicts ≡ [] }
 {

@@ -6,14 +6,14 @@ ghost use Rattle.lw_paths.specs.Items as items;
 use lw_base::Loc;
 use lw_litmus::Statement;
 
-/// Returns whether it is a store to a store buffer, so that its drain is an item.
+/// Returns whether a statement puts a store into a store buffer, so that its drain is an item.
 pub(crate) fn is_drained<S: Statement>(stmt: &S) -> bool
     ensures { result ≡ items.is_drained S.language stmt.now }
 {
     S::is_buffered() && stmt.operation().is_store()
 }
 
-/// Returns the location that the statement itself reads or writes.
+/// Returns the location that a statement itself reads or writes, or `None` if only its drain writes one.
 pub(crate) fn accesses<S: Statement>(stmt: &S) -> Option<Loc>
     ensures { result ≡ items.accessed_by_statement S.language stmt.now }
 {
@@ -23,7 +23,7 @@ pub(crate) fn accesses<S: Statement>(stmt: &S) -> Option<Loc>
     stmt.operation().location()
 }
 
-/// Returns the location that the drain of its entry writes, if it has one.
+/// Returns the location that the drain of a statement's entry writes, or `None` if it has no entry.
 pub(crate) fn drains<S: Statement>(stmt: &S) -> Option<Loc>
     ensures { result ≡ items.drained_location S.language stmt.now }
 {
@@ -33,7 +33,7 @@ pub(crate) fn drains<S: Statement>(stmt: &S) -> Option<Loc>
     None
 }
 
-/// Returns whether it needs all earlier entries drained.
+/// Returns whether a statement takes effect only after all earlier entries of its thread's buffer have drained.
 pub(crate) fn waits<S: Statement>(stmt: &S) -> bool
     ensures { result ≡ items.statement_needs_empty_buffer S.language stmt.now }
 {

@@ -36,8 +36,8 @@ pub use lib.Pointwise.{pointwise}
 pub use Rattle.lw_base.proofs.Common.{And, Bytes, FinalState, Formula, HasOutcomeShape, IsEvent}
 pub use Rattle.lw_base.proofs.Common.{IsSeenInRange, MentionsOnly, NameTable, Not, Or, Reg_is, TestHead}
 pub use Rattle.lw_base.proofs.Common.{Word_is, all_registers, condition_text, final_word, formula_of, head_of}
-pub use Rattle.lw_base.proofs.Common.{joined, locations, most_threads, register_name, schedule_text, seen_eq}
-pub use Rattle.lw_base.proofs.Common.{thread_registers}
+pub use Rattle.lw_base.proofs.Common.{joined, locations, most_locations, most_threads, register_name}
+pub use Rattle.lw_base.proofs.Common.{schedule_text, seen_eq, thread_registers}
 pub use Rattle.lw_base.proofs.api.Elements.{AllByRecursion-filter}
 pub use Rattle.lw_base.proofs.api.Members.{Contains-cons, Contains-head, Contains-tail, not-Contains-nil}
 pub use Rattle.lw_base.proofs.api.SeenLists.{IsSeenInRange-all_seen}

@@ -1,12 +1,12 @@
 -- Sets of accesses as bits: what a set has after an access is added, and after two sets are joined. Lemmas for `accesses.rt`.
-use Rattle.lw_search.proofs.Common.{◌≡◌, ◌∙◌, ◌+◌, ◌*◌, ◌%◌, ◌^◌, ◌<◌, ◌≤◌, ℕ, Bool, true, false, inl, inr}
-use Rattle.lw_search.proofs.Common.{sym, ap, subst, arith, zero, suc, cases_eq, List, length, slice_get, Some}
-use Rattle.lw_search.proofs.Common.{Instr, access_bit, Lacks, w32, bit_or, bit_at, bit_at_or, bit_at_set_same}
-use Rattle.lw_search.proofs.Common.{bit_at_set_other, bit_at-lt, and_pow, one_shl, pow_pos, bit_and, nat_eq}
-use Rattle.lw_search.proofs.Common.{unsigned_Decides, refl, Outlook, Outlooks, Processor, [], ◌∷◌, ◌++◌, take}
-use Rattle.lw_search.proofs.Common.{if◌then◌else◌, slice_get-append_cases, DescribeRows, DescribeThread}
-use Rattle.lw_search.proofs.Common.{length-append, length-take-le, slice_set, get-set_same, get-set_other}
-use Rattle.lw_search.proofs.Common.{le-max_left, le-max_right, slice_get_within}
+use Rattle.lw_search.proofs.Common.{most_locations, ◌≡◌, ◌∙◌, ◌+◌, ◌*◌, ◌%◌, ◌^◌, ◌<◌, ◌≤◌, ℕ, Bool, true}
+use Rattle.lw_search.proofs.Common.{false, inl, inr, sym, ap, subst, arith, zero, suc, cases_eq, List, length}
+use Rattle.lw_search.proofs.Common.{slice_get, Some, Instr, access_bit, Lacks, w32, bit_or, bit_at, bit_at_or}
+use Rattle.lw_search.proofs.Common.{bit_at_set_same, bit_at_set_other, bit_at-lt, and_pow, one_shl, pow_pos}
+use Rattle.lw_search.proofs.Common.{bit_and, nat_eq, unsigned_Decides, refl, Outlook, Outlooks, Processor, []}
+use Rattle.lw_search.proofs.Common.{◌∷◌, ◌++◌, take, if◌then◌else◌, slice_get-append_cases, DescribeRows}
+use Rattle.lw_search.proofs.Common.{DescribeThread, length-append, length-take-le, slice_set, get-set_same}
+use Rattle.lw_search.proofs.Common.{get-set_other, le-max_left, le-max_right, slice_get_within}
 
 -- A set without an access that one more is added to lacks it still: the set before lacked it.
 pub Lacks-before : (set k x : ℕ) (w : Bool) → k < 32 → Lacks (bit_or set (1 * 2 ^ k % 4294967296)) x w → Lacks set x w
@@ -32,7 +32,7 @@ Lacks-union a b x w lacks =
     (omega (arith, both, left), omega (arith, both, right))
 
 -- The bit of an access of a location in range is below 32.
-pub access_bit-lt : (x : ℕ) (w : Bool) → x < 8 → access_bit x w < 32
+pub access_bit-lt : (x : ℕ) (w : Bool) → x < most_locations → access_bit x w < 32
 access_bit-lt x true lt = omega arith
 access_bit-lt x false lt = omega arith
 

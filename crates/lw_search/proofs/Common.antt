@@ -28,7 +28,7 @@ pub use Rattle.std.specs.List.{list_any}
 pub use Rattle.std.specs.Option.{option_or}
 pub use mathlib.Core.Bool.{beq}
 pub use Rattle.lw_base.proofs.Common.{ContainsWordsOf, FinalState, HasOutcomeShape, IsDuplicateFree}
-pub use Rattle.lw_base.proofs.Common.{IsListedOutcome, final_word, final_words, thread_code}
+pub use Rattle.lw_base.proofs.Common.{IsListedOutcome, final_word, final_words, most_locations, thread_code}
 pub use Rattle.lw_base.proofs.api.Lists.{get-append_middle, get-set_other, get-set_same, set-get_same}
 pub use Rattle.lw_base.proofs.api.Lists.{slice_get-append_cases, slice_get-in_range, take-suc}
 pub use Rattle.lw_base.proofs.api.Members.{Contains-cons, Contains-head, Contains-tail, not-Contains-nil}

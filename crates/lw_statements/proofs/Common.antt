@@ -34,7 +34,8 @@ pub use Rattle.lw_base.proofs.Common.{IsRegisterIndex, IsRegisterName, IsWellFor
 pub use Rattle.lw_base.proofs.Common.{NameTable, TestHead, TokenList, contains_name, first_byte_is, head_of}
 pub use Rattle.lw_base.proofs.Common.{insert_name, insert_names, is_name_byte, is_numbered_register}
 pub use Rattle.lw_base.proofs.Common.{is_reserved, keywords, lowercase_if_x86, most_locations}
-pub use Rattle.lw_base.proofs.Common.{position_of_name, register_name, set_location_names, x86_registers}
+pub use Rattle.lw_base.proofs.Common.{position_of_name, register_name, registers, set_location_names}
+pub use Rattle.lw_base.proofs.Common.{x86_registers}
 pub use Rattle.lw_base.proofs.api.Elements.{All-append_inv, AllByRecursion-append}
 pub use Rattle.lw_base.proofs.api.GrowingTables.{IsDuplicateFree-insert_names, contains_name-insert_names}
 pub use Rattle.lw_base.proofs.api.GrowingTables.{contains_name-of_inserted, insert_names-append}

@@ -83,7 +83,7 @@ module _ {Syntax Stmt D : Type 0} (grammar : Grammar Syntax Stmt) (draft_of : �
         ((e.cause ≡ TooMany) × (e.at ≡ t.at) × CanBegin grammar t.text.now)
         ⊎ ((m : HasMisfitIn grammar tokens names e.at e.cause) × (m.place ≡ 0))
 
-    -- If the thread has the maximal number of statements and tokens follow the labels, the first of them is rejected.
+    -- If the thread has the maximum number of statements and tokens follow the labels, the first of them is rejected.
     pub surplus_refused : above ≡ grammar.language.most
         → IsSurplusFault f
         → f.at ≡ t.at

@@ -1,28 +1,29 @@
 -- What tokens give at slots is unique, and forms whose slots differ exclude each other. So tokens say at most
 -- one statement, if the language's forms are distinguishable, which is checked by computing.
-use Rattle.lw_statements.proofs.Common.{not-false, ◌≡◌, ℕ, ◌<◌, Bool, true, false, true≢false, List, [], ◌∷◌}
-use Rattle.lw_statements.proofs.Common.{map, get_or, refl, sym, ap, ◌∙◌, subst, arith, inl, inr, not, ◌||◌}
-use Rattle.lw_statements.proofs.Common.{codes, bytes_eq, eqb, eqb-true, list_any, agree_below_at, cases_Bool}
-use Rattle.lw_statements.proofs.Common.{or_right, list_any_at, bytes_eq-Decides, Bytes, TokenList}
-use Rattle.lw_statements.proofs.Common.{first_byte_is, is_ascii_digit, to_ascii_lowercase, Arch, Source, X86}
-use Rattle.lw_statements.proofs.Common.{Operand, IsLocationName, is_reserved, is_numbered_register, keywords}
-use Rattle.lw_statements.proofs.Common.{x86_registers, IsRegisterName, register_name, lowercase_if_x86}
-use Rattle.lw_statements.proofs.Common.{register_of_name-unique, IsNumber, number-unique, number_first, Slot}
-use Rattle.lw_statements.proofs.Common.{Keyword, Register, Location, Value, Number, Label, IsOperand}
-use Rattle.lw_statements.proofs.Common.{Spelling, SlotValue, Filling, Gives, Fills, names_register}
-use Rattle.lw_statements.proofs.Common.{tokens_differ, are_disjoint_forms, is_no_colon, is_no_location}
-use Rattle.lw_statements.proofs.Common.{is_word_slot, ltb, ltb-true, ltb-false, is_name_byte, lowercase_is}
+use Rattle.lw_statements.proofs.Common.{registers, not-false, ◌≡◌, ℕ, ◌<◌, Bool, true, false, true≢false}
+use Rattle.lw_statements.proofs.Common.{List, [], ◌∷◌, map, get_or, refl, sym, ap, ◌∙◌, subst, arith, inl}
+use Rattle.lw_statements.proofs.Common.{inr, not, ◌||◌, codes, bytes_eq, eqb, eqb-true, list_any}
+use Rattle.lw_statements.proofs.Common.{agree_below_at, cases_Bool, or_right, list_any_at, bytes_eq-Decides}
+use Rattle.lw_statements.proofs.Common.{Bytes, TokenList, first_byte_is, is_ascii_digit, to_ascii_lowercase}
+use Rattle.lw_statements.proofs.Common.{Arch, Source, X86, Operand, IsLocationName, is_reserved}
+use Rattle.lw_statements.proofs.Common.{is_numbered_register, keywords, x86_registers, IsRegisterName}
+use Rattle.lw_statements.proofs.Common.{register_name, lowercase_if_x86, register_of_name-unique, IsNumber}
+use Rattle.lw_statements.proofs.Common.{number-unique, number_first, Slot, Keyword, Register, Location, Value}
+use Rattle.lw_statements.proofs.Common.{Number, Label, IsOperand, Spelling, SlotValue, Filling, Gives, Fills}
+use Rattle.lw_statements.proofs.Common.{names_register, tokens_differ, are_disjoint_forms, is_no_colon}
+use Rattle.lw_statements.proofs.Common.{is_no_location, is_word_slot, ltb, ltb-true, ltb-false, is_name_byte}
+use Rattle.lw_statements.proofs.Common.{lowercase_is}
 use Rattle.lw_base.specs.declared.operand.Operand.TheVariants as operand
 
 -- ---- registers, numbers and names of locations
 
 -- The name of a register of the source language, `r` and a digit, is reserved.
-register_name-is_reserved : (r : ℕ) → r < 6 → is_reserved (register_name Source r) ≡ true
+register_name-is_reserved : (r : ℕ) → r < registers → is_reserved (register_name Source r) ≡ true
 register_name-is_reserved r h = agree_below_at (λ q. is_reserved (register_name Source q)) (λ q. true) 6 r refl h
 
 -- The name of a register of x86, in lower case, is on the list of them.
 x86_register_listed : (r : ℕ)
-    → r < 6
+    → r < registers
     → list_any (λ k. bytes_eq (lowercase_if_x86 X86 (register_name X86 r)) k) x86_registers ≡ true
 x86_register_listed r h =
     agree_below_at (λ q. list_any (λ k. bytes_eq (lowercase_if_x86 X86 (register_name X86 q)) k) x86_registers) (λ q. true) 6 r
@@ -45,7 +46,9 @@ not-number_and_location : (w : Bytes) (n : ℕ) → IsNumber w n → IsLocationN
 not-number_and_location w n num loc = true≢false (sym (number_first w n num) ∙ loc.0.0.front)
 
 -- The name of a register does not start with a digit.
-letter_first : (arch : Arch) (r : ℕ) → r < 6 → first_byte_is is_ascii_digit (lowercase_if_x86 arch (register_name arch r)) ≡ false
+letter_first : (arch : Arch) (r : ℕ)
+    → r < registers
+    → first_byte_is is_ascii_digit (lowercase_if_x86 arch (register_name arch r)) ≡ false
 letter_first Source r h = refl
 letter_first X86 r h =
     agree_below_at (λ q. first_byte_is is_ascii_digit (lowercase_if_x86 X86 (register_name X86 q))) (λ q. false) 6 r refl h
@@ -150,7 +153,7 @@ module _ {W Form Stmt : Type 0} (spelling : Spelling W Form Stmt) where
 
   -- A text that is a register's name, up to case, names a register.
   names_register-same_lowercase : (w : Bytes) (r : ℕ)
-      → r < 6
+      → r < registers
       → lowercase_if_x86 spelling.language.arch (register_name spelling.language.arch r)
       ≡ lowercase_if_x86 spelling.language.arch w
       → names_register spelling w ≡ true

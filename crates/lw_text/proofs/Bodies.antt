@@ -1,12 +1,12 @@
 -- The syntax of a body in memory, with the names of its table. `parse_body` and `parse_condition` return by
 -- these lemmas.
-use Rattle.lw_text.proofs.Common.{◌≡◌, ℕ, ◌≤◌, true, List, [], ◌++◌, length, map, sym, ap, ◌∙◌, subst, arith}
-use Rattle.lw_text.proofs.Common.{AllByRecursion, list_all, All-from_recursion, NameTable, TokenList, Arch}
-use Rattle.lw_text.proofs.Common.{Quant, Prop, insert_names, insert_names-append, Cursor, Header, Rows}
-use Rattle.lw_text.proofs.Common.{with_sites, ThreadExists, site_names, Listed, Quantified, sites_in, Block}
-use Rattle.lw_text.proofs.Common.{location_table, sites_of, all_texts, remaining_texts, site_by_name}
-use Rattle.lw_text.proofs.Common.{named_initializer, thread_exists, IsIn, syntax_of, HasSyntax, ParsedBody}
-use Rattle.lw_text.proofs.Common.{ParsedBlock, ParsedNameList, ParsedProposition, ParsedCondition}
+use Rattle.lw_text.proofs.Common.{most_locations, ◌≡◌, ℕ, ◌≤◌, true, List, [], ◌++◌, length, map, sym, ap}
+use Rattle.lw_text.proofs.Common.{◌∙◌, subst, arith, AllByRecursion, list_all, All-from_recursion, NameTable}
+use Rattle.lw_text.proofs.Common.{TokenList, Arch, Quant, Prop, insert_names, insert_names-append, Cursor}
+use Rattle.lw_text.proofs.Common.{Header, Rows, with_sites, ThreadExists, site_names, Listed, Quantified}
+use Rattle.lw_text.proofs.Common.{sites_in, Block, location_table, sites_of, all_texts, remaining_texts}
+use Rattle.lw_text.proofs.Common.{site_by_name, named_initializer, thread_exists, IsIn, syntax_of, HasSyntax}
+use Rattle.lw_text.proofs.Common.{ParsedBody, ParsedBlock, ParsedNameList, ParsedProposition, ParsedCondition}
 use Rattle.lw_text.proofs.Common.{AllByRecursion-of_All}
 use Rattle.lw_text.specs.declared.site.Site.{Site as MadeSite}
 use Rattle.lw_text.proofs.NameTables.{site_by_name-insert_names, named_initializer-insert_names}
@@ -53,7 +53,7 @@ pub HasSyntax-of_parts : {A : Type 0} {arch : Arch} {before behind : Cursor} {fi
     → list_all (λ e. thread_exists b.parts.threads e.site) b.parts.initializers ≡ true
     → Rows b.parts.threads rest (all_texts b.rows) end
     → ParsedCondition arch b.parts.threads end first b.parts.locs b.parts.listed b.parts.quant b.parts.prop
-    → length b.parts.locs ≤ 8
+    → length b.parts.locs ≤ most_locations
     → HasSyntax arch (remaining_texts before) b
 HasSyntax-of_parts {arch = arch} {before} {behind} {first} {b} block rest end header there rows condition few =
     let es = b.parts.initializers in

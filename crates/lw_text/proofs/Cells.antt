@@ -139,7 +139,7 @@ module _ (threads : ℕ) (ts here : TokenList) (rows : CellGrid) (passed : Passe
   pub no_rows-if_no_row : begins_stop here ≡ false → ParsesNothing (Row threads here) → ParsesNothing (Rows threads ts)
   no_rows-if_no_row go never all rest r = let k = next_row go all rest r in never k.0 k.2 k.4
 
-  -- If the maximal number of rows has been read, and the next token does not end the rows, the tokens have no rows.
+  -- If the maximum number of rows has been read, and the next token does not end the rows, the tokens have no rows.
   pub no_rows-if_too_many : begins_stop here ≡ false → length rows ≡ 64 → ParsesNothing (Rows threads ts)
   no_rows-if_too_many go full all rest r =
       let k = next_row go all rest r in omega (arith, ap length k.3, length-append rows (k.0 ∷ k.1), r.1)

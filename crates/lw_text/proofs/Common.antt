@@ -41,9 +41,9 @@ pub use Rattle.lw_base.proofs.Common.{ParsesNothing, Reg_is, TestHead, TokenList
 pub use Rattle.lw_base.proofs.Common.{arch_keyword, assignment, contains_name, first_byte_is, formula_of}
 pub use Rattle.lw_base.proofs.Common.{head_of, insert_name, insert_names, is_binary, is_blank, is_key_byte}
 pub use Rattle.lw_base.proofs.Common.{is_name_byte, is_or, is_reserved, is_space, locations, most_locations}
-pub use Rattle.lw_base.proofs.Common.{most_threads, nodes, parenthesized, parenthesized_if, position_of_name}
-pub use Rattle.lw_base.proofs.Common.{proposition_text, quantifier_text, register_name, registers, seen_eq}
-pub use Rattle.lw_base.proofs.Common.{site_text, thread_registers}
+pub use Rattle.lw_base.proofs.Common.{most_name_bytes, most_threads, nodes, parenthesized, parenthesized_if}
+pub use Rattle.lw_base.proofs.Common.{position_of_name, proposition_text, quantifier_text, register_name}
+pub use Rattle.lw_base.proofs.Common.{registers, seen_eq, site_text, thread_registers}
 pub use Rattle.lw_base.proofs.api.Blanks.{byte_eq-sound, is_blank-passes, list_all-member, name_ascii}
 pub use Rattle.lw_base.proofs.api.Blanks.{name_bytes_ascii, slice_index_or-ascii}
 pub use Rattle.lw_base.proofs.api.Elements.{All-append_inv, All-map_inv, All-mono, AllByRecursion-append}

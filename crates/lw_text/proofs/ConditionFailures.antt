@@ -1,16 +1,16 @@
 -- A condition fails at one place only, and for one cause; and no tokens fail that are one. A step of the law
 -- that a text fails at one place (OneFault).
-use Rattle.lw_text.proofs.Common.{cons-head_eq, ◌≡◌, ◌≢◌, ◌⊎◌, ℕ, zero, suc, ◌+◌, ◌≤◌, Option, None, Some}
-use Rattle.lw_text.proofs.Common.{List, [], ◌∷◌, length, map, filter, option_map, Bool, true, false, refl}
-use Rattle.lw_text.proofs.Common.{sym, ap, ◌∙◌, subst, inl, inr, arith, codes, option_and_then, fold_stays}
-use Rattle.lw_text.proofs.Common.{AllByRecursion, Arch, Bytes, NameTable, TokenList, Quant, Formula}
-use Rattle.lw_text.proofs.Common.{ThreadExists, HasRoomFor, with_sites, insert_names-longer, site_names}
-use Rattle.lw_text.proofs.Common.{Listed, Quantified, Terminal, Open, Close, Negation, Conjunction}
-use Rattle.lw_text.proofs.Common.{Disjunction, Atom, AtomSyntax, Always, Never, Holds, IsTerminal, Terminals}
-use Rattle.lw_text.proofs.Common.{Fits, NoCondition, resolved, is_node, sites_in, ReaderState, BeforePart}
-use Rattle.lw_text.proofs.Common.{BehindPart, initial_reader_state, next_state, state_result, SiteSyntax}
-use Rattle.lw_text.proofs.Common.{IfFirst, FailsInQuantifier, opening_words, FailsInTerminal}
-use Rattle.lw_text.proofs.Common.{PropositionPlace, first_place, next_place, HasRoomForNode}
+use Rattle.lw_text.proofs.Common.{most_locations, cons-head_eq, ◌≡◌, ◌≢◌, ◌⊎◌, ℕ, zero, suc, ◌+◌, ◌≤◌, Option}
+use Rattle.lw_text.proofs.Common.{None, Some, List, [], ◌∷◌, length, map, filter, option_map, Bool, true}
+use Rattle.lw_text.proofs.Common.{false, refl, sym, ap, ◌∙◌, subst, inl, inr, arith, codes, option_and_then}
+use Rattle.lw_text.proofs.Common.{fold_stays, AllByRecursion, Arch, Bytes, NameTable, TokenList, Quant}
+use Rattle.lw_text.proofs.Common.{Formula, ThreadExists, HasRoomFor, with_sites, insert_names-longer}
+use Rattle.lw_text.proofs.Common.{site_names, Listed, Quantified, Terminal, Open, Close, Negation}
+use Rattle.lw_text.proofs.Common.{Conjunction, Disjunction, Atom, AtomSyntax, Always, Never, Holds}
+use Rattle.lw_text.proofs.Common.{IsTerminal, Terminals, Fits, NoCondition, resolved, is_node, sites_in}
+use Rattle.lw_text.proofs.Common.{ReaderState, BeforePart, BehindPart, initial_reader_state, next_state}
+use Rattle.lw_text.proofs.Common.{state_result, SiteSyntax, IfFirst, FailsInQuantifier, opening_words}
+use Rattle.lw_text.proofs.Common.{FailsInTerminal, PropositionPlace, first_place, next_place, HasRoomForNode}
 use Rattle.lw_text.proofs.Common.{FailsInProposition, incomplete, too_many_nodes, in_terminal, unopened}
 use Rattle.lw_text.proofs.Common.{after_terminal, FailsInCondition, in_list, in_quantifier, in_proposition}
 use Rattle.lw_text.proofs.Common.{place_of, TextCause}
@@ -347,7 +347,8 @@ module _ (arch : Arch) (threads : ℕ) where
       ∙ next_place-resolved state table s
       ∙ ap (option_map place_of) after.1)) all.2
       (subst (λ names. result_of (state_after_terminals (Some after.0) (map (resolved names) ss)) ≡ Some p) grown after.2)
-      (omega (arith, few, node_count-append (s ∷ []) ss)) (subst (λ (names : NameTable). length names ≤ 8) grown room)
+      (omega (arith, few, node_count-append (s ∷ []) ss))
+      (subst (λ (names : NameTable). length names ≤ most_locations) grown room)
     where
       -- Optional places that are equal have equal places.
       Some-injective_place : {a b : PropositionPlace} → Some a ≡ Some b → a ≡ b

@@ -1,23 +1,24 @@
 -- Reading a proposition terminal by terminal, while the table of names grows. The loop of `parse_proposition`
 -- goes by `TerminalsRead`.
-use Rattle.lw_text.proofs.Common.{◌≡◌, ℕ, ◌+◌, ◌≤◌, inl, inr, Bool, true, false, List, [], ◌∷◌, ◌++◌, length}
-use Rattle.lw_text.proofs.Common.{map, get_or, refl, sym, ap, ◌∙◌, subst, arith, codes, not, if◌then◌else◌}
-use Rattle.lw_text.proofs.Common.{◌||◌, ◌==◌, ◌≢◌, Option, Some, None, is_some, option_map, eqb-true}
-use Rattle.lw_text.proofs.Common.{AllByRecursion, eqb-false, not-true, not-false, or_cases, or_parts}
-use Rattle.lw_text.proofs.Common.{false_from_ne_true, map-append, filter_map-append, fold_stays, fold-append}
-use Rattle.lw_text.proofs.Common.{slice_get-get_or, Bytes, NameTable, TokenList, Arch, Prop, Formula, Word_is}
-use Rattle.lw_text.proofs.Common.{IsDuplicateFree, formula_of, contains_name, insert_name, insert_names}
-use Rattle.lw_text.proofs.Common.{position_of_name-at, insert_names-longer, contains_name-of_inserted}
-use Rattle.lw_text.proofs.Common.{contains_name-insert_names, position_of_name-insert_names}
-use Rattle.lw_text.proofs.Common.{IsDuplicateFree-insert_names, Cursor, PropositionReader, ParsesMany}
-use Rattle.lw_text.proofs.Common.{with_sites, HasRoomFor, SiteSyntax, InMemory, IsSite, site_names, Terminal}
-use Rattle.lw_text.proofs.Common.{Open, Close, Negation, Conjunction, Disjunction, Atom, is_node}
-use Rattle.lw_text.proofs.Common.{IsProposition, remaining_texts, Pending, begins_part, initial_reader_state}
-use Rattle.lw_text.proofs.Common.{group_of, reader_state_in, state_of, next_state, state_result, terminal_of}
-use Rattle.lw_text.proofs.Common.{AtomSyntax, Holds, IsTerminal, Terminals, begins_token, site_of, sites_in}
-use Rattle.lw_text.proofs.Common.{resolved, named_terminal, TerminalIn, ParsedTerminal, ParsedProposition}
-use Rattle.lw_text.proofs.Common.{NoProposition, Fits, FailsInProposition, HasRoomForNode, after_terminal}
-use Rattle.lw_text.proofs.Common.{place_of, TextCause}
+use Rattle.lw_text.proofs.Common.{most_locations, ◌≡◌, ℕ, ◌+◌, ◌≤◌, inl, inr, Bool, true, false, List, []}
+use Rattle.lw_text.proofs.Common.{◌∷◌, ◌++◌, length, map, get_or, refl, sym, ap, ◌∙◌, subst, arith, codes}
+use Rattle.lw_text.proofs.Common.{not, if◌then◌else◌, ◌||◌, ◌==◌, ◌≢◌, Option, Some, None, is_some}
+use Rattle.lw_text.proofs.Common.{option_map, eqb-true, AllByRecursion, eqb-false, not-true, not-false}
+use Rattle.lw_text.proofs.Common.{or_cases, or_parts, false_from_ne_true, map-append, filter_map-append}
+use Rattle.lw_text.proofs.Common.{fold_stays, fold-append, slice_get-get_or, Bytes, NameTable, TokenList}
+use Rattle.lw_text.proofs.Common.{Arch, Prop, Formula, Word_is, IsDuplicateFree, formula_of, contains_name}
+use Rattle.lw_text.proofs.Common.{insert_name, insert_names, position_of_name-at, insert_names-longer}
+use Rattle.lw_text.proofs.Common.{contains_name-of_inserted, contains_name-insert_names}
+use Rattle.lw_text.proofs.Common.{position_of_name-insert_names, IsDuplicateFree-insert_names, Cursor}
+use Rattle.lw_text.proofs.Common.{PropositionReader, ParsesMany, with_sites, HasRoomFor, SiteSyntax, InMemory}
+use Rattle.lw_text.proofs.Common.{IsSite, site_names, Terminal, Open, Close, Negation, Conjunction}
+use Rattle.lw_text.proofs.Common.{Disjunction, Atom, is_node, IsProposition, remaining_texts, Pending}
+use Rattle.lw_text.proofs.Common.{begins_part, initial_reader_state, group_of, reader_state_in, state_of}
+use Rattle.lw_text.proofs.Common.{next_state, state_result, terminal_of, AtomSyntax, Holds, IsTerminal}
+use Rattle.lw_text.proofs.Common.{Terminals, begins_token, site_of, sites_in, resolved, named_terminal}
+use Rattle.lw_text.proofs.Common.{TerminalIn, ParsedTerminal, ParsedProposition, NoProposition, Fits}
+use Rattle.lw_text.proofs.Common.{FailsInProposition, HasRoomForNode, after_terminal, place_of, TextCause}
+use Rattle.lw_text.proofs.PropositionPlaces.{is_some-option_map, next_place-state}
 use Rattle.lw_text.specs.declared.terminal.Terminal.{Terminal as Made}
 use Rattle.lw_text.proofs.api.PropositionNodes.{node_count, node_count-append}
 use Rattle.lw_text.proofs.Atoms.{no_site, starts_no_site}
@@ -27,7 +28,6 @@ use Rattle.lw_text.proofs.PropositionReadings.{IsProposition-result}
 use Rattle.lw_text.proofs.Readings.{with_sites-append}
 use Rattle.lw_text.proofs.Texts.{is_text}
 use Rattle.lw_text.proofs.TerminalLists.{Terminals-peel, Terminals-unique, IsTerminal-unique}
-use Rattle.lw_text.proofs.PropositionPlaces.{next_place-state}
 use Rattle.lw_text.specs.declared.terminal.Terminal.TheVariants as made
 use Rattle.lw_text.specs.declared.terminal.Atom.TheVariants as atoms
 
@@ -192,7 +192,7 @@ module _ {A : Type 0} {arch : Arch} {threads : ℕ} {first names start here : To
           ∙ map_resolved-along now (site_names (sites_in back)) (t ∷ [])
           (insert_names-contains_all names (site_names (sites_in (t ∷ [])))) in
           let same : resolved last t ≡ resolved now t = cc in
-          let room : length now ≤ 8 = omega (
+          let room : length now ≤ most_locations = omega (
             arith,
             fits.room,
             ap length (table_of (t ∷ back)),
@@ -277,7 +277,7 @@ module _ {arch : Arch} {threads : ℕ} {before behind : Cursor} {names after : N
       → HasRoomForNode nodes (remaining_texts before)
       → next_state (state_of reader) (terminal_of s) ≡ Some (state_of reader_after)
       → nodes_after ≡ nodes + (if is_node (terminal_of s) then 1 else 0)
-      → length after ≤ 8
+      → length after ≤ most_locations
       → FailsInProposition arch threads rest cause (place_of (state_of reader_after)) nodes_after after (remaining_texts behind)
       → FailsInProposition arch threads rest cause (place_of (state_of reader)) nodes names (remaining_texts before)
   Fails-after_terminal reader reader_after {nodes} {nodes_after} {rest} {cause} room step counts few w =
@@ -285,7 +285,7 @@ module _ {arch : Arch} {threads : ℕ} {before behind : Cursor} {names after : N
       let one = node_count-of_one (is_node (terminal_of s)) t (node_named after s) in
       let same : nodes_after ≡ nodes + node_count (t ∷ []) = counts ∙ ap (λ (n : ℕ). nodes + n) (sym one) in
       after_terminal t (remaining_texts behind) _ room taken.parsed
-      (subst (λ (table : NameTable). length table ≤ 8) taken.names_are few)
+      (subst (λ (table : NameTable). length table ≤ most_locations) taken.names_are few)
       (next_place-state (state_of reader) after s ∙ ap (option_map place_of) step)
       (subst (λ table.
       FailsInProposition arch threads rest cause (place_of (state_of reader_after)) (nodes + node_count (t ∷ [])) table
@@ -335,11 +335,6 @@ pub begins_part-if_allowed : {A : Type 0} (reader : PropositionReader A) (part :
 begins_part-if_allowed reader part next names s some =
     sym (begins_resolved names s)
     ∙ next_begins _ (group_of reader.group) _ (resolved names s) part (is_some-option_map formula_of reader.part ∙ next) some
-  where
-    -- Mapping an optional value preserves whether it is present.
-    is_some-option_map : {X Y : Type 0} (f : X → Y) (o : Option X) → is_some (option_map f o) ≡ is_some o
-    is_some-option_map f None = refl
-    is_some-option_map f (Some x) = refl
 
 -- ---- parentheses
 

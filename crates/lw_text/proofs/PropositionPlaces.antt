@@ -40,6 +40,11 @@ incomplete_place (BeforePart l os) e p = let k = ap (λ x. x.0) p in cc
 incomplete_place (BehindPart x p []) e q = cc
 incomplete_place (BehindPart x p (o ∷ os)) e q = let k = ap (λ x. x.1) q in cc
 
+-- Mapping an optional value preserves whether it is present.
+pub is_some-option_map : {X Y : Type 0} (f : X → Y) (o : Option X) → is_some (option_map f o) ≡ is_some o
+is_some-option_map f None = refl
+is_some-option_map f (Some x) = refl
+
 -- A reader that must read a part next is at a place where one must begin.
 pub wants_part-place : {A : Type 0} (reader : PropositionReader A) (part : Bool)
     → is_some reader.part ≡ not part
@@ -47,11 +52,6 @@ pub wants_part-place : {A : Type 0} (reader : PropositionReader A) (part : Bool)
 wants_part-place reader part e =
     place-by_cases _ _ (option_map formula_of reader.part) part (is_some-option_map formula_of reader.part ∙ e)
   where
-    -- Mapping an optional value preserves whether it is present.
-    is_some-option_map : {X Y : Type 0} (f : X → Y) (o : Option X) → is_some (option_map f o) ≡ is_some o
-    is_some-option_map f None = refl
-    is_some-option_map f (Some x) = refl
-
     -- A part must begin if and only if the state has no last part.
     place-by_cases : (l : Pending) (os : List Pending) (o : Option Formula) (part : Bool)
         → is_some o ≡ not part

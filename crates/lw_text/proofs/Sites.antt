@@ -1,12 +1,12 @@
 -- When tokens start with a site, and when they do not. `parse_site` returns by these lemmas, one for each way
 -- to fail.
-use Rattle.lw_text.proofs.Common.{◌≡◌, ◌⊎◌, ℕ, ◌<◌, inl, inr, [], ◌∷◌, Option, None, Some, true, false}
-use Rattle.lw_text.proofs.Common.{slice_get, subst, sym, ap, ◌∙◌, arith, codes, true≢false, ltb-false}
-use Rattle.lw_text.proofs.Common.{ltb-true, length, ◌≤◌, slice_get_within, HoldsOfNothing, ParsesNothing}
-use Rattle.lw_text.proofs.Common.{Bytes, NameTable, TokenList, Arch, IsName, IsLocationName, IsRegisterName}
-use Rattle.lw_text.proofs.Common.{insert_name, Cursor, IsNumber, with_sites, HasRoomFor, HasRoomForName}
-use Rattle.lw_text.proofs.Common.{SiteSyntax, InMemory, InThread, IsSite, ThreadExists, ThreadAllowed}
-use Rattle.lw_text.proofs.Common.{remaining_texts, AdvancesTo, is_allowed, ParsedSite}
+use Rattle.lw_text.proofs.Common.{most_locations, ◌≡◌, ◌⊎◌, ℕ, ◌<◌, inl, inr, [], ◌∷◌, Option, None, Some}
+use Rattle.lw_text.proofs.Common.{true, false, slice_get, subst, sym, ap, ◌∙◌, arith, codes, true≢false}
+use Rattle.lw_text.proofs.Common.{ltb-false, ltb-true, length, ◌≤◌, slice_get_within, HoldsOfNothing}
+use Rattle.lw_text.proofs.Common.{ParsesNothing, Bytes, NameTable, TokenList, Arch, IsName, IsLocationName}
+use Rattle.lw_text.proofs.Common.{IsRegisterName, insert_name, Cursor, IsNumber, with_sites, HasRoomFor}
+use Rattle.lw_text.proofs.Common.{HasRoomForName, SiteSyntax, InMemory, InThread, IsSite, ThreadExists}
+use Rattle.lw_text.proofs.Common.{ThreadAllowed, remaining_texts, AdvancesTo, is_allowed, ParsedSite}
 use Rattle.lw_text.proofs.Atoms.{number_no_name, bracket_no_name}
 use Rattle.lw_text.proofs.api.Numbers.{bracket_no_number, number-unique}
 use Rattle.lw_text.proofs.NameTables.{site_by_name-at}
@@ -33,7 +33,7 @@ not-ThreadAllowed-if_above_threads (Some threads) t r e there = omega (arith, th
 -- If a location's name was inserted, and is next with or without brackets, its site was read.
 pub location_site_parsed : {arch : Arch} {threads : Option ℕ} {before after : Cursor} {names table : NameTable} {loc : ℕ}
     {t : Bytes}
-    → IsLocationName t × (slice_get table loc ≡ Some t) × (table ≡ insert_name names t) × (length table ≤ 8)
+    → IsLocationName t × (slice_get table loc ≡ Some t) × (table ≡ insert_name names t) × (length table ≤ most_locations)
     → AdvancesTo before after
     → (remaining_texts before ≡ t ∷ remaining_texts after)
     ⊎ (remaining_texts before ≡ codes "[" ∷ t ∷ codes "]" ∷ remaining_texts after)

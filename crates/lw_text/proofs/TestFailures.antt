@@ -1,23 +1,24 @@
 -- Tokens fail to be a test at one place only, and for one cause: lists of sites, the header, the rows, the
 -- condition, and the whole. A step of the law that a text fails at one place (OneFault).
-use Rattle.lw_text.proofs.Common.{cons-head_eq, ◌≡◌, ◌≢◌, ◌⊎◌, ℕ, zero, suc, ◌+◌, ◌<◌, ◌≤◌, Option, None}
-use Rattle.lw_text.proofs.Common.{Some, List, [], ◌∷◌, length, map, filter, map-id, Bool, true, false, refl}
-use Rattle.lw_text.proofs.Common.{sym, ap, ◌∙◌, subst, inl, inr, arith, codes, bytes_eq, begins_token}
-use Rattle.lw_text.proofs.Common.{begins_stop, AllByRecursion, Arch, Bytes, NameTable, TokenList, Cells}
-use Rattle.lw_text.proofs.Common.{CellGrid, Quant, Exists, NotExists, Forall, InitializerSyntax}
-use Rattle.lw_text.proofs.Common.{IsInitializer, IsSite, SiteSyntax, InThread, ThreadExists, ThreadAllowed}
-use Rattle.lw_text.proofs.Common.{HasRoomFor, site_names, with_sites, insert_names-longer, sites_of, Block}
-use Rattle.lw_text.proofs.Common.{Header, Names, Row, RowCells, Rows, Listed, Quantified, thread_name}
-use Rattle.lw_text.proofs.Common.{Terminal, Open, Close, Negation, Conjunction, Disjunction, Atom, AtomSyntax}
-use Rattle.lw_text.proofs.Common.{Always, Never, Holds, IsTerminal, is_node, sites_in, ParsesMany}
-use Rattle.lw_text.proofs.Common.{ParsesManyTill, ParsesSepBy, ParsesSepEndBy, Value, IfFirst, FailsBefore}
-use Rattle.lw_text.proofs.Common.{FailsInAssignment, FailsInSite, FailsInElements, in_element, no_mark}
-use Rattle.lw_text.proofs.Common.{in_elements_after, FailsInInitializers, FailsInBlock, no_brace}
-use Rattle.lw_text.proofs.Common.{in_initializers, FailsInSites, FailsInList, no_list_bracket, in_sites}
-use Rattle.lw_text.proofs.Common.{FailsInHeader, no_thread_name, no_thread_mark, in_next_thread}
-use Rattle.lw_text.proofs.Common.{too_many_threads, FailsInRow, no_end, ragged, FailsInRows, too_many_rows}
-use Rattle.lw_text.proofs.Common.{in_row, in_rows_after, FailsInQuantifier, no_quantifier, no_exists}
-use Rattle.lw_text.proofs.Common.{TextCause, Unexpected, Condition, TooManyThreads}
+use Rattle.lw_text.proofs.Common.{most_locations, cons-head_eq, ◌≡◌, ◌≢◌, ◌⊎◌, ℕ, zero, suc, ◌+◌, ◌<◌, ◌≤◌}
+use Rattle.lw_text.proofs.Common.{Option, None, Some, List, [], ◌∷◌, length, map, filter, map-id, Bool, true}
+use Rattle.lw_text.proofs.Common.{false, refl, sym, ap, ◌∙◌, subst, inl, inr, arith, codes, bytes_eq}
+use Rattle.lw_text.proofs.Common.{begins_token, begins_stop, AllByRecursion, Arch, Bytes, NameTable}
+use Rattle.lw_text.proofs.Common.{TokenList, Cells, CellGrid, Quant, Exists, NotExists, Forall}
+use Rattle.lw_text.proofs.Common.{InitializerSyntax, IsInitializer, IsSite, SiteSyntax, InThread}
+use Rattle.lw_text.proofs.Common.{ThreadExists, ThreadAllowed, HasRoomFor, site_names, with_sites}
+use Rattle.lw_text.proofs.Common.{insert_names-longer, sites_of, Block, Header, Names, Row, RowCells, Rows}
+use Rattle.lw_text.proofs.Common.{Listed, Quantified, thread_name, Terminal, Open, Close, Negation}
+use Rattle.lw_text.proofs.Common.{Conjunction, Disjunction, Atom, AtomSyntax, Always, Never, Holds}
+use Rattle.lw_text.proofs.Common.{IsTerminal, is_node, sites_in, ParsesMany, ParsesManyTill, ParsesSepBy}
+use Rattle.lw_text.proofs.Common.{ParsesSepEndBy, Value, IfFirst, FailsBefore, FailsInAssignment, FailsInSite}
+use Rattle.lw_text.proofs.Common.{FailsInElements, in_element, no_mark, in_elements_after}
+use Rattle.lw_text.proofs.Common.{FailsInInitializers, FailsInBlock, no_brace, in_initializers, FailsInSites}
+use Rattle.lw_text.proofs.Common.{FailsInList, no_list_bracket, in_sites, FailsInHeader, no_thread_name}
+use Rattle.lw_text.proofs.Common.{no_thread_mark, in_next_thread, too_many_threads, FailsInRow, no_end}
+use Rattle.lw_text.proofs.Common.{ragged, FailsInRows, too_many_rows, in_row, in_rows_after}
+use Rattle.lw_text.proofs.Common.{FailsInQuantifier, no_quantifier, no_exists, TextCause, Unexpected}
+use Rattle.lw_text.proofs.Common.{Condition, TooManyThreads}
 use Rattle.lw_text.proofs.Atoms.{IsSite-unique, IsInitializer-unique, IsSite-shorter, brace, bracket}
 use Rattle.lw_text.proofs.Atoms.{semicolon}
 use Rattle.lw_text.proofs.Cells.{Cell-exact, Row-deterministic, Rows-unique}
@@ -118,7 +119,8 @@ module _ {X : Type 0} (Parses : TokenList → X → TokenList → Type 0) (site_
             (subst (λ (y : X). FailsInElements Parses site_by Way close c rest cause (with_sites names (site_by y ∷ [])) next)
             same.0 p)
             (subst (λ l. ParsesSepEndBy Parses (codes ";") close l xs after) (sym (cons-tail_unique (same.1 ∙ more.1))) more.2)
-            (subst (λ (table : NameTable). length table ≤ 8) (with_sites-append names (site_by x ∷ []) (map site_by xs)) room)
+            (subst (λ (table : NameTable). length table ≤ most_locations)
+            (with_sites-append names (site_by x ∷ []) (map site_by xs)) room)
       ]
 
 -- ---- The initial block.

@@ -1,23 +1,23 @@
 -- The head of a text's frame is well-formed, and a body in memory has the head that its text says. `finish`
 -- returns a frame by it, and the law on a frame's head cites it.
-use Rattle.lw_text.proofs.Common.{◌≡◌, ℕ, ◌<◌, inl, inr, Bool, true, false, List, [], ◌∷◌, ◌++◌, length, map}
-use Rattle.lw_text.proofs.Common.{refl, sym, ◌∙◌, subst, arith, fold, if◌then◌else◌, codes, ap, filter}
-use Rattle.lw_text.proofs.Common.{AllByRecursion, range_with_len, length-map, length-map-range_with_len, Seen}
-use Rattle.lw_text.proofs.Common.{Location, Formula, formula_of, IsWordNumber, MentionsOnly, IsWellFormedHead}
-use Rattle.lw_text.proofs.Common.{IsLocationName, IsTestName, contains_name, insert_name, insert_names}
-use Rattle.lw_text.proofs.Common.{IsDuplicateFree-insert_names, position_of_name-within, Arch, ParsesSepEndBy}
-use Rattle.lw_text.proofs.Common.{with_sites, SiteSyntax, InMemory, InThread, IsSite, ThreadExists}
-use Rattle.lw_text.proofs.Common.{site_names, seen_in, Terminal, Close, Atom, Level, Derives, atom, negated}
-use Rattle.lw_text.proofs.Common.{parens, part, and, conjunction, or, IsProposition, AtomSyntax, Holds}
-use Rattle.lw_text.proofs.Common.{IsTerminal, Terminals, Listed, sites_in, resolved, InitializerSyntax}
-use Rattle.lw_text.proofs.Common.{IsInitializer, Block, initial_word_of, location_table, TestSyntax}
-use Rattle.lw_text.proofs.Common.{ParsesTest, TestFrame, HasFrame, head_of_syntax, sites_of, seen_eq}
-use Rattle.lw_text.proofs.Common.{thread_registers, all_registers, locations, ParsedBody, syntax_of}
-use Rattle.lw_text.proofs.Common.{HasSyntax, resolved_head, IsIn, AllByRecursion-append, AllByRecursion-map}
-use Rattle.lw_text.proofs.Common.{All-append_inv, AllByRecursion-filter, AllByRecursion-map_range}
-use Rattle.lw_text.proofs.Common.{AllByRecursion-every_image, AllByRecursion-of_All, IsAscending-filter}
-use Rattle.lw_text.proofs.Common.{IsSeenInRange-all_seen, IsAscending-all_seen, fun_ext, Bytes, TokenList}
-use Rattle.lw_text.proofs.Common.{IsDuplicateFree}
+use Rattle.lw_text.proofs.Common.{registers, ◌≡◌, ℕ, ◌<◌, inl, inr, Bool, true, false, List, [], ◌∷◌, ◌++◌}
+use Rattle.lw_text.proofs.Common.{length, map, refl, sym, ◌∙◌, subst, arith, fold, if◌then◌else◌, codes, ap}
+use Rattle.lw_text.proofs.Common.{filter, AllByRecursion, range_with_len, length-map}
+use Rattle.lw_text.proofs.Common.{length-map-range_with_len, Seen, Location, Formula, formula_of}
+use Rattle.lw_text.proofs.Common.{IsWordNumber, MentionsOnly, IsWellFormedHead, IsLocationName, IsTestName}
+use Rattle.lw_text.proofs.Common.{contains_name, insert_name, insert_names, IsDuplicateFree-insert_names}
+use Rattle.lw_text.proofs.Common.{position_of_name-within, Arch, ParsesSepEndBy, with_sites, SiteSyntax}
+use Rattle.lw_text.proofs.Common.{InMemory, InThread, IsSite, ThreadExists, site_names, seen_in, Terminal}
+use Rattle.lw_text.proofs.Common.{Close, Atom, Level, Derives, atom, negated, parens, part, and, conjunction}
+use Rattle.lw_text.proofs.Common.{or, IsProposition, AtomSyntax, Holds, IsTerminal, Terminals, Listed}
+use Rattle.lw_text.proofs.Common.{sites_in, resolved, InitializerSyntax, IsInitializer, Block}
+use Rattle.lw_text.proofs.Common.{initial_word_of, location_table, TestSyntax, ParsesTest, TestFrame}
+use Rattle.lw_text.proofs.Common.{HasFrame, head_of_syntax, sites_of, seen_eq, thread_registers}
+use Rattle.lw_text.proofs.Common.{all_registers, locations, ParsedBody, syntax_of, HasSyntax, resolved_head}
+use Rattle.lw_text.proofs.Common.{IsIn, AllByRecursion-append, AllByRecursion-map, All-append_inv}
+use Rattle.lw_text.proofs.Common.{AllByRecursion-filter, AllByRecursion-map_range, AllByRecursion-every_image}
+use Rattle.lw_text.proofs.Common.{AllByRecursion-of_All, IsAscending-filter, IsSeenInRange-all_seen}
+use Rattle.lw_text.proofs.Common.{IsAscending-all_seen, fun_ext, Bytes, TokenList, IsDuplicateFree}
 use Rattle.lw_text.proofs.api.ConditionTokens.{site_names-all, sites_in-all}
 use Rattle.lw_text.proofs.api.PropositionNodes.{proposition_nodes, resolved_single, node_count-resolved}
 use Rattle.lw_text.proofs.PropositionCases.{ContainsAllNames, insert_names-contains_all}
@@ -29,7 +29,7 @@ use Rattle.lw_text.proofs.NameTables.{words-site_by_name, listed-site_by_name}
 -- The site is a location with an allowed name, or one of six registers of a thread.
 abbrev IsValidSite : SiteSyntax → Type 0
 IsValidSite (InMemory x) = IsLocationName x
-IsValidSite (InThread t r) = r < 6
+IsValidSite (InThread t r) = r < registers
 
 -- A site that was read satisfies `IsValidSite`.
 IsValidSite-of_read : (arch : Arch) (ts rest : List (List ℕ)) (s : SiteSyntax) → IsSite arch ts s rest → IsValidSite s
@@ -207,7 +207,7 @@ head_well_formed arch ts name s p allowed parts whole =
       };
       regs = length-map-range_with_len (λ t. map (initial_word_of (location_table s) s.initializers) (thread_registers t)) 0 _;
       register_counts =
-          AllByRecursion-map_range (λ row. length row ≡ 6)
+          AllByRecursion-map_range (λ row. length row ≡ registers)
           (λ t. map (initial_word_of (location_table s) s.initializers) (thread_registers t)) 0 s.threads (λ t le lt. refl);
       register_words =
           AllByRecursion-map_range (AllByRecursion IsWordNumber)

@@ -1,17 +1,17 @@
 -- The parse of a test's parts is unique. If one of them is absent, the tokens are no test, and the text has
 -- no frame. `parse_body` returns by these lemmas where a part is absent.
-use Rattle.lw_text.proofs.Common.{◌≡◌, ℕ, zero, suc, ◌≤◌, true, false, List, [], ◌∷◌, ◌++◌, length, map, refl}
-use Rattle.lw_text.proofs.Common.{sym, ap, ◌∙◌, subst, arith, Option, Some, None, MatchOption, IfNone, codes}
-use Rattle.lw_text.proofs.Common.{All, AllByRecursion, list_all, length-map, ltb-false, All-from_recursion}
-use Rattle.lw_text.proofs.Common.{ParsedBlock, ReadsBlock, HoldsOfNothing, ParsesNothing, Bytes, NameTable}
-use Rattle.lw_text.proofs.Common.{TokenList, CellGrid, Arch, Quant, Exists, NotExists, Forall}
-use Rattle.lw_text.proofs.Common.{AllByRecursion-map, All-mono, insert_names-longer, Cell, Cursor, Token}
-use Rattle.lw_text.proofs.Common.{Tokens, PlacedTokens, token_texts, Preamble, ParsesManyTill, Header, Row}
-use Rattle.lw_text.proofs.Common.{Rows, begins_stop, with_sites, HasRoomFor, SiteSyntax, ThreadExists}
-use Rattle.lw_text.proofs.Common.{site_names, Terminal, IsProposition, AtomSyntax, Quantified, begins_token}
-use Rattle.lw_text.proofs.Common.{sites_in, resolved, InitializerSyntax, sites_of, Block, TestSyntax}
-use Rattle.lw_text.proofs.Common.{location_table, ParsesTest, ParsesNoTest, HasFrame, all_texts, with_spans}
-use Rattle.lw_text.proofs.Common.{remaining_texts, site_by_name, named_initializer, thread_exists}
+use Rattle.lw_text.proofs.Common.{most_locations, ◌≡◌, ℕ, zero, suc, ◌≤◌, true, false, List, [], ◌∷◌, ◌++◌}
+use Rattle.lw_text.proofs.Common.{length, map, refl, sym, ap, ◌∙◌, subst, arith, Option, Some, None}
+use Rattle.lw_text.proofs.Common.{MatchOption, IfNone, codes, All, AllByRecursion, list_all, length-map}
+use Rattle.lw_text.proofs.Common.{ltb-false, All-from_recursion, ParsedBlock, ReadsBlock, HoldsOfNothing}
+use Rattle.lw_text.proofs.Common.{ParsesNothing, Bytes, NameTable, TokenList, CellGrid, Arch, Quant, Exists}
+use Rattle.lw_text.proofs.Common.{NotExists, Forall, AllByRecursion-map, All-mono, insert_names-longer, Cell}
+use Rattle.lw_text.proofs.Common.{Cursor, Token, Tokens, PlacedTokens, token_texts, Preamble, ParsesManyTill}
+use Rattle.lw_text.proofs.Common.{Header, Row, Rows, begins_stop, with_sites, HasRoomFor, SiteSyntax}
+use Rattle.lw_text.proofs.Common.{ThreadExists, site_names, Terminal, IsProposition, AtomSyntax, Quantified}
+use Rattle.lw_text.proofs.Common.{begins_token, sites_in, resolved, InitializerSyntax, sites_of, Block}
+use Rattle.lw_text.proofs.Common.{TestSyntax, location_table, ParsesTest, ParsesNoTest, HasFrame, all_texts}
+use Rattle.lw_text.proofs.Common.{with_spans, remaining_texts, site_by_name, named_initializer, thread_exists}
 use Rattle.lw_text.proofs.Common.{ParsedNameList, NoProposition, NoCondition}
 use Rattle.lw_text.specs.Conditions.{Condition}
 use Rattle.lw_text.proofs.api.Spelling.{list_all-AllByRecursion}
@@ -280,4 +280,4 @@ pub ReadsBlock-ParsedBlock : {arch : Arch} {before after : Cursor} {first table 
     → ReadsBlock arch (remaining_texts before) (map (named_initializer table) es) (remaining_texts after)
 ReadsBlock-ParsedBlock {table = table} {es} none block =
     let names = names_of_initializers table es (rw none at block.names_are) in
-    (block.parsed, subst (λ (names : NameTable). length names ≤ 8) names block.bounded)
+    (block.parsed, subst (λ (names : NameTable). length names ≤ most_locations) names block.bounded)

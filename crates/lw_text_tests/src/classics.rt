@@ -113,7 +113,7 @@ fn load(reg: Reg, loc: Loc) -> Instr {
     Instr::Load { reg, loc }
 }
 
-/// Returns whether it is store buffering.
+/// Returns whether a source test is store buffering.
 fn is_store_buffering(source: &Source) -> bool {
     let ([p0, p1, ..], [r0, ..], [x, y, ..]) = (Cpu::all(), Reg::all(), Loc::all());
     let first = [stored(x), loaded(r0, y)];
@@ -123,7 +123,7 @@ fn is_store_buffering(source: &Source) -> bool {
         && has_statements(source, &first, &second)
 }
 
-/// Returns whether it is store buffering in x86.
+/// Returns whether an x86 test is store buffering.
 fn is_store_buffering_in_x86(program: &Program) -> bool {
     let ([p0, p1, ..], [eax, ..], [x, y, ..]) = (Cpu::all(), Reg::all(), Loc::all());
     let first = [store(x), load(eax, y)];
@@ -133,7 +133,7 @@ fn is_store_buffering_in_x86(program: &Program) -> bool {
         && has_instructions(program, &first, &second)
 }
 
-/// Returns whether it is message passing in x86.
+/// Returns whether an x86 test is message passing.
 fn is_message_passing_in_x86(program: &Program) -> bool {
     let ([_, p1, ..], [eax, ebx, ..], [x, y, ..]) = (Cpu::all(), Reg::all(), Loc::all());
     let first = [store(x), store(y)];

@@ -24,8 +24,8 @@ pub use Rattle.std.proofs.lemmas.Simd.{map-map}
 pub use Rattle.std.specs.List.{AllByRecursion, list_all, range_with_len}
 pub use Rattle.std.specs.Option.{ForSome, option_or}
 pub use Rattle.lw_base.proofs.Common.{FinalState, HasOutcomeShape, IsEvent, IsTestName, IsWellFormedHead}
-pub use Rattle.lw_base.proofs.Common.{NameTable, TestHead, changed_word, most_threads, operand_value}
-pub use Rattle.lw_base.proofs.Common.{registers, thread_code, wrapping_sum}
+pub use Rattle.lw_base.proofs.Common.{NameTable, TestHead, changed_word, most_locations, most_threads}
+pub use Rattle.lw_base.proofs.Common.{operand_value, registers, thread_code, wrapping_sum}
 pub use Rattle.lw_base.proofs.api.Lists.{AtEach-set, OfFellows-set_both, at_index, get-set_other}
 pub use Rattle.lw_base.proofs.api.Lists.{get-set_same, length-set_word_if_some, set-get_same}
 pub use Rattle.lw_base.proofs.api.Lists.{slice_get-in_range}

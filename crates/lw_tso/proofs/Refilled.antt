@@ -1,9 +1,9 @@
 -- A list xs that is overwritten item by item, until f of its items equals g of another list's items, ys. For
 -- the loops of `machine.rt` that write into lists of the right length and allocate nothing.
-use Rattle.lw_tso.proofs.Common.{◌≡◌, ℕ, ◌+◌, ◌<◌, ◌≤◌, List, [], ◌∷◌, ◌++◌, length, map, set, take, get_or}
-use Rattle.lw_tso.proofs.Common.{Some, refl, sym, ap, ap₂, ◌∙◌, arith, slice_get, get_or-take, length-take}
-use Rattle.lw_tso.proofs.Common.{take_all, map-append, map-set, map_more, take_more, take_more_set}
-use Rattle.lw_tso.proofs.Common.{get_or-range_with_len, range_with_len, set-get_same}
+use Rattle.lw_tso.proofs.Common.{most_locations, ◌≡◌, ℕ, ◌+◌, ◌<◌, ◌≤◌, List, [], ◌∷◌, ◌++◌, length, map, set}
+use Rattle.lw_tso.proofs.Common.{take, get_or, Some, refl, sym, ap, ap₂, ◌∙◌, arith, slice_get, get_or-take}
+use Rattle.lw_tso.proofs.Common.{length-take, take_all, map-append, map-set, map_more, take_more}
+use Rattle.lw_tso.proofs.Common.{take_more_set, get_or-range_with_len, range_with_len, set-get_same}
 
 -- Before index i, f of xs' items equals g of those of ys, and both lists have an item at i.
 pub record RefilledUpTo {X Y Z : Type 0} (f : X → Z) (g : Y → Z) (xs : List X) (ys : List Y) (i : ℕ) : Type 0 where
@@ -40,7 +40,7 @@ map-set_same_image f xs i x y at same = map-set f xs i x ∙ rw same (sym (map-s
 
 -- In the list of all locations, or of its first n, the item at index i is i.
 pub all_locations-at : (n i l : ℕ) {all : List ℕ}
-    → all ≡ range_with_len 0 8
+    → all ≡ range_with_len 0 most_locations
     → i < length (take n all)
     → l ≡ get_or (take n all) i l
     → l ≡ i
@@ -49,7 +49,7 @@ all_locations-at n i l {all = all} are within is =
     is
     ∙ get_or-take n all i l (omega (arith, within, inside))
     ∙ ap (λ (xs : List ℕ). get_or xs i l) are
-    ∙ get_or-range_with_len 0 8 i l (omega (arith, within, inside, ap length are))
+    ∙ get_or-range_with_len 0 most_locations i l (omega (arith, within, inside, ap length are))
     ∙ (omega arith)
 
 -- Writing the next word of ys at i extends the equal prefix of xs and ys to `i + 1`.

@@ -32,8 +32,9 @@ pub use Rattle.lw_base.proofs.Common.{Bytes, CellGrid, Cells, IsDuplicateFree, I
 pub use Rattle.lw_base.proofs.Common.{IsNameTable, IsRegisterIndex, IsSeenInRange, IsWellFormedHead}
 pub use Rattle.lw_base.proofs.Common.{IsWordNumber, NameTable, TestHead, TokenList, all_registers}
 pub use Rattle.lw_base.proofs.Common.{condition_text, contains_name, first_byte_is, head_of, insert_names}
-pub use Rattle.lw_base.proofs.Common.{is_blank, is_name_byte, joined, locations, most_locations, most_threads}
-pub use Rattle.lw_base.proofs.Common.{register_name, seen_eq, thread_registers}
+pub use Rattle.lw_base.proofs.Common.{is_blank, is_name_byte, joined, locations, most_locations}
+pub use Rattle.lw_base.proofs.Common.{most_name_bytes, most_nodes, most_threads, register_name, registers}
+pub use Rattle.lw_base.proofs.Common.{seen_eq, thread_registers}
 pub use Rattle.lw_base.proofs.api.Blanks.{name_ascii}
 pub use Rattle.lw_base.proofs.api.Elements.{All-map_inv, All-mono, AllByRecursion-append}
 pub use Rattle.lw_base.proofs.api.Elements.{AllByRecursion-filter, AllByRecursion-flat_map_range}
@@ -58,8 +59,8 @@ pub use Rattle.lw_base.specs.declared.head.Seen.TheVariants.{Location, Register}
 pub use Rattle.lw_base.specs.declared.operand.Operand.{Operand}
 pub use Rattle.lw_base.specs.declared.operand.Operand.TheVariants.{Number}
 pub use Rattle.lw_litmus.proofs.Common.{IsWellFormedProgram, IsWellFormedStatement, IsWellFormedThread}
-pub use Rattle.lw_litmus.proofs.Common.{X86Test, branch_target, location_of, numbers_of, registers_of}
-pub use Rattle.lw_litmus.proofs.Common.{test_of, x86_language, x86_operation}
+pub use Rattle.lw_litmus.proofs.Common.{X86Test, branch_target, location_of, most_instructions, numbers_of}
+pub use Rattle.lw_litmus.proofs.Common.{registers_of, test_of, x86_language, x86_operation}
 pub use Rattle.lw_litmus.specs.declared.instr.Instr.{Instr}
 pub use Rattle.lw_litmus.specs.declared.instr.Instr.TheVariants.{Add, Cmp, Set, Store}
 pub use Rattle.lw_text.proofs.Common.{AtomSyntax, Block, HasFewNodes, HasFrame, Header, InitializerSyntax}
@@ -80,8 +81,11 @@ pub use Rattle.lw_text.proofs.api.ConditionTokens.{terminal_tokens, value_tokens
 pub use Rattle.lw_text.proofs.api.Frames.{HasFrame-unique}
 pub use Rattle.lw_text.proofs.api.Indices.{is_index}
 pub use Rattle.lw_text.proofs.api.PrintedConditions.{IsLocationName-in_table, Spells-colon, Spells-register}
-pub use Rattle.lw_text.proofs.api.PrintedConditions.{assignment_spelled, blank_no_equals, quantifier_spelled}
-pub use Rattle.lw_text.proofs.api.PrintedConditions.{register_is_name, site_spelled, whole_spelled}
+pub use Rattle.lw_text.proofs.api.PrintedConditions.{assignment_spelled, blank_no_equals}
+pub use Rattle.lw_text.proofs.api.PrintedConditions.{most_assignment_bytes, most_node_bytes}
+pub use Rattle.lw_text.proofs.api.PrintedConditions.{most_quantifier_bytes, most_site_bytes}
+pub use Rattle.lw_text.proofs.api.PrintedConditions.{quantifier_spelled, register_is_name, site_spelled}
+pub use Rattle.lw_text.proofs.api.PrintedConditions.{whole_spelled}
 pub use Rattle.lw_text.proofs.api.PrintedPropositions.{enclosed, printed_proposition, terminals_of}
 pub use Rattle.lw_text.proofs.api.PropositionNodes.{node_count-resolved, proposition_nodes, resolved_single}
 pub use Rattle.lw_text.proofs.api.Spelling.{Anything, EndsName, IsBlankNext, Spells, Spells-append}
@@ -89,7 +93,7 @@ pub use Rattle.lw_text.proofs.api.Spelling.{Spells-append_anything, Spells-befor
 pub use Rattle.lw_text.proofs.api.Spelling.{Spells-name, Spells-newline, Spells-nothing, Spells-number}
 pub use Rattle.lw_text.proofs.api.Spelling.{Spells-run, Spells-space, Spells-whole, blank_ends_name}
 pub use Rattle.lw_text.proofs.api.Spelling.{decimal_is_name_run, decimal_is_number, decimal_is_short}
-pub use Rattle.lw_text.proofs.api.Spelling.{is_name_text, name_by_test}
+pub use Rattle.lw_text.proofs.api.Spelling.{is_name_text, most_number_bytes, name_by_test}
 pub use Rattle.lw_text.specs.Conditions.{Condition}
 pub use Rattle.lw_statements.proofs.Common.{CellSyntax, Column, Filling, Fills, Gives, IsGrammar, IsMade}
 pub use Rattle.lw_statements.proofs.Common.{IsSpelling, Labels, LabelsLeadForward, MaybeStatement, ParsesCell}

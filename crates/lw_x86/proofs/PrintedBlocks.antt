@@ -1,19 +1,20 @@
 -- The printed initial block: its text spells tokens, which say its initializers. One part of a printed text
 -- (PrintedFrames).
-use Rattle.lw_x86.proofs.Common.{◌≡◌, ℕ, zero, suc, ◌+◌, ◌*◌, ◌<◌, ◌≤◌, ◌^◌, Bool, true, false, not, List, []}
-use Rattle.lw_x86.proofs.Common.{◌∷◌, ◌++◌, map, length, refl, arith, append_assoc, length-append, ◌==◌}
-use Rattle.lw_x86.proofs.Common.{codes, filter, slice_index, slice_index_or, flat_map, AllByRecursion}
-use Rattle.lw_x86.proofs.Common.{flat_map-append, TokenList, X86, Seen, Register, Location, TestHead}
-use Rattle.lw_x86.proofs.Common.{IsSeenInRange, IsWellFormedHead, IsWordNumber, ThreadExists}
-use Rattle.lw_x86.proofs.Common.{InitializerSyntax, IsInitializer, Block, thread_registers, all_registers}
-use Rattle.lw_x86.proofs.Common.{locations, AllByRecursion-append, AllByRecursion-filter, AllByRecursion-map}
-use Rattle.lw_x86.proofs.Common.{All-mono, AllByRecursion-map_range, AllByRecursion-flat_map_range}
-use Rattle.lw_x86.proofs.Common.{length_le-filter, length-all_seen, max_seen_count, Anything, Spells}
-use Rattle.lw_x86.proofs.Common.{Spells-append, Spells-append_anything, Spells-mono, Spells-nothing}
-use Rattle.lw_x86.proofs.Common.{Spells-space, Spells-newline, Spells-mark, named_site, site_tokens}
-use Rattle.lw_x86.proofs.Common.{value_tokens, IsPrintable, named_printable, IsSite-site_tokens}
-use Rattle.lw_x86.proofs.Common.{Value-value_tokens, site_exists, ParsesSepEndBy-tokens, assignment_spelled}
-use Rattle.lw_x86.proofs.Common.{initial_word, initializer_text, register_initializer, block_text}
+use Rattle.lw_x86.proofs.Common.{most_assignment_bytes, registers, ◌≡◌, ℕ, zero, suc, ◌+◌, ◌*◌, ◌<◌, ◌≤◌, ◌^◌}
+use Rattle.lw_x86.proofs.Common.{Bool, true, false, not, List, [], ◌∷◌, ◌++◌, map, length, refl, arith}
+use Rattle.lw_x86.proofs.Common.{append_assoc, length-append, ◌==◌, codes, filter, slice_index}
+use Rattle.lw_x86.proofs.Common.{slice_index_or, flat_map, AllByRecursion, flat_map-append, TokenList, X86}
+use Rattle.lw_x86.proofs.Common.{Seen, Register, Location, TestHead, IsSeenInRange, IsWellFormedHead}
+use Rattle.lw_x86.proofs.Common.{IsWordNumber, ThreadExists, InitializerSyntax, IsInitializer, Block}
+use Rattle.lw_x86.proofs.Common.{thread_registers, all_registers, locations, AllByRecursion-append}
+use Rattle.lw_x86.proofs.Common.{AllByRecursion-filter, AllByRecursion-map, All-mono}
+use Rattle.lw_x86.proofs.Common.{AllByRecursion-map_range, AllByRecursion-flat_map_range, length_le-filter}
+use Rattle.lw_x86.proofs.Common.{length-all_seen, max_seen_count, Anything, Spells, Spells-append}
+use Rattle.lw_x86.proofs.Common.{Spells-append_anything, Spells-mono, Spells-nothing, Spells-space}
+use Rattle.lw_x86.proofs.Common.{Spells-newline, Spells-mark, named_site, site_tokens, value_tokens}
+use Rattle.lw_x86.proofs.Common.{IsPrintable, named_printable, IsSite-site_tokens, Value-value_tokens}
+use Rattle.lw_x86.proofs.Common.{site_exists, ParsesSepEndBy-tokens, assignment_spelled, initial_word}
+use Rattle.lw_x86.proofs.Common.{initializer_text, register_initializer, block_text}
 
 -- ---- initializers
 
@@ -44,9 +45,13 @@ block_tokens head =
 
 -- ---- words
 
--- The maximal number of bytes of the initial block.
+-- The maximum length of an initializer, in bytes: a space, a register or a location with its word, `;` and the line's end.
+abbrev most_initializer_bytes : ℕ
+most_initializer_bytes = 1 + (most_assignment_bytes + 2)
+
+-- The maximum length of the initial block, in bytes.
 abbrev pub block_bytes : ℕ
-block_bytes = 57 * max_seen_count + 4
+block_bytes = most_initializer_bytes * max_seen_count + 4
 
 module _ (head : TestHead) (well : IsWellFormedHead head) where
   -- The register or location is of the test.
@@ -79,7 +84,7 @@ module _ (head : TestHead) (well : IsWellFormedHead head) where
       (AllByRecursion-filter IsOfTest (needs_initializer head) _
       (AllByRecursion-flat_map_range IsOfTest thread_registers 0 head.threads
       (λ t le lt.
-      AllByRecursion-map_range IsOfTest (λ r. Register t r) 0 6 (λ r le2 lt2. (omega (arith, lt), omega (arith, lt2))))))
+      AllByRecursion-map_range IsOfTest (λ r. Register t r) 0 registers (λ r le2 lt2. (omega (arith, lt), omega (arith, lt2))))))
       (AllByRecursion-map_range IsOfTest (λ x. Location x) 0 _ (λ x le lt. omega (arith, lt)))
 
   -- ---- the text of the block
@@ -87,7 +92,8 @@ module _ (head : TestHead) (well : IsWellFormedHead head) where
   -- The text of an initializer spells its tokens and a `;`.
   initializer_spelled : (s : Seen)
       → IsOfTest s
-      → Spells Anything 57 (initializer_text head s) (initializer_tokens (initializer_of head s) ++ codes ";" ∷ [])
+      → Spells Anything most_initializer_bytes (initializer_text head s)
+      (initializer_tokens (initializer_of head s) ++ codes ";" ∷ [])
   initializer_spelled s h =
       Spells-append_anything Spells-space
       (Spells-append (λ rest g. refl)
@@ -97,23 +103,23 @@ module _ (head : TestHead) (well : IsWellFormedHead head) where
   -- The texts of initializers spell their tokens, each with its `;`.
   initializers_spelled : (ss : List Seen)
       → AllByRecursion IsOfTest ss
-      → Spells Anything (57 * length ss) (flat_map (initializer_text head) ss)
+      → Spells Anything (most_initializer_bytes * length ss) (flat_map (initializer_text head) ss)
       (flat_map (λ e. initializer_tokens e ++ codes ";" ∷ []) (map (initializer_of head) ss))
-  initializers_spelled [] h = Spells-mono (57 * 0) (omega arith) (Spells-nothing Anything)
+  initializers_spelled [] h = Spells-mono (most_initializer_bytes * 0) (omega arith) (Spells-nothing Anything)
   initializers_spelled (s ∷ ss) h =
-      Spells-mono (57 * suc (length ss)) (omega arith)
+      Spells-mono (most_initializer_bytes * suc (length ss)) (omega arith)
       (Spells-append_anything (initializer_spelled s h.0) (initializers_spelled ss h.1))
 
   -- A head initializes at most as many registers and locations as a test has.
   initialized_site_count : length (initialized_sites head) ≤ max_seen_count
   initialized_site_count =
-      let registers = all_registers head.threads in
+      let all = all_registers head.threads in
       let names = locations (length head.locs) in
       omega (
         arith,
-        length-append (filter (needs_initializer head) registers) names,
-        length_le-filter (needs_initializer head) registers,
-        length-append registers names,
+        length-append (filter (needs_initializer head) all) names,
+        length_le-filter (needs_initializer head) all,
+        length-append all names,
         length-all_seen head.threads (length head.locs),
         well.bounded,
         well.table.bounded,

@@ -1,21 +1,22 @@
 -- The printed cells of a thread, by their rows: each text spells tokens, which say a label and an
 -- instruction. Rows are made of these cells (PrintedRows), and columns of them say the threads
 -- (PrintedColumns).
-use Rattle.lw_x86.proofs.Common.{EndsNoCell, ◌≡◌, ℕ, ◌<◌, ◌^◌, Bool, true, false, Option, Some, None, List}
-use Rattle.lw_x86.proofs.Common.{[], ◌∷◌, ◌++◌, length, refl, arith, if◌then◌else◌, codes, option_map}
-use Rattle.lw_x86.proofs.Common.{slice_get, slice_index_or, subst, AllByRecursion, slice_get_within}
-use Rattle.lw_x86.proofs.Common.{get_or_from_slice_get, Bytes, NameTable, TokenList, IsLocationName}
-use Rattle.lw_x86.proofs.Common.{begins_stop, AllByRecursion-append, Anything, IsBlankNext, Spells}
-use Rattle.lw_x86.proofs.Common.{Spells-append, Spells-append_anything, Spells-before, Spells-mono}
+use Rattle.lw_x86.proofs.Common.{◌+◌, suc, most_instructions, EndsNoCell, ◌≡◌, ℕ, ◌<◌, ◌^◌, Bool, true, false}
+use Rattle.lw_x86.proofs.Common.{Option, Some, None, List, [], ◌∷◌, ◌++◌, length, refl, arith, if◌then◌else◌}
+use Rattle.lw_x86.proofs.Common.{codes, option_map, slice_get, slice_index_or, subst, AllByRecursion}
+use Rattle.lw_x86.proofs.Common.{slice_get_within, get_or_from_slice_get, Bytes, NameTable, TokenList}
+use Rattle.lw_x86.proofs.Common.{IsLocationName, begins_stop, AllByRecursion-append, Anything, IsBlankNext}
+use Rattle.lw_x86.proofs.Common.{Spells, Spells-append, Spells-append_anything, Spells-before, Spells-mono}
 use Rattle.lw_x86.proofs.Common.{Spells-nothing, Spells-space, blank_ends_name, Spells-colon, blank_no_equals}
 use Rattle.lw_x86.proofs.Common.{CellSyntax, MaybeStatement, Labels, ParsesCell, IsWellFormedStatement}
 use Rattle.lw_x86.proofs.Common.{IsWellFormedThread, Instr, ParsesStatement, x86_spelling, x86_language}
 use Rattle.lw_x86.proofs.Common.{label, printed_form, is_target, cells_of, x86_grammar}
+use Rattle.lw_x86.proofs.PrintedInstructions.{most_label_bytes, most_instruction_bytes, instruction_tokens}
+use Rattle.lw_x86.proofs.PrintedInstructions.{HasTarget, label_is_location, Spells-label, IsPrintedAs-each}
+use Rattle.lw_x86.proofs.PrintedInstructions.{instruction_spelled, Fills-instruction_tokens}
+use Rattle.lw_x86.proofs.PrintedInstructions.{instruction_no_end}
 use Rattle.lw_x86.proofs.CellLists.{text_at_row, cells_of-get}
 use Rattle.lw_x86.proofs.PrintedSlots.{name_no_end}
-use Rattle.lw_x86.proofs.PrintedInstructions.{instruction_tokens, HasTarget, label_is_location, Spells-label}
-use Rattle.lw_x86.proofs.PrintedInstructions.{IsPrintedAs-each, instruction_spelled, Fills-instruction_tokens}
-use Rattle.lw_x86.proofs.PrintedInstructions.{instruction_no_end}
 
 -- ---- the tokens of a cell, and what they say
 
@@ -43,20 +44,28 @@ cell_syntax names code k =
 
 -- ---- their texts
 
--- The text spells these tokens before a blank, and has at most 150 bytes; the tokens contain no end of a cell, and do not start as an end of the
--- rows does.
+-- The maximum length of the label of a cell with `: ` after it, in bytes.
+abbrev most_front_bytes : ℕ
+most_front_bytes = most_label_bytes + 2
+
+-- The maximum length of a cell, in bytes: a label and an instruction.
+abbrev pub most_cell_bytes : ℕ
+most_cell_bytes = most_front_bytes + most_instruction_bytes
+
+-- The text spells these tokens before a blank, and is no longer than a cell; the tokens contain no end of a cell, and do not start as an end of
+-- the rows does.
 pub record IsPrintedCell (text : Bytes) (tokens : TokenList) : Type 0 where
-  pub spells : Spells IsBlankNext 150 text tokens
+  pub spells : Spells IsBlankNext most_cell_bytes text tokens
   pub plain : EndsNoCell tokens
   pub starts : begins_stop tokens ≡ false
 
 -- The text of a label, or of none, spells its tokens.
 front_spelled : (needed : Bool) (k : ℕ)
     → k < 2 ^ 32
-    → Spells Anything 13 (if needed then label k ++ codes ": " else []) (front_tokens needed k)
+    → Spells Anything most_front_bytes (if needed then label k ++ codes ": " else []) (front_tokens needed k)
 front_spelled true k h =
     Spells-append (λ rest g. refl) (Spells-label k h) (Spells-append (λ rest g. refl) Spells-colon Spells-space)
-front_spelled false k h = Spells-mono 13 (omega arith) (Spells-nothing Anything)
+front_spelled false k h = Spells-mono most_front_bytes (omega arith) (Spells-nothing Anything)
 
 -- The tokens of a label contain no end of a cell.
 front_plain : (needed : Bool) (k : ℕ) → k < 2 ^ 32 → EndsNoCell (front_tokens needed k)
@@ -77,12 +86,13 @@ end_printed : (needed : Bool) (k : ℕ)
     → IsPrintedCell (slice_index_or (if needed then (label k ++ codes ":") ∷ [] else []) 0 []) (front_tokens needed k ++ [])
 end_printed true k h = record {
   spells =
-      Spells-mono 150 (omega arith)
+      Spells-mono most_cell_bytes (omega arith)
       (Spells-append (λ rest g. refl) (Spells-label k h) (Spells-before IsBlankNext blank_no_equals Spells-colon));
   plain = front_plain true k h;
   starts = refl;
 }
-end_printed false k h = record { spells = Spells-mono 150 (omega arith) (Spells-nothing IsBlankNext); plain = tt; starts = refl }
+end_printed false k h =
+    record { spells = Spells-mono most_cell_bytes (omega arith) (Spells-nothing IsBlankNext); plain = tt; starts = refl }
 
 -- The tokens of a label, or of none, say that label, or none.
 Labels-front_tokens : (needed : Bool) (k : ℕ) (mid : TokenList)
@@ -92,6 +102,10 @@ Labels-front_tokens true k mid h = (mid, refl, label_is_location k h, refl)
 Labels-front_tokens false k mid h = refl
 
 -- ---- a thread
+
+-- The maximum number of cells of a thread: one for each instruction, and one for the label at the end.
+abbrev pub most_cells : ℕ
+most_cells = suc most_instructions
 
 module _ (names : NameTable) (table : AllByRecursion IsLocationName names) (code : List Instr)
     (thread : IsWellFormedThread x86_language (length names) code) where
@@ -119,7 +133,7 @@ module _ (names : NameTable) (table : AllByRecursion IsLocationName names) (code
         record {
           spells =
               Spells-before IsBlankNext blank_ends_name
-              (Spells-mono 150 (omega arith)
+              (Spells-mono most_cell_bytes (omega arith)
               (Spells-append_anything (front_spelled _ k small) (instruction_spelled names table i fine goes)));
           starts = front_starts (is_target code k) k (instruction_tokens names i) (IsPrintedAs-each names i).starts;
           plain = AllByRecursion-append _ _ _ (front_plain _ k small) (instruction_no_end names table i fine goes);

@@ -11,10 +11,10 @@ use Rattle.lw_x86.proofs.Common.{names_in, LabelsLeadForward, Column, IsWellForm
 use Rattle.lw_x86.proofs.Common.{ParsesStatement, x86_spelling, branch_target, location_of, x86_language}
 use Rattle.lw_x86.proofs.Common.{x86_operation, label, printed_form, is_target, end_cells, cells_of}
 use Rattle.lw_x86.proofs.Common.{x86_grammar}
+use Rattle.lw_x86.proofs.PrintedCells.{most_cells, cell_tokens, ParsesCell-cell_tokens}
+use Rattle.lw_x86.proofs.PrintedCells.{IsWellFormedStatement-get, target_small}
 use Rattle.lw_x86.proofs.CellLists.{length-cells}
 use Rattle.lw_x86.proofs.PrintedInstructions.{IsPrintedAs-each}
-use Rattle.lw_x86.proofs.PrintedCells.{cell_tokens, ParsesCell-cell_tokens, IsWellFormedStatement-get}
-use Rattle.lw_x86.proofs.PrintedCells.{target_small}
 use Rattle.lw_x86.proofs.PrintedLabels.{syntaxes_from, is_target-of_branch, statements-syntaxes_from}
 use Rattle.lw_x86.proofs.PrintedLabels.{labels_of_cells-duplicate_free, target_in-label}
 
@@ -91,7 +91,7 @@ AllByRecursion-get P (x ∷ xs) h = (h 0 x refl, AllByRecursion-get P xs (λ k y
 
 -- ---- a thread, with enough rows for all its cells
 
-module _ (names : NameTable) (table : IsNameTable names) (n : ℕ) (few : n ≤ 33) (code : List Instr)
+module _ (names : NameTable) (table : IsNameTable names) (n : ℕ) (few : n ≤ most_cells) (code : List Instr)
     (thread : IsWellFormedThread x86_language (length names) code) (long : length (cells_of names code) ≤ n) where
   -- The syntax of the thread's cells in the rows below n.
   abbrev pub syntaxes : List (CellSyntax (ParsesStatement x86_spelling))

@@ -1,6 +1,6 @@
 -- The printed text of a test is the text of a frame: preamble, block, header, rows and condition in sequence,
 -- with the test's head and its threads' cells. One half of the proof that a printed test reads back.
-use Rattle.lw_x86.proofs.Common.{name_ascii, ◌≡◌, ℕ, ◌+◌, ◌*◌, ◌<◌, ◌≤◌, inl, List, [], ◌∷◌, ◌++◌, map}
+use Rattle.lw_x86.proofs.Common.{suc, name_ascii, ◌≡◌, ℕ, ◌+◌, ◌*◌, ◌<◌, ◌≤◌, inl, List, [], ◌∷◌, ◌++◌, map}
 use Rattle.lw_x86.proofs.Common.{length, refl, sym, ap, ◌∙◌, subst, arith, append_assoc, length-append, codes}
 use Rattle.lw_x86.proofs.Common.{flat_map, IsUtf8, slice_index_or, AllByRecursion, AllZip, range_with_len}
 use Rattle.lw_x86.proofs.Common.{length-map, length-map-range_with_len, recursion_from_All, IsUtf8-append}
@@ -15,9 +15,9 @@ use Rattle.lw_x86.proofs.Common.{printed_proposition, IsPrintable, sites_printab
 use Rattle.lw_x86.proofs.Common.{resolved-enclosed_named_terms, IsWellFormedThread, Instr, x86_language}
 use Rattle.lw_x86.proofs.Common.{IsWellFormedProgram, X86Test, cells_of, row_at, max_cell_count, rows_text}
 use Rattle.lw_x86.proofs.Common.{header_text, block_text, listed_text, canonical_text}
+use Rattle.lw_x86.proofs.PrintedCells.{most_cells, IsPrintedCell, cell_tokens, cell_printed}
 use Rattle.lw_text.specs.Tokens.{none as no_trivia}
 use Rattle.lw_text.specs.Preambles.{none as no_notes}
-use Rattle.lw_x86.proofs.PrintedCells.{IsPrintedCell, cell_tokens, cell_printed}
 use Rattle.lw_x86.proofs.PrintedRows.{row_tokens, header_tokens, row_bytes, header_spelled}
 use Rattle.lw_x86.proofs.PrintedRows.{Header-header_tokens, rows_spelled, rows_plain}
 use Rattle.lw_x86.proofs.PrintedRows.{ParsesManyTill-row_tokens}
@@ -89,26 +89,26 @@ body_text p =
     ++ (header_text p.head.threads
     ++ (rows_text (texts_in p) ++ (listed_text p.head.locs p.head.listed ++ (condition_text p.head ++ codes "\n"))))
 
--- The maximal number of bytes after the first line: the block, the header and 33 rows, the list and the condition.
+-- The maximum length of the text after the first line, in bytes: the block, the header, the rows, the list and the condition.
 abbrev body_bytes : ℕ
-body_bytes = block_bytes + row_bytes * 34 + listed_bytes + condition_bytes
+body_bytes = block_bytes + row_bytes * suc most_cells + listed_bytes + condition_bytes
 
 module _ (p : X86Test) (well : IsWellFormedProgram p) where
   -- Each thread of a well-formed test is well-formed with the test's locations.
   pub IsWellFormedThread-threads : AllByRecursion (IsWellFormedThread x86_language (length p.head.locs)) p.threads
   IsWellFormedThread-threads = recursion_from_All (IsWellFormedThread x86_language (length p.head.locs)) p.threads well.code
 
-  -- No thread has more than 33 cells.
-  pub height_few : height_of p ≤ 33
+  -- No thread has more than `most_cells` cells.
+  pub height_few : height_of p ≤ most_cells
   height_few =
-      longest_under 33 (texts_in p)
-      (AllByRecursion-map (λ cells. length cells ≤ 33) (cells_of p.head.locs) p.threads
-      (All-mono (IsWellFormedThread x86_language (length p.head.locs)) (λ code. length (cells_of p.head.locs code) ≤ 33)
+      longest_under most_cells (texts_in p)
+      (AllByRecursion-map (λ cells. length cells ≤ most_cells) (cells_of p.head.locs) p.threads
+      (All-mono (IsWellFormedThread x86_language (length p.head.locs)) (λ code. length (cells_of p.head.locs code) ≤ most_cells)
       (λ code thread. omega (arith, cell_count_at_most p.head.locs code, thread.short)) p.threads IsWellFormedThread-threads))
 
   -- The texts of a row's cells spell their tokens, thread by thread.
   row_printed : (k : ℕ)
-      → k < 33
+      → k < most_cells
       → (threads : List (List Instr))
       → AllByRecursion (IsWellFormedThread x86_language (length p.head.locs)) threads
       → AllZip IsPrintedCell (row_at (map (cells_of p.head.locs) threads) k)
@@ -120,7 +120,7 @@ module _ (p : X86Test) (well : IsWellFormedProgram p) where
   )
 
   -- In each row the texts of the cells of all threads spell their tokens.
-  IsPrintedCell-rows : (k : ℕ) → k < 33 → AllZip IsPrintedCell (row_at (texts_in p) k) (row_in p k)
+  IsPrintedCell-rows : (k : ℕ) → k < most_cells → AllZip IsPrintedCell (row_at (texts_in p) k) (row_in p k)
   IsPrintedCell-rows k small = row_printed k small p.threads IsWellFormedThread-threads
 
   -- A printed row has a cell for each thread.
@@ -141,8 +141,8 @@ module _ (p : X86Test) (well : IsWellFormedProgram p) where
       (Spells-append_anything (block_spelled p.head well.head)
       (Spells-append_anything (header_spelled p.head.threads well.head.has_thread well.head.bounded)
       (Spells-append_anything
-      (rows_spelled (row_at (texts_in p)) (row_in p) p.head.threads 33 well.head.has_thread well.head.bounded IsPrintedCell-rows
-      texts_long row_long 0 (height_of p) (omega (arith, height_few)))
+      (rows_spelled (row_at (texts_in p)) (row_in p) p.head.threads most_cells well.head.has_thread well.head.bounded
+      IsPrintedCell-rows texts_long row_long 0 (height_of p) (omega (arith, height_few)))
       (Spells-append_anything (listed_spelled p.head well.head) (condition_spelled p.head well.head well.arch)))))
 
   -- ---- what the text says
@@ -192,8 +192,8 @@ module _ (p : X86Test) (well : IsWellFormedProgram p) where
     threads_exist = initializers_exist p.head well.head;
     rows = (
       ParsesManyTill-row_tokens p.head.threads (rows_in p) (tokens_behind_rows p) well.head.has_thread
-          (rows_plain (row_at (texts_in p)) (row_in p) p.head.threads 33 well.head.has_thread well.head.bounded IsPrintedCell-rows
-          texts_long row_long 0 (height_of p) (omega (arith, height_few))) (rows_stop p.head well.head),
+          (rows_plain (row_at (texts_in p)) (row_in p) p.head.threads most_cells well.head.has_thread well.head.bounded
+          IsPrintedCell-rows texts_long row_long 0 (height_of p) (omega (arith, height_few))) (rows_stop p.head well.head),
       omega (arith, length-map-range_with_len (row_in p) 0 (height_of p), height_few),
     );
     condition = Condition-condition_tokens p.head well.head;

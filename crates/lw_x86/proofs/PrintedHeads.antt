@@ -1,11 +1,11 @@
 -- The printed head of a test: what its text says is the head. PrintedFrames needs it: reading computes a head
 -- from the printed initializers and names.
-use Rattle.lw_x86.proofs.Common.{◌≡◌, ℕ, zero, suc, ◌+◌, ◌<◌, ◌||◌, ◌⊎◌, inl, inr, Bool, true, false, List}
-use Rattle.lw_x86.proofs.Common.{[], ◌∷◌, ◌++◌, map, length, refl, sym, ap, ◌∙◌, arith, ◌==◌, if◌then◌else◌}
-use Rattle.lw_x86.proofs.Common.{filter, fold, slice_index_or, eqb-true, AllByRecursion, list_any}
-use Rattle.lw_x86.proofs.Common.{range_with_len, any-filter_same, map-append, fill_by_all, All-from_recursion}
-use Rattle.lw_x86.proofs.Common.{All-get_or, filter_map-append, filter_agree, Seen, Register, Location}
-use Rattle.lw_x86.proofs.Common.{TestHead, insert_names, IsSeenInRange, IsWellFormedHead}
+use Rattle.lw_x86.proofs.Common.{registers, ◌≡◌, ℕ, zero, suc, ◌+◌, ◌<◌, ◌||◌, ◌⊎◌, inl, inr, Bool, true}
+use Rattle.lw_x86.proofs.Common.{false, List, [], ◌∷◌, ◌++◌, map, length, refl, sym, ap, ◌∙◌, arith, ◌==◌}
+use Rattle.lw_x86.proofs.Common.{if◌then◌else◌, filter, fold, slice_index_or, eqb-true, AllByRecursion}
+use Rattle.lw_x86.proofs.Common.{list_any, range_with_len, any-filter_same, map-append, fill_by_all}
+use Rattle.lw_x86.proofs.Common.{All-from_recursion, All-get_or, filter_map-append, filter_agree, Seen}
+use Rattle.lw_x86.proofs.Common.{Register, Location, TestHead, insert_names, IsSeenInRange, IsWellFormedHead}
 use Rattle.lw_x86.proofs.Common.{insert_names-if_in_table, insert_names-again, insert_names-append}
 use Rattle.lw_x86.proofs.Common.{SiteSyntax, site_name, site_names, seen_in, InitializerSyntax}
 use Rattle.lw_x86.proofs.Common.{initial_word_of, listed_in, seen_eq, thread_registers, all_registers}
@@ -55,16 +55,16 @@ module _ (head : TestHead) (well : IsWellFormedHead head) where
   -- The names in the initial block are those of the table, in order.
   entered_names : site_names (map (λ e. e.site) (initializers_of head)) ≡ head.locs
   entered_names =
-      let registers = filter (needs_initializer head) (all_registers head.threads) in
+      let written = filter (needs_initializer head) (all_registers head.threads) in
       let none =
-      site_names-InNoMemory registers
+      site_names-InNoMemory written
       (AllByRecursion-filter InNoMemory (needs_initializer head) (all_registers head.threads)
       (AllByRecursion-flat_map_range InNoMemory thread_registers 0 head.threads
-      (λ t le lt. AllByRecursion-map_range InNoMemory (λ r. Register t r) 0 6 (λ r le2 lt2. tt)))) in
+      (λ t le lt. AllByRecursion-map_range InNoMemory (λ r. Register t r) 0 registers (λ r le2 lt2. tt)))) in
       rw (
         initializer_sites (initialized_sites head),
-        map-append (named_site head.locs) registers (locations (length head.locs)),
-        filter_map-append site_name (map (named_site head.locs) registers),
+        map-append (named_site head.locs) written (locations (length head.locs)),
+        filter_map-append site_name (map (named_site head.locs) written),
         none,
         location_names 0 (length head.locs),
       ) (sym (fill_by_all (λ x. slice_index_or head.locs x []) head.locs (length head.locs) [] refl (λ k lt. refl)))
@@ -135,7 +135,7 @@ module _ (head : TestHead) (well : IsWellFormedHead head) where
   -- The printed initializers give each register the word that the head gives it.
   initial_word_of-register : (t r : ℕ)
       → t < head.threads
-      → r < 6
+      → r < registers
       → initial_word_of head.locs (initializers_of head) (Register t r) ≡ initial_word head (Register t r)
   initial_word_of-register t r h k =
       initial_word_of-initializers (Register t r) (register_zero_or_initialized (initial_word head (Register t r) == 0) refl)
@@ -161,9 +161,10 @@ module _ (head : TestHead) (well : IsWellFormedHead head) where
       sym (fill_by_all (λ t. map (initial_word_of head.locs (initializers_of head)) (thread_registers t)) head.init_regs
       head.threads [] well.regs
       (λ t lt.
-      fill_by_all (λ r. initial_word_of head.locs (initializers_of head) (Register t r)) (slice_index_or head.init_regs t []) 6 0
-      (All-get_or (λ row. length row ≡ 6) head.init_regs t [] (omega (arith, lt, well.regs))
-      (All-from_recursion (λ row. length row ≡ 6) head.init_regs well.register_counts))
+      fill_by_all (λ r. initial_word_of head.locs (initializers_of head) (Register t r)) (slice_index_or head.init_regs t [])
+      registers 0
+      (All-get_or (λ row. length row ≡ registers) head.init_regs t [] (omega (arith, lt, well.regs))
+      (All-from_recursion (λ row. length row ≡ registers) head.init_regs well.register_counts))
       (λ r k. sym (initial_word_of-register t r lt k))))
 
   -- The locations' words that the initializers say are the head's.

@@ -1,13 +1,13 @@
 -- Printed instructions: their texts spell tokens, which say them. One row for each form of instructions.
-use Rattle.lw_x86.proofs.Common.{EndsNoCell, ◌≡◌, ℕ, ◌<◌, ◌≤◌, ◌^◌, inl, true, false, [], ◌∷◌, length, refl}
-use Rattle.lw_x86.proofs.Common.{ap, arith, slice_index_or, Contains, option_map, AllByRecursion, ForSome}
-use Rattle.lw_x86.proofs.Common.{recursion_from_All, NameTable, TokenList, Number, IsLocationName}
-use Rattle.lw_x86.proofs.Common.{IsRegisterIndex, IsWordNumber, begins_stop, EndsName, Spells, Spells-mono}
-use Rattle.lw_x86.proofs.Common.{Spells-run, decimal_is_name_run, decimal_is_short, IsLocationName-in_table}
-use Rattle.lw_x86.proofs.Common.{IsWellFormedStatement, registers_of, numbers_of, Instr, branch_target}
-use Rattle.lw_x86.proofs.Common.{location_of, x86_language, x86_operation, Fills, ParsesStatement, name_in}
-use Rattle.lw_x86.proofs.Common.{label_in, x86_forms, x86_slots, instruction, x86_spelling, label}
-use Rattle.lw_x86.proofs.Common.{printed_form, instruction_text}
+use Rattle.lw_x86.proofs.Common.{◌+◌, most_number_bytes, EndsNoCell, ◌≡◌, ℕ, ◌<◌, ◌≤◌, ◌^◌, inl, true, false}
+use Rattle.lw_x86.proofs.Common.{[], ◌∷◌, length, refl, ap, arith, slice_index_or, Contains, option_map}
+use Rattle.lw_x86.proofs.Common.{AllByRecursion, ForSome, recursion_from_All, NameTable, TokenList, Number}
+use Rattle.lw_x86.proofs.Common.{IsLocationName, IsRegisterIndex, IsWordNumber, begins_stop, EndsName, Spells}
+use Rattle.lw_x86.proofs.Common.{Spells-mono, Spells-run, decimal_is_name_run, decimal_is_short}
+use Rattle.lw_x86.proofs.Common.{IsLocationName-in_table, IsWellFormedStatement, registers_of, numbers_of}
+use Rattle.lw_x86.proofs.Common.{Instr, branch_target, location_of, x86_language, x86_operation, Fills}
+use Rattle.lw_x86.proofs.Common.{ParsesStatement, name_in, label_in, x86_forms, x86_slots, instruction}
+use Rattle.lw_x86.proofs.Common.{x86_spelling, label, printed_form, instruction_text}
 use Rattle.lw_base.specs.declared.operand.Operand.TheVariants.{Register}
 use Rattle.lw_x86.proofs.PrintedSlots.{ArePrintable, are_spaced, most_in, slots_tokens, slots_spelled}
 use Rattle.lw_x86.proofs.PrintedSlots.{Fills-slots_tokens, slots_no_end}
@@ -25,10 +25,15 @@ label_is_location k h = (
   refl,
 )
 
+-- The maximum length of a label, in bytes: `L` and a number.
+abbrev pub most_label_bytes : ℕ
+most_label_bytes = 1 + most_number_bytes
+
 -- The text of a label spells one token.
-pub Spells-label : (k : ℕ) → k < 2 ^ 32 → Spells EndsName 11 (label k) (label k ∷ [])
+pub Spells-label : (k : ℕ) → k < 2 ^ 32 → Spells EndsName most_label_bytes (label k) (label k ∷ [])
 Spells-label k h =
-    Spells-run 11 (label k) (refl, decimal_is_name_run k h) (inl (label_is_location k h).0) (omega (arith, decimal_is_short k h))
+    Spells-run most_label_bytes (label k) (refl, decimal_is_name_run k h) (inl (label_is_location k h).0)
+    (omega (arith, decimal_is_short k h))
 
 -- ---- the printed form of an instruction
 
@@ -40,11 +45,15 @@ HasTarget i = ForSome (branch_target (x86_operation i)) (λ to. to < 2 ^ 32)
 abbrev pub instruction_tokens : NameTable → Instr → TokenList
 instruction_tokens names i = slots_tokens (x86_slots (printed_form names i).form) (printed_form names i).filling
 
+-- The maximum length of an instruction, in bytes.
+abbrev pub most_instruction_bytes : ℕ
+most_instruction_bytes = 133
+
 -- The form is short and starts with a mnemonic; it has the instruction's location and label, and with them gives the instruction.
 pub record IsPrintedAs (names : NameTable) (i : Instr) (s : ParsesStatement x86_spelling) : Type 0 where
   pub form_is_listed : Contains x86_forms s.form
   pub spaced : are_spaced (x86_slots s.form) ≡ true
-  pub short : most_in (x86_slots s.form) ≤ 133
+  pub short : most_in (x86_slots s.form) ≤ most_instruction_bytes
   pub starts : begins_stop (slots_tokens (x86_slots s.form) s.filling) ≡ false
   pub name : name_in (x86_slots s.form) s.filling ≡ option_map (λ x. slice_index_or names x []) (location_of (x86_operation i))
   pub label_is : label_in (x86_slots s.form) s.filling ≡ option_map label (branch_target (x86_operation i))
@@ -59,7 +68,7 @@ module _ (names : NameTable) where
   IsPrintedAs-by_form : {i : Instr} {s : ParsesStatement x86_spelling}
       → Contains x86_forms s.form
       → are_spaced (x86_slots s.form) ≡ true
-      → most_in (x86_slots s.form) ≤ 133
+      → most_in (x86_slots s.form) ≤ most_instruction_bytes
       → begins_stop (slots_tokens (x86_slots s.form) s.filling) ≡ false
       → name_in (x86_slots s.form) s.filling ≡ option_map (λ x. slice_index_or names x []) (location_of (x86_operation i))
       → label_in (x86_slots s.form) s.filling ≡ option_map label (branch_target (x86_operation i))
@@ -155,10 +164,11 @@ module _ (names : NameTable) (table : AllByRecursion IsLocationName names) where
   pub instruction_spelled : (i : Instr)
       → IsWellFormedStatement x86_language (length names) i
       → HasTarget i
-      → Spells EndsName 133 (instruction_text names i) (instruction_tokens names i)
+      → Spells EndsName most_instruction_bytes (instruction_text names i) (instruction_tokens names i)
   instruction_spelled i h t =
       let p = IsPrintedAs-each names i in
-      Spells-mono 133 p.short (slots_spelled _ (printed_form names i).filling (ArePrintable-of_instruction i h t) p.spaced)
+      Spells-mono most_instruction_bytes p.short
+      (slots_spelled _ (printed_form names i).filling (ArePrintable-of_instruction i h t) p.spaced)
 
   -- The tokens of an instruction fill the slots of its form.
   pub Fills-instruction_tokens : (i : Instr)

@@ -1,7 +1,8 @@
 -- The printed list of names and condition: their texts spell tokens, which say them. The last parts of a
 -- printed text (PrintedFrames).
-use Rattle.lw_x86.proofs.Common.{◌≡◌, ℕ, suc, ◌+◌, ◌*◌, inl, inr, true, false, List, [], ◌∷◌, ◌++◌, map}
-use Rattle.lw_x86.proofs.Common.{length, refl, arith, append_assoc, append-nil, codes, flat_map}
+use Rattle.lw_x86.proofs.Common.{most_site_bytes, most_name_bytes, most_quantifier_bytes, most_node_bytes}
+use Rattle.lw_x86.proofs.Common.{most_nodes, ◌≡◌, ℕ, suc, ◌+◌, ◌*◌, inl, inr, true, false, List, [], ◌∷◌}
+use Rattle.lw_x86.proofs.Common.{◌++◌, map, length, refl, arith, append_assoc, append-nil, codes, flat_map}
 use Rattle.lw_x86.proofs.Common.{AllByRecursion, NameTable, TokenList, X86, Quant, Exists, Seen}
 use Rattle.lw_x86.proofs.Common.{condition_text, TestHead, IsSeenInRange, IsWellFormedHead, SiteSyntax}
 use Rattle.lw_x86.proofs.Common.{IsSite, begins_stop, AtomSyntax, Listed, Condition, begins_token, Terminal}
@@ -38,13 +39,25 @@ terminals_in head = enclosed (terminals_of (named_claim head.locs) head.conditio
 abbrev pub condition_tokens : TestHead → TokenList
 condition_tokens head = quantifier_tokens head.quant ++ flat_map (terminal_tokens X86) (terminals_in head)
 
--- The maximal number of bytes of the line of the list.
-abbrev pub listed_bytes : ℕ
-listed_bytes = 80 + 45 * max_seen_count
+-- The maximum length of an element of the list, in bytes: a register or a location, and `;`.
+abbrev most_element_bytes : ℕ
+most_element_bytes = most_site_bytes + 1
 
--- The maximal number of bytes of the condition's line.
+-- The maximum length of `locations [`, in bytes.
+abbrev most_opening_bytes : ℕ
+most_opening_bytes = most_name_bytes + 2
+
+-- The maximum length of the line of a list of n names, in bytes: its start, the names, each after a space, and its end.
+abbrev most_bytes_of_list : ℕ → ℕ
+most_bytes_of_list n = most_opening_bytes + (most_element_bytes + 1) * n + 2
+
+-- The maximum length of the line of the list, in bytes.
+abbrev pub listed_bytes : ℕ
+listed_bytes = most_bytes_of_list max_seen_count
+
+-- The maximum length of the condition's line, in bytes: its quantifier, a space, its proposition in parentheses, and the line's end.
 abbrev pub condition_bytes : ℕ
-condition_bytes = 15397
+condition_bytes = most_quantifier_bytes + (most_node_bytes * most_nodes + 2) + 2
 
 module _ (head : TestHead) (well : IsWellFormedHead head) where
   -- The register or location is of the test.
@@ -56,7 +69,7 @@ module _ (head : TestHead) (well : IsWellFormedHead head) where
   -- The text of an element spells its tokens.
   element_spelled : (s : Seen)
       → IsOfTest s
-      → Spells Anything 44 (element_text head.locs s) (element_tokens (named_site head.locs s))
+      → Spells Anything most_element_bytes (element_text head.locs s) (element_tokens (named_site head.locs s))
   element_spelled s h =
       Spells-append (λ rest g. refl) (site_spelled X86 head.threads well.bounded head.locs well.table.are_location_names s h)
       (Spells-mark 59 refl (λ c. refl) refl (omega arith))
@@ -64,15 +77,16 @@ module _ (head : TestHead) (well : IsWellFormedHead head) where
   -- The texts of further elements, each after a space, spell their tokens.
   elements_spelled : (ss : List Seen)
       → AllByRecursion IsOfTest ss
-      → Spells Anything (45 * length ss) (flat_map (λ next. codes " " ++ next) (map (element_text head.locs) ss))
+      → Spells Anything ((most_element_bytes + 1) * length ss)
+      (flat_map (λ next. codes " " ++ next) (map (element_text head.locs) ss))
       (flat_map element_tokens (named_sites head.locs ss))
-  elements_spelled [] h = Spells-mono (45 * 0) (omega arith) (Spells-nothing Anything)
+  elements_spelled [] h = Spells-mono ((most_element_bytes + 1) * 0) (omega arith) (Spells-nothing Anything)
   elements_spelled (s ∷ ss) h =
-      Spells-mono (45 * suc (length ss)) (omega arith)
+      Spells-mono ((most_element_bytes + 1) * suc (length ss)) (omega arith)
       (Spells-append_anything (Spells-append_anything Spells-space (element_spelled s h.0)) (elements_spelled ss h.1))
 
   -- The word and the bracket spell two tokens.
-  Spells-locations : Spells Anything 34 (codes "locations [") (codes "locations" ∷ codes "[" ∷ [])
+  Spells-locations : Spells Anything most_opening_bytes (codes "locations [") (codes "locations" ∷ codes "[" ∷ [])
   Spells-locations =
       Spells-append (λ rest g. refl) (Spells-name (codes "locations") (name_by_test (codes "locations") refl))
       (Spells-append_anything Spells-space (Spells-mark 91 refl (λ c. refl) refl (omega arith)))
@@ -80,10 +94,10 @@ module _ (head : TestHead) (well : IsWellFormedHead head) where
   -- The text of the list of names, or none, spells its tokens.
   list_spelled : (ss : List Seen)
       → AllByRecursion IsOfTest ss
-      → Spells Anything (80 + 45 * length ss) (listed_text head.locs ss) (listed_tokens head.locs ss)
-  list_spelled [] h = Spells-mono (80 + 45 * 0) (omega arith) (Spells-nothing Anything)
+      → Spells Anything (most_bytes_of_list (length ss)) (listed_text head.locs ss) (listed_tokens head.locs ss)
+  list_spelled [] h = Spells-mono (most_bytes_of_list 0) (omega arith) (Spells-nothing Anything)
   list_spelled (s ∷ ss) h =
-      Spells-mono (80 + 45 * suc (length ss)) (omega arith)
+      Spells-mono (most_bytes_of_list (suc (length ss))) (omega arith)
       (Spells-append_anything Spells-locations
       (Spells-append_anything (Spells-append_anything (element_spelled s h.0) (elements_spelled ss h.1))
       (Spells-append_anything (Spells-mark 93 refl (λ c. refl) refl (omega arith)) Spells-newline)))

@@ -9,8 +9,8 @@ use Rattle.lw_x86.proofs.Common.{Row, begins_stop, Anything, IsBlankNext, Spells
 use Rattle.lw_x86.proofs.Common.{Spells-append_anything, Spells-before, Spells-mono, Spells-nothing}
 use Rattle.lw_x86.proofs.Common.{Spells-space, Spells-newline, Spells-mark, Spells-name, is_name_text}
 use Rattle.lw_x86.proofs.Common.{name_by_test, blank_ends_name, row_text, header_text}
+use Rattle.lw_x86.proofs.PrintedCells.{most_cell_bytes, IsPrintedCell}
 use Rattle.lw_x86.proofs.PrintedSlots.{name_no_end}
-use Rattle.lw_x86.proofs.PrintedCells.{IsPrintedCell}
 
 -- ---- one row
 
@@ -33,6 +33,10 @@ blank_after_cell : (cells : List Bytes) (rest : Bytes) → first_byte_is is_blan
 blank_after_cell [] rest = refl
 blank_after_cell (c ∷ cells) rest = refl
 
+-- The maximum length of a cell with ` | ` before it, in bytes.
+abbrev most_bytes_after_bar : ℕ
+most_bytes_after_bar = 3 + most_cell_bytes
+
 -- ` | ` spells a bar.
 Spells-bar : Spells Anything 3 (codes " | ") (codes "|" ∷ [])
 Spells-bar =
@@ -48,11 +52,11 @@ row_end =
 -- The text of the cells after the first spells their tokens.
 after_spelled : (cells : List Bytes) (ts : Cells)
     → AllZip IsPrintedCell cells ts
-    → Spells Anything (153 * length cells + 3) (text_after_first cells) (tokens_after_first ts)
-after_spelled [] [] h = Spells-mono (153 * 0 + 3) (omega arith) row_end
+    → Spells Anything (most_bytes_after_bar * length cells + 3) (text_after_first cells) (tokens_after_first ts)
+after_spelled [] [] h = Spells-mono (most_bytes_after_bar * 0 + 3) (omega arith) row_end
 after_spelled (c ∷ cells) (t ∷ ts) h =
     rw (append_assoc c)
-    (Spells-mono (153 * suc (length cells) + 3) (omega arith)
+    (Spells-mono (most_bytes_after_bar * suc (length cells) + 3) (omega arith)
     (Spells-append_anything Spells-bar
     (Spells-append (λ more g. blank_after_cell cells more) h.0.spells (after_spelled cells ts h.1))))
 after_spelled cells ts h = absurd h
@@ -61,12 +65,12 @@ after_spelled cells ts h = absurd h
 pub row_spelled : (cells : List Bytes) (ts : Cells)
     → 1 ≤ length cells
     → AllZip IsPrintedCell cells ts
-    → Spells Anything (153 * length cells + 1) (row_text cells) (row_tokens ts)
+    → Spells Anything (most_bytes_after_bar * length cells + 1) (row_text cells) (row_tokens ts)
 row_spelled [] ts some h = absurd (omega arith)
 row_spelled (c ∷ cells) [] some h = absurd h
 row_spelled (c ∷ cells) (t ∷ ts) some h =
     rw (append_assoc c)
-    (Spells-mono (153 * suc (length cells) + 1) (omega arith)
+    (Spells-mono (most_bytes_after_bar * suc (length cells) + 1) (omega arith)
     (Spells-append_anything Spells-space
     (Spells-append (λ more g. blank_after_cell cells more) h.0.spells (after_spelled cells ts h.1))))
 
@@ -128,7 +132,9 @@ thread_cell k lt =
     let name =
     name_by_test (thread_name k) (agree_below_at (λ j. is_name_text (thread_name j)) (λ j. true) most_threads k refl lt) in
     record {
-      spells = Spells-mono 150 (omega arith) (Spells-before IsBlankNext blank_ends_name (Spells-name (thread_name k) name));
+      spells =
+          Spells-mono most_cell_bytes (omega arith)
+          (Spells-before IsBlankNext blank_ends_name (Spells-name (thread_name k) name));
       plain = (name_no_end (thread_name k) name, tt);
       starts = agree_below_at (λ j. begins_stop (thread_name j ∷ [])) (λ j. false) most_threads k refl lt;
     }
@@ -142,9 +148,9 @@ header_cells : (k n : ℕ) → k + n ≤ most_threads → AllZip IsPrintedCell (
 header_cells k zero few = tt
 header_cells k (suc n) few = (thread_cell k (omega (arith, few)), header_cells (k + 1) n (omega (arith, few)))
 
--- The maximal number of bytes of a row.
+-- The maximum length of a row, in bytes.
 abbrev pub row_bytes : ℕ
-row_bytes = 153 * most_threads + 1
+row_bytes = most_bytes_after_bar * most_threads + 1
 
 -- The text of the header spells its tokens.
 pub header_spelled : (threads : ℕ)

@@ -1,16 +1,16 @@
 -- Printed slots: each text spells a token, which gives the slot's value. Instructions are printed slot by
 -- slot (PrintedInstructions).
-use Rattle.lw_x86.proofs.Common.{◌≡◌, ℕ, ◌+◌, ◌<◌, ◌⊎◌, inl, inr, Bool, true, false, List, [], ◌∷◌, ◌++◌}
-use Rattle.lw_x86.proofs.Common.{length, refl, arith, append_assoc, ◌==◌, ◌&&◌, ◌||◌, decimal, eqb-true}
-use Rattle.lw_x86.proofs.Common.{AllByRecursion, cases_Bool, and_parts, decimal_nonempty, Bytes, TokenList}
-use Rattle.lw_x86.proofs.Common.{X86, is_name_byte, IsName, IsLocationName, register_name, IsRegisterIndex}
-use Rattle.lw_x86.proofs.Common.{IsWordNumber, ends_cell, Anything, EndsName, Spells, Spells-append}
-use Rattle.lw_x86.proofs.Common.{Spells-append_anything, Spells-mono, Spells-before, Spells-nothing}
-use Rattle.lw_x86.proofs.Common.{Spells-space, Spells-mark, Spells-name, Spells-number, name_by_test}
-use Rattle.lw_x86.proofs.Common.{decimal_is_number, decimal_is_name_run, Spells-register, register_is_name}
-use Rattle.lw_x86.proofs.Common.{Slot, Keyword, Value, Label, SlotValue, Filling, Gives, Fills, X86Keyword}
-use Rattle.lw_x86.proofs.Common.{Open, Close, Comma, Dollar, x86_keyword_text, x86_spelling, slot_text}
-use Rattle.lw_x86.proofs.Common.{is_sign, slots_text, EndsNoCell}
+use Rattle.lw_x86.proofs.Common.{most_name_bytes, ◌≡◌, ℕ, ◌+◌, ◌<◌, ◌⊎◌, inl, inr, Bool, true, false, List}
+use Rattle.lw_x86.proofs.Common.{[], ◌∷◌, ◌++◌, length, refl, arith, append_assoc, ◌==◌, ◌&&◌, ◌||◌, decimal}
+use Rattle.lw_x86.proofs.Common.{eqb-true, AllByRecursion, cases_Bool, and_parts, decimal_nonempty, Bytes}
+use Rattle.lw_x86.proofs.Common.{TokenList, X86, is_name_byte, IsName, IsLocationName, register_name}
+use Rattle.lw_x86.proofs.Common.{IsRegisterIndex, IsWordNumber, ends_cell, Anything, EndsName, Spells}
+use Rattle.lw_x86.proofs.Common.{Spells-append, Spells-append_anything, Spells-mono, Spells-before}
+use Rattle.lw_x86.proofs.Common.{Spells-nothing, Spells-space, Spells-mark, Spells-name, Spells-number}
+use Rattle.lw_x86.proofs.Common.{name_by_test, decimal_is_number, decimal_is_name_run, Spells-register}
+use Rattle.lw_x86.proofs.Common.{register_is_name, Slot, Keyword, Value, Label, SlotValue, Filling, Gives}
+use Rattle.lw_x86.proofs.Common.{Fills, X86Keyword, Open, Close, Comma, Dollar, x86_keyword_text}
+use Rattle.lw_x86.proofs.Common.{x86_spelling, slot_text, is_sign, slots_text, EndsNoCell}
 use Rattle.lw_statements.specs.declared.slot.Slot.TheVariants.{Register, Location, Number}
 use Rattle.lw_base.specs.declared.operand.Operand.TheVariants as operand
 
@@ -95,12 +95,12 @@ are_spaced [] = true
 are_spaced (slot ∷ []) = true
 are_spaced (slot ∷ next ∷ slots) = (is_keyword_slot slot || is_sign_slot next) && are_spaced (next ∷ slots)
 
--- The maximal number of bytes printed at a slot, with the blank after a mnemonic.
+-- The maximum length of what is printed at a slot, in bytes, with the blank after a mnemonic.
 abbrev pub most_of : Slot X86Keyword → ℕ
 most_of (Keyword w) = 1 + length (x86_keyword_text w)
-most_of slot = 32
+most_of slot = most_name_bytes
 
--- The maximal number of bytes of all slots.
+-- The maximum length of what is printed at all slots, in bytes.
 abbrev pub most_in : List (Slot X86Keyword) → ℕ
 most_in [] = 0
 most_in (slot ∷ slots) = most_of slot + most_in slots
@@ -148,10 +148,16 @@ IsPrinted-IsPrintable Register r p = record { spelled = Spells-register X86 r p;
 IsPrinted-IsPrintable Location x p = record { spelled = Spells-name x p.0; said = (refl, p); plain = name_no_end x p.0 }
 IsPrinted-IsPrintable Value (operand.Register r) p =
     record { spelled = Spells-register X86 r p; said = (p, refl); plain = register_no_end r p }
-IsPrinted-IsPrintable Value (operand.Number n) p =
-    record { spelled = Spells-mono 32 (omega arith) (Spells-number n p); said = decimal_is_number n p; plain = number_no_end n p }
-IsPrinted-IsPrintable Number n p =
-    record { spelled = Spells-mono 32 (omega arith) (Spells-number n p); said = decimal_is_number n p; plain = number_no_end n p }
+IsPrinted-IsPrintable Value (operand.Number n) p = record {
+  spelled = Spells-mono most_name_bytes (omega arith) (Spells-number n p);
+  said = decimal_is_number n p;
+  plain = number_no_end n p;
+}
+IsPrinted-IsPrintable Number n p = record {
+  spelled = Spells-mono most_name_bytes (omega arith) (Spells-number n p);
+  said = decimal_is_number n p;
+  plain = number_no_end n p;
+}
 IsPrinted-IsPrintable Label l p = record { spelled = Spells-name l p.0; said = (refl, p); plain = name_no_end l p.0 }
 
 -- A sign spells one token, which ends a name and no cell.

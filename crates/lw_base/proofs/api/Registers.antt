@@ -1,6 +1,6 @@
 -- A token names at most one register. So a cell of a test is read in one way.
-use Rattle.lw_base.proofs.Common.{◌≡◌, ℕ, suc, ◌+◌, ◌<◌, [], ◌∷◌, Some, None, Option, refl, sym, ap, ◌∙◌}
-use Rattle.lw_base.proofs.Common.{arith, if◌then◌else◌, codes, bytes_eq, Bytes, Arch, Source, X86}
+use Rattle.lw_base.proofs.Common.{registers, ◌≡◌, ℕ, suc, ◌+◌, ◌<◌, [], ◌∷◌, Some, None, Option, refl, sym}
+use Rattle.lw_base.proofs.Common.{ap, ◌∙◌, arith, if◌then◌else◌, codes, bytes_eq, Bytes, Arch, Source, X86}
 use Rattle.lw_base.proofs.Common.{IsRegisterName, register_name, lowercase_if_x86}
 
 -- The x86 register that a text in small letters names.
@@ -17,7 +17,7 @@ x86_register_of w =
     else (if bytes_eq w (codes "esi") then Some 4 else (if bytes_eq w (codes "edi") then Some 5 else None)))))
 
 -- The name of an x86 register, in small letters, names that register.
-x86_register_of-register_name : (r : ℕ) → r < 6 → x86_register_of (lowercase_if_x86 X86 (register_name X86 r)) ≡ Some r
+x86_register_of-register_name : (r : ℕ) → r < registers → x86_register_of (lowercase_if_x86 X86 (register_name X86 r)) ≡ Some r
 x86_register_of-register_name (suc (suc (suc (suc (suc (suc r)))))) h = absurd (omega arith)
 x86_register_of-register_name _ h = refl
 

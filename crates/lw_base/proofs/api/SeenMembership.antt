@@ -207,7 +207,7 @@ has_seen-flat_map f a (suc n) k s le lt h = elim (cases_Bool (a == k)) [
 ]
 
 -- The registers of each thread are among all registers.
-pub has_seen-register : (threads t r : ℕ) → t < threads → r < 6 → has_seen (all_registers threads) (Register t r) ≡ true
+pub has_seen-register : (threads t r : ℕ) → t < threads → r < registers → has_seen (all_registers threads) (Register t r) ≡ true
 has_seen-register threads t r h k =
     has_seen-flat_map thread_registers 0 threads t (Register t r) (omega arith) (omega (arith, h))
     (has_seen-map (λ q. Register t q) 0 6 r (omega arith) (omega (arith, k)))
@@ -253,7 +253,7 @@ length_le-filter p (u ∷ us) = go (p u) refl (length_le-filter p us)
     go false e h = rw e (omega (arith, h))
 
 -- There are six registers for each thread.
-length-all_registers : (a n : ℕ) → length (flat_map thread_registers (range_with_len a n)) ≡ 6 * n
+length-all_registers : (a n : ℕ) → length (flat_map thread_registers (range_with_len a n)) ≡ registers * n
 length-all_registers a zero = omega arith
 length-all_registers a (suc n) = omega (
   arith,
@@ -262,7 +262,7 @@ length-all_registers a (suc n) = omega (
 )
 
 -- There are six registers for each thread, and one location for each name.
-pub length-all_seen : (threads locs : ℕ) → length (all_registers threads ++ locations locs) ≡ 6 * threads + locs
+pub length-all_seen : (threads locs : ℕ) → length (all_registers threads ++ locations locs) ≡ registers * threads + locs
 length-all_seen threads locs = omega (
   arith,
   length-append (all_registers threads) (locations locs),
@@ -278,7 +278,7 @@ max_seen_count = registers * most_threads + most_locations
 pub length_le-ascending_seen : (threads locs : ℕ) (ss : List Seen)
     → IsAscending ss
     → AllByRecursion (IsSeenInRange threads locs) ss
-    → length ss ≤ 6 * threads + locs
+    → length ss ≤ registers * threads + locs
 length_le-ascending_seen threads locs ss ascending there = omega (
   arith,
   ap length (filter_has_seen-all_seen threads locs ss ascending there),

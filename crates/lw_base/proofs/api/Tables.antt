@@ -1,10 +1,10 @@
 -- The index of a name in a table, and tables with one more name. Lemmas for `location.rt`, and for the
 -- readers above.
-use Rattle.lw_base.proofs.Common.{bytes_eq, true≢false, append-nil, append_assoc, ◌++◌, ◌∷◌, length-append}
-use Rattle.lw_base.proofs.Common.{◌≡◌, ℕ, ◌<◌, ◌+◌, true, false, suc, zero, List, [], map, length, take}
-use Rattle.lw_base.proofs.Common.{get_or, slice_get, Option, Some, None, MatchOption, Contains, ◌⊎◌, inl, inr}
-use Rattle.lw_base.proofs.Common.{refl, ap, sym, ◌∙◌, subst, nat_eq, arith, IsSome, option_map, SomeIff}
-use Rattle.lw_base.proofs.Common.{Bytes, NameTable, IsDuplicateFree, IsLocationName, IsNameTable}
+use Rattle.lw_base.proofs.Common.{most_locations, bytes_eq, true≢false, append-nil, append_assoc, ◌++◌, ◌∷◌}
+use Rattle.lw_base.proofs.Common.{length-append, ◌≡◌, ℕ, ◌<◌, ◌+◌, true, false, suc, zero, List, [], map}
+use Rattle.lw_base.proofs.Common.{length, take, get_or, slice_get, Option, Some, None, MatchOption, Contains}
+use Rattle.lw_base.proofs.Common.{◌⊎◌, inl, inr, refl, ap, sym, ◌∙◌, subst, nat_eq, arith, IsSome, option_map}
+use Rattle.lw_base.proofs.Common.{SomeIff, Bytes, NameTable, IsDuplicateFree, IsLocationName, IsNameTable}
 use Rattle.lw_base.proofs.Common.{contains_name, insert_name, insert_names, position_of_name}
 use Rattle.lw_base.proofs.Common.{false_from_ne_true, or_right, AllByRecursion, map-append, take_more}
 use Rattle.lw_base.proofs.Common.{Contains-push_cases, Contains-append_right, unsigned_Decides, pointwise}
@@ -35,7 +35,7 @@ module _ {S : Type 0} (f : S → Bytes) (ss : List S) (p : ℕ) (t : Bytes) (x :
   -- If the entry at an index has this name, the location with that index has the name.
   pub found_at_index : (name : Bytes) (o : Option ℕ)
       → length ss < 9
-      → SomeIff o (p < 8) p
+      → SomeIff o (p < most_locations) p
       → pointwise nat_eq t name ≡ true
       → MatchOption o (Contains (map f ss) name → ⊥) (λ loc. slice_get (map f ss) loc ≡ Some name)
   found_at_index name None few h same = absurd (h (omega arith))
@@ -97,7 +97,7 @@ copied_names-push {ts} f us ss s k x done more =
 
 -- Appending a new valid name to a table with room gives a table.
 pub IsNameTable-push : (names : NameTable) (name : Bytes)
-    → length names < 8
+    → length names < most_locations
     → IsLocationName name
     → (Contains names name → ⊥)
     → IsNameTable names
@@ -109,12 +109,17 @@ IsNameTable-push names name few is fresh table = record {
 }
 
 -- The location that results from the index of an appended name has that index.
-pub index-of_pushed_name : (o : Option ℕ) (p at n : ℕ) → SomeIff o (p < 8) p → p ≡ n → n < 8 → o ≡ Some at → at ≡ n
+pub index-of_pushed_name : (o : Option ℕ) (p at n : ℕ)
+    → SomeIff o (p < most_locations) p
+    → p ≡ n
+    → n < most_locations
+    → o ≡ Some at
+    → at ≡ n
 index-of_pushed_name None p at n is e few same = absurd (is (omega arith))
 index-of_pushed_name (Some loc) p at n is e few same = let h : loc ≡ at = cc in sym h ∙ is.1 ∙ e
 
 -- A location results from any index below eight.
-pub IsSome-if_table_has_room : (o : Option ℕ) (p n : ℕ) → SomeIff o (p < 8) p → p ≡ n → n < 8 → IsSome o
+pub IsSome-if_table_has_room : (o : Option ℕ) (p n : ℕ) → SomeIff o (p < most_locations) p → p ≡ n → n < most_locations → IsSome o
 IsSome-if_table_has_room None p n is e few = absurd (is (omega arith))
 IsSome-if_table_has_room (Some loc) p n is e few = refl
 

@@ -1,7 +1,7 @@
 -- The tokens of sites and of conditions, and that they say them. The crates that print tests use this.
-use Rattle.lw_text.proofs.Common.{◌≡◌, ℕ, ◌<◌, ◌≤◌, ◌^◌, inl, inr, Bool, true, false, List, [], ◌∷◌, ◌++◌}
-use Rattle.lw_text.proofs.Common.{map, length, refl, sym, ap, ◌∙◌, subst, arith, append_assoc, codes}
-use Rattle.lw_text.proofs.Common.{slice_index_or, flat_map, decimal, AllByRecursion, map-append}
+use Rattle.lw_text.proofs.Common.{registers, ◌≡◌, ℕ, ◌<◌, ◌≤◌, ◌^◌, inl, inr, Bool, true, false, List, []}
+use Rattle.lw_text.proofs.Common.{◌∷◌, ◌++◌, map, length, refl, sym, ap, ◌∙◌, subst, arith, append_assoc}
+use Rattle.lw_text.proofs.Common.{codes, slice_index_or, flat_map, decimal, AllByRecursion, map-append}
 use Rattle.lw_text.proofs.Common.{All-from_recursion, slice_get-get_or, Bytes, NameTable, TokenList, Arch}
 use Rattle.lw_text.proofs.Common.{Quant, Exists, NotExists, Forall, Seen, Register, Location, is_or}
 use Rattle.lw_text.proofs.Common.{is_binary, Formula, No, Reg_is, Word_is, Not, And, Or, most_threads}
@@ -63,7 +63,7 @@ quantifier_tokens Forall = codes "forall" ∷ []
 -- The site can be printed: it is a location whose name is in the table, or a register of one of the threads.
 abbrev pub IsPrintable : ℕ → NameTable → SiteSyntax → Type 0
 IsPrintable threads names (InMemory x) = IsLocationName x × IsInTable names x
-IsPrintable threads names (InThread t r) = (t < threads) × (r < 6)
+IsPrintable threads names (InThread t r) = (t < threads) × (r < registers)
 
 -- An atom whose site can be printed, with a word.
 abbrev pub IsPrintableClaim : ℕ → NameTable → AtomSyntax → Type 0

@@ -1,19 +1,21 @@
 -- Printed sites and conditions: their texts spell tokens. The crates that print tests use this.
-use Rattle.lw_text.proofs.Common.{◌≡◌, ℕ, suc, ◌+◌, ◌*◌, ◌<◌, ◌≤◌, ◌^◌, Bool, true, false, not, List, [], ◌∷◌}
-use Rattle.lw_text.proofs.Common.{◌++◌, length, refl, sym, ap, ◌∙◌, subst, arith, append_assoc, ◌==◌, codes}
-use Rattle.lw_text.proofs.Common.{slice_index_or, flat_map, decimal, AllByRecursion, not-true, nat_tests}
-use Rattle.lw_text.proofs.Common.{decimal_nonempty, flat_map-append, All-from_recursion, Bytes, NameTable}
-use Rattle.lw_text.proofs.Common.{TokenList, Arch, Source, X86, Quant, Exists, NotExists, Forall, Seen}
-use Rattle.lw_text.proofs.Common.{Register, Location, is_name_byte, first_byte_is, site_text, assignment}
-use Rattle.lw_text.proofs.Common.{parenthesized, parenthesized_if, is_binary, proposition_text}
-use Rattle.lw_text.proofs.Common.{quantifier_text, Formula, Yes, No, Reg_is, Word_is, Not, And, Or, nodes}
-use Rattle.lw_text.proofs.Common.{most_threads, IsName, IsLocationName, register_name, IsSeenInRange}
-use Rattle.lw_text.proofs.Common.{MentionsOnly, is_two_byte_symbol, Terminal, Conjunction, Disjunction, Atom}
-use Rattle.lw_text.proofs.Common.{AtomSyntax, Always, Never, Holds, is_blank-passes}
-use Rattle.lw_text.proofs.api.Spelling.{Anything, EndsName, IsBlankNext, HasNoStar, HasNoEquals, Spells}
-use Rattle.lw_text.proofs.api.Spelling.{name_by_test, Spells-append, Spells-append_anything, Spells-before}
-use Rattle.lw_text.proofs.api.Spelling.{Spells-mono, Spells-space, Spells-symbol, Spells-mark, Spells-pair}
-use Rattle.lw_text.proofs.api.Spelling.{Spells-name, Spells-number, decimal_is_name_run}
+use Rattle.lw_text.proofs.Common.{registers, most_name_bytes, ◌≡◌, ℕ, suc, ◌+◌, ◌*◌, ◌<◌, ◌≤◌, ◌^◌, Bool}
+use Rattle.lw_text.proofs.Common.{true, false, not, List, [], ◌∷◌, ◌++◌, length, refl, sym, ap, ◌∙◌, subst}
+use Rattle.lw_text.proofs.Common.{arith, append_assoc, ◌==◌, codes, slice_index_or, flat_map, decimal}
+use Rattle.lw_text.proofs.Common.{AllByRecursion, not-true, nat_tests, decimal_nonempty, flat_map-append}
+use Rattle.lw_text.proofs.Common.{All-from_recursion, Bytes, NameTable, TokenList, Arch, Source, X86, Quant}
+use Rattle.lw_text.proofs.Common.{Exists, NotExists, Forall, Seen, Register, Location, is_name_byte}
+use Rattle.lw_text.proofs.Common.{first_byte_is, site_text, assignment, parenthesized, parenthesized_if}
+use Rattle.lw_text.proofs.Common.{is_binary, proposition_text, quantifier_text, Formula, Yes, No, Reg_is}
+use Rattle.lw_text.proofs.Common.{Word_is, Not, And, Or, nodes, most_threads, IsName, IsLocationName}
+use Rattle.lw_text.proofs.Common.{register_name, IsSeenInRange, MentionsOnly, is_two_byte_symbol, Terminal}
+use Rattle.lw_text.proofs.Common.{Conjunction, Disjunction, Atom, AtomSyntax, Always, Never, Holds}
+use Rattle.lw_text.proofs.Common.{is_blank-passes}
+use Rattle.lw_text.proofs.api.Spelling.{most_number_bytes, Anything, EndsName, IsBlankNext, HasNoStar}
+use Rattle.lw_text.proofs.api.Spelling.{HasNoEquals, Spells, name_by_test, Spells-append}
+use Rattle.lw_text.proofs.api.Spelling.{Spells-append_anything, Spells-before, Spells-mono, Spells-space}
+use Rattle.lw_text.proofs.api.Spelling.{Spells-symbol, Spells-mark, Spells-pair, Spells-name, Spells-number}
+use Rattle.lw_text.proofs.api.Spelling.{decimal_is_name_run}
 use Rattle.lw_text.proofs.api.PrintedPropositions.{enclosed, enclosed_if, terminals_of}
 use Rattle.lw_text.proofs.api.ConditionTokens.{named_site, site_tokens, value_tokens, named_claim}
 use Rattle.lw_text.proofs.api.ConditionTokens.{terminal_tokens, quantifier_tokens}
@@ -21,13 +23,15 @@ use Rattle.lw_text.proofs.api.ConditionTokens.{terminal_tokens, quantifier_token
 -- ---- registers
 
 -- The name of a register is a name.
-pub register_is_name : (arch : Arch) (r : ℕ) → r < 6 → IsName (register_name arch r)
+pub register_is_name : (arch : Arch) (r : ℕ) → r < registers → IsName (register_name arch r)
 register_is_name Source (suc (suc (suc (suc (suc (suc r)))))) h = absurd (omega arith)
 register_is_name X86 (suc (suc (suc (suc (suc (suc r)))))) h = absurd (omega arith)
 register_is_name _ _ h = name_by_test _ refl
 
 -- A register's name spells one token, if no name byte follows.
-pub Spells-register : (arch : Arch) (r : ℕ) → r < 6 → Spells EndsName 32 (register_name arch r) (register_name arch r ∷ [])
+pub Spells-register : (arch : Arch) (r : ℕ)
+    → r < registers
+    → Spells EndsName most_name_bytes (register_name arch r) (register_name arch r ∷ [])
 Spells-register arch r h = Spells-name (register_name arch r) (register_is_name arch r h)
 
 -- A name byte makes no symbol with `:` before it.
@@ -78,19 +82,37 @@ pub IsLocationName-in_table : (names : NameTable) (x : ℕ)
     → IsLocationName (slice_index_or names x [])
 IsLocationName-in_table names x table h = All-from_recursion IsLocationName names table x [] h
 
+-- The maximum length of the text of a register or a location, in bytes: a thread's number, `:` and a name.
+abbrev pub most_site_bytes : ℕ
+most_site_bytes = most_number_bytes + (1 + most_name_bytes)
+
+-- The maximum length of such a text with its word, as in `x=1`, in bytes.
+abbrev pub most_assignment_bytes : ℕ
+most_assignment_bytes = most_site_bytes + (1 + most_number_bytes)
+
+-- The maximum length of a formula's text for each of its nodes, in bytes: that of an atom, or of a connective between two parts, with two
+-- parentheses around a part.
+abbrev pub most_node_bytes : ℕ
+most_node_bytes = most_assignment_bytes + 6
+
+-- The maximum length of the text of a quantifier, in bytes: `~` and a name.
+abbrev pub most_quantifier_bytes : ℕ
+most_quantifier_bytes = 1 + most_name_bytes
+
 module _ (arch : Arch) (threads : ℕ) (few : threads ≤ most_threads) (names : NameTable)
     (table : AllByRecursion IsLocationName names) where
   -- The text of a site spells its tokens, if no name byte follows.
   pub site_spelled : (s : Seen)
       → IsSeenInRange threads (length names) s
-      → Spells EndsName 43 (site_text arch names s) (site_tokens arch (named_site names s))
+      → Spells EndsName most_site_bytes (site_text arch names s) (site_tokens arch (named_site names s))
   site_spelled (Register t r) h =
       let number = Spells-number t (omega (arith, h.0, few)) in
       (Spells-append (λ rest g. refl) number
       (Spells-append (λ rest g. name_no_equals (register_name arch r) rest (register_is_name arch r h.1)) Spells-colon
       (Spells-register arch r h.1)))
   site_spelled (Location x) h =
-      Spells-mono 43 (omega arith) (Spells-name (slice_index_or names x []) (IsLocationName-in_table names x table h).0)
+      Spells-mono most_site_bytes (omega arith)
+      (Spells-name (slice_index_or names x []) (IsLocationName-in_table names x table h).0)
 
   -- The text of a site does not start with `*`.
   site_starts : (s : Seen) → IsSeenInRange threads (length names) s → Starts (site_text arch names s)
@@ -106,7 +128,8 @@ module _ (arch : Arch) (threads : ℕ) (few : threads ≤ most_threads) (names :
   pub assignment_spelled : (s : Seen) (n : ℕ)
       → IsSeenInRange threads (length names) s
       → n < 2 ^ 32
-      → Spells EndsName 54 (assignment (site_text arch names s) n) (site_tokens arch (named_site names s) ++ value_tokens n)
+      → Spells EndsName most_assignment_bytes (assignment (site_text arch names s) n)
+      (site_tokens arch (named_site names s) ++ value_tokens n)
   assignment_spelled s n h small =
       Spells-append (λ rest g. refl) (site_spelled s h)
       (Spells-append_anything (Spells-mark 61 refl (λ c. refl) refl (omega arith)) (Spells-number n small))
@@ -190,9 +213,15 @@ module _ (arch : Arch) (threads : ℕ) (few : threads ≤ most_threads) (names :
       (Spells-append_anything (Spells-pair 92 47 refl (omega arith) (omega arith)) Spells-space)
 
   -- A keyword spells itself.
-  word_spelled : (w : Bytes) → IsName w → (ss : List (Terminal AtomSyntax)) → tokens_of ss ≡ w ∷ [] → IsSpelled w 60 ss
+  word_spelled : (w : Bytes)
+      → IsName w
+      → (ss : List (Terminal AtomSyntax))
+      → tokens_of ss ≡ w ∷ []
+      → IsSpelled w most_node_bytes ss
   word_spelled w name ss e = record {
-    spells = Spells-mono 60 (omega arith) (subst (λ (ts : TokenList). Spells EndsName 32 w ts) (sym e) (Spells-name w name));
+    spells =
+        Spells-mono most_node_bytes (omega arith)
+        (subst (λ (ts : TokenList). Spells EndsName most_name_bytes w ts) (sym e) (Spells-name w name));
     starts = starts_name_run w name.0.not_empty name.0.are_name_bytes;
   }
 
@@ -200,11 +229,11 @@ module _ (arch : Arch) (threads : ℕ) (few : threads ≤ most_threads) (names :
   claim_spelled : (s : Seen) (n : ℕ)
       → IsSeenInRange threads (length names) s
       → n < 2 ^ 32
-      → IsSpelled (assignment (site_text arch names s) n) 60 (Atom (Holds (named_site names s) n) ∷ [])
+      → IsSpelled (assignment (site_text arch names s) n) most_node_bytes (Atom (Holds (named_site names s) n) ∷ [])
   claim_spelled s n h small = record {
     spells =
-        subst (λ (ts : TokenList). Spells EndsName 60 (assignment (site_text arch names s) n) ts) (claim_tokens-append_nil s)
-        (Spells-mono 60 (omega arith) (assignment_spelled s n h small));
+        subst (λ (ts : TokenList). Spells EndsName most_node_bytes (assignment (site_text arch names s) n) ts)
+        (claim_tokens-append_nil s) (Spells-mono most_node_bytes (omega arith) (assignment_spelled s n h small));
     starts = Starts-append (site_text arch names s) (codes "=" ++ decimal n) (site_starts s h);
   }
     where
@@ -214,10 +243,10 @@ module _ (arch : Arch) (threads : ℕ) (few : threads ≤ most_threads) (names :
       claim_tokens-append_nil (Register t r) = refl
       claim_tokens-append_nil (Location x) = refl
 
-  -- The text of a formula spells its tokens, within 60 bytes for each node.
+  -- The text of a formula spells its tokens, within `most_node_bytes` for each node.
   proposition_spelled : (p : Formula)
       → MentionsOnly threads (length names) p
-      → IsSpelled (proposition_text arch names p) (60 * nodes p) (proposition_terms p)
+      → IsSpelled (proposition_text arch names p) (most_node_bytes * nodes p) (proposition_terms p)
   proposition_spelled Yes h = word_spelled (codes "true") (name_by_test _ refl) (Atom Always ∷ []) refl
   proposition_spelled No h = word_spelled (codes "false") (name_by_test _ refl) (Atom Never ∷ []) refl
   proposition_spelled (Reg_is t r n) h = claim_spelled (Register t r) n (h.0, h.1) h.2
@@ -226,31 +255,31 @@ module _ (arch : Arch) (threads : ℕ) (few : threads ≤ most_threads) (names :
       let part = part_spelled _ (proposition_text arch names p) _ (proposition_terms p) (proposition_spelled p h) in
       record {
         spells =
-            Spells-mono (60 * suc (nodes p)) (omega arith)
+            Spells-mono (most_node_bytes * suc (nodes p)) (omega arith)
             (Spells-append_anything (Spells-mark 126 refl (λ c. refl) refl (omega arith)) part.spells);
         starts = (126, parenthesized_if (is_binary p) (proposition_text arch names p), refl, refl);
       }
   proposition_spelled (And p q) h =
       let left = part_spelled _ (proposition_text arch names p) _ (proposition_terms p) (proposition_spelled p h.0) in
       let right = part_spelled _ (proposition_text arch names q) _ (proposition_terms q) (proposition_spelled q h.1) in
-      IsSpelled-mono _ _ (60 * suc (nodes p + nodes q)) _ (omega arith)
+      IsSpelled-mono _ _ (most_node_bytes * suc (nodes p + nodes q)) _ (omega arith)
       (joined_spelled _ _ _ _ _ _ (codes " /\\ ") Conjunction (λ rest. refl) Spells-conjunction left right)
   proposition_spelled (Or p q) h =
       let right = part_spelled _ (proposition_text arch names q) _ (proposition_terms q) (proposition_spelled q h.1) in
-      IsSpelled-mono _ _ (60 * suc (nodes p + nodes q)) _ (omega arith)
+      IsSpelled-mono _ _ (most_node_bytes * suc (nodes p + nodes q)) _ (omega arith)
       (joined_spelled _ _ _ _ _ _ (codes " \\/ ") Disjunction (λ rest. refl) Spells-disjunction (proposition_spelled p h.0) right)
 
   -- The text of a proposition in parentheses spells its tokens.
   pub whole_spelled : (p : Formula)
       → MentionsOnly threads (length names) p
-      → Spells Anything (60 * nodes p + 2) (parenthesized (proposition_text arch names p))
+      → Spells Anything (most_node_bytes * nodes p + 2) (parenthesized (proposition_text arch names p))
       (tokens_of (enclosed (proposition_terms p)))
   whole_spelled p h = enclosed_spelled (proposition_text arch names p) _ (proposition_terms p) (proposition_spelled p h)
 
 -- The text of a quantifier spells its tokens.
-pub quantifier_spelled : (q : Quant) → Spells EndsName 33 (quantifier_text q) (quantifier_tokens q)
-quantifier_spelled Exists = Spells-mono 33 (omega arith) (Spells-name _ (name_by_test _ refl))
+pub quantifier_spelled : (q : Quant) → Spells EndsName most_quantifier_bytes (quantifier_text q) (quantifier_tokens q)
+quantifier_spelled Exists = Spells-mono most_quantifier_bytes (omega arith) (Spells-name _ (name_by_test _ refl))
 quantifier_spelled NotExists =
     Spells-append_anything (Spells-mark 126 refl (λ c. refl) refl (omega arith))
     (Spells-name (codes "exists") (name_by_test _ refl))
-quantifier_spelled Forall = Spells-mono 33 (omega arith) (Spells-name _ (name_by_test _ refl))
+quantifier_spelled Forall = Spells-mono most_quantifier_bytes (omega arith) (Spells-name _ (name_by_test _ refl))

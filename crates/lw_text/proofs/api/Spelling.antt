@@ -1,7 +1,7 @@
 -- Texts that spell tokens, if what follows them is right. The crates that print tests use this.
-use Rattle.lw_text.proofs.Common.{◌≡◌, ℕ, zero, suc, ◌+◌, ◌*◌, ◌<◌, ◌≤◌, ◌^◌, inl, inr, Bool, true, false}
-use Rattle.lw_text.proofs.Common.{not, List, [], ◌∷◌, ◌++◌, length, refl, sym, ap, ◌∙◌, subst, arith}
-use Rattle.lw_text.proofs.Common.{append_assoc, append-nil, length-append, ◌==◌, ◌&&◌, nat_lt, IsUtf8}
+use Rattle.lw_text.proofs.Common.{most_name_bytes, ◌≡◌, ℕ, zero, suc, ◌+◌, ◌*◌, ◌<◌, ◌≤◌, ◌^◌, inl, inr, Bool}
+use Rattle.lw_text.proofs.Common.{true, false, not, List, [], ◌∷◌, ◌++◌, length, refl, sym, ap, ◌∙◌, subst}
+use Rattle.lw_text.proofs.Common.{arith, append_assoc, append-nil, length-append, ◌==◌, ◌&&◌, nat_lt, IsUtf8}
 use Rattle.lw_text.proofs.Common.{IsAscii, decimal, ltb-true, AllByRecursion, list_all, AllDigits}
 use Rattle.lw_text.proofs.Common.{digits_value_after, digit_value, is_ascii_digit, not-true, and_parts}
 use Rattle.lw_text.proofs.Common.{nat_tests, decimal_is_IsNumeral, length-decimal-le, IsUtf8-nil}
@@ -178,10 +178,11 @@ Spells-run n w all kind short = record {
   utf8 = IsUtf8-from_ascii w (name_bytes_ascii w all);
 }
 
--- Tests whether a text is a name: it has 1 to 32 name bytes, of which the first is no digit.
+-- Tests whether a text is a name: it has a name byte and at most `most_name_bytes`, of which the first is no digit.
 abbrev pub is_name_text : Bytes → Bool
 is_name_text w =
-    (nat_lt 0 (length w) && nat_lt (length w) 33) && (list_all is_name_byte w && not (first_byte_is is_ascii_digit w))
+    (nat_lt 0 (length w) && nat_lt (length w) (suc most_name_bytes))
+    && (list_all is_name_byte w && not (first_byte_is is_ascii_digit w))
 
 -- What a test says of all items of a list holds of each.
 pub list_all-AllByRecursion : {X : Type 0} (p : X → Bool) (w : List X) → list_all p w ≡ true → AllByRecursion (λ b. p b ≡ true) w
@@ -192,10 +193,11 @@ list_all-AllByRecursion p (b ∷ w) h = let both = and_parts (p b) (list_all p w
 pub name_by_test : (w : Bytes) → is_name_text w ≡ true → IsName w
 name_by_test w h =
     let halves =
-    and_parts (nat_lt 0 (length w) && nat_lt (length w) 33) (list_all is_name_byte w && not (first_byte_is is_ascii_digit w)) h in
-    let long = and_parts (nat_lt 0 (length w)) (nat_lt (length w) 33) halves.0 in
+    and_parts (nat_lt 0 (length w) && nat_lt (length w) (suc most_name_bytes))
+    (list_all is_name_byte w && not (first_byte_is is_ascii_digit w)) h in
+    let long = and_parts (nat_lt 0 (length w)) (nat_lt (length w) (suc most_name_bytes)) halves.0 in
     let bytes = and_parts (list_all is_name_byte w) (not (first_byte_is is_ascii_digit w)) halves.1 in
-    let most : length w < 33 = ltb-true (length w) 33 long.1 in (
+    let most : length w < suc most_name_bytes = ltb-true (length w) (suc most_name_bytes) long.1 in (
       record {
         not_empty = ltb-true 0 (length w) long.0;
         are_name_bytes = list_all-AllByRecursion is_name_byte w bytes.0;
@@ -204,9 +206,9 @@ name_by_test w h =
       omega (arith, most),
     )
 
--- A name spells one token, of at most 32 bytes.
-pub Spells-name : (w : Bytes) → IsName w → Spells EndsName 32 w (w ∷ [])
-Spells-name w name = Spells-run 32 w name.0.are_name_bytes (inl name) name.1
+-- A name spells one token.
+pub Spells-name : (w : Bytes) → IsName w → Spells EndsName most_name_bytes w (w ∷ [])
+Spells-name w name = Spells-run most_name_bytes w name.0.are_name_bytes (inl name) name.1
 
 -- ---- numbers
 
@@ -236,10 +238,15 @@ digits_are_name_bytes (d ∷ ds) all = (digit_is_name_byte d (digit_from_value d
 pub decimal_is_name_run : (n : ℕ) → n < 2 ^ 32 → AllByRecursion (λ b. is_name_byte b ≡ true) (decimal n)
 decimal_is_name_run n h = digits_are_name_bytes (decimal n) (decimal_is_IsNumeral n (omega (arith, h))).0.1
 
--- A number below `2 ^ 32` has at most ten decimal digits.
-pub decimal_is_short : (n : ℕ) → n < 2 ^ 32 → length (decimal n) ≤ 10
-decimal_is_short n h = length-decimal-le 10 n (omega arith) (omega (arith, h)) (omega (arith, h))
+-- The maximum length of a number below `2 ^ 32` in decimal, in bytes.
+abbrev pub most_number_bytes : ℕ
+most_number_bytes = 10
+
+-- A number below `2 ^ 32` is short in decimal.
+pub decimal_is_short : (n : ℕ) → n < 2 ^ 32 → length (decimal n) ≤ most_number_bytes
+decimal_is_short n h = length-decimal-le most_number_bytes n (omega arith) (omega (arith, h)) (omega (arith, h))
 
 -- The decimal digits of a number spell one token.
-pub Spells-number : (n : ℕ) → n < 2 ^ 32 → Spells EndsName 10 (decimal n) (decimal n ∷ [])
-Spells-number n h = Spells-run 10 (decimal n) (decimal_is_name_run n h) (inr (n, decimal_is_number n h)) (decimal_is_short n h)
+pub Spells-number : (n : ℕ) → n < 2 ^ 32 → Spells EndsName most_number_bytes (decimal n) (decimal n ∷ [])
+Spells-number n h =
+    Spells-run most_number_bytes (decimal n) (decimal_is_name_run n h) (inr (n, decimal_is_number n h)) (decimal_is_short n h)

@@ -1,14 +1,16 @@
 -- Of `max_items_of_thread`, which returns the maximum number of items on a thread's paths. Jumps lead
 -- forward, so the table is filled from the end: the maximum at a position is the statement's items and the
 -- maximum over its successors, which are known.
-use Rattle.lw_paths.proofs.Common.{◌+◌, ◌-◌, ◌∙◌, ap, sym, subst, refl, Some, length, slice_set, arith}
-use Rattle.lw_paths.proofs.Common.{slice_get-get_or, get_or-replicate}
+use Rattle.lw_paths.proofs.Common.{suc, most_instructions, ◌+◌, ◌-◌, ◌∙◌, ap, sym, subst, refl, Some, length}
+use Rattle.lw_paths.proofs.Common.{slice_set, arith, slice_get-get_or, get_or-replicate}
 use Rattle.lw_paths.proofs.api.Successors.{successors-in_range}
 use Rattle.lw_paths.proofs.Sizes.{AreKnownFrom, AreKnownFrom-end, AreKnownFrom-set, size_sum_small}
 use Rattle.lw_paths.proofs.size.max_items_of_thread.Goals as goal
 
 pub loop-done-init : goal.loop-done-init
-loop-done-init g c = AreKnownFrom-end _ refl (omega arith) (get_or-replicate 33 (length c.as_slice-stmts.result.now) 0 0
+loop-done-init g c =
+    AreKnownFrom-end _ refl (omega arith)
+    (get_or-replicate (suc most_instructions) (length c.as_slice-stmts.result.now) 0 0
     (omega (arith, c.requires.short, ap length c.as_slice-stmts.ensures)))
 
 pub max_items_from-requires-clause-within : goal.max_items_from-requires-clause-within

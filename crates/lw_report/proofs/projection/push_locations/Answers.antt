@@ -1,8 +1,8 @@
 -- Of `push_locations`, which appends the observed locations. `filter_prefix-push` adds one location if it is observed.
 -- The loop goes over the first of all eight locations; that there are not more in the test is an invariant of
 -- its table.
-use Rattle.lw_report.proofs.Common.{◌<◌, ◌≤◌, ◌∙◌, sym, length, length-take, get_or-take, arith, ap}
-use Rattle.lw_report.proofs.Common.{append-nil, Location}
+use Rattle.lw_report.proofs.Common.{most_locations, ◌<◌, ◌≤◌, ◌∙◌, sym, length, length-take, get_or-take}
+use Rattle.lw_report.proofs.Common.{arith, ap, append-nil, Location}
 use Rattle.lw_report.proofs.Names.{filter_prefix-push, filter_prefix-all}
 use Rattle.lw_report.proofs.projection.push_locations.Goals as goal
 
@@ -14,7 +14,7 @@ loop-loc-preserved g c =
     let k = c.loop-loc.loc-index in
     let taken = length-take c.len.result c.all.result in
     let within : k < c.len.result = omega (arith, c.loop-loc-test.true, taken) in
-    let below : k < 8 = omega (arith, c.loop-loc-test.true, taken, ap length c.all.ensures) in
+    let below : k < most_locations = omega (arith, c.loop-loc-test.true, taken, ap length c.all.ensures) in
     filter_prefix-push _ _ k c.args.names.now c.loop-loc.names c.loop-loc.invariant 8 c.all.result _ _ _ c.all.ensures below
     (c.loc-item.is ∙ get_or-take c.len.result c.all.result k _ within) c.in_ok-push_observed.ensures
 

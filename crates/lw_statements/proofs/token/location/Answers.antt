@@ -1,17 +1,17 @@
 -- `location` promises the index of the token's location, or that there is no room for it. If the table has no
 -- room, it is full and does not have the name (`full_and_new-if_no_room`); a refused allocation has no place.
-use Rattle.lw_statements.proofs.Common.{◌≡◌, ◌<◌, ◌≤◌, [], ◌∷◌, length, length-append, refl, sym, ap, arith}
-use Rattle.lw_statements.proofs.Common.{Contains, slice_get_read, insert_name, Bytes, NameTable}
-use Rattle.lw_statements.proofs.Common.{insert_name-if_in_table, insert_name-if_new}
+use Rattle.lw_statements.proofs.Common.{most_locations, ◌≡◌, ◌<◌, ◌≤◌, [], ◌∷◌, length, length-append, refl}
+use Rattle.lw_statements.proofs.Common.{sym, ap, arith, Contains, slice_get_read, insert_name, Bytes}
+use Rattle.lw_statements.proofs.Common.{NameTable, insert_name-if_in_table, insert_name-if_new}
 use Rattle.lw_statements.proofs.Exits.{out_of_memory}
 use Rattle.lw_statements.proofs.Causes.{FaultClaim-Memory, FaultClaim-TooMany, refusal-Memory}
 use Rattle.lw_statements.proofs.token.location.Goals as goal
 
 -- If inserting a name makes the table longer than it may be, the table is full and does not have the name.
 full_and_new-if_no_room : (names : NameTable) (n : Bytes)
-    → length names ≤ 8
+    → length names ≤ most_locations
     → 8 < length (insert_name names n)
-    → (length names ≡ 8) × (Contains names n → ⊥)
+    → (length names ≡ most_locations) × (Contains names n → ⊥)
 full_and_new-if_no_room names n few many =
     let fresh : Contains names n → ⊥ = λ h.
     let at = slice_get_read names (length names) h.0 n refl h.1 (sym h.2) in

@@ -9,7 +9,7 @@ use Rattle.lw_x86.proofs.block.write_locations.Goals as goal
 
 -- The location's index is below the number of locations.
 below_len : (len : ℕ) {k x : ℕ} {all xs : List ℕ}
-    → all ≡ range_with_len 0 8
+    → all ≡ range_with_len 0 most_locations
     → xs ≡ take len all
     → k < length xs
     → x ≡ get_or xs k x

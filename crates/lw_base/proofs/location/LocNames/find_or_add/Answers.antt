@@ -1,7 +1,7 @@
 -- Of `LocNames::find_or_add`, which returns the location with a name, after the name was inserted if it was
 -- new. A known name leaves the table unchanged (`insert_name-if_in_table`), a new one is appended
 -- (`insert_name-if_new`); a ninth does not fit.
-use Rattle.lw_base.proofs.Common.{[], ◌∷◌, ◌<◌, length, sym, ◌∙◌, length-append, arith}
+use Rattle.lw_base.proofs.Common.{most_locations, [], ◌∷◌, ◌<◌, length, sym, ◌∙◌, length-append, arith}
 use Rattle.lw_base.proofs.api.Tables.{insert_name-if_in_table, insert_name-if_new, position_of_name-at}
 use Rattle.lw_base.proofs.api.Tables.{position_of_name-new}
 use Rattle.lw_base.proofs.location.LocNames.find_or_add.Goals as goal
@@ -26,7 +26,7 @@ returns-in-Ok-clause-names g c = c.in-Ok.ensures.ok ∙ sym (insert_name-if_new 
 
 pub add-requires-clause-bounded : goal.add-requires-clause-bounded
 add-requires-clause-bounded g c =
-    let free : length c.args.self.now < 8 =
+    let free : length c.args.self.now < most_locations =
     omega (arith, c.len-len.ensures.table.bounded, c.len-len.ensures.len, c.if-len-eq-MAX_LOCATIONS.false) in
     free
 

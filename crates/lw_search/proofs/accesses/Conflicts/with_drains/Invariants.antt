@@ -1,5 +1,5 @@
 -- At each round what the set lacks, the first set lacks, and no drain of the first `index` entries conflicts with it.
-use Rattle.lw_search.proofs.Common.{◌≡◌, ◌≢◌, ◌<◌, ℕ, Bool, Some, slice_get, Lacks}
+use Rattle.lw_search.proofs.Common.{most_locations, ◌≡◌, ◌≢◌, ◌<◌, ℕ, Bool, Some, slice_get, Lacks}
 use Rattle.lw_search.proofs.accesses.Conflicts.with_drains.Given as goal
 
 abbrev pub invariant-loop-index : goal.invariant-loop-index
@@ -7,7 +7,7 @@ invariant-loop-index l = record {
   others : (x : ℕ) (w : Bool) → Lacks l.conflicts x w → Lacks l.fn.self x w;
   added :
       (x : ℕ) (w : Bool)
-      → x < 8
+      → x < most_locations
       → Lacks l.conflicts x w
       → (k : ℕ) (entry : ℕ × ℕ)
       → k < l.index

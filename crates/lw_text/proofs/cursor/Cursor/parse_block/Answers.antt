@@ -3,10 +3,10 @@
 -- for each exit. An element that has no room, no site or no value makes the whole list impossible
 -- (`initializers_fault`). Each exit with a fault shows two things, in this order: that there is no such reading,
 -- and where it fails (`Fails-later`).
-use Rattle.lw_text.proofs.Common.{ℕ, ◌≡◌, ◌<◌, ◌≤◌, length, NameTable, ParsesMany, sym, [], None, refl, subst}
-use Rattle.lw_text.proofs.Common.{ap, arith, remaining_texts, remaining, IsSuffix, IsSite, IsInitializer}
-use Rattle.lw_text.proofs.Common.{TokenList, Unexpected, named_initializer, site_by_name, ◌∷◌, codes, map}
-use Rattle.lw_text.proofs.Common.{FailsInAssignment, FailsInInitializers, FailsInBlock, no_brace}
+use Rattle.lw_text.proofs.Common.{most_locations, ℕ, ◌≡◌, ◌<◌, ◌≤◌, length, NameTable, ParsesMany, sym, []}
+use Rattle.lw_text.proofs.Common.{None, refl, subst, ap, arith, remaining_texts, remaining, IsSuffix, IsSite}
+use Rattle.lw_text.proofs.Common.{IsInitializer, TokenList, Unexpected, named_initializer, site_by_name, ◌∷◌}
+use Rattle.lw_text.proofs.Common.{codes, map, FailsInAssignment, FailsInInitializers, FailsInBlock, no_brace}
 use Rattle.lw_text.proofs.Common.{in_initializers, in_element, no_mark, in_elements_after, in_site, in_value}
 use Rattle.lw_text.proofs.Common.{TextCause, BeginsInitializer}
 use Rattle.lw_text.proofs.Faults.{Err-clause_known, MatchResult-Memory_error, IsParserCause-Unexpected}
@@ -137,8 +137,8 @@ returns-in_err-word g c =
       Fails-later (IsSuffix-join (advances_before g d) c.in_ok-site.ensures.advances) (λ rest cause w.
           element_fails g d rest cause
           (in_value _ c.in_ok-site.ensures.parsed c.in_ok-site.ensures.threads_exist
-          (subst (λ (table : NameTable). length table ≤ 8) c.in_ok-site.ensures.names_are c.in_ok-site.ensures.bounded) w))
-          c.in_err-word.ensures.1,
+          (subst (λ (table : NameTable). length table ≤ most_locations) c.in_ok-site.ensures.names_are
+          c.in_ok-site.ensures.bounded) w)) c.in_err-word.ensures.1,
     ))
 
 pub returns-in_err-expect_either : goal.returns-in_err-expect_either
@@ -154,7 +154,7 @@ returns-in_err-expect_either g c =
           (IsSuffix-join c.in_ok-site.ensures.advances c.in_ok-word.ensures.1)) (λ rest cause w.
           c.initializers.invariant.fails rest cause
           (no_mark (c.accept.ensures.other c.if-accept.false) initializer.parsed
-          (subst (λ (table : NameTable). length table ≤ 8) initializer.grows c.in_ok-site.ensures.bounded) w))
+          (subst (λ (table : NameTable). length table ≤ most_locations) initializer.grows c.in_ok-site.ensures.bounded) w))
           c.in_err-expect_either.ensures.2,
     ))
 
@@ -203,7 +203,8 @@ initializers-preserved g c =
           IsInitializer c.args.arch (remaining_texts c.initializers.self) (named_initializer c.parse_site.new.locs
           (record { at = c.place-at.result; site = c.in_ok-site.site; word = c.in_ok-word.word })) mid) mark
           (entry_read g d.In_ok-word).parsed)
-          (subst (λ (table : NameTable). length table ≤ 8) (entry_read g d.In_ok-word).grows c.in_ok-site.ensures.bounded)
+          (subst (λ (table : NameTable). length table ≤ most_locations) (entry_read g d.In_ok-word).grows
+          c.in_ok-site.ensures.bounded)
           (subst (λ names. FailsInInitializers c.args.arch rest cause names (remaining_texts c.expect_either.new.self))
           (entry_read g d.In_ok-word).grows w));
     })

@@ -2,9 +2,9 @@
 -- it fails. Each exit is immediate from the callee's contract, with the name as the first of the remaining tokens.
 -- Each exit with a fault shows two things, in this order: that there is no such reading, and where it fails
 -- (`Fails-later`).
-use Rattle.lw_text.proofs.Common.{cons-head_eq, ◌≤◌, length, NameTable, ◌∷◌, [], ◌∙◌, ap, refl, sym, subst}
-use Rattle.lw_text.proofs.Common.{IsLocationName, HasRoomForName, remaining, IsNoNewLocation}
-use Rattle.lw_text.proofs.Common.{in_bracketed_name, no_bracket, BeginsAt}
+use Rattle.lw_text.proofs.Common.{most_locations, cons-head_eq, ◌≤◌, length, NameTable, ◌∷◌, [], ◌∙◌, ap}
+use Rattle.lw_text.proofs.Common.{refl, sym, subst, IsLocationName, HasRoomForName, remaining}
+use Rattle.lw_text.proofs.Common.{IsNoNewLocation, in_bracketed_name, no_bracket, BeginsAt}
 use Rattle.lw_text.proofs.Lists.{IsSuffix-join}
 use Rattle.lw_text.proofs.Faults.{Err-clause_known}
 use Rattle.lw_text.proofs.Failures.{Fails-here, Fails-later, IfFirst-cons, cons-tail_unique}
@@ -39,6 +39,6 @@ returns-in_err-expect g c = Err-clause_known _ _ _ c.from_residual-in_err-expect
   λ x rest e loc room. c.in_err-expect.ensures.err rest (cons-tail_unique (sym c.in_ok-name.ensures.ok ∙ e)),
   Fails-later (c.in_ok-name.name ∷ [], c.in_ok-name.ensures.token) (λ rest cause w.
       no_bracket c.in_ok-name.ensures.ok c.in_ok-loc.ensures.0
-      (subst (λ (table : NameTable). length table ≤ 8) c.in_ok-loc.ensures.2 c.in_ok-loc.ensures.3) w)
+      (subst (λ (table : NameTable). length table ≤ most_locations) c.in_ok-loc.ensures.2 c.in_ok-loc.ensures.3) w)
       c.in_err-expect.ensures.fails,
 ))

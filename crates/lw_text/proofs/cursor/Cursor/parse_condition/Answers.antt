@@ -2,10 +2,10 @@
 -- fail. Success puts the parts together (`ParsedCondition-of_parts`). If a part fails there is no other way to
 -- read what precedes it: a list of names is unique (`Listed-unique`). Each exit with a fault shows two things, in
 -- this order: that there is no such reading, and where it fails (`Fails-later`).
-use Rattle.lw_text.proofs.Common.{◌≤◌, length, NameTable, [], map, refl, sym, subst, arith, IsDuplicateFree}
-use Rattle.lw_text.proofs.Common.{IsDuplicateFree-insert_names, insert_names-longer, site_names, with_sites}
-use Rattle.lw_text.proofs.Common.{sites_in, site_by_name, remaining_texts, FailsInProposition, first_place}
-use Rattle.lw_text.proofs.Common.{in_list, in_quantifier, in_proposition}
+use Rattle.lw_text.proofs.Common.{most_locations, ◌≤◌, length, NameTable, [], map, refl, sym, subst, arith}
+use Rattle.lw_text.proofs.Common.{IsDuplicateFree, IsDuplicateFree-insert_names, insert_names-longer}
+use Rattle.lw_text.proofs.Common.{site_names, with_sites, sites_in, site_by_name, remaining_texts}
+use Rattle.lw_text.proofs.Common.{FailsInProposition, first_place, in_list, in_quantifier, in_proposition}
 use Rattle.lw_text.proofs.Bodies.{ParsedCondition-of_parts}
 use Rattle.lw_text.proofs.SiteLists.{Listed-unique}
 use Rattle.lw_text.proofs.Whole.{no_condition-if_no_proposition}
@@ -32,8 +32,8 @@ returns-in_err-quant g c = Err-clause_known _ _ _ c.from_residual-in_err-quant.e
       c.in_err-quant.ensures.0 q condition.after_quant (rw u.1 at condition.quantifies),
   Fails-later c.in_ok-listed.ensures.advances (λ rest cause w.
       in_quantifier _ c.in_ok-listed.ensures.parsed c.in_ok-listed.ensures.threads_exist
-      (subst (λ (table : NameTable). length table ≤ 8) c.in_ok-listed.ensures.names_are c.in_ok-listed.ensures.bounded) w)
-      c.in_err-quant.ensures.1,
+      (subst (λ (table : NameTable). length table ≤ most_locations) c.in_ok-listed.ensures.names_are
+      c.in_ok-listed.ensures.bounded) w) c.in_err-quant.ensures.1,
 ))
 
 pub parse_proposition-requires-clause-once : goal.parse_proposition-requires-clause-once
@@ -48,8 +48,8 @@ returns-in-Err g c = λ ne.
       no_condition-if_no_proposition c.in_ok-listed.ensures _ _ c.in_ok-quant.ensures.0 lost.0,
       Fails-later (IsSuffix-join c.in_ok-listed.ensures.advances c.in_ok-quant.ensures.1) (λ rest cause w.
           in_proposition _ _ c.in_ok-listed.ensures.parsed c.in_ok-listed.ensures.threads_exist
-          (subst (λ (table : NameTable). length table ≤ 8) c.in_ok-listed.ensures.names_are c.in_ok-listed.ensures.bounded)
-          c.in_ok-quant.ensures.0
+          (subst (λ (table : NameTable). length table ≤ most_locations) c.in_ok-listed.ensures.names_are
+          c.in_ok-listed.ensures.bounded) c.in_ok-quant.ensures.0
           (subst (λ names.
           FailsInProposition c.args.arch c.args.threads rest cause first_place 0 names
           (remaining_texts c.parse_quantifier.new.self)) c.in_ok-listed.ensures.names_are w)) lost.1,

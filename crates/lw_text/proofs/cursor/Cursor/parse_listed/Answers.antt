@@ -2,10 +2,10 @@
 -- word `locations` the list is empty. Otherwise it is the reading of a list between brackets: one lemma of
 -- `Readings` for each exit. Each exit with a fault shows two things, in this order: that there is no such reading,
 -- and where it fails (`Fails-later`).
-use Rattle.lw_text.proofs.Common.{◌≤◌, length, NameTable, ◌≡◌, ◌∷◌, ◌∙◌, inl, inr, refl, ap, subst, sym}
-use Rattle.lw_text.proofs.Common.{codes, All-nil, IsIn, Some, IsSite, IsSuffix, site_by_name, remaining}
-use Rattle.lw_text.proofs.Common.{remaining_texts, FailsInSite, FailsInSites, no_list_bracket, in_sites}
-use Rattle.lw_text.proofs.Common.{in_element, no_mark, in_elements_after, Condition}
+use Rattle.lw_text.proofs.Common.{most_locations, ◌≤◌, length, NameTable, ◌≡◌, ◌∷◌, ◌∙◌, inl, inr, refl, ap}
+use Rattle.lw_text.proofs.Common.{subst, sym, codes, All-nil, IsIn, Some, IsSite, IsSuffix, site_by_name}
+use Rattle.lw_text.proofs.Common.{remaining, remaining_texts, FailsInSite, FailsInSites, no_list_bracket}
+use Rattle.lw_text.proofs.Common.{in_sites, in_element, no_mark, in_elements_after, Condition}
 use Rattle.lw_text.proofs.Failures.{Fails-later}
 use Rattle.lw_text.proofs.Lists.{IsSuffix-join, tail-unique, tail-shorter}
 use Rattle.lw_text.proofs.Atoms.{IsSite-shorter, bracket}
@@ -118,7 +118,7 @@ returns-in_err-expect_either g c =
       Fails-later (IsSuffix-join (advances_before g d.After-parse_site) c.in_ok-parse_site.ensures.advances) (λ rest cause w.
           c.sites.invariant.fails rest cause
           (no_mark (c.accept-in-sites.ensures.other c.if-accept.false) (site.parsed, site.fits)
-          (subst (λ (table : NameTable). length table ≤ 8) site.grows c.in_ok-parse_site.ensures.bounded) w))
+          (subst (λ (table : NameTable). length table ≤ most_locations) site.grows c.in_ok-parse_site.ensures.bounded) w))
           c.in_err-expect_either.ensures.2,
     ))
 
@@ -163,7 +163,7 @@ sites-preserved g c =
                 IsSite c.args.arch (remaining_texts c.sites.self) (site_by_name c.parse_site.new.locs c.in_ok-parse_site.field-0)
                 mid) mark site.parsed,
             site.fits,
-          ) (subst (λ (table : NameTable). length table ≤ 8) site.grows c.in_ok-parse_site.ensures.bounded)
+          ) (subst (λ (table : NameTable). length table ≤ most_locations) site.grows c.in_ok-parse_site.ensures.bounded)
           (subst (λ names. FailsInSites c.args.arch c.args.threads rest cause names (remaining_texts c.expect_either.new.self))
           site.grows w));
     })

@@ -2,9 +2,9 @@
 -- Without a keyword it can only be an atom: a site and a value. A site without a value begins no terminal
 -- (`no_terminal-if_site_has_no_value`). Each exit with a fault shows two things, in this order: that there is no
 -- such reading, and where it fails (`Fails-later`).
-use Rattle.lw_text.proofs.Common.{◌≤◌, length, NameTable, ◌≡◌, ◌∷◌, [], Some, refl, sym, ap, subst}
-use Rattle.lw_text.proofs.Common.{with_sites, Atom, IsAtom, sites_in, IsSuffix, remaining, remaining_texts}
-use Rattle.lw_text.proofs.Common.{FailsInSite, in_site, in_value, Condition}
+use Rattle.lw_text.proofs.Common.{most_locations, ◌≤◌, length, NameTable, ◌≡◌, ◌∷◌, [], Some, refl, sym, ap}
+use Rattle.lw_text.proofs.Common.{subst, with_sites, Atom, IsAtom, sites_in, IsSuffix, remaining}
+use Rattle.lw_text.proofs.Common.{remaining_texts, FailsInSite, in_site, in_value, Condition}
 use Rattle.lw_text.proofs.Lists.{IsSuffix-join}
 use Rattle.lw_text.proofs.Failures.{Fails-later}
 use Rattle.lw_text.proofs.TerminalLists.{no_terminal-if_site_has_no_value}
@@ -41,7 +41,8 @@ returns-in_err-word g c =
       Fails-later advances (λ rest cause w. (
         c.in_default.ensures.words,
         in_value _ stands c.in_ok-site.ensures.threads_exist
-            (subst (λ (table : NameTable). length table ≤ 8) c.in_ok-site.ensures.names_are c.in_ok-site.ensures.bounded) w,
+            (subst (λ (table : NameTable). length table ≤ most_locations) c.in_ok-site.ensures.names_are
+            c.in_ok-site.ensures.bounded) w,
       )) c.in_err-word.ensures.1,
     ))
 
