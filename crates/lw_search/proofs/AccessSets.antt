@@ -55,12 +55,12 @@ module _ (Holds : ℕ → Outlook → Type 0) where
   HoldsOfFirst outlooks n = (u : ℕ) → u < n → (o : Outlook) × (slice_get outlooks u ≡ Some o) × Holds u o
 
   -- If the outlook at index n is set to one that is as said, those at the first n + 1 indices are.
-  pub holds_of_first-set : (outlooks : List Outlook) (n : ℕ) (old new : Outlook)
+  pub HoldsOfFirst-set : (outlooks : List Outlook) (n : ℕ) (old new : Outlook)
       → slice_get outlooks n ≡ Some old
       → HoldsOfFirst outlooks n
       → Holds n new
       → HoldsOfFirst (slice_set outlooks n new) (n + 1)
-  holds_of_first-set outlooks n old new at first holds u lt = elim (cases_eq u n) [
+  HoldsOfFirst-set outlooks n old new at first holds u lt = elim (cases_eq u n) [
     | inl same ↦
         subst (λ v. (o : Outlook) × (slice_get (slice_set outlooks n new) v ≡ Some o) × Holds v o) (sym same)
         (new, get-set_same outlooks n new old at, holds)

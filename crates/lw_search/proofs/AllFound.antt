@@ -13,18 +13,18 @@ module _ (program : List (List Instr)) (found : List State)
   IsFound s = (i : ℕ) × (slice_get found i ≡ Some s)
 
   -- If the successors of all states found are covered, each final state that a run from one of them reaches is found.
-  pub run-found : (n : ℕ) (events : List Event) (s end : State)
+  pub IsFound-of_run : (n : ℕ) (events : List Event) (s end : State)
       → length events ≤ n
       → IsFound s
       → MachineRunsTo flat_memory program events s end
       → IsTrue (is_final program end)
       → IsFound end
-  run-found n [] s end few has ran final = subst IsFound (sym ran) has
-  run-found zero (e ∷ es) s end few has ran final = absurd (omega (arith, few))
-  run-found (suc n) (e ∷ es) s end few has (mid, done, ran) final =
+  IsFound-of_run n [] s end few has ran final = subst IsFound (sym ran) has
+  IsFound-of_run zero (e ∷ es) s end few has ran final = absurd (omega (arith, few))
+  IsFound-of_run (suc n) (e ∷ es) s end few has (mid, done, ran) final =
       let r = is_covered has.0 s has.1 e mid done in
       let m = r.3 es end ran final in
-      run-found n m.0 r.0 end (omega (arith, few, m.1)) (r.1, r.2) m.2 final
+      IsFound-of_run n m.0 r.0 end (omega (arith, few, m.1)) (r.1, r.2) m.2 final
 
 -- Every final state reachable from the start is among those found.
 pub final_state-found : (program : List (List Instr)) (start : State) (tables : Components) (visited : FoundStates)
@@ -37,4 +37,4 @@ pub final_state-found : (program : List (List Instr)) (start : State) (tables : 
 final_state-found program start tables visited found invariant events end ran final =
     let is_covered : (i : ℕ) (s : State) → slice_get found i ≡ Some s → (e : Event) → IsCovered program found s e =
     λ i s at. invariant.covered i s (slice_get_within found i s at) at in
-    run-found program found is_covered (length events) events start end (omega arith) (0, invariant.first) ran final
+    IsFound-of_run program found is_covered (length events) events start end (omega arith) (0, invariant.first) ran final

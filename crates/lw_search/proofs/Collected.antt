@@ -37,13 +37,13 @@ module _ (program : List (List Instr)) (tables : Components) (key : List ℕ) wh
       → has_terminated code p ≡ true
 
   -- If thread n is reported as terminated too, the first n + 1 threads have terminated.
-  pub are_done-more : (n : ℕ) (code : List Instr) (answer : Bool)
+  pub AreDone-next : (n : ℕ) (code : List Instr) (answer : Bool)
       → AreDone n
       → slice_get program n ≡ Some code
       → ReportsThreadEnd tables key n (length code) answer
       → answer ≡ true
       → AreDone (n + 1)
-  are_done-more n code answer done at is passed t c p lt coded thread = elim (cases_lt t n) [
+  AreDone-next n code answer done at is passed t c p lt coded thread = elim (cases_lt t n) [
     | inl less ↦ done t c p less coded thread
     | inr not ↦
         let same : n ≡ t = omega arith in
@@ -54,19 +54,19 @@ module _ (program : List (List Instr)) (tables : Components) (key : List ℕ) wh
   ]
 
   -- If all threads have terminated, each state that the key represents is final.
-  pub is_final-all_done : (n : ℕ)
+  pub is_final-if_all_done : (n : ℕ)
       → AreDone n
       → length program ≤ n
       → (s : State)
       → Represents tables key s
       → length s.processors ≡ length program
       → IsTrue (is_final program s)
-  is_final-all_done n done few s is_represented as_many =
+  is_final-if_all_done n done few s is_represented as_many =
       list_all_zip-of_each (λ (x : List Instr × Processor). has_terminated x.0 x.1) program s.processors (λ t code p at and.
       let lt = slice_get_within program t code at in done t code p (omega (arith, lt, few)) at (is_represented.threads t p and))
 
   -- If a thread is reported as not terminated, no state that the key represents is final.
-  pub not-is_final_if_unfinished : (n : ℕ) (code : List Instr) (answer : Bool)
+  pub not-is_final-if_unfinished : (n : ℕ) (code : List Instr) (answer : Bool)
       → slice_get program n ≡ Some code
       → ReportsThreadEnd tables key n (length code) answer
       → answer ≡ false
@@ -75,7 +75,7 @@ module _ (program : List (List Instr)) (tables : Components) (key : List ℕ) wh
       → length s.processors ≡ length program
       → IsTrue (is_final program s)
       → ⊥
-  not-is_final_if_unfinished n code answer at is failed s is_represented as_many final =
+  not-is_final-if_unfinished n code answer at is failed s is_represented as_many final =
       let lt : n < length s.processors = subst (λ k. n < k) (sym as_many) (slice_get_within program n code at) in
       let p = slice_get-in_range s.processors n lt in
       let done : has_terminated code p.0 ≡ true =
@@ -94,12 +94,12 @@ module _ (program : List (List Instr)) (tables : Components) (key : List ℕ) wh
       → regs ≡ map (λ p. p.regs) (take n s.processors)
 
   -- With the registers of thread n appended, the rows are those of the first n + 1 threads.
-  pub registers-more : (regs : List (List ℕ)) (n : ℕ) (r : List ℕ)
+  pub AreRegisters-push : (regs : List (List ℕ)) (n : ℕ) (r : List ℕ)
       → AreRegisters regs n
       → n < length program
       → ((p : Processor) → slice_get tables.threads (slice_index key (n + 1)) ≡ Some p → r ≡ p.regs)
       → AreRegisters (regs ++ r ∷ []) (n + 1)
-  registers-more regs n r are lt is s is_represented as_many =
+  AreRegisters-push regs n r are lt is s is_represented as_many =
       let p = slice_get-in_range s.processors n (subst (λ k. n < k) (sym as_many) lt) in
       let next : suc n ≡ n + 1 = omega arith in
       ap₂ (λ l w. l ++ w ∷ []) (are s is_represented as_many) (is p.0 (is_represented.threads n p.0 p.1))
@@ -109,13 +109,13 @@ module _ (program : List (List Instr)) (tables : Components) (key : List ℕ) wh
 -- ---- schedules
 
 -- The start needs no events; it is the state whose parent is not before it.
-pub reaches_index-start : (visited : FoundStates) (index : ℕ) (origin : Origin)
+pub ReachesIndex-start : (visited : FoundStates) (index : ℕ) (origin : Origin)
     → slice_get visited.origins index ≡ Some origin
     → index ≤ origin.parent
     → ReachesIndex visited index []
-reaches_index-start visited zero origin at not program start tables found closed s invariant there =
+ReachesIndex-start visited zero origin at not program start tables found closed s invariant there =
     same_Some s start (sym there ∙ invariant.first)
-reaches_index-start visited (suc i) origin at not program start tables found closed s invariant there =
+ReachesIndex-start visited (suc i) origin at not program start tables found closed s invariant there =
     let predecessor = invariant.predecessor i origin s at there in absurd (omega (arith, predecessor.before, not))
 
 -- A number without a row stands for no events.
@@ -123,22 +123,22 @@ pub events_at-none : (runs : List (List (ℕ × Bool))) (n : ℕ) → slice_get 
 events_at-none runs n none = ap events_of (get_or_past runs n [] (length-past runs n none))
 
 -- There is no state past the end of the table.
-pub reaches_index-past : (visited : FoundStates) (index : ℕ)
+pub ReachesIndex-past : (visited : FoundStates) (index : ℕ)
     → slice_get visited.origins index ≡ None
     → ReachesIndex visited index []
-reaches_index-past visited index none program start tables found closed s invariant there =
+ReachesIndex-past visited index none program start tables found closed s invariant there =
     let lt = slice_get_within found index s there in
     let origin = slice_get-in_range visited.origins index (subst (λ n. index < n) (sym invariant.origin_count) lt) in
     absurd (let e = sym none ∙ origin.1 in cc)
 
 -- The events to the parent, followed by those of the origin's run, reach the state.
-pub reaches_index-next : (visited : FoundStates) (index : ℕ) (origin : Origin) (more : List Event)
+pub ReachesIndex-next : (visited : FoundStates) (index : ℕ) (origin : Origin) (more : List Event)
     → (index ≤ origin.parent → ⊥)
     → slice_get visited.origins index ≡ Some origin
     → ReachesIndex visited origin.parent more
     → ReachesIndex visited index (more ++ events_at visited.runs origin.run)
-reaches_index-next visited zero origin more after at leads = absurd (after (omega arith))
-reaches_index-next visited (suc i) origin more after at leads = λ program start tables found closed s invariant found_at.
+ReachesIndex-next visited zero origin more after at leads = absurd (after (omega arith))
+ReachesIndex-next visited (suc i) origin more after at leads = λ program start tables found closed s invariant found_at.
     let predecessor = invariant.predecessor i origin s at found_at in
     let is : events_at visited.runs origin.run ≡ events_of predecessor.run =
     ap events_of (get_or_from_slice_get visited.runs origin.run predecessor.run [] predecessor.listed) in
@@ -147,22 +147,22 @@ reaches_index-next visited (suc i) origin more after at leads = λ program start
     (leads program start tables found closed predecessor.from invariant predecessor.found_at) predecessor.ran)
 
 -- Each state that was found is reachable.
-pub found-reachable : (program : List (List Instr)) (start : State) (tables : Components) (visited : FoundStates)
+pub MachineRunsTo-found : (program : List (List Instr)) (start : State) (tables : Components) (visited : FoundStates)
     (found : List State) (closed : ℕ)
     → SearchInvariant program start tables visited found closed
     → (n i : ℕ) (s : State)
     → i < n
     → slice_get found i ≡ Some s
     → (events : List Event) × MachineRunsTo flat_memory program events start s
-found-reachable program start tables visited found closed invariant zero i s lt at = absurd (omega (arith, lt))
-found-reachable program start tables visited found closed invariant (suc n) zero s lt at =
+MachineRunsTo-found program start tables visited found closed invariant zero i s lt at = absurd (omega (arith, lt))
+MachineRunsTo-found program start tables visited found closed invariant (suc n) zero s lt at =
     ([], same_Some s start (sym at ∙ invariant.first))
-found-reachable program start tables visited found closed invariant (suc n) (suc i) s lt at =
+MachineRunsTo-found program start tables visited found closed invariant (suc n) (suc i) s lt at =
     let within = slice_get_within found (suc i) s at in
     let origin = slice_get-in_range visited.origins (suc i) (subst (λ k. suc i < k) (sym invariant.origin_count) within) in
     let predecessor = invariant.predecessor i origin.0 s origin.1 at in
     let before =
-    found-reachable program start tables visited found closed invariant n origin.0.parent predecessor.from
+    MachineRunsTo-found program start tables visited found closed invariant n origin.0.parent predecessor.from
     (omega (arith, predecessor.before, lt)) predecessor.found_at in (
       before.0 ++ events_of predecessor.run,
       RunsTo-append (MachineTransition flat_memory program) before.0 (events_of predecessor.run) start predecessor.from s before.1
@@ -173,12 +173,12 @@ found-reachable program start tables visited found closed invariant (suc n) (suc
 
 module _ (program : List (List Instr)) (tables : Components) (visited : FoundStates) where
   -- If the state's outcome is among the entries already, the state is collected without a change.
-  pub collects-known : (at : ℕ) (key : List ℕ) (o : FinalState) (es : OutcomeEntries)
+  pub CollectsState-known : (at : ℕ) (key : List ℕ) (o : FinalState) (es : OutcomeEntries)
       → slice_get visited.keys at ≡ Some key
       → ((s : State) → Represents tables key s → length s.processors ≡ length program → o ≡ machine_outcome flat_memory s)
       → Contains (outcomes_of es) o
       → CollectsState program tables visited at es es
-  collects-known at key o es key_at is there = record {
+  CollectsState-known at key o es key_at is there = record {
     covered = λ start found closed s invariant found_at final.
         subst (λ p. Contains (outcomes_of es) p)
         (is s (invariant.represents at key s key_at found_at) (invariant.thread_count at s found_at)) there;
@@ -187,14 +187,14 @@ module _ (program : List (List Instr)) (tables : Components) (visited : FoundSta
   }
 
   -- Appending a final state's outcome, with a schedule that reaches the state, collects the state.
-  pub collects-new : (at : ℕ) (key : List ℕ) (o : FinalState) (schedule : List Event) (es fs : OutcomeEntries)
+  pub CollectsState-new : (at : ℕ) (key : List ℕ) (o : FinalState) (schedule : List Event) (es fs : OutcomeEntries)
       → slice_get visited.keys at ≡ Some key
       → ((s : State) → Represents tables key s → length s.processors ≡ length program → o ≡ machine_outcome flat_memory s)
       → ((s : State) → Represents tables key s → length s.processors ≡ length program → IsTrue (is_final program s))
       → ReachesIndex visited at schedule
       → fs ≡ es ++ (o, schedule) ∷ []
       → CollectsState program tables visited at es fs
-  collects-new at key o schedule es fs key_at is final leads grown = record {
+  CollectsState-new at key o schedule es fs key_at is final leads grown = record {
     covered = λ start found closed s invariant found_at ends.
         subst (λ p. Contains (outcomes_of fs) p)
         (is s (invariant.represents at key s key_at found_at) (invariant.thread_count at s found_at))
@@ -228,11 +228,11 @@ module _ (program : List (List Instr)) (tables : Components) (visited : FoundSta
         → All (LeadsTo IsScheduleOf program start) entries
 
   -- If the first n states are collected, and then the state at index n, the first n + 1 are collected.
-  pub collects_first-more : (n : ℕ) (es fs : OutcomeEntries)
+  pub CollectsFirst-next : (n : ℕ) (es fs : OutcomeEntries)
       → CollectsFirst n es
       → CollectsState program tables visited n es fs
       → CollectsFirst (n + 1) fs
-  collects_first-more n es fs first here = record {
+  CollectsFirst-next n es fs first here = record {
     covered = λ start found closed i s invariant lt at final. elim (cases_lt i n) [
       | inl less ↦ here.kept (machine_outcome flat_memory s) (first.covered start found closed i s invariant less at final)
       | inr not ↦

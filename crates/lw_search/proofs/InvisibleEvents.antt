@@ -1,5 +1,5 @@
 -- Partial-order reduction: an invisible event can be moved to the front of any run to a final state, and the
--- run becomes no longer. So the state after the event covers the state before it (`covers-invisible_event`),
+-- run becomes no longer. So the state after the event covers the state before it (`Covers-invisible_event`),
 -- the main lemma of this crate.
 use Rattle.lw_search.proofs.Common.{◌≡◌, ◌≢◌, ℕ, suc, ◌<◌, ◌≤◌, inl, inr, ⊎_elim, Bool, true, false}
 use Rattle.lw_search.proofs.Common.{true≢false, Option, Some, None, Ok, List, [], ◌∷◌, length, refl, sym, ap}
@@ -93,7 +93,8 @@ record PassesDrain (entry : ℕ × ℕ) (o : Operation) (behind q : Processor) (
   does : EffectLeadsTo (slice_set m entry.0 entry.1) (operation_effect o behind) new (slice_set m entry.0 entry.1)
 
 -- A load beside the drain of an entry: `found` is the newest word of the other entries, `same` says whether the entry is for the location.
-load-passes : (entry : ℕ × ℕ) (x : ℕ) (next : ℕ → Processor) (q : Processor) (m n : List ℕ) (found : Option ℕ) (same : Bool)
+load_effect-after_drain : (entry : ℕ × ℕ) (x : ℕ) (next : ℕ → Processor) (q : Processor) (m n : List ℕ) (found : Option ℕ)
+    (same : Bool)
     → (entry.0 == x) ≡ same
     → (entry.0 ≡ x → x < length m)
     → EffectLeadsTo m (load_effect (option_or found (if same then Some entry.1 else None)) x (λ w. with_oldest entry (next w))) q
@@ -102,24 +103,24 @@ load-passes : (entry : ℕ × ℕ) (x : ℕ) (next : ℕ → Processor) (q : Pro
     × (q ≡ with_oldest entry new)
     × (n ≡ m)
     × EffectLeadsTo (slice_set m entry.0 entry.1) (load_effect found x next) new (slice_set m entry.0 entry.1)
-load-passes entry x next q m n (Some w) same is range d = (next w, d.0, d.1, (refl, refl))
-load-passes entry x next q m n None true is range d =
+load_effect-after_drain entry x next q m n (Some w) same is range d = (next w, d.0, d.1, (refl, refl))
+load_effect-after_drain entry x next q m n None true is range d =
     let at : entry.0 ≡ x = eqb-true entry.0 x is in
     let read : slice_index (slice_set m entry.0 entry.1) x ≡ entry.1 =
     ap (λ y. slice_index (slice_set m y entry.1) x) at ∙ get_or-set_same m x entry.1 0 (range at) in
     (next entry.1, d.0, d.1, (ap next (sym read), refl))
-load-passes entry x next q m n None false is range d =
+load_effect-after_drain entry x next q m n None false is range d =
     let apart : x ≢ entry.0 = λ e. true≢false (sym (eq-eqb entry.0 x (sym e)) ∙ is) in
     let read : slice_index (slice_set m entry.0 entry.1) x ≡ slice_index m x = get_or-set_other m entry.0 x entry.1 0 apart in
     (next (slice_index m x), d.0, d.1, (ap next (sym read), refl))
 
 -- An operation that does not access memory commutes with the drain of the oldest entry.
-local-passes : (entry : ℕ × ℕ) (o : Operation) (behind next q : Processor) (m n : List ℕ)
+PassesDrain-local : (entry : ℕ × ℕ) (o : Operation) (behind next q : Processor) (m n : List ℕ)
     → operation_effect o behind ≡ LocalStep next
     → q ≡ with_oldest entry next
     → n ≡ m
     → PassesDrain entry o behind q m n
-local-passes entry o behind next q m n act is kept = record {
+PassesDrain-local entry o behind next q m n act is kept = record {
   new = next;
   processor_is = is;
   kept = kept;
@@ -128,60 +129,65 @@ local-passes entry o behind next q m n act is kept = record {
 
 -- An operation that does not wait commutes with the drain of the oldest entry: a load of the entry's own location is forwarded the
 -- word before the drain, and reads it from memory after it.
-operation-passes : (entry : ℕ × ℕ) (o : Operation) (behind q : Processor) (m n : List ℕ)
+PassesDrain-operation : (entry : ℕ × ℕ) (o : Operation) (behind q : Processor) (m n : List ℕ)
     → ((x : ℕ) → operation_access o ≡ Some (x, false) → entry.0 ≡ x → x < length m)
     → EffectLeadsTo m (operation_effect o (with_oldest entry behind)) q n
     → PassesDrain entry o behind q m n
-operation-passes entry (Set d v) behind q m n range does = local-passes entry (Set d v) behind _ q m n refl does.0 does.1
-operation-passes entry (Sum d a v) behind q m n range does = local-passes entry (Sum d a v) behind _ q m n refl does.0 does.1
-operation-passes entry (Compare a v) behind q m n range does = local-passes entry (Compare a v) behind _ q m n refl does.0 does.1
-operation-passes entry (Store x v) behind q m n range does = local-passes entry (Store x v) behind _ q m n refl does.0 does.1
-operation-passes entry (Branch c to) behind q m n range does = local-passes entry (Branch c to) behind _ q m n refl does.0 does.1
-operation-passes entry (Load d x) behind q m n range does =
-    let r = load-passes entry x _ q m n (newest_buffered behind.buffer x) (entry.0 == x) refl (range x refl) does in
+PassesDrain-operation entry (Set d v) behind q m n range does =
+    PassesDrain-local entry (Set d v) behind _ q m n refl does.0 does.1
+PassesDrain-operation entry (Sum d a v) behind q m n range does =
+    PassesDrain-local entry (Sum d a v) behind _ q m n refl does.0 does.1
+PassesDrain-operation entry (Compare a v) behind q m n range does =
+    PassesDrain-local entry (Compare a v) behind _ q m n refl does.0 does.1
+PassesDrain-operation entry (Store x v) behind q m n range does =
+    PassesDrain-local entry (Store x v) behind _ q m n refl does.0 does.1
+PassesDrain-operation entry (Branch c to) behind q m n range does =
+    PassesDrain-local entry (Branch c to) behind _ q m n refl does.0 does.1
+PassesDrain-operation entry (Load d x) behind q m n range does =
+    let r = load_effect-after_drain entry x _ q m n (newest_buffered behind.buffer x) (entry.0 == x) refl (range x refl) does in
     record { new = r.0; processor_is = r.1; kept = r.2; does = r.3 }
-operation-passes entry _ behind q m n range does = absurd does
+PassesDrain-operation entry _ behind q m n range does = absurd does
 
 -- ---- accesses
 
 -- The location that an effect accesses is that of its operation's access, and the effect writes it only if the access does.
-operation_access-is : (o : Operation) (p : Processor) (x : ℕ)
+operation_access-of_effect : (o : Operation) (p : Processor) (x : ℕ)
     → accessed_location (operation_effect o p) ≡ Some x
     → operation_access o ≡ Some (x, event_writes (operation_effect o p))
-operation_access-is (Load d y) p x at =
+operation_access-of_effect (Load d y) p x at =
     let h = accessed_location-of_operation (Load d y) p x at in ap₂ (λ z w. Some (z, w)) (same_Some y x h.0) h.1
-operation_access-is (Swap d y a) p x at =
+operation_access-of_effect (Swap d y a) p x at =
     let h = accessed_location-of_operation (Swap d y a) p x at in ap₂ (λ z w. Some (z, w)) (same_Some y x h.0) h.1
-operation_access-is (FetchAdd d y v) p x at =
+operation_access-of_effect (FetchAdd d y v) p x at =
     let h = accessed_location-of_operation (FetchAdd d y v) p x at in ap₂ (λ z w. Some (z, w)) (same_Some y x h.0) h.1
-operation_access-is (Store y v) p x at = absurd cc
-operation_access-is o p x at = absurd (let e = (accessed_location-of_operation o p x at).0 in cc)
+operation_access-of_effect (Store y v) p x at = absurd cc
+operation_access-of_effect o p x at = absurd (let e = (accessed_location-of_operation o p x at).0 in cc)
 
 -- The location that a step accesses is that of its operation's access, and the effect writes it if and only if the access does.
-step_access-is : (o : Option Instr) (p : Processor) (x : ℕ)
+step_access-of_effect : (o : Option Instr) (p : Processor) (x : ℕ)
     → accessed_location (step_effect o p) ≡ Some x
     → step_access o ≡ Some (x, event_writes (step_effect o p))
-step_access-is None p x at = absurd cc
-step_access-is (Some i) p x at = operation_access-is (x86_operation i) p x at
+step_access-of_effect None p x at = absurd cc
+step_access-of_effect (Some i) p x at = operation_access-of_effect (x86_operation i) p x at
 
 -- The location that a drain accesses is that of the oldest entry, and it is written.
-drain_access-is : (b : List (ℕ × ℕ)) (p : Processor) (x : ℕ)
+drain_access-of_effect : (b : List (ℕ × ℕ)) (p : Processor) (x : ℕ)
     → accessed_location (drain_effect b p) ≡ Some x
     → drain_access b ≡ Some (x, event_writes (drain_effect b p))
-drain_access-is [] p x at = absurd cc
-drain_access-is (entry ∷ newer) p x at = ap (λ z. Some (z, true)) (same_Some entry.0 x at)
+drain_access-of_effect [] p x at = absurd cc
+drain_access-of_effect (entry ∷ newer) p x at = ap (λ z. Some (z, true)) (same_Some entry.0 x at)
 
 -- The effect of an eviction event accesses no location.
-eviction-accesses_none : (b : Bool) (x y : ℕ) → accessed_location (if b then Eviction x else Refused NoLocation) ≡ Some y → ⊥
-eviction-accesses_none true x y at = cc
-eviction-accesses_none false x y at = cc
+no_access-of_eviction : (b : Bool) (x y : ℕ) → accessed_location (if b then Eviction x else Refused NoLocation) ≡ Some y → ⊥
+no_access-of_eviction true x y at = cc
+no_access-of_eviction false x y at = cc
 
 -- An operation that never conflicts with a write does not access the location, and one that never conflicts with a read does not write it.
-access-if_no_conflict : (written : Bool) (o : Operation)
+not_written-if_no_conflict : (written : Bool) (o : Operation)
     → ((written || writes o) ≡ true → ⊥)
     → (written ≡ false) × (is_locked o ≡ false)
-access-if_no_conflict true o never = absurd (never refl)
-access-if_no_conflict false o never = (refl, go (is_store o) (is_locked o) never)
+not_written-if_no_conflict true o never = absurd (never refl)
+not_written-if_no_conflict false o never = (refl, go (is_store o) (is_locked o) never)
   where
     go : (a b : Bool) → ((a || b) ≡ true → ⊥) → b ≡ false
     go true b n = absurd (n refl)
@@ -189,27 +195,27 @@ access-if_no_conflict false o never = (refl, go (is_store o) (is_locked o) never
     go false false n = refl
 
 -- An operation that stores writes.
-store-writes : (written : Bool) (o : Operation) → is_store o ≡ true → (written || writes o) ≡ true
-store-writes true o store = refl
-store-writes false o store = ap (λ b. b || is_locked o) store
+writes-if_conflict : (written : Bool) (o : Operation) → is_store o ≡ true → (written || writes o) ≡ true
+writes-if_conflict true o store = refl
+writes-if_conflict false o store = ap (λ b. b || is_locked o) store
 
 module _ (program : List (List Instr)) (forward : IsForward program) where
   -- The location that an event accesses is that of its access, and the effect writes it if and only if the access does.
-  event_access-is : (locs : ℕ) (e : Event) (p : Processor) (x : ℕ)
+  event_access-of_effect : (locs : ℕ) (e : Event) (p : Processor) (x : ℕ)
       → accessed_location (event_effect program locs e p) ≡ Some x
       → event_access (thread_code program (cpu_of e)) e p ≡ Some (x, event_writes (event_effect program locs e p))
-  event_access-is locs (Step t) p x at = step_access-is (slice_get (thread_code program t) p.position) p x at
-  event_access-is locs (Drain t) p x at = drain_access-is p.buffer p x at
-  event_access-is locs (Evict t y) p x at = absurd (eviction-accesses_none (nat_lt y locs) y x at)
+  event_access-of_effect locs (Step t) p x at = step_access-of_effect (slice_get (thread_code program t) p.position) p x at
+  event_access-of_effect locs (Drain t) p x at = drain_access-of_effect p.buffer p x at
+  event_access-of_effect locs (Evict t y) p x at = absurd (no_access-of_eviction (nat_lt y locs) y x at)
 
   -- ---- operations that never conflict
 
   -- A thread that never conflicts with an access does not conflict with it by its next event.
-  never_conflicts-now : (locs : ℕ) (f : Event) (p : Processor) (x : ℕ) (written : Bool)
+  not_written-if_never_conflicts : (locs : ℕ) (f : Event) (p : Processor) (x : ℕ) (written : Bool)
       → NeverConflicts (thread_code program (cpu_of f)) p x written
       → accessed_location (event_effect program locs f p) ≡ Some x
       → (written ≡ false) × (event_writes (event_effect program locs f p) ≡ false)
-  never_conflicts-now locs (Step t) p x written never at = go (slice_get (thread_code program t) p.position) refl at
+  not_written-if_never_conflicts locs (Step t) p x written never at = go (slice_get (thread_code program t) p.position) refl at
     where
       go : (o : Option Instr)
           → slice_get (thread_code program t) p.position ≡ o
@@ -218,9 +224,9 @@ module _ (program : List (List Instr)) (forward : IsForward program) where
       go None is a = absurd cc
       go (Some i) is a =
           let h = accessed_location-of_operation (x86_operation i) p x a in
-          let n = access-if_no_conflict written (x86_operation i) (never.instructions p.position i (omega arith) is h.0) in
+          let n = not_written-if_no_conflict written (x86_operation i) (never.instructions p.position i (omega arith) is h.0) in
           (n.0, sym h.1 ∙ n.1)
-  never_conflicts-now locs (Drain t) p x written never at = go p.buffer refl at
+  not_written-if_never_conflicts locs (Drain t) p x written never at = go p.buffer refl at
     where
       go : (b : List (ℕ × ℕ))
           → p.buffer ≡ b
@@ -228,15 +234,15 @@ module _ (program : List (List Instr)) (forward : IsForward program) where
           → (written ≡ false) × (event_writes (drain_effect b p) ≡ false)
       go [] is a = absurd cc
       go (entry ∷ newer) is a = absurd (never.entries 0 entry (ap (λ b. slice_get b 0) is) (same_Some entry.0 x a))
-  never_conflicts-now locs (Evict t y) p x written never at = absurd (eviction-accesses_none (nat_lt y locs) y x at)
+  not_written-if_never_conflicts locs (Evict t y) p x written never at = absurd (no_access-of_eviction (nat_lt y locs) y x at)
 
   -- A thread that never conflicts with an access still does not after a step.
-  never_conflicts-step : (t : ℕ) (p q : Processor) (i : Instr) (x : ℕ) (written : Bool)
+  NeverConflicts-step : (t : ℕ) (p q : Processor) (i : Instr) (x : ℕ) (written : Bool)
       → slice_get (thread_code program t) p.position ≡ Some i
       → OperationTransition (x86_operation i) p q
       → NeverConflicts (thread_code program t) p x written
       → NeverConflicts (thread_code program t) q x written
-  never_conflicts-step t p q i x written at went never =
+  NeverConflicts-step t p q i x written at went never =
       record { entries = λ k entry is. entries went.buffers k entry is; instructions = instructions }
     where
       position_lt : p.position < q.position
@@ -250,7 +256,7 @@ module _ (program : List (List Instr)) (forward : IsForward program) where
       entries (inr added) k entry is = λ e.
           ⊎_elim (λ old. never.entries k entry old e) (λ new.
           never.instructions p.position i (omega arith) at (added.2 ∙ ap (λ (z : ℕ × ℕ). Some z.0) new.1 ∙ ap Some e)
-          (store-writes written (x86_operation i) added.1))
+          (writes-if_conflict written (x86_operation i) added.1))
           (slice_get-append_cases p.buffer added.0 entry k (ap (λ b. slice_get b k) (sym added.3) ∙ is))
 
       instructions : (j : ℕ) (k : Instr)
@@ -262,15 +268,15 @@ module _ (program : List (List Instr)) (forward : IsForward program) where
       instructions j k le is = never.instructions j k (omega (arith, le, position_lt)) is
 
   -- A thread that never conflicts with an access still does not after its events.
-  never_conflicts-after : (locs : ℕ) (f : Event) (p q : Processor) (m n : List ℕ) (x : ℕ) (written : Bool)
+  NeverConflicts-after : (locs : ℕ) (f : Event) (p q : Processor) (m n : List ℕ) (x : ℕ) (written : Bool)
       → EffectLeadsTo m (event_effect program locs f p) q n
       → NeverConflicts (thread_code program (cpu_of f)) p x written
       → NeverConflicts (thread_code program (cpu_of f)) q x written
-  never_conflicts-after locs (Step t) p q m n x written does never =
+  NeverConflicts-after locs (Step t) p q m n x written does never =
       let i = HasInstr-of_step (slice_get (thread_code program t) p.position) p q m n does in
-      never_conflicts-step t p q i.instr x written i.instr_is
+      NeverConflicts-step t p q i.instr x written i.instr_is
       (OperationTransition-of_effect (x86_operation i.instr) p q m n i.does) never
-  never_conflicts-after locs (Drain t) p q m n x written does never =
+  NeverConflicts-after locs (Drain t) p q m n x written does never =
       let d = DrainEffect-of_drain p q m n does in
       record {
         entries = λ k entry is.
@@ -283,15 +289,15 @@ module _ (program : List (List Instr)) (forward : IsForward program) where
             (subst (λ n. n ≤ j)
             (ap (λ (r : Processor). r.position) d.left ∙ ap (λ (r : Processor). r.position) (sym d.processor_is)) le);
       }
-  never_conflicts-after locs (Evict t y) p q m n x written does never =
+  NeverConflicts-after locs (Evict t y) p q m n x written does never =
       absurd (not-EffectLeadsTo-evict_event program locs t y p q m n does)
 
   -- An access that is uncontended still is after any event.
-  uncontended-after : (f : Event) (s mid : State) (t : ℕ) (access : ℕ × Bool)
+  IsUncontended-after : (f : Event) (s mid : State) (t : ℕ) (access : ℕ × Bool)
       → EventOccurrence program f s mid
       → IsUncontended program s t access
       → IsUncontended program mid t access
-  uncontended-after f s mid t access d free = record {
+  IsUncontended-after f s mid t access d free = record {
     in_range =
         let size : length mid.memory ≡ length s.memory =
         ap (λ (z : State). length z.memory) d.state_is
@@ -315,7 +321,7 @@ module _ (program : List (List Instr)) (forward : IsForward program) where
             let before : NeverConflicts (thread_code program (cpu_of f)) d.from access.0 access.1 =
             free.others (cpu_of f) d.from (λ e. ne (same ∙ e)) d.was in
             let after : NeverConflicts (thread_code program (cpu_of f)) d.to access.0 access.1 =
-            never_conflicts-after (length s.memory) f d.from d.to s.memory d.words access.0 access.1 d.does before in
+            NeverConflicts-after (length s.memory) f d.from d.to s.memory d.words access.0 access.1 d.does before in
             subst (λ v. NeverConflicts (thread_code program v) p access.0 access.1) (sym same)
             (subst (λ r. NeverConflicts (thread_code program (cpu_of f)) r access.0 access.1) is after)
         | inr apart ↦
@@ -390,10 +396,10 @@ module _ (program : List (List Instr)) (forward : IsForward program) where
         → slice_get s.processors (cpu_of e) ≡ Some p
         → DoNotConflict (event_effect program (length s.memory) f r) (event_effect program (length s.memory) e p)
     apart ne r p at and x a b =
-        let access = event_access-is (length s.memory) e p x b in
+        let access = event_access-of_effect (length s.memory) e p x b in
         let free = invisible p (x, event_writes (event_effect program (length s.memory) e p)) and access in
         let n =
-        never_conflicts-now (length s.memory) f r x (event_writes (event_effect program (length s.memory) e p))
+        not_written-if_never_conflicts (length s.memory) f r x (event_writes (event_effect program (length s.memory) e p))
         (free.others (cpu_of f) r ne at) a in
         (n.1, n.0)
 
@@ -403,7 +409,7 @@ module _ (program : List (List Instr)) (forward : IsForward program) where
       end = z.0;
       again = z.1;
       behind = subst (λ o. MachineTransition flat_memory program f o (Ok tt) z.0) once x.2.done;
-      still = λ p access at is. uncontended-after f s mid (cpu_of e) access g (invisible p access (there p at) is);
+      still = λ p access at is. IsUncontended-after f s mid (cpu_of e) access g (invisible p access (there p at) is);
     }
       where
         there : (p : Processor) → slice_get mid.processors (cpu_of e) ≡ Some p → slice_get s.processors (cpu_of e) ≡ Some p
@@ -520,7 +526,7 @@ module _ (program : List (List Instr)) (forward : IsForward program) where
 
       i : PassesDrain b.entry (x86_operation instr.instr) b.behind x.to s.memory x.words
       i =
-          operation-passes b.entry (x86_operation instr.instr) b.behind x.to s.memory x.words (λ l access e.
+          PassesDrain-operation b.entry (x86_operation instr.instr) b.behind x.to s.memory x.words (λ l access e.
           range (with_oldest b.entry b.behind) l was (ap step_access instr.instr_is ∙ access) (ap (λ z. Some (z, true)) e))
           instr.does
 
@@ -552,7 +558,7 @@ module _ (program : List (List Instr)) (forward : IsForward program) where
         behind = d.drains;
         still = λ p access at is.
             let same : d.behind ≡ p = same_Some d.behind p (sym d.drained_at ∙ at) in
-            uncontended-after (Drain t) s mid t access (EventOccurrence-of_event program (Drain t) s mid done)
+            IsUncontended-after (Drain t) s mid t access (EventOccurrence-of_event program (Drain t) s mid done)
             (invisible (with_oldest d.entry d.behind) access d.was
             (ap (λ (r : Processor). step_access (slice_get (thread_code program t) r.position)) same ∙ is));
       }
@@ -572,7 +578,7 @@ module _ (program : List (List Instr)) (forward : IsForward program) where
         behind = d.steps;
         still = λ p access at is.
             let same : with_oldest d.entry d.new ≡ p = same_Some (with_oldest d.entry d.new) p (sym d.stepped_at ∙ at) in
-            uncontended-after (Step t) s mid t access (EventOccurrence-of_event program (Step t) s mid done)
+            IsUncontended-after (Step t) s mid t access (EventOccurrence-of_event program (Step t) s mid done)
             (invisible (with_oldest d.entry d.behind) access d.was (ap (λ (r : Processor). drain_access r.buffer) same ∙ is));
       }
 
@@ -611,7 +617,7 @@ module _ (program : List (List Instr)) (forward : IsForward program) where
         record { more = f ∷ r.more; no_longer = omega (arith, r.no_longer); ran = (both.end, both.behind, r.ran) }
 
     -- The run's first event, if the claim holds for the rest of the run.
-    event-first : (e f : Event)
+    ShorterRun-of_event : (e f : Event)
         → MachineTransition flat_memory program e s (Ok tt) first
         → IsInvisible program e s
         → MachineTransition flat_memory program f s (Ok tt) mid
@@ -620,7 +626,7 @@ module _ (program : List (List Instr)) (forward : IsForward program) where
         → IsInvisible program e mid
         → ShorterRun es next end)
         → ShorterRun (f ∷ es) first end
-    event-first e f enabled invisible done rest = elim (cases_eq (cpu_of f) (cpu_of e)) [
+    ShorterRun-of_event e f enabled invisible done rest = elim (cases_eq (cpu_of f) (cpu_of e)) [
       | inr ne ↦ ShorterRun-exchanged e f rest (AreExchangedInvisibly-other_thread e f s first mid enabled invisible done ne)
       | inl same ↦ ShorterRun-own_thread e f same enabled invisible done rest
     ]
@@ -659,12 +665,12 @@ module _ (program : List (List Instr)) (forward : IsForward program) where
             absurd (not-EffectLeadsTo-evict_event program (length s.memory) u x h.from h.to s.memory h.words h.does)
 
   -- No state in which an event of a thread is enabled is final.
-  not-is_final_if_enabled : (e : Event) (s first : State)
+  not-is_final-if_enabled : (e : Event) (s first : State)
       → MachineTransition flat_memory program e s (Ok tt) first
       → cpu_of e < length program
       → IsTrue (is_final program s)
       → ⊥
-  not-is_final_if_enabled e s first enabled lt final =
+  not-is_final-if_enabled e s first enabled lt final =
       let d = EventOccurrence-of_event program e s first enabled in
       let code = slice_get-in_range program (cpu_of e) lt in
       let is : thread_code program (cpu_of e) ≡ code.0 = get_or_from_slice_get program (cpu_of e) code.0 [] code.1 in
@@ -693,24 +699,25 @@ module _ (program : List (List Instr)) (forward : IsForward program) where
 
   -- An invisible event can be moved to the front of a run to a final state: from the state after it, a run that is no longer has the same
   -- end.
-  invisible_event-first : (e : Event) (events : List Event) (s first end : State)
+  ShorterRun-of_invisible_event : (e : Event) (events : List Event) (s first end : State)
       → MachineTransition flat_memory program e s (Ok tt) first
       → IsInvisible program e s
       → cpu_of e < length program
       → MachineRunsTo flat_memory program events s end
       → IsTrue (is_final program end)
       → ShorterRun events first end
-  invisible_event-first e [] s first end enabled invisible lt ran final =
-      absurd (not-is_final_if_enabled e s first enabled lt (subst (λ z. IsTrue (is_final program z)) ran final))
-  invisible_event-first e (f ∷ es) s first end enabled invisible lt (mid, done, ran) final =
-      event-first es s first mid end ran e f enabled invisible done
-      (λ next again still. invisible_event-first e es mid next end again still lt ran final)
+  ShorterRun-of_invisible_event e [] s first end enabled invisible lt ran final =
+      absurd (not-is_final-if_enabled e s first enabled lt (subst (λ z. IsTrue (is_final program z)) ran final))
+  ShorterRun-of_invisible_event e (f ∷ es) s first end enabled invisible lt (mid, done, ran) final =
+      ShorterRun-of_event es s first mid end ran e f enabled invisible done
+      (λ next again still. ShorterRun-of_invisible_event e es mid next end again still lt ran final)
 
   -- The state after an invisible event covers the state before it.
-  pub covers-invisible_event : (e : Event) (s next : State)
+  pub Covers-invisible_event : (e : Event) (s next : State)
       → MachineTransition flat_memory program e s (Ok tt) next
       → IsInvisible program e s
       → cpu_of e < length program
       → Covers program next s
-  covers-invisible_event e s next enabled invisible lt events end ran final =
-      let rest = invisible_event-first e events s next end enabled invisible lt ran final in (rest.more, rest.no_longer, rest.ran)
+  Covers-invisible_event e s next enabled invisible lt events end ran final =
+      let rest = ShorterRun-of_invisible_event e events s next end enabled invisible lt ran final in
+      (rest.more, rest.no_longer, rest.ran)

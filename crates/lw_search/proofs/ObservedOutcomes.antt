@@ -12,7 +12,7 @@ use Rattle.lw_search.proofs.Common.{InsertsObserved, suc, arith, LeadsTo, IsOfSo
 use Rattle.lw_search.proofs.Common.{slice_get_within, slice_get-in_range, AreObserved, ContainsWordsOf}
 use Rattle.lw_search.proofs.Common.{All-nil, ◌+◌, cases_lt, ◌≤◌, CollectsAll, HaveSameWords, ◌≡◌, option_map}
 use Rattle.lw_search.proofs.Common.{slice_get-map}
-use Rattle.lw_search.proofs.Collected.{found-reachable}
+use Rattle.lw_search.proofs.Collected.{MachineRunsTo-found}
 
 -- ---- the words of a state
 
@@ -37,13 +37,13 @@ module _ (program : List (List Instr)) (tables : Components) (key : List ℕ) (n
 -- ---- inserting
 
 -- Inserting a list of words that may be present adds nothing but this list.
-pub words-inserted : {X : Type 0} (b : Bool) (ks new : List X) (k : X)
+pub word_in-inserted : {X : Type 0} (b : Bool) (ks new : List X) (k : X)
     → new ≡ (if b then ks else (ks ++ k ∷ []))
     → (i : ℕ) (other : X)
     → slice_get new i ≡ Some other
     → (slice_get ks i ≡ Some other) ⊎ (other ≡ k)
-words-inserted true ks new k e i other at = inl (ap (λ l. slice_get l i) (sym e) ∙ at)
-words-inserted false ks new k e i other at = elim (slice_get-append_cases ks k other i (ap (λ l. slice_get l i) (sym e) ∙ at)) [
+word_in-inserted true ks new k e i other at = inl (ap (λ l. slice_get l i) (sym e) ∙ at)
+word_in-inserted false ks new k e i other at = elim (slice_get-append_cases ks k other i (ap (λ l. slice_get l i) (sym e) ∙ at)) [
   | inl old ↦ inl old
   | inr last ↦ inr (sym last.1)
 ]
@@ -65,11 +65,11 @@ Contains-appended_outcome old new o grown =
     subst (λ ks. Contains ks o) (sym (ap outcomes_of grown ∙ map-append _ old ((o, tt) ∷ []))) (Contains-push (outcomes_of old) o)
 
 -- Appending an entry preserves the outcomes that are listed.
-pub outcomes-kept : (old new : OutcomesWith (Unit {0})) (o p : FinalState)
+pub Contains-kept_outcome : (old new : OutcomesWith (Unit {0})) (o p : FinalState)
     → new ≡ old ++ (o, tt) ∷ []
     → Contains (outcomes_of old) p
     → Contains (outcomes_of new) p
-outcomes-kept old new o p grown has =
+Contains-kept_outcome old new o p grown has =
     subst (λ ks. Contains ks p) (sym (ap outcomes_of grown ∙ map-append _ old ((o, tt) ∷ [])))
     (Contains-append_left (outcomes_of old) (o ∷ []) p has)
 
@@ -85,11 +85,11 @@ All-appended_entry P old new o grown all one = subst (λ es. All P es) (sym grow
 
 module _ (names : List Seen) (program : List (List Instr)) (tables : Components) (visited : FoundStates) where
   -- The state at an index is not final, so nothing changes.
-  pub observes-not_final : (at : ℕ) (key : List ℕ) (observed : ObservedWords)
+  pub ObservesState-not_final : (at : ℕ) (key : List ℕ) (observed : ObservedWords)
       → slice_get visited.keys at ≡ Some key
       → ((s : State) → Represents tables key s → length s.processors ≡ length program → IsTrue (is_final program s) → ⊥)
       → ObservesState names program tables visited at observed observed
-  observes-not_final at key observed key_at not = record {
+  ObservesState-not_final at key observed key_at not = record {
     observed = λ start found closed invariant are. are;
     covered = λ start found closed s invariant are found_at final.
         absurd (not s (invariant.represents at key s key_at found_at) (invariant.thread_count at s found_at) final);
@@ -98,7 +98,7 @@ module _ (names : List Seen) (program : List (List Instr)) (tables : Components)
   }
 
   -- The words of the state at an index are observed already, so nothing changes.
-  pub observes-known : (at : ℕ) (key words : List ℕ) (is_new : Bool) (old new : ObservedWords)
+  pub ObservesState-known : (at : ℕ) (key words : List ℕ) (is_new : Bool) (old new : ObservedWords)
       → slice_get visited.keys at ≡ Some key
       → ((s : State)
       → Represents tables key s
@@ -107,7 +107,7 @@ module _ (names : List Seen) (program : List (List Instr)) (tables : Components)
       → InsertsWords old words is_new new
       → is_new ≡ false
       → ObservesState names program tables visited at old new
-  observes-known at key words is_new old new key_at are_words inserts known =
+  ObservesState-known at key words is_new old new key_at are_words inserts known =
       let has = inserts.known known in
       let listed : (p : FinalState) → Contains (outcomes_of old.outcomes) p → Contains (outcomes_of new.outcomes) p =
       λ p c. subst (λ es. Contains (outcomes_of es) p) (sym inserts.outcomes) c in
@@ -126,7 +126,7 @@ module _ (names : List Seen) (program : List (List Instr)) (tables : Components)
       }
 
   -- The outcome of the state at an index is inserted, with its words.
-  pub observes-new : (at : ℕ) (key words : List ℕ) (o : FinalState) (old new : ObservedWords)
+  pub ObservesState-new : (at : ℕ) (key words : List ℕ) (o : FinalState) (old new : ObservedWords)
       → slice_get visited.keys at ≡ Some key
       → ((s : State)
       → Represents tables key s
@@ -136,9 +136,10 @@ module _ (names : List Seen) (program : List (List Instr)) (tables : Components)
       → ((s : State) → Represents tables key s → length s.processors ≡ length program → IsTrue (is_final program s))
       → InsertsObserved old words o new
       → ObservesState names program tables visited at old new
-  observes-new at key words o old new key_at are_words is final inserts = record {
+  ObservesState-new at key words o old new key_at are_words is final inserts = record {
     observed = λ start found closed invariant are i others there. elim (inserts.words_are i others there) [
-      | inl before ↦ let p = are i others before in (p.0, outcomes-kept old.outcomes new.outcomes o p.0 inserts.outcomes p.1, p.2)
+      | inl before ↦
+          let p = are i others before in (p.0, Contains-kept_outcome old.outcomes new.outcomes o p.0 inserts.outcomes p.1, p.2)
       | inr last ↦
           let s = state_at start found closed invariant in
           let words_is = are_words s.0 s.1 s.2 in
@@ -147,10 +148,10 @@ module _ (names : List Seen) (program : List (List Instr)) (tables : Components)
     covered = λ start found closed s invariant are found_at ends.
         let same = is s (invariant.represents at key s key_at found_at) (invariant.thread_count at s found_at) in
         (o, added, ap (final_words names) same);
-    kept = λ p c. outcomes-kept old.outcomes new.outcomes o p inserts.outcomes c;
+    kept = λ p c. Contains-kept_outcome old.outcomes new.outcomes o p inserts.outcomes c;
     lead = λ start found closed invariant all.
         let s = state_at start found closed invariant in
-        let ran = found-reachable program start tables visited found closed invariant (suc at) at s.0 (omega arith) s.3 in
+        let ran = MachineRunsTo-found program start tables visited found closed invariant (suc at) at s.0 (omega arith) s.3 in
         let to : LeadsTo IsOfSomeRun program start (o, tt) = (ran.0, tt, (s.0, ran.1, final s.0 s.1 s.2, is s.0 s.1 s.2)) in
         All-appended_entry (LeadsTo IsOfSomeRun program start) old.outcomes new.outcomes o inserts.outcomes all to;
   }
@@ -184,19 +185,19 @@ module _ (names : List Seen) (program : List (List Instr)) (tables : Components)
         → All (LeadsTo IsOfSomeRun program start) observed.outcomes
 
   -- Of the first 0 states nothing is observed.
-  pub observes_first-none : ObservesFirst 0 (record { words = []; outcomes = [] })
-  observes_first-none = record {
+  pub ObservesFirst-none : ObservesFirst 0 (record { words = []; outcomes = [] })
+  ObservesFirst-none = record {
     words = λ start found closed invariant i words at. absurd cc;
     covered = λ start found closed i s invariant lt at final. absurd (omega (arith, lt));
     lead = λ start found closed invariant. All-nil (LeadsTo IsOfSomeRun program start);
   }
 
   -- If the first n states are observed, and then the state at index n, the first n + 1 are observed.
-  pub observes_first-more : (n : ℕ) (old new : ObservedWords)
+  pub ObservesFirst-next : (n : ℕ) (old new : ObservedWords)
       → ObservesFirst n old
       → ObservesState names program tables visited n old new
       → ObservesFirst (n + 1) new
-  observes_first-more n old new first here = record {
+  ObservesFirst-next n old new first here = record {
     words = λ start found closed invariant. here.observed start found closed invariant (first.words start found closed invariant);
     covered = λ start found closed i s invariant lt at final. elim (cases_lt i n) [
       | inl less ↦ (let p = first.covered start found closed i s invariant less at final in (p.0, here.kept p.0 p.1, p.2))
@@ -209,13 +210,13 @@ module _ (names : List Seen) (program : List (List Instr)) (tables : Components)
   }
 
   -- The outcomes that are observed of all states are collected, in any order, and each at least once.
-  pub observed-collected : (n : ℕ) (observed : ObservedWords) (entries : OutcomesWith (Unit {0}))
+  pub CollectsAll-of_observed : (n : ℕ) (observed : ObservedWords) (entries : OutcomesWith (Unit {0}))
       → ObservesFirst n observed
       → length visited.keys ≤ n
       → ((e : FinalState × Unit {0}) → Contains entries e → Contains observed.outcomes e)
       → ((o : FinalState) → Contains (outcomes_of observed.outcomes) o → Contains (outcomes_of entries) o)
       → CollectsAll (HaveSameWords names) IsOfSomeRun program tables visited entries
-  observed-collected n observed entries first few from complete = record {
+  CollectsAll-of_observed n observed entries first few from complete = record {
     covered = λ start found closed i s invariant at final.
         let lt : i < n = (let h = slice_get_within found i s at in omega (arith, h, few, invariant.key_count)) in
         let p = first.covered start found closed i s invariant lt at final in

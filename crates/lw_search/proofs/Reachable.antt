@@ -7,7 +7,7 @@ use Rattle.lw_search.proofs.Common.{Contains-cons, IsDuplicateFree, IsReachable,
 use Rattle.lw_search.proofs.Common.{ExceedsBudget, State, Components, FoundStates, HasUniqueIndices}
 use Rattle.lw_search.proofs.Common.{SearchInvariant}
 use Rattle.lw_search.proofs.AllFound.{final_state-found}
-use Rattle.lw_search.proofs.Collected.{found-reachable}
+use Rattle.lw_search.proofs.Collected.{MachineRunsTo-found}
 
 -- ---- members and indices
 
@@ -48,13 +48,13 @@ All-slice_get P (x ∷ xs) each = All-cons P x xs (each 0 x refl) (All-slice_get
 
 module _ (test : X86Test) (tables : Components) (visited : FoundStates) (found : List State) where
   -- The states found are reachable, whatever number of them was expanded.
-  pub found-are_reachable : (closed : ℕ)
+  pub AreReachable-found : (closed : ℕ)
       → SearchInvariant test.threads (initial_machine_state test test.head.init_words) tables visited found closed
       → AreReachable test found
-  found-are_reachable closed invariant = record {
+  AreReachable-found closed invariant = record {
     distinct = IsDuplicateFree-of_unique_indices found invariant.distinct;
     reachable = All-slice_get (IsReachable test) found (λ i s at.
-        found-reachable test.threads (initial_machine_state test test.head.init_words) tables visited found closed invariant
+        MachineRunsTo-found test.threads (initial_machine_state test test.head.init_words) tables visited found closed invariant
         (suc i) i s (omega arith) at);
   }
 
@@ -65,7 +65,7 @@ module _ (test : X86Test) (tables : Components) (visited : FoundStates) (found :
   visits-found invariant = record {
     states = found;
     size = sym invariant.key_count;
-    reachable = found-are_reachable (length visited.keys) invariant;
+    reachable = AreReachable-found (length visited.keys) invariant;
     final = λ s (events, ran) final.
         let all : SearchInvariant test.threads (initial_machine_state test test.head.init_words) tables visited found
         (length found) =
@@ -78,9 +78,9 @@ module _ (test : X86Test) (tables : Components) (visited : FoundStates) (found :
   }
 
   -- A search that found more states than its budget exceeds it.
-  pub exceeds-found : (budget closed : ℕ)
+  pub ExceedsBudget-of_found : (budget closed : ℕ)
       → SearchInvariant test.threads (initial_machine_state test test.head.init_words) tables visited found closed
       → budget < length found
       → ExceedsBudget test budget
-  exceeds-found budget closed invariant more =
-      record { states = found; more = more; reachable = found-are_reachable closed invariant }
+  ExceedsBudget-of_found budget closed invariant more =
+      record { states = found; more = more; reachable = AreReachable-found closed invariant }

@@ -9,13 +9,13 @@ use Rattle.lw_search.proofs.Common.{Processor, list_any, position-Some, slice_ge
 use Rattle.lw_search.proofs.Common.{HasUniqueIndices, Extends, Components}
 
 -- The item at the position of x is x.
-pub position-item : {X : Type 0} (eq : X → X → Bool)
+pub slice_get-at_position : {X : Type 0} (eq : X → X → Bool)
     → ((x y : X) → eq x y ≡ true → x ≡ y)
     → (xs : List X) (x : X) (r : Option ℕ) (i : ℕ)
     → r ≡ position (eq x) xs
     → r ≡ Some i
     → slice_get xs i ≡ Some x
-position-item eq decides xs x r i found is =
+slice_get-at_position eq decides xs x r i found is =
     let p = position-Some (eq x) xs i x (sym found ∙ is) in
     slice_get-get_or xs i x p.0 ∙ ap Some (sym (decides x (get_or xs i x) p.1))
 
@@ -28,8 +28,8 @@ slice_get-append_left (y ∷ xs) ys zero x at = at
 slice_get-append_left (y ∷ xs) ys (suc i) x at = slice_get-append_left xs ys i x at
 
 -- A list is a prefix of itself.
-pub prefix-refl : {X : Type 0} (xs : List X) → IsPrefix xs xs
-prefix-refl xs i x at = at
+pub IsPrefix-refl : {X : Type 0} (xs : List X) → IsPrefix xs xs
+IsPrefix-refl xs i x at = at
 
 -- If a disjunction is false, both parts are.
 or-false_inv : (a b : Bool) → (a || b) ≡ false → (a ≡ false) × (b ≡ false)
@@ -37,25 +37,25 @@ or-false_inv true b e = absurd (true≢false e)
 or-false_inv false b e = (refl, e)
 
 -- No item equals x if `list_any` finds none.
-pub absent-any : {X : Type 0} (eq : X → X → Bool)
+pub not-slice_get-if_absent : {X : Type 0} (eq : X → X → Bool)
     → ((x y : X) → Decides (eq x y) (x ≡ y))
     → (xs : List X) (x : X)
     → list_any (eq x) xs ≡ false
     → (i : ℕ)
     → slice_get xs i ≡ Some x
     → ⊥
-absent-any eq decides [] x none i at = absurd cc
-absent-any {X} eq decides (y ∷ xs) x none zero at =
+not-slice_get-if_absent eq decides [] x none i at = absurd cc
+not-slice_get-if_absent {X} eq decides (y ∷ xs) x none zero at =
     true≢false (sym ((decides x y).1 (sym (same_Some y x at))) ∙ (or-false_inv (eq x y) (list_any (eq x) xs) none).0)
-absent-any {X} eq decides (y ∷ xs) x none (suc i) at =
-    absent-any eq decides xs x (or-false_inv (eq x y) (list_any (eq x) xs) none).1 i at
+not-slice_get-if_absent {X} eq decides (y ∷ xs) x none (suc i) at =
+    not-slice_get-if_absent eq decides xs x (or-false_inv (eq x y) (list_any (eq x) xs) none).1 i at
 
 -- Appending a new item preserves that a list has no duplicates.
-pub distinct-append : {X : Type 0} (xs : List X) (x : X)
+pub HasUniqueIndices-append : {X : Type 0} (xs : List X) (x : X)
     → ((i : ℕ) → slice_get xs i ≡ Some x → ⊥)
     → HasUniqueIndices xs
     → HasUniqueIndices (xs ++ x ∷ [])
-distinct-append {X} xs x absent distinct i j y at and =
+HasUniqueIndices-append {X} xs x absent distinct i j y at and =
     go (slice_get-append_cases xs x y i at) (slice_get-append_cases xs x y j and)
   where
     go : (slice_get xs i ≡ Some y) ⊎ ((i ≡ length xs) × (x ≡ y)) → (slice_get xs j ≡ Some y) ⊎ ((j ≡ length xs) × (x ≡ y)) → i ≡ j
@@ -65,24 +65,25 @@ distinct-append {X} xs x absent distinct i j y at and =
     go (inr a) (inl b) = absurd (absent j (b ∙ ap Some (sym a.1)))
 
 -- Inserting an item that may be present already preserves the list as a prefix.
-pub prefix-insert_if : {X : Type 0} (b : Bool) (ks new : List X) (k : X)
+pub IsPrefix-insert_if : {X : Type 0} (b : Bool) (ks new : List X) (k : X)
     → new ≡ (if b then ks else (ks ++ k ∷ []))
     → IsPrefix ks new
-prefix-insert_if true ks new k e i x at = ap (λ l. slice_get l i) e ∙ at
-prefix-insert_if false ks new k e i x at = ap (λ l. slice_get l i) e ∙ slice_get-append_left ks (k ∷ []) i x at
+IsPrefix-insert_if true ks new k e i x at = ap (λ l. slice_get l i) e ∙ at
+IsPrefix-insert_if false ks new k e i x at = ap (λ l. slice_get l i) e ∙ slice_get-append_left ks (k ∷ []) i x at
 
 -- Inserting an item, unless it is present, preserves that a list has no duplicates.
-pub distinct-insert : {X : Type 0} (eq : X → X → Bool)
+pub HasUniqueIndices-insert : {X : Type 0} (eq : X → X → Bool)
     → ((x y : X) → Decides (eq x y) (x ≡ y))
     → (ks new : List X) (k : X)
     → new ≡ (if list_any (eq k) ks then ks else (ks ++ k ∷ []))
     → HasUniqueIndices ks
     → HasUniqueIndices new
-distinct-insert {X} eq decides ks new k is distinct = go (list_any (eq k) ks) refl is
+HasUniqueIndices-insert {X} eq decides ks new k is distinct = go (list_any (eq k) ks) refl is
   where
     go : (b : Bool) → list_any (eq k) ks ≡ b → new ≡ (if b then ks else (ks ++ k ∷ [])) → HasUniqueIndices new
     go true e n = subst HasUniqueIndices (sym n) distinct
-    go false e n = subst HasUniqueIndices (sym n) (distinct-append ks k (absent-any eq decides ks k e) distinct)
+    go false e n =
+        subst HasUniqueIndices (sym n) (HasUniqueIndices-append ks k (not-slice_get-if_absent eq decides ks k e) distinct)
 
 -- ---- states of threads
 
@@ -144,18 +145,18 @@ pub run_eq-sound : (run other : List (ℕ × Bool)) → run_eq run other ≡ tru
 run_eq-sound run other = (pointwise_decides event_eq-decides run other).0
 
 -- Tables extend themselves.
-pub extends-refl : (t : Components) → Extends t t
-extends-refl t = record {
+pub Extends-refl : (t : Components) → Extends t t
+Extends-refl t = record {
   program = refl;
-  threads = prefix-refl t.threads;
-  memories = prefix-refl t.memories;
+  threads = IsPrefix-refl t.threads;
+  memories = IsPrefix-refl t.memories;
   distinct_threads = λ d. d;
   distinct_memories = λ d. d;
 }
 
 -- Extending tables is transitive.
-pub extends-trans : {a b d : Components} → Extends a b → Extends b d → Extends a d
-extends-trans first second = record {
+pub Extends-trans : {a b d : Components} → Extends a b → Extends b d → Extends a d
+Extends-trans first second = record {
   program = second.program ∙ first.program;
   threads = λ i x at. second.threads i x (first.threads i x at);
   memories = λ i x at. second.memories i x (first.memories i x at);

@@ -17,12 +17,12 @@ use Rattle.lw_search.proofs.Common.{IsForward, ActResult, State, Components, Ext
 use Rattle.lw_search.proofs.Common.{RepresentsOthers, RepresentsThreads, event_of, events_of, set_thread}
 use Rattle.lw_search.proofs.Common.{Covers, Settles, Settled, SettlesFrom, IsLoaded, IsWorking, DescribeState}
 use Rattle.lw_search.proofs.Common.{HasConflictsOfOthers, AvoidsConflicts, Outlook, append_assoc}
-use Rattle.lw_search.proofs.InvisibleEvents.{covers-invisible_event}
-use Rattle.lw_search.proofs.Rows.{extends-refl, extends-trans}
+use Rattle.lw_search.proofs.InvisibleEvents.{Covers-invisible_event}
+use Rattle.lw_search.proofs.Rows.{Extends-refl, Extends-trans}
 
 -- Jumps of a well-formed program go forward, and so do its other instructions.
-pub well_formed-forward : (test : X86Test) → IsWellFormedProgram test → IsForward test.threads
-well_formed-forward test formed t k j i at leads =
+pub IsForward-of_well_formed : (test : X86Test) → IsWellFormedProgram test → IsForward test.threads
+IsForward-of_well_formed test formed t k j i at leads =
     ⊎_elim (λ lt.
     let thread : IsWellFormedThread x86_language (length test.head.locs) (thread_code test.threads t) = formed.code t [] lt in
     ⊎_elim (λ on. omega (arith, on.1)) (λ to. (thread.forward k i at j to).0) leads) (λ past.
@@ -31,26 +31,26 @@ well_formed-forward test formed t k j i at leads =
 
 module _ (program : List (List Instr)) where
   -- A state covers itself.
-  covers-refl : (s : State) → Covers program s s
-  covers-refl s events end ran final = (events, omega arith, ran)
+  Covers-refl : (s : State) → Covers program s s
+  Covers-refl s events end ran final = (events, omega arith, ran)
 
   -- A state covers an equal one.
-  pub covers-eq : (r s : State) → r ≡ s → Covers program r s
-  covers-eq r s same = subst (λ z. Covers program z s) (sym same) (covers-refl s)
+  pub Covers-eq : (r s : State) → r ≡ s → Covers program r s
+  Covers-eq r s same = subst (λ z. Covers program z s) (sym same) (Covers-refl s)
 
   -- Covering is transitive.
-  pub covers-trans : (r s t : State) → Covers program r s → Covers program s t → Covers program r t
-  covers-trans r s t first second events end ran final =
+  pub Covers-trans : (r s t : State) → Covers program r s → Covers program s t → Covers program r t
+  Covers-trans r s t first second events end ran final =
       let a = second events end ran final in
       let b = first a.0 end a.2 final in
       (b.0, omega (arith, a.1, b.1), b.2)
 
   module _ (tables : Components) (key : List ℕ) (t : ℕ) where
     -- If a key represents a state, it represents the other threads, whatever thread t and the memory become.
-    pub represents-others : (s : State) (q : Processor) (n : List ℕ)
+    pub RepresentsOthers-set_thread : (s : State) (q : Processor) (n : List ℕ)
         → Represents tables key s
         → RepresentsOthers tables key t (set_thread s t q n)
-    represents-others s q n is_represented = record {
+    RepresentsOthers-set_thread s q n is_represented = record {
       size = is_represented.size;
       threads = λ u p ne at. is_represented.threads u p (sym (get-set_other s.processors t u q (λ e. ne (sym e))) ∙ at);
       unused = λ u le. is_represented.unused u (subst (λ k. k ≤ u) (length-set s.processors t q) le);
@@ -58,27 +58,28 @@ module _ (program : List (List Instr)) where
 
   module _ (set t : ℕ) where
     -- The conflicts of the other threads do not depend on the state of thread t and on the memory.
-    pub conflicts-set_thread : (s : State) (q : Processor) (n : List ℕ)
+    pub HasConflictsOfOthers-set_thread : (s : State) (q : Processor) (n : List ℕ)
         → HasConflictsOfOthers program s t set
         → HasConflictsOfOthers program (set_thread s t q n) t set
-    conflicts-set_thread s q n has u p ne at = has u p ne (sym (get-set_other s.processors t u q (λ e. ne (sym e))) ∙ at)
+    HasConflictsOfOthers-set_thread s q n has u p ne at =
+        has u p ne (sym (get-set_other s.processors t u q (λ e. ne (sym e))) ∙ at)
 
     -- Without events a thread and the memory are unchanged.
-    pub settles-none : (p : Processor) (m : List ℕ) → Settles program set t [] p m p m
-    settles-none p m s has size at words = (same, covers-eq (set_thread s t p m) s same)
+    pub Settles-none : (p : Processor) (m : List ℕ) → Settles program set t [] p m p m
+    Settles-none p m s has size at words = (same, Covers-eq (set_thread s t p m) s same)
       where
         same : set_thread s t p m ≡ s
         same = ap₂ (λ ps k. state ps k) (set-get_same s.processors t p at) (sym words)
 
     -- Events that take a thread to one state, and then to another, take it there in sequence.
-    pub settles-append : (es fs : List Event) (p q r : Processor) (m n o : List ℕ)
+    pub Settles-append : (es fs : List Event) (p q r : Processor) (m n o : List ℕ)
         → Settles program set t es p m q n
         → Settles program set t fs q n r o
         → Settles program set t (es ++ fs) p m r o
-    settles-append es fs p q r m n o first second s has size at words = (
+    Settles-append es fs p q r m n o first second s has size at words = (
       RunsTo-append (MachineTransition flat_memory program) es fs s mid end a.0
           (subst (λ z. MachineRunsTo flat_memory program fs mid z) same b.0),
-      covers-trans end mid s (subst (λ z. Covers program z mid) same b.1) a.1,
+      Covers-trans end mid s (subst (λ z. Covers program z mid) same b.1) a.1,
     )
       where
         mid : State
@@ -92,40 +93,40 @@ module _ (program : List (List Instr)) where
 
         b : MachineRunsTo flat_memory program fs mid (set_thread mid t r o) × Covers program (set_thread mid t r o) mid
         b =
-            second mid (conflicts-set_thread s q n has) (length-set s.processors t q ∙ size) (get-set_same s.processors t q p at)
-            refl
+            second mid (HasConflictsOfOthers-set_thread s q n has) (length-set s.processors t q ∙ size)
+            (get-set_same s.processors t q p at) refl
 
         same : set_thread mid t r o ≡ end
         same = ap (λ ps. state ps o) (set-set s.processors t q r)
 
     -- A run of invisible events, extended by at most one event.
-    pub settles-more : (run : List (ℕ × Bool)) (event : Option (ℕ × Bool)) (p q r : Processor) (m n o : List ℕ)
+    pub Settles-push : (run : List (ℕ × Bool)) (event : Option (ℕ × Bool)) (p q r : Processor) (m n o : List ℕ)
         → Settles program set t (events_of run) p m q n
         → Settles program set t (events_of (option_to_list event)) q n r o
         → Settles program set t (events_of (run ++ option_to_list event)) p m r o
-    settles-more run event p q r m n o first second =
+    Settles-push run event p q r m n o first second =
         subst (λ es. Settles program set t es p m r o) (sym (map-append event_of run (option_to_list event)))
-        (settles-append (events_of run) (events_of (option_to_list event)) p q r m n o first second)
+        (Settles-append (events_of run) (events_of (option_to_list event)) p q r m n o first second)
 
     -- A run of invisible events, followed by no event, leads to the same state.
-    pub settles-end : (run : List (ℕ × Bool)) (p q r : Processor) (m n o : List ℕ)
+    pub Settles-end : (run : List (ℕ × Bool)) (p q r : Processor) (m n o : List ℕ)
         → Settles program set t (events_of run) p m q n
         → Settles program set t [] q n r o
         → Settles program set t (events_of run) p m r o
-    settles-end run p q r m n o first second =
+    Settles-end run p q r m n o first second =
         subst (λ es. Settles program set t es p m r o) (append-nil (events_of run))
-        (settles-append (events_of run) [] p q r m n o first second)
+        (Settles-append (events_of run) [] p q r m n o first second)
 
   module _ (forward : IsForward program) (set : ℕ) where
     -- An invisible event that is enabled is taken at once.
-    settles-event : (e : Event) (p q : Processor) (m n : List ℕ)
+    Settles-event : (e : Event) (p q : Processor) (m n : List ℕ)
         → cpu_of e < length program
         → ((locs : ℕ) → EffectLeadsTo m (event_effect program locs e p) q n)
         → AvoidsConflicts set m (event_access (thread_code program (cpu_of e)) e p)
         → Settles program set (cpu_of e) (e ∷ []) p m q n
-    settles-event e p q m n lt does free s has size at words = (
+    Settles-event e p q m n lt does free s has size at words = (
       (set_thread s (cpu_of e) q n, done, refl),
-      covers-invisible_event program forward e s (set_thread s (cpu_of e) q n) done invisible lt,
+      Covers-invisible_event program forward e s (set_thread s (cpu_of e) q n) done invisible lt,
     )
       where
         done : MachineTransition flat_memory program e s (Ok tt) (set_thread s (cpu_of e) q n)
@@ -144,59 +145,59 @@ module _ (program : List (List Instr)) where
 
     -- If the access of a step is none of the conflicts with other threads, the step is taken at once if it is executed. If it is refused, nothing
     -- changes.
-    pub settles-step : (t : ℕ) (code : List Instr) (i : Instr) (p q : Processor) (m n : List ℕ) (done : Bool)
+    pub Settles-step : (t : ℕ) (code : List Instr) (i : Instr) (p q : Processor) (m n : List ℕ) (done : Bool)
         → slice_get program t ≡ Some code
         → slice_get code p.position ≡ Some i
         → AvoidsConflicts set m (operation_access (x86_operation i))
         → ActResult (operation_effect (x86_operation i) p) p m done q n
         → Settles program set t (if done then Step t ∷ [] else []) p m q n
-    settles-step t code i p q m n true coded next free result =
-        settles-event (Step t) p q m n (slice_get_within program t code coded) (λ locs.
+    Settles-step t code i p q m n true coded next free result =
+        Settles-event (Step t) p q m n (slice_get_within program t code coded) (λ locs.
         subst (λ o. EffectLeadsTo m (step_effect o p) q n) (sym here)
         (EffectLeadsTo-if_done t (operation_effect (x86_operation i) p) p q m n (result t)))
         (λ a access. free a (ap step_access (sym here) ∙ access))
       where
         here : slice_get (thread_code program t) p.position ≡ Some i
         here = ap (λ c. slice_get c p.position) (get_or_from_slice_get program t code [] coded) ∙ next
-    settles-step t code i p q m n false coded next free result =
+    Settles-step t code i p q m n false coded next free result =
         subst (λ r. Settles program set t [] p m r n) (sym result.1)
-        (subst (λ k. Settles program set t [] p m p k) (sym result.2) (settles-none set t p m))
+        (subst (λ k. Settles program set t [] p m p k) (sym result.2) (Settles-none set t p m))
 
     -- If the access of a drain is none of the conflicts with other threads, the drain is taken at once if it is executed. If it is refused, nothing
     -- changes.
-    pub settles-drain : (t : ℕ) (p q : Processor) (m n : List ℕ) (done : Bool)
+    pub Settles-drain : (t : ℕ) (p q : Processor) (m n : List ℕ) (done : Bool)
         → t < length program
         → AvoidsConflicts set m (drain_access p.buffer)
         → ActResult (drain_effect p.buffer p) p m done q n
         → Settles program set t (if done then Drain t ∷ [] else []) p m q n
-    settles-drain t p q m n true lt free result =
-        settles-event (Drain t) p q m n lt (λ locs. EffectLeadsTo-if_done t (drain_effect p.buffer p) p q m n (result t)) free
-    settles-drain t p q m n false lt free result =
+    Settles-drain t p q m n true lt free result =
+        Settles-event (Drain t) p q m n lt (λ locs. EffectLeadsTo-if_done t (drain_effect p.buffer p) p q m n (result t)) free
+    Settles-drain t p q m n false lt free result =
         subst (λ r. Settles program set t [] p m r n) (sym result.1)
-        (subst (λ k. Settles program set t [] p m p k) (sym result.2) (settles-none set t p m))
+        (subst (λ k. Settles program set t [] p m p k) (sym result.2) (Settles-none set t p m))
 
 -- ---- keys
 
 module _ (program : List (List Instr)) where
   -- Outlooks that describe a state of a key by the tables' program describe it by the search's, which is the same.
-  pub describe-same_program : {tables : Components} (key : List ℕ) (outlooks : List Outlook) (s : State)
+  pub DescribeState-same_program : {tables : Components} (key : List ℕ) (outlooks : List Outlook) (s : State)
       → tables.program ≡ program
       → (RepresentsThreads tables key s → length s.processors ≡ length tables.program → DescribeState tables.program s outlooks)
       → RepresentsThreads tables key s
       → length s.processors ≡ length program
       → DescribeState program s outlooks
-  describe-same_program key outlooks s same describe is_represented as_many =
+  DescribeState-same_program key outlooks s same describe is_represented as_many =
       subst (λ p. DescribeState p s outlooks) same (describe is_represented (as_many ∙ ap length (sym same)))
 
   -- A key that represents a state represents its threads.
-  pub represents-threads : (tables : Components) (key : List ℕ) (s : State)
+  pub RepresentsThreads-of_state : (tables : Components) (key : List ℕ) (s : State)
       → Represents tables key s
       → RepresentsThreads tables key s
-  represents-threads tables key s is_represented =
+  RepresentsThreads-of_state tables key s is_represented =
       record { size = is_represented.size; threads = λ u p at. is_represented.threads u p at; unused = is_represented.unused }
 
   -- With the loaded thread's number, the key represents all threads.
-  represents-loaded : {old new : Components} (key next : List ℕ) (t : ℕ) (s : State) (p q : Processor) (n : List ℕ)
+  RepresentsThreads-loaded : {old new : Components} (key next : List ℕ) (t : ℕ) (s : State) (p q : Processor) (n : List ℕ)
       → RepresentsOthers old key t s
       → slice_get s.processors t ≡ Some p
       → Extends old new
@@ -204,7 +205,7 @@ module _ (program : List (List Instr)) where
       → slice_get new.threads (slice_index next (t + 1)) ≡ Some q
       → ((u : ℕ) → u ≢ t → slice_index next (u + 1) ≡ slice_index key (u + 1))
       → RepresentsThreads new next (set_thread s t q n)
-  represents-loaded {old} {new} key next t s p q n is_represented there extended size thread others = record {
+  RepresentsThreads-loaded {old} {new} key next t s p q n is_represented there extended size thread others = record {
     size = size ∙ is_represented.size;
     threads = λ u r at. threads u r at;
     unused = λ u ge.
@@ -228,7 +229,7 @@ module _ (program : List (List Instr)) where
       ]
 
   -- What a loaded thread did, with its number in the key.
-  pub settles_from-loaded : {old new : Components} (key next : List ℕ) (set t : ℕ) (p q : Processor) (m n : List ℕ)
+  pub SettlesFrom-loaded : {old new : Components} (key next : List ℕ) (set t : ℕ) (p q : Processor) (m n : List ℕ)
       (run longer more : List (ℕ × Bool))
       → longer ≡ run ++ more
       → Settles program set t (events_of more) p m q n
@@ -237,7 +238,7 @@ module _ (program : List (List Instr)) where
       → slice_get new.threads (slice_index next (t + 1)) ≡ Some q
       → ((u : ℕ) → u ≢ t → slice_index next (u + 1) ≡ slice_index key (u + 1))
       → SettlesFrom program (IsLoaded program old key set t p m) old new next n run longer
-  settles_from-loaded {old} {new} key next set t p q m n run longer more appended settles extended size thread others = record {
+  SettlesFrom-loaded {old} {new} key next set t p q m n run longer more appended settles extended size thread others = record {
     extended = extended;
     more = more;
     appended = appended;
@@ -246,7 +247,8 @@ module _ (program : List (List Instr)) where
         record {
           end = set_thread s t q n;
           working = record {
-            represented = represents-loaded key next t s p q n loaded.represented loaded.thread extended size thread others;
+            represented =
+                RepresentsThreads-loaded key next t s p q n loaded.represented loaded.thread extended size thread others;
             thread_count = length-set s.processors t q ∙ loaded.thread_count;
             words = refl;
           };
@@ -256,14 +258,14 @@ module _ (program : List (List Instr)) where
   }
 
   -- A thread that is loaded from its row.
-  pub working-loaded : {tables : Components} (key : List ℕ) (set t : ℕ) (code : List Instr) (p : Processor) (m : List ℕ)
+  pub IsLoaded-of_working : {tables : Components} (key : List ℕ) (set t : ℕ) (code : List Instr) (p : Processor) (m : List ℕ)
       (s : State)
       → slice_get program t ≡ Some code
       → ((r : Processor) → slice_get tables.threads (slice_index key (t + 1)) ≡ Some r → p ≡ r)
       → (RepresentsThreads tables key s → length s.processors ≡ length program → HasConflictsOfOthers program s t set)
       → IsWorking program tables key m s
       → IsLoaded program tables key set t p m s
-  working-loaded key set t code p m s coded loaded are_conflicts working =
+  IsLoaded-of_working key set t code p m s coded loaded are_conflicts working =
       let lt : t < length s.processors = subst (λ k. t < k) (sym working.thread_count) (slice_get_within program t code coded) in
       let r = slice_get-in_range s.processors t lt in
       record {
@@ -279,24 +281,24 @@ module _ (program : List (List Instr)) where
       }
 
   -- What is taken from each state with one property is taken from each state with a stronger one.
-  pub settles_from-weaker : {old new : Components} (From Other : State → Type 0) (key : List ℕ) (m : List ℕ)
+  pub SettlesFrom-weaker : {old new : Components} (From Other : State → Type 0) (key : List ℕ) (m : List ℕ)
       (run longer : List (ℕ × Bool))
       → ((s : State) → Other s → From s)
       → SettlesFrom program From old new key m run longer
       → SettlesFrom program Other old new key m run longer
-  settles_from-weaker From Other key m run longer weaker a =
+  SettlesFrom-weaker From Other key m run longer weaker a =
       record { extended = a.extended; more = a.more; appended = a.appended; settled = λ s other. a.settled s (weaker s other) }
 
   -- If no event was taken, the key is the same.
-  pub settles_from-unmoved : {tables : Components} (key : List ℕ) (set t : ℕ) (p q : Processor) (m n : List ℕ)
+  pub SettlesFrom-unmoved : {tables : Components} (key : List ℕ) (set t : ℕ) (p q : Processor) (m n : List ℕ)
       (run longer more : List (ℕ × Bool))
       → longer ≡ run ++ more
       → length longer ≡ length run
       → Settles program set t (events_of more) p m q n
       → ((s : State) → IsWorking program tables key m s → IsLoaded program tables key set t p m s)
       → SettlesFrom program (IsWorking program tables key m) tables tables key n run longer
-  settles_from-unmoved {tables} key set t p q m n run longer more appended size settles load = record {
-    extended = extends-refl tables;
+  SettlesFrom-unmoved {tables} key set t p q m n run longer more appended size settles load = record {
+    extended = Extends-refl tables;
     more = more;
     appended = appended;
     settled = λ s working. unmoved s working (load s working);
@@ -325,27 +327,27 @@ module _ (program : List (List Instr)) where
               words = sym (ap (λ (z : State). z.memory) same);
             };
             ran = subst (λ es. MachineRunsTo flat_memory program (events_of es) s s) (sym none) refl;
-            covers = covers-refl program s;
+            covers = Covers-refl program s;
           }
 
   -- Without events the run, the key and the memory are unchanged.
-  pub settles_from-none : {tables : Components} (key : List ℕ) (m : List ℕ) (run : List (ℕ × Bool))
+  pub SettlesFrom-none : {tables : Components} (key : List ℕ) (m : List ℕ) (run : List (ℕ × Bool))
       → SettlesFrom program (IsWorking program tables key m) tables tables key m run run
-  settles_from-none {tables} key m run = record {
-    extended = extends-refl tables;
+  SettlesFrom-none {tables} key m run = record {
+    extended = Extends-refl tables;
     more = [];
     appended = sym (append-nil run);
-    settled = λ s working. record { end = s; working = working; ran = refl; covers = covers-refl program s };
+    settled = λ s working. record { end = s; working = working; ran = refl; covers = Covers-refl program s };
   }
 
   -- Events that lead to one key, and then to another, lead there in sequence.
-  pub settles_from-trans : {t0 t1 t2 : Components} {From : State → Type 0} (key next : List ℕ) (m n : List ℕ)
+  pub SettlesFrom-trans : {t0 t1 t2 : Components} {From : State → Type 0} (key next : List ℕ) (m n : List ℕ)
       (r0 r1 r2 : List (ℕ × Bool))
       → SettlesFrom program From t0 t1 key m r0 r1
       → SettlesFrom program (IsWorking program t1 key m) t1 t2 next n r1 r2
       → SettlesFrom program From t0 t2 next n r0 r2
-  settles_from-trans {t0} {t1} {t2} {From} key next m n r0 r1 r2 first second = record {
-    extended = extends-trans first.extended second.extended;
+  SettlesFrom-trans {t0} {t1} {t2} {From} key next m n r0 r1 r2 first second = record {
+    extended = Extends-trans first.extended second.extended;
     more = first.more ++ second.more;
     appended = second.appended ∙ ap (λ r. r ++ second.more) first.appended ∙ append_assoc r0 first.more second.more;
     settled = settled;
@@ -362,18 +364,18 @@ module _ (program : List (List Instr)) where
                 subst (λ es. MachineRunsTo flat_memory program es s b.end) (sym (map-append event_of first.more second.more))
                 (RunsTo-append (MachineTransition flat_memory program) (events_of first.more) (events_of second.more) s a.end
                 b.end a.ran b.ran);
-            covers = covers-trans program b.end a.end s b.covers a.covers;
+            covers = Covers-trans program b.end a.end s b.covers a.covers;
           }
 
   -- A key of all threads, with the number of the memory, represents the state.
-  pub represents-working : {old new : Components} (key next : List ℕ) (m : List ℕ) (s : State)
+  pub Represents-of_working : {old new : Components} (key next : List ℕ) (m : List ℕ) (s : State)
       → IsWorking program old key m s
       → Extends old new
       → length next ≡ length key
       → slice_get new.memories (slice_index next 0) ≡ Some m
       → ((u : ℕ) → slice_index next (u + 1) ≡ slice_index key (u + 1))
       → Represents new next s
-  represents-working {old} {new} key next m s working extended size memory threads = record {
+  Represents-of_working {old} {new} key next m s working extended size memory threads = record {
     size = size ∙ working.represented.size;
     memory = memory ∙ ap Some (sym working.words);
     threads = λ u p at. ap (slice_get new.threads) (threads u) ∙ extended.threads _ p (working.represented.threads u p at);

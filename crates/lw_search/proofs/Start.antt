@@ -6,7 +6,7 @@ use Rattle.lw_search.proofs.Common.{cases_lt, slice_get_past, slice_get_within, 
 use Rattle.lw_search.proofs.Common.{initial_machine_state, X86Test, IsWellFormedProgram, length-map, get-map}
 use Rattle.lw_search.proofs.Common.{State, Components, FoundStates, Extends, Represents, InsertsKey}
 use Rattle.lw_search.proofs.Common.{IsStarted}
-use Rattle.lw_search.proofs.Rows.{distinct-append}
+use Rattle.lw_search.proofs.Rows.{HasUniqueIndices-append}
 use Rattle.lw_search.proofs.ThreadStates.{slice_index-past}
 
 -- The key has the memory's number and those of the first n threads at their initial states, followed by 0.
@@ -22,10 +22,10 @@ pub record IsStartKey (tables : Components) (memory : ℕ) (key : List ℕ) (beg
   pub unused : (t : ℕ) → n ≤ t → slice_index key (t + 1) ≡ 0
 
 -- At first no thread has a number.
-pub start_key-none : {tables : Components} (memory : ℕ) (words : List ℕ) (regs : List (List ℕ))
+pub IsStartKey-none : {tables : Components} (memory : ℕ) (words : List ℕ) (regs : List (List ℕ))
     → slice_get tables.memories memory ≡ Some words
     → IsStartKey tables memory (memory ∷ 0 ∷ 0 ∷ 0 ∷ 0 ∷ []) words regs 0
-start_key-none {tables} memory words regs at = record {
+IsStartKey-none {tables} memory words regs at = record {
   size = refl;
   first = refl;
   words = at;
@@ -43,7 +43,7 @@ start_key-none {tables} memory words regs at = record {
         (slice_get_past (memory ∷ 0 ∷ 0 ∷ 0 ∷ 0 ∷ []) (suc (suc (suc (suc t))) + 1) (omega arith))
 
 -- With the number of thread n's initial state set in the key, it has those of the first n + 1 threads.
-pub start_key-more : {old new : Components} (memory : ℕ) (key next : List ℕ) (words : List ℕ) (regs : List (List ℕ))
+pub IsStartKey-next : {old new : Components} (memory : ℕ) (key next : List ℕ) (words : List ℕ) (regs : List (List ℕ))
     (n thread : ℕ) (r : List ℕ)
     → Extends old new
     → IsStartKey old memory key words regs n
@@ -54,7 +54,7 @@ pub start_key-more : {old new : Components} (memory : ℕ) (key next : List ℕ)
     → slice_get new.threads thread ≡ Some (initial_processor r)
     → ((t : ℕ) → t ≢ n → slice_index next (t + 1) ≡ slice_index key (t + 1))
     → IsStartKey new memory next words regs (n + 1)
-start_key-more {old} {new} memory key next words regs n thread r extended begun at size first is there others = record {
+IsStartKey-next {old} {new} memory key next words regs n thread r extended begun at size first is there others = record {
   size = size ∙ begun.size;
   first = first;
   words = extended.memories memory words begun.words;
@@ -80,11 +80,11 @@ start_key-more {old} {new} memory key next words regs n thread r extended begun 
     ]
 
 -- A key with the numbers of all threads represents the initial state.
-pub start_key-represents : {tables : Components} (test : X86Test) (memory : ℕ) (key : List ℕ) (n : ℕ)
+pub Represents-start_key : {tables : Components} (test : X86Test) (memory : ℕ) (key : List ℕ) (n : ℕ)
     → IsStartKey tables memory key test.head.init_words test.head.init_regs n
     → n ≡ length test.head.init_regs
     → Represents tables key (initial_machine_state test test.head.init_words)
-start_key-represents {tables} test memory key n begun all = record {
+Represents-start_key {tables} test memory key n begun all = record {
   size = begun.size;
   memory = ap (slice_get tables.memories) begun.first ∙ begun.words;
   threads = λ t p at.
@@ -101,15 +101,16 @@ length-past (x ∷ xs) zero none = absurd cc
 length-past (x ∷ xs) (suc n) none = let h = length-past xs n none in omega arith
 
 -- A search with empty tables has found the initial state.
-pub start-invariant : {tables : Components} (test : X86Test) (key : List ℕ) (parent : ℕ) (run : List (ℕ × Bool))
+pub IsStarted-of_start_key : {tables : Components} (test : X86Test) (key : List ℕ) (parent : ℕ) (run : List (ℕ × Bool))
     (visited : FoundStates)
     → IsWellFormedProgram test
     → Represents tables key (initial_machine_state test test.head.init_words)
     → Extends (record { program = test.threads; threads = []; memories = [] }) tables
     → InsertsKey (record { keys = []; origins = []; runs = [] }) key parent run visited
     → IsStarted test tables visited
-start-invariant {tables} test key parent run visited formed is_represented extended (inr there) = absurd (let h = there.1 in cc)
-start-invariant {tables} test key parent run visited formed is_represented extended (inl adds) = (
+IsStarted-of_start_key {tables} test key parent run visited formed is_represented extended (inr there) =
+    absurd (let h = there.1 in cc)
+IsStarted-of_start_key {tables} test key parent run visited formed is_represented extended (inl adds) = (
   start ∷ [],
   record {
     key_count = ap length adds.1;
@@ -117,7 +118,7 @@ start-invariant {tables} test key parent run visited formed is_represented exten
     within = omega arith;
     represents = λ i k s at and. represents i k s (ap (λ l. slice_get l i) (sym adds.1) ∙ at) and;
     thread_count = thread_count;
-    distinct = distinct-append [] start (λ i at. absurd cc) (λ i j s at and. absurd cc);
+    distinct = HasUniqueIndices-append [] start (λ i at. absurd cc) (λ i j s at and. absurd cc);
     distinct_threads = extended.distinct_threads (λ i j p at and. absurd cc);
     distinct_memories = extended.distinct_memories (λ i j m at and. absurd cc);
     first = refl;

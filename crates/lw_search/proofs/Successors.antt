@@ -16,8 +16,9 @@ use Rattle.lw_search.proofs.Common.{HasUniqueIndices, InsertsKey, AppendsOrigin,
 use Rattle.lw_search.proofs.Common.{set_thread, Covers, IsCovered, HasPredecessor, SearchInvariant, Expansion}
 use Rattle.lw_search.proofs.Common.{HasConflictsOfOthers, ExpandsState, ExpandsUpTo, CoversThread, Settled}
 use Rattle.lw_search.proofs.Common.{SettlesFrom, IsLoaded}
-use Rattle.lw_search.proofs.Settling.{conflicts-set_thread, represents-others, represents-working}
-use Rattle.lw_search.proofs.Rows.{slice_get-append_left, distinct-append, extends-trans}
+use Rattle.lw_search.proofs.Settling.{HasConflictsOfOthers-set_thread, RepresentsOthers-set_thread}
+use Rattle.lw_search.proofs.Settling.{Represents-of_working}
+use Rattle.lw_search.proofs.Rows.{slice_get-append_left, HasUniqueIndices-append, Extends-trans}
 
 -- ---- keys
 
@@ -38,12 +39,12 @@ slice_index-get (y ∷ xs) zero x at = same_Some y x at
 slice_index-get (y ∷ xs) (suc i) x at = slice_index-get xs i x at
 
 -- A key represents at most one state with a number of threads.
-represents-unique : (tables : Components) (key : List ℕ) (s r : State)
+Represents-unique : (tables : Components) (key : List ℕ) (s r : State)
     → Represents tables key s
     → Represents tables key r
     → length s.processors ≡ length r.processors
     → s ≡ r
-represents-unique tables key s r a b size =
+Represents-unique tables key s r a b size =
     let memory : s.memory ≡ r.memory = same_Some s.memory r.memory (sym a.memory ∙ b.memory) in
     let processors : s.processors ≡ r.processors =
     list-ext s.processors r.processors (λ t p q at and. same_Some p q (sym (a.threads t p at) ∙ b.threads t q and)) size in
@@ -76,11 +77,11 @@ key-unique tables key other s distinct_threads distinct_memories a b =
     same (suc t) = at_thread t
 
 -- A key represents a state by larger tables too.
-represents-extended : {old new : Components} (key : List ℕ) (s : State)
+Represents-extended : {old new : Components} (key : List ℕ) (s : State)
     → Extends old new
     → Represents old key s
     → Represents new key s
-represents-extended key s extended is_represented = record {
+Represents-extended key s extended is_represented = record {
   size = is_represented.size;
   memory = extended.memories _ _ is_represented.memory;
   threads = λ t p at. extended.threads _ p (is_represented.threads t p at);
@@ -88,12 +89,12 @@ represents-extended key s extended is_represented = record {
 }
 
 -- Inserting a key preserves the keys at their indices, whether the key is new or known.
-prefix-inserted : (old new : FoundStates) (key : List ℕ) (parent : ℕ) (run : List (ℕ × Bool))
+IsPrefix-inserted : (old new : FoundStates) (key : List ℕ) (parent : ℕ) (run : List (ℕ × Bool))
     → InsertsKey old key parent run new
     → IsPrefix old.keys new.keys
-prefix-inserted old new key parent run (inl a) i x at =
+IsPrefix-inserted old new key parent run (inl a) i x at =
     ap (λ l. slice_get l i) a.1 ∙ slice_get-append_left old.keys (key ∷ []) i x at
-prefix-inserted old new key parent run (inr a) i x at = ap (λ (v : FoundStates). slice_get v.keys i) a.2 ∙ at
+IsPrefix-inserted old new key parent run (inr a) i x at = ap (λ (v : FoundStates). slice_get v.keys i) a.2 ∙ at
 
 -- The thread of the event of a row of a run.
 pub cpu_of-event : (r : ℕ × Bool) → cpu_of (event_of r) ≡ r.0
@@ -105,20 +106,21 @@ cpu_of-event r = go r.0 r.1
 
 module _ (program : List (List Instr)) where
   -- A covered successor remains covered when more states are found.
-  covered-prefix : (found more : List State) (s : State) (e : Event)
+  IsCovered-prefix : (found more : List State) (s : State) (e : Event)
       → IsPrefix found more
       → IsCovered program found s e
       → IsCovered program more s e
-  covered-prefix found more s e longer is_covered next done = let r = is_covered next done in (r.0, r.1, longer r.1 r.0 r.2, r.3)
+  IsCovered-prefix found more s e longer is_covered next done =
+      let r = is_covered next done in (r.0, r.1, longer r.1 r.0 r.2, r.3)
 
   -- A state's predecessor remains one when more states and more runs are found.
-  pub predecessor-prefix : {runs longer_runs : List (List (ℕ × Bool))} {found more : List State} {at : ℕ} {origin : Origin}
+  pub HasPredecessor-prefix : {runs longer_runs : List (List (ℕ × Bool))} {found more : List State} {at : ℕ} {origin : Origin}
       {s : State}
       → IsPrefix runs longer_runs
       → IsPrefix found more
       → HasPredecessor program runs found at origin s
       → HasPredecessor program longer_runs more at origin s
-  predecessor-prefix longer_runs longer came = record {
+  HasPredecessor-prefix longer_runs longer came = record {
     before = came.before;
     from = came.from;
     found_at = longer _ came.from came.found_at;
@@ -128,15 +130,15 @@ module _ (program : List (List Instr)) where
   }
 
   -- The invariant holds with larger tables, of the same states.
-  pub invariant-extended : {old new : Components} {visited : FoundStates} {start : State} {found : List State} {closed : ℕ}
+  pub SearchInvariant-extended : {old new : Components} {visited : FoundStates} {start : State} {found : List State} {closed : ℕ}
       → Extends old new
       → SearchInvariant program start old visited found closed
       → SearchInvariant program start new visited found closed
-  invariant-extended extended invariant = record {
+  SearchInvariant-extended extended invariant = record {
     key_count = invariant.key_count;
     origin_count = invariant.origin_count;
     within = invariant.within;
-    represents = λ i key s at and. represents-extended key s extended (invariant.represents i key s at and);
+    represents = λ i key s at and. Represents-extended key s extended (invariant.represents i key s at and);
     thread_count = invariant.thread_count;
     distinct = invariant.distinct;
     distinct_threads = extended.distinct_threads invariant.distinct_threads;
@@ -170,14 +172,14 @@ module _ (program : List (List Instr)) where
         let lt : i < length found = subst (λ n. i < n) invariant.key_count (slice_get_within visited.keys i next key) in
         let r = slice_get-in_range found i lt in
         let same : r.0 ≡ end =
-        represents-unique new next r.0 end (represents-extended next r.0 extended (invariant.represents i next r.0 key r.1))
+        Represents-unique new next r.0 end (Represents-extended next r.0 extended (invariant.represents i next r.0 key r.1))
         is_represented (invariant.thread_count i r.0 r.1 ∙ sym size) in
         record {
           more = found;
           longer = λ j x is. is;
           invariant =
               subst (λ v. SearchInvariant program start new v found closed) (sym unchanged)
-              (invariant-extended extended invariant);
+              (SearchInvariant-extended extended invariant);
           index = i;
           found_at_index = r.1 ∙ ap Some same;
         }
@@ -208,7 +210,7 @@ module _ (program : List (List Instr)) where
         within = let e = length-append found (end ∷ []) in omega (arith, invariant.within, e);
         represents = represents_each;
         thread_count = threads;
-        distinct = distinct-append found end found_state_new invariant.distinct;
+        distinct = HasUniqueIndices-append found end found_state_new invariant.distinct;
         distinct_threads = extended.distinct_threads invariant.distinct_threads;
         distinct_memories = extended.distinct_memories invariant.distinct_memories;
         first = IsPrefix-append_state 0 start invariant.first;
@@ -227,7 +229,7 @@ module _ (program : List (List Instr)) where
             let same : key.0 ≡ next =
             key-unique new key.0 next end (extended.distinct_threads invariant.distinct_threads)
             (extended.distinct_memories invariant.distinct_memories)
-            (represents-extended key.0 end extended (invariant.represents i key.0 end key.1 at)) is_represented in
+            (Represents-extended key.0 end extended (invariant.represents i key.0 end key.1 at)) is_represented in
             absent i (key.1 ∙ ap Some same)
 
         represents_each : (i : ℕ) (key : List ℕ) (z : State)
@@ -241,7 +243,7 @@ module _ (program : List (List Instr)) where
             go : (slice_get visited.keys i ≡ Some key) ⊎ ((i ≡ length visited.keys) × (next ≡ key))
                 → (slice_get found i ≡ Some z) ⊎ ((i ≡ length found) × (end ≡ z))
                 → Represents new key z
-            go (inl a) (inl b) = represents-extended key z extended (invariant.represents i key z a b)
+            go (inl a) (inl b) = Represents-extended key z extended (invariant.represents i key z a b)
             go (inr a) (inr b) = subst (λ k. Represents new k z) a.1 (subst (λ y. Represents new next y) b.1 is_represented)
             go (inl a) (inr b) =
                 absurd (let lt = slice_get_within visited.keys i key a in omega (arith, lt, b.0, invariant.key_count))
@@ -266,7 +268,7 @@ module _ (program : List (List Instr)) where
             go : (slice_get visited.origins (suc i) ≡ Some o) ⊎ ((suc i ≡ length visited.origins) × (appended.origin ≡ o))
                 → (slice_get found (suc i) ≡ Some z) ⊎ ((suc i ≡ length found) × (end ≡ z))
                 → HasPredecessor program now.runs (append_state found end) (suc i) o z
-            go (inl a) (inl b) = predecessor-prefix appended.runs IsPrefix-append_state (invariant.predecessor i o z a b)
+            go (inl a) (inl b) = HasPredecessor-prefix appended.runs IsPrefix-append_state (invariant.predecessor i o z a b)
             go (inr a) (inr b) =
                 let lt = slice_get_within found at s found_at in
                 let parent_at : appended.origin.parent ≡ at = appended.parent_is ∙ parent_is in
@@ -292,7 +294,7 @@ module _ (program : List (List Instr)) where
         covered_each i z lt is e = go (slice_get-append_cases found end z i is)
           where
             go : (slice_get found i ≡ Some z) ⊎ ((i ≡ length found) × (end ≡ z)) → IsCovered program (append_state found end) z e
-            go (inl a) = covered-prefix found (append_state found end) z e IsPrefix-append_state (invariant.covered i z lt a e)
+            go (inl a) = IsCovered-prefix found (append_state found end) z e IsPrefix-append_state (invariant.covered i z lt a e)
             go (inr a) = absurd (omega (arith, lt, a.0, invariant.within))
 
     -- Whether the key is new or known, the invariant holds and the state that the run reaches is found.
@@ -318,7 +320,7 @@ module _ (program : List (List Instr)) where
       record {
         more = a.more;
         longer = a.longer;
-        keys = prefix-inserted visited now next parent run adds;
+        keys = IsPrefix-inserted visited now next parent run adds;
         invariant = a.invariant;
         holds = covered_each;
       }
@@ -337,8 +339,8 @@ module _ (program : List (List Instr)) where
 
       taken : Settled program settled_tables all n (events_of settles.more) mid
       taken = settles.settled mid (record {
-        represented = represents-others program old key t s p m (invariant.represents at key s key_at found_at);
-        conflicts = conflicts-set_thread program set t s p m is.1;
+        represented = RepresentsOthers-set_thread program old key t s p m (invariant.represents at key s key_at found_at);
+        conflicts = HasConflictsOfOthers-set_thread program set t s p m is.1;
         thread_count = length-set s.processors t p ∙ invariant.thread_count at s found_at;
         thread = get-set_same s.processors t p d.from was;
         words = refl;
@@ -348,12 +350,12 @@ module _ (program : List (List Instr)) where
       ran = subst (λ r. MachineRunsTo flat_memory program (events_of r) s taken.end) (sym settles.appended) (mid, done, taken.ran)
 
       is_represented : Represents new next taken.end
-      is_represented = represents-working program all next n taken.end taken.working extended size memory threads
+      is_represented = Represents-of_working program all next n taken.end taken.working extended size memory threads
 
       a : Inserted start new now found closed taken.end
       a =
           Inserted-either_case old new visited now start found closed at s taken.end next parent run
-          (extends-trans settles.extended extended) invariant found_at is_represented taken.working.thread_count parent_is ran
+          (Extends-trans settles.extended extended) invariant found_at is_represented taken.working.thread_count parent_is ran
           adds
 
       covered_each : IsCovered program a.more s (event_of e)
@@ -364,7 +366,8 @@ module _ (program : List (List Instr)) where
   -- ---- events that are not enabled
 
   -- If an event is not enabled, nothing more has to be found.
-  pub covered-impossible : {tables : Components} {visited : FoundStates} (at : ℕ) (key : List ℕ) (e : Event) (Is : State → Type 0)
+  pub ExpandsState-impossible : {tables : Components} {visited : FoundStates} (at : ℕ) (key : List ℕ) (e : Event)
+      (Is : State → Type 0)
       → ((s next : State)
       → (found : List State)
       → Represents tables key s
@@ -372,7 +375,7 @@ module _ (program : List (List Instr)) where
       → MachineTransition flat_memory program e s (Ok tt) next
       → ⊥)
       → ExpandsState program tables visited tables visited at key Is (λ s more. IsCovered program more s e)
-  covered-impossible at key e Is never start found closed s invariant found_at key_at so = record {
+  ExpandsState-impossible at key e Is never start found closed s invariant found_at key_at so = record {
     more = found;
     longer = λ i x is. is;
     keys = λ i x is. is;
@@ -382,12 +385,12 @@ module _ (program : List (List Instr)) where
   }
 
   -- No event of a thread out of range is enabled.
-  pub no_event-if_no_thread : (e : Event) (s next : State)
+  pub not-MachineTransition-without_thread : (e : Event) (s next : State)
       → length s.processors ≡ length program
       → slice_get program (cpu_of e) ≡ None
       → MachineTransition flat_memory program e s (Ok tt) next
       → ⊥
-  no_event-if_no_thread e s next as_many none done =
+  not-MachineTransition-without_thread e s next as_many none done =
       let d : EventOccurrence program e s next = EventOccurrence-of_event program e s next done in
       let lt : cpu_of e < length program =
       subst (λ n. cpu_of e < n) as_many (slice_get_within s.processors (cpu_of e) d.from d.was) in
@@ -395,12 +398,12 @@ module _ (program : List (List Instr)) where
       absurd (let both = sym none ∙ there.1 in cc)
 
   -- No event whose effect is refused is enabled.
-  pub no_event-if_refused : (e : Event) (s next : State) (p : Processor) (stop : Stop)
+  pub not-MachineTransition-if_refused : (e : Event) (s next : State) (p : Processor) (stop : Stop)
       → slice_get s.processors (cpu_of e) ≡ Some p
       → event_effect program (length s.memory) e p ≡ Refused stop
       → MachineTransition flat_memory program e s (Ok tt) next
       → ⊥
-  no_event-if_refused e s next p stop at act done =
+  not-MachineTransition-if_refused e s next p stop at act done =
       let d : EventOccurrence program e s next = EventOccurrence-of_event program e s next done in
       let same : d.from ≡ p = same_Some d.from p (sym d.was ∙ at) in
       subst (λ a. EffectLeadsTo s.memory a d.to d.words) act
@@ -419,17 +422,17 @@ module _ (program : List (List Instr)) where
       r.1 ∙ ap Some (sym (loaded r.0 (is_represented.threads t r.0 r.1)))
 
   -- An event that is refused in the loaded thread state is refused in each state with the key.
-  pub expands-refused : {tables : Components} {visited : FoundStates} (at t : ℕ) (e : Event) (key : List ℕ) (code : List Instr)
-      (p : Processor) (stop : Stop)
+  pub ExpandsState-refused : {tables : Components} {visited : FoundStates} (at t : ℕ) (e : Event) (key : List ℕ)
+      (code : List Instr) (p : Processor) (stop : Stop)
       → cpu_of e ≡ t
       → slice_get program t ≡ Some code
       → ((r : Processor) → slice_get tables.threads (slice_index key (t + 1)) ≡ Some r → p ≡ r)
       → ((locs : ℕ) → event_effect program locs e p ≡ Refused stop)
       → (Is : State → Type 0)
       → ExpandsState program tables visited tables visited at key Is (λ s more. IsCovered program more s e)
-  expands-refused at t e key code p stop cpu coded thread is Is =
-      covered-impossible at key e Is (λ s next found is_represented as_many done.
-      no_event-if_refused e s next p stop
+  ExpandsState-refused at t e key code p stop cpu coded thread is Is =
+      ExpandsState-impossible at key e Is (λ s next found is_represented as_many done.
+      not-MachineTransition-if_refused e s next p stop
       (ap (slice_get s.processors) cpu ∙ slice_get-loaded_thread key s t code p is_represented as_many coded thread)
       (is (length s.memory)) done)
 
@@ -440,13 +443,13 @@ module _ (program : List (List Instr)) where
   IsMonotone A = (s : State) (found more : List State) → IsPrefix found more → A s found → A s more
 
   -- If two parts of an expansion give A and B, in sequence they give both, since A holds still when more states are found.
-  pub expands-both : {t0 t1 t2 : Components} {m0 m1 m2 : FoundStates} (at : ℕ) (key : List ℕ) (Is : State → Type 0)
+  pub ExpandsState-both : {t0 t1 t2 : Components} {m0 m1 m2 : FoundStates} (at : ℕ) (key : List ℕ) (Is : State → Type 0)
       (A B : State → List State → Type 0)
       → IsMonotone A
       → ExpandsState program t0 m0 t1 m1 at key Is A
       → ExpandsState program t1 m1 t2 m2 at key Is B
       → ExpandsState program t0 m0 t2 m2 at key Is (λ s more. A s more × B s more)
-  expands-both at key Is A B monotone first second start found closed s invariant found_at key_at u =
+  ExpandsState-both at key Is A B monotone first second start found closed s invariant found_at key_at u =
       let a = first start found closed s invariant found_at key_at u in
       let b = second start a.more closed s a.invariant (a.longer at s found_at) (a.keys at key key_at) u in
       record {
@@ -458,65 +461,67 @@ module _ (program : List (List Instr)) where
       }
 
   -- An expansion that gives A gives what follows from A.
-  pub expands-weaker : {t0 t1 : Components} {m0 m1 : FoundStates} (at : ℕ) (key : List ℕ) (Is : State → Type 0)
+  pub ExpandsState-weaker : {t0 t1 : Components} {m0 m1 : FoundStates} (at : ℕ) (key : List ℕ) (Is : State → Type 0)
       (A B : State → List State → Type 0)
       → ((s : State) (more : List State) → A s more → B s more)
       → ExpandsState program t0 m0 t1 m1 at key Is A
       → ExpandsState program t0 m0 t1 m1 at key Is B
-  expands-weaker at key Is A B weaker first start found closed s invariant found_at key_at u =
+  ExpandsState-weaker at key Is A B weaker first start found closed s invariant found_at key_at u =
       let a = first start found closed s invariant found_at key_at u in
       record { more = a.more; longer = a.longer; keys = a.keys; invariant = a.invariant; holds = weaker s a.more a.holds }
 
   -- If `Other` implies `Is`, an expansion of the states with `Is` is one of the states with `Other`.
-  pub expands-if_more_holds : {t0 t1 : Components} {m0 m1 : FoundStates} (at : ℕ) (key : List ℕ) (Is Other : State → Type 0)
+  pub ExpandsState-if_more_holds : {t0 t1 : Components} {m0 m1 : FoundStates} (at : ℕ) (key : List ℕ) (Is Other : State → Type 0)
       (A : State → List State → Type 0)
       → ((s : State) → Other s → Is s)
       → ExpandsState program t0 m0 t1 m1 at key Is A
       → ExpandsState program t0 m0 t1 m1 at key Other A
-  expands-if_more_holds at key Is Other A weaker goes start found closed s invariant found_at key_at other =
+  ExpandsState-if_more_holds at key Is Other A weaker goes start found closed s invariant found_at key_at other =
       goes start found closed s invariant found_at key_at (weaker s other)
 
   -- A covered successor remains covered when more states are found.
-  pub covered-monotone : (e : Event) → IsMonotone (λ s more. IsCovered program more s e)
-  covered-monotone e s found more longer is_covered = covered-prefix found more s e longer is_covered
+  pub IsMonotone-IsCovered : (e : Event) → IsMonotone (λ s more. IsCovered program more s e)
+  IsMonotone-IsCovered e s found more longer is_covered = IsCovered-prefix found more s e longer is_covered
 
   -- The successors by the first n threads are covered.
   abbrev pub CoversThreads : ℕ → State → List State → Type 0
   CoversThreads n s more = (t : ℕ) → t < n → CoversThread program t s more
 
   -- Covered successors by the first n threads remain covered when more states are found.
-  pub covers_threads-monotone : (n : ℕ) → IsMonotone (CoversThreads n)
-  covers_threads-monotone n s found more longer is_covered t lt =
+  pub IsMonotone-CoversThreads : (n : ℕ) → IsMonotone (CoversThreads n)
+  IsMonotone-CoversThreads n s found more longer is_covered t lt =
       let a = is_covered t lt in
-      (covered-prefix found more s (Step t) longer a.0, covered-prefix found more s (Drain t) longer a.1)
+      (IsCovered-prefix found more s (Step t) longer a.0, IsCovered-prefix found more s (Drain t) longer a.1)
 
   -- If the successors by the first n threads and by thread n are covered, so are those by the first n + 1.
-  pub covers_threads-more : (n : ℕ) (s : State) (more : List State)
+  pub CoversThreads-next : (n : ℕ) (s : State) (more : List State)
       → CoversThreads n s more × CoversThread program n s more
       → CoversThreads (n + 1) s more
-  covers_threads-more n s more both t lt = elim (cases_lt t n) [
+  CoversThreads-next n s more both t lt = elim (cases_lt t n) [
     | inl less ↦ both.0 t less
     | inr not ↦ let same : n ≡ t = omega arith in subst (λ u. CoversThread program u s more) same both.1
   ]
 
   -- If there are at most n threads, all events are covered.
-  covered-all : (n : ℕ) (s : State) (more : List State)
+  IsCovered-of_threads : (n : ℕ) (s : State) (more : List State)
       → length program ≤ n
       → length s.processors ≡ length program
       → CoversThreads n s more
       → (e : Event)
       → IsCovered program more s e
-  covered-all n s more few as_many of (Step t) = elim (cases_lt t n) [
+  IsCovered-of_threads n s more few as_many of (Step t) = elim (cases_lt t n) [
     | inl lt ↦ (of t lt).0
     | inr ge ↦ λ next done.
-        absurd (no_event-if_no_thread (Step t) s next as_many (slice_get_past program t (omega (arith, few, ge))) done)
+        absurd (not-MachineTransition-without_thread (Step t) s next as_many (slice_get_past program t (omega (arith, few, ge)))
+        done)
   ]
-  covered-all n s more few as_many of (Drain t) = elim (cases_lt t n) [
+  IsCovered-of_threads n s more few as_many of (Drain t) = elim (cases_lt t n) [
     | inl lt ↦ (of t lt).1
     | inr ge ↦ λ next done.
-        absurd (no_event-if_no_thread (Drain t) s next as_many (slice_get_past program t (omega (arith, few, ge))) done)
+        absurd (not-MachineTransition-without_thread (Drain t) s next as_many (slice_get_past program t (omega (arith, few, ge)))
+        done)
   ]
-  covered-all n s more few as_many of (Evict t x) = λ next done.
+  IsCovered-of_threads n s more few as_many of (Evict t x) = λ next done.
       let d : EventOccurrence program (Evict t x) s next = EventOccurrence-of_event program (Evict t x) s next done in
       absurd (not-EffectLeadsTo-evict_event program (length s.memory) t x d.from d.to s.memory d.words d.does)
 
@@ -563,7 +568,7 @@ module _ (program : List (List Instr)) where
               let same : at ≡ i = omega arith in
               let one : there.0 ≡ s = same_Some there.0 s (sym (a.longer at there.0 there.1) ∙ ap (slice_get a.more) same ∙ is) in
               subst (λ z. IsCovered program a.more z e) one
-              (covered-all n there.0 a.more few (invariant.thread_count at there.0 there.1) a.holds e)
+              (IsCovered-of_threads n there.0 a.more few (invariant.thread_count at there.0 there.1) a.holds e)
 
 -- The effect of a thread's step is that of the instruction at the thread's position in its code.
 pub event_effect-of_code : (program : List (List Instr)) (t : ℕ) (code : List Instr) (p : Processor)

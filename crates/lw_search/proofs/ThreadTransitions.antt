@@ -10,16 +10,17 @@ use Rattle.lw_search.proofs.Common.{InsertsKey, event_of, events_of, set_thread,
 use Rattle.lw_search.proofs.Common.{ExpandsState, Settles, SettlesFrom, IsLoaded, IsWorking, Successor}
 use Rattle.lw_search.proofs.Common.{Transition, CopiesRow, AppendsRows, IsTransition, AreTransitions}
 use Rattle.lw_search.proofs.Common.{IsNeverEnabled, HasConflictsOfOthers}
-use Rattle.lw_search.proofs.Settling.{settles_from-loaded, settles_from-trans}
-use Rattle.lw_search.proofs.Successors.{IsCovered-after_event, cpu_of-event, invariant-extended}
-use Rattle.lw_search.proofs.Successors.{no_event-if_refused, predecessor-prefix, slice_get-loaded_thread}
-use Rattle.lw_search.proofs.Rows.{extends-refl, prefix-refl}
+use Rattle.lw_search.proofs.Settling.{SettlesFrom-loaded, SettlesFrom-trans}
+use Rattle.lw_search.proofs.Successors.{IsCovered-after_event, cpu_of-event, SearchInvariant-extended}
+use Rattle.lw_search.proofs.Successors.{not-MachineTransition-if_refused, HasPredecessor-prefix}
+use Rattle.lw_search.proofs.Successors.{slice_get-loaded_thread}
+use Rattle.lw_search.proofs.Rows.{Extends-refl, IsPrefix-refl}
 
 -- ---- rows and slots
 
 pub AppendsRows-refl : (tables : Components) (visited : FoundStates) → AppendsRows tables visited tables visited
 AppendsRows-refl tables visited =
-    record { extended = extends-refl tables; keys = refl; origins = refl; runs = prefix-refl visited.runs }
+    record { extended = Extends-refl tables; keys = refl; origins = refl; runs = IsPrefix-refl visited.runs }
 
 -- A copy is of the row, if there is one.
 pub copied-row : {X : Type 0} (row : Option X) (x : X) (found : Bool) → CopiesRow row x found → (y : X) → row ≡ Some y → x ≡ y
@@ -80,11 +81,11 @@ module _ (program : List (List Instr)) where
   }
 
   -- The invariant holds with larger tables and with more runs, of the same states.
-  invariant-prepared : {old new : Components} {visited now : FoundStates} {start : State} {found : List State} {closed : ℕ}
+  SearchInvariant-prepared : {old new : Components} {visited now : FoundStates} {start : State} {found : List State} {closed : ℕ}
       → AppendsRows old visited new now
       → SearchInvariant program start old visited found closed
       → SearchInvariant program start new now found closed
-  invariant-prepared {old} {new} {visited} {now} {start} {found} {closed} rows before = record {
+  SearchInvariant-prepared {old} {new} {visited} {now} {start} {found} {closed} rows before = record {
     key_count = ap length rows.keys ∙ a.key_count;
     origin_count = ap length rows.origins ∙ a.origin_count;
     within = a.within;
@@ -95,24 +96,24 @@ module _ (program : List (List Instr)) where
     distinct_memories = a.distinct_memories;
     first = a.first;
     predecessor = λ i o s at and.
-        predecessor-prefix program rows.runs (λ j x h. h)
+        HasPredecessor-prefix program rows.runs (λ j x h. h)
         (a.predecessor i o s (ap (λ l. slice_get l (suc i)) (sym rows.origins) ∙ at) and);
     covered = a.covered;
   }
     where
       a : SearchInvariant program start new visited found closed
-      a = invariant-extended program rows.extended before
+      a = SearchInvariant-extended program rows.extended before
 
   -- Rows that were appended before a state is expanded change nothing.
-  pub expands-prepared : {old mid new : Components} {visited prepared now : FoundStates} (at : ℕ) (key : List ℕ)
+  pub ExpandsState-prepared : {old mid new : Components} {visited prepared now : FoundStates} (at : ℕ) (key : List ℕ)
       (Is : State → Type 0) (Holds : State → List State → Type 0)
       → AppendsRows old visited mid prepared
       → ExpandsState program mid prepared new now at key Is Holds
       → ExpandsState program old visited new now at key Is Holds
-  expands-prepared at key Is Holds rows expands start found closed s invariant found_at key_at is =
+  ExpandsState-prepared at key Is Holds rows expands start found closed s invariant found_at key_at is =
       let a =
-      expands start found closed s (invariant-prepared rows invariant) found_at (ap (λ l. slice_get l at) rows.keys ∙ key_at)
-      is in
+      expands start found closed s (SearchInvariant-prepared rows invariant) found_at
+      (ap (λ l. slice_get l at) rows.keys ∙ key_at) is in
       record {
         more = a.more;
         longer = a.longer;
@@ -194,17 +195,17 @@ module _ (program : List (List Instr)) where
       → IsNeverEnabled program tables key e
   IsNeverEnabled-refused {tables} key t e code p q m n cpu coded row refused s next is_represented as_many done =
       let r = refused (length s.memory) in
-      no_event-if_refused program (event_of e) s next p r.0.0
+      not-MachineTransition-if_refused program (event_of e) s next p r.0.0
       (ap (slice_get s.processors) (cpu_of-event e ∙ cpu)
       ∙ slice_get-loaded_thread program key s t code p is_represented as_many coded (λ z at. same_Some p z (sym row ∙ at))) r.0.1
       done
 
   -- Of an event that is enabled in no state of the key, nothing has to be covered.
-  pub expands-never_enabled : {tables : Components} {visited : FoundStates} (at : ℕ) (key : List ℕ) (e : ℕ × Bool)
+  pub ExpandsState-never_enabled : {tables : Components} {visited : FoundStates} (at : ℕ) (key : List ℕ) (e : ℕ × Bool)
       (Is : State → Type 0)
       → IsNeverEnabled program tables key e
       → ExpandsState program tables visited tables visited at key Is (λ s more. IsCovered program more s (event_of e))
-  expands-never_enabled at key e Is never start found closed s invariant found_at key_at so = record {
+  ExpandsState-never_enabled at key e Is never start found closed s invariant found_at key_at so = record {
     more = found;
     longer = λ i x is. is;
     keys = λ i x is. is;
@@ -241,13 +242,13 @@ module _ (program : List (List Instr)) where
       moved : SettlesFrom program (IsLoaded program old key t.conflicts c is.acted is.written) old old own is.left (t.event ∷ [])
           (t.event ∷ is.more)
       moved =
-          settles_from-loaded program key own t.conflicts c is.acted is.end is.written is.left (t.event ∷ []) (t.event ∷ is.more)
+          SettlesFrom-loaded program key own t.conflicts c is.acted is.end is.written is.left (t.event ∷ []) (t.event ∷ is.more)
           is.more refl
           (subst (λ v. Settles program t.conflicts v (events_of is.more) is.acted is.written is.end is.left) cpu is.settles)
-          (extends-refl old) size (ap (slice_get old.threads) thread ∙ is.next_thread_row) others
+          (Extends-refl old) size (ap (slice_get old.threads) thread ∙ is.next_thread_row) others
 
       both : SettlesFrom program (IsLoaded program old key t.conflicts c is.acted is.written) old settled all n (t.event ∷ []) run
-      both = settles_from-trans program own all is.left n (t.event ∷ []) (t.event ∷ is.more) run moved settles
+      both = SettlesFrom-trans program own all is.left n (t.event ∷ []) (t.event ∷ is.more) run moved settles
 
       after : ExpandsState program old visited new now at key (λ z.
           MachineTransition flat_memory program (event_of t.event) z (Ok tt) (set_thread z c is.acted is.written)

@@ -14,16 +14,16 @@ loop-next-init c =
     c.lowest-next.ensures.found
 
 -- The union contains what the set contained, and what the next successor reaches.
-join : (c : After-lowest-next-in-loop-next) (k : ℕ)
+has-union : (c : After-lowest-next-in-loop-next) (k : ℕ)
     → k < most_items
     → has c.union-set.result k ≡ (has c.loop-next.set k || reaches_in c.args.sets.now c.loop-next.next k)
-join c k lk = c.union-set.ensures k lk ∙ ap (λ r. has c.loop-next.set k || has r k) c.set_of.ensures
+has-union c k lk = c.union-set.ensures k lk ∙ ap (λ r. has c.loop-next.set k || has r k) c.set_of.ensures
 
 pub loop-next-preserved : goal.loop-next-preserved
 loop-next-preserved c =
     IsReaching-next c.requires.bounded (omega (arith, c.requires.below, c.requires.bounded)) c.loop-next.invariant
     c.union-set.result c.without-left.result c.lowest-next-in-loop-next.result c.loop-next-test.true
-    (join (goal.at.loop-next-preserved c).After-lowest-next-in-loop-next) c.without-left.ensures.items
+    (has-union (goal.at.loop-next-preserved c).After-lowest-next-in-loop-next) c.without-left.ensures.items
     c.lowest-next-in-loop-next.ensures.below c.lowest-next-in-loop-next.ensures.found
 
 pub loop-next-smaller : goal.loop-next-smaller
@@ -31,7 +31,7 @@ loop-next-smaller c =
     let further =
     next_lt_further c.requires.bounded (omega (arith, c.requires.below, c.requires.bounded)) c.loop-next.invariant
     c.union-set.result c.without-left.result _ c.loop-next-test.true
-    (join (goal.at.loop-next-smaller c).After-lowest-next-in-loop-next) c.without-left.ensures.items
+    (has-union (goal.at.loop-next-smaller c).After-lowest-next-in-loop-next) c.without-left.ensures.items
     c.lowest-next-in-loop-next.ensures.below c.lowest-next-in-loop-next.ensures.found in
     omega (arith, further, c.loop-next-test.true)
 

@@ -1,7 +1,7 @@
--- Of `outlooks_of`: each round sets the outlook of one more thread of the program (`holds_of_first-set`).
+-- Of `outlooks_of`: each round sets the outlook of one more thread of the program (`HoldsOfFirst-set`).
 use Rattle.lw_search.proofs.Common.{◌<◌, ◌∙◌, arith, ap, sym, subst, length, thread_code, HasConflictsOf}
 use Rattle.lw_search.proofs.Common.{length-set, refl, [], get_or_from_slice_get}
-use Rattle.lw_search.proofs.AccessSets.{holds_of_first-set}
+use Rattle.lw_search.proofs.AccessSets.{HoldsOfFirst-set}
 use Rattle.lw_search.proofs.Collected.{slice_get-loop_item}
 use Rattle.lw_search.proofs.accesses.outlooks_of.Goals as goal
 
@@ -20,7 +20,7 @@ loop-index-preserved g c =
     record {
       size = length-set c.loop-index.threads n c.new.result ∙ c.loop-index.invariant.size;
       holds =
-          holds_of_first-set (λ u o. HasConflictsOf (thread_code program u) c.args.thread.now o.conflicts) c.loop-index.threads n
+          HoldsOfFirst-set (λ u o. HasConflictsOf (thread_code program u) c.args.thread.now o.conflicts) c.loop-index.threads n
           c.index-threads-index.result c.new.result at c.loop-index.invariant.holds
           (subst (λ code. HasConflictsOf code c.args.thread.now c.new.result.conflicts)
           (c.as_slice.ensures ∙ sym (get_or_from_slice_get program n c.code-item.result [] coded)) c.new.ensures);

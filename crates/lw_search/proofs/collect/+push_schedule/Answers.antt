@@ -1,24 +1,24 @@
 -- Of `push_schedule`, which appends to `events` a schedule from the start to the state at an index, along the
 -- chain of parents. Three exits: past the table, and at the start, which is its own parent, nothing is
--- appended, and that is right; otherwise `reaches_index-next` puts the schedule of the parent, by the
+-- appended, and that is right; otherwise `ReachesIndex-next` puts the schedule of the parent, by the
 -- recursive call, before the run of the origin.
 use Rattle.lw_search.proofs.Common.{◌++◌, ◌∙◌, [], arith, ap, sym, append-nil, append_assoc, on_ok_weaker}
 use Rattle.lw_search.proofs.Common.{events_at}
-use Rattle.lw_search.proofs.Collected.{reaches_index-start, reaches_index-past, reaches_index-next}
+use Rattle.lw_search.proofs.Collected.{ReachesIndex-start, ReachesIndex-past, ReachesIndex-next}
 use Rattle.lw_search.proofs.collect.+push_schedule.Goals as goal
 
 pub returns-in_default : goal.returns-in_default
 returns-in_default g t c = (
   [],
   sym (append-nil c.args.events.now.items),
-  reaches_index-past c.args.states.now c.args.index (sym c.origin.ensures ∙ c.in_default.is),
+  ReachesIndex-past c.args.states.now c.args.index (sym c.origin.ensures ∙ c.in_default.is),
 )
 
 pub returns-then-index-parent : goal.returns-then-index-parent
 returns-then-index-parent g t c = (
   [],
   sym (append-nil c.args.events.now.items),
-  reaches_index-start c.args.states.now c.args.index c.in-Some.origin (sym c.origin.ensures ∙ c.in-Some.is)
+  ReachesIndex-start c.args.states.now c.args.index c.in-Some.origin (sym c.origin.ensures ∙ c.in-Some.is)
       (omega (arith, c.if-index-parent.true)),
 )
 
@@ -31,6 +31,6 @@ returns g t c =
       items
           ∙ ap (λ l. l ++ events_at c.args.states.now.runs origin.run) before.1
           ∙ append_assoc c.args.events.now.items before.0 (events_at c.args.states.now.runs origin.run),
-      reaches_index-next c.args.states.now c.args.index origin before.0 (λ e. absurd (omega (arith, e, c.if-index-parent.false)))
+      ReachesIndex-next c.args.states.now c.args.index origin before.0 (λ e. absurd (omega (arith, e, c.if-index-parent.false)))
           (sym c.origin.ensures ∙ c.in-Some.is) before.2,
     )) c.push_run.ensures

@@ -1,7 +1,7 @@
 -- Of `outcome_of`, which returns the registers and words of each state that the key represents.
--- `registers-more` adds one thread's registers to the list; the rest is proved by the search.
+-- `AreRegisters-push` adds one thread's registers to the list; the rest is proved by the search.
 use Rattle.lw_search.proofs.Common.{◌<◌, ◌+◌, arith, sym, subst, length}
-use Rattle.lw_search.proofs.Collected.{registers-more, AreRegisters}
+use Rattle.lw_search.proofs.Collected.{AreRegisters-push, AreRegisters}
 use Rattle.lw_search.proofs.collect.outcome_of.Goals as goal
 
 pub loop-thread-preserved : goal.loop-thread-preserved
@@ -12,5 +12,5 @@ loop-thread-preserved g c =
     let n = c.loop-thread.thread in
     let lt : n < length program = omega (arith, c.loop-thread-test.true, c.len-thread-end.ensures) in
     subst (λ l. AreRegisters program tables key l (n + 1)) (sym c.in_ok-push.ensures.ok)
-    (registers-more program tables key c.loop-thread.regs n c.registers_of.result c.loop-thread.invariant lt
+    (AreRegisters-push program tables key c.loop-thread.regs n c.registers_of.result c.loop-thread.invariant lt
     (rw c.cpu_at.ensures at c.registers_of.ensures))

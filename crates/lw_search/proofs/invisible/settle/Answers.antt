@@ -1,17 +1,17 @@
 -- Of `settle`, which takes invisible events of one thread as long as it finds any: the appended events lead
--- from each state of this key to a state that covers it. `settles-more` and `settles-end` put the next event,
+-- from each state of this key to a state that covers it. `Settles-push` and `Settles-end` put the next event,
 -- or none, after those taken before. The contract does not say that all are taken, so the bound on events
 -- needs no proof.
 use Rattle.lw_search.proofs.Common.{◌++◌, ◌∷◌, ◌∙◌, [], Bool, ℕ, Option, Some, ap, sym, subst, append-nil}
 use Rattle.lw_search.proofs.Common.{append_assoc, option_to_list, events_of, Settles}
-use Rattle.lw_search.proofs.Settling.{settles-none, settles-more, settles-end}
+use Rattle.lw_search.proofs.Settling.{Settles-none, Settles-push, Settles-end}
 use Rattle.lw_search.proofs.invisible.settle.Goals as goal
 
 pub loop-init : goal.loop-init
 loop-init g c = (
   [],
   sym (append-nil c.args.run.now),
-  settles-none c.args.program.now.threads c.args.conflicts c.args.cpu c.args.thread.now c.args.words.now,
+  Settles-none c.args.program.now.threads c.args.conflicts c.args.cpu c.args.thread.now c.args.words.now,
 )
 
 pub returns-in-None : goal.returns-in-None
@@ -25,7 +25,7 @@ returns-in-None g c =
     c.take_event.new.words) c.in-None.is c.in_ok-event.ensures in (
       before.0,
       before.1,
-      settles-end program conflicts c.args.cpu before.0 c.args.thread.now c.loop.thread c.take_event.new.thread c.args.words.now
+      Settles-end program conflicts c.args.cpu before.0 c.args.thread.now c.loop.thread c.take_event.new.thread c.args.words.now
           c.loop.words c.take_event.new.words before.2 last,
     )
 
@@ -41,7 +41,7 @@ loop-preserved g c =
     c.take_event.new.words) c.in-Some.is c.in_ok-event.ensures in (
       before.0 ++ event ∷ [],
       c.in_ok-push-in-Some.ensures ∙ ap (λ l. l ++ event ∷ []) before.1 ∙ append_assoc c.args.run.now before.0 (event ∷ []),
-      settles-more program conflicts c.args.cpu before.0 (Some event) c.args.thread.now c.loop.thread c.take_event.new.thread
+      Settles-push program conflicts c.args.cpu before.0 (Some event) c.args.thread.now c.loop.thread c.take_event.new.thread
           c.args.words.now c.loop.words c.take_event.new.words before.2 last,
     )
 

@@ -1,8 +1,8 @@
 -- Of `take_event`, which takes the thread's step if it is invisible, otherwise its drain if that is, and
--- returns which. The first of the two calls has then taken no event, so `settles-append` joins no event with
+-- returns which. The first of the two calls has then taken no event, so `Settles-append` joins no event with
 -- the one of the second call, or with none.
 use Rattle.lw_search.proofs.Common.{◌∷◌, [], Bool, Step, Drain, sym, subst, if◌then◌else◌, event_of, Settles}
-use Rattle.lw_search.proofs.Settling.{settles-append}
+use Rattle.lw_search.proofs.Settling.{Settles-append}
 use Rattle.lw_search.proofs.invisible.take_event.Goals as goal
 
 pub returns-then-take_drain : goal.returns-then-take_drain
@@ -21,7 +21,7 @@ returns-then-take_drain g c =
     subst (λ r.
     Settles program conflicts t (event_of r ∷ []) c.args.thread.now c.args.words.now c.take_drain.new.thread
     c.take_drain.new.words) (sym c.drain.ensures)
-    (settles-append program conflicts t [] (Drain t ∷ []) c.args.thread.now c.take_step.new.thread c.take_drain.new.thread
+    (Settles-append program conflicts t [] (Drain t ∷ []) c.args.thread.now c.take_step.new.thread c.take_drain.new.thread
     c.args.words.now c.take_step.new.words c.take_drain.new.words first second)
 
 pub returns : goal.returns
@@ -37,5 +37,5 @@ returns g c =
     subst (λ (b : Bool).
     Settles program conflicts t (if b then Drain t ∷ [] else []) c.take_step.new.thread c.take_step.new.words
     c.take_drain.new.thread c.take_drain.new.words) c.if-take_drain.false c.take_drain.ensures in
-    settles-append program conflicts t [] [] c.args.thread.now c.take_step.new.thread c.take_drain.new.thread c.args.words.now
+    Settles-append program conflicts t [] [] c.args.thread.now c.take_step.new.thread c.take_drain.new.thread c.args.words.now
     c.take_step.new.words c.take_drain.new.words first second

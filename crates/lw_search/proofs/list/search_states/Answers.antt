@@ -1,7 +1,7 @@
 -- `search_states` runs a search to its end. The run says that each found state was expanded, or that more states than the budget were
 -- found; both follow from the invariant of a search that has just started.
 use Rattle.lw_search.proofs.Common.{◌≡◌, ◌∙◌, err_from_is_err_and, sym, program_of, SearchFault}
-use Rattle.lw_search.proofs.Reachable.{visits-found, exceeds-found}
+use Rattle.lw_search.proofs.Reachable.{visits-found, ExceedsBudget-of_found}
 use Rattle.lw_search.specs.declared.fault.SearchFault.TheVariants as fault
 use Rattle.lw_search.proofs.list.search_states.Goals as goal
 
@@ -18,7 +18,7 @@ returns-then-not-branch-clause-budget g c = λ e.
     let progress = rw (c.if-not-branch.true, c.in_ok-search.ensures.program) at c.in_ok-run.ensures.progress in
     let started = c.in_ok-search.ensures.started in
     let a = progress _ started.0 started.1 in
-    exceeds-found test c.run.new.self.tables c.run.new.self.states a.0 c.args.budget a.1 a.2 a.3
+    ExceedsBudget-of_found test c.run.new.self.tables c.run.new.self.states a.0 c.args.budget a.1 a.2 a.3
 
 pub returns-clause-finished : goal.returns-clause-finished
 returns-clause-finished g c =

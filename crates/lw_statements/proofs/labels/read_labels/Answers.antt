@@ -12,12 +12,12 @@ use Rattle.lw_statements.proofs.FrontLabels.{HasDuplicateLabelAt-of_token}
 use Rattle.lw_statements.proofs.labels.read_labels.Goals as goal
 
 -- Two tokens further, fewer remain.
-fewer_left : (next len : ℕ) → next + 2 ≤ len → len - (next + 2) < len - next
-fewer_left next len within = omega arith
+minus_two-lt : (next len : ℕ) → next + 2 ≤ len → len - (next + 2) < len - next
+minus_two-lt next len within = omega arith
 
 pub loop-token-smaller : goal.loop-token-smaller
 loop-token-smaller g c =
-    fewer_left _ _ (next_within c.args.tokens.now c.loop-token.next _ (c.stands_at.ensures.0 c.loop-token-test.true))
+    minus_two-lt _ _ (next_within c.args.tokens.now c.loop-token.next _ (c.stands_at.ensures.0 c.loop-token-test.true))
 
 pub loop-token-init : goal.loop-token-init
 loop-token-init g c = labels_start _ _ _

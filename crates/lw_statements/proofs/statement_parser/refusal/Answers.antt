@@ -35,11 +35,11 @@ offset_bounds-phrase-index g c =
     )
 
 -- The cause `TooMany` differs from `Memory`.
-other : TooMany ≡ Memory → ⊥
-other e = cc
+TooMany-not_memory : TooMany ≡ Memory → ⊥
+TooMany-not_memory e = cc
 
 pub invariant_of-result : goal.invariant_of-result
-invariant_of-result g c = record { memory = λ e. absurd (other e) }
+invariant_of-result g c = record { memory = λ e. absurd (TooMany-not_memory e) }
 
 pub loop-form-preserved : goal.loop-form-preserved
 loop-form-preserved g c =

@@ -5,8 +5,8 @@ use Rattle.lw_text.proofs.Common.{NotUtf8, TooLong, arith, subst, sym, ◌∙◌
 use Rattle.lw_text.proofs.read.read_frame.Goals as goal
 
 -- The two causes that concern a whole text differ.
-other : NotUtf8 ≢ TooLong
-other e = cc
+NotUtf8-not_too_long : NotUtf8 ≢ TooLong
+NotUtf8-not_too_long e = cc
 
 pub returns-in-Err-clause-too_long : goal.returns-in-Err-clause-too_long
 returns-in-Err-clause-too_long g c = λ long. absurd (omega arith)
@@ -19,7 +19,7 @@ pub returns-in-Err-clause-fault : goal.returns-in-Err-clause-fault
 returns-in-Err-clause-fault g c = λ _ frame has. c.in-Err.ensures.cases.0 has.utf8
 
 pub returns-in-Err-clause-only_too_long : goal.returns-in-Err-clause-only_too_long
-returns-in-Err-clause-only_too_long g c = λ e. absurd (other e)
+returns-in-Err-clause-only_too_long g c = λ e. absurd (NotUtf8-not_too_long e)
 
 pub read_text-requires-clause-short : goal.read_text-requires-clause-short
 read_text-requires-clause-short g c = omega arith

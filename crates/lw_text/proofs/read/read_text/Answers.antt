@@ -1,6 +1,6 @@
 -- `read_text` promises the frame of a short UTF-8 text, or that it has none and where it fails. Each exit with a fault gives three things, in
 -- this order: the text has no frame; the place is within the text; the text fails there, for this cause (`in_preamble`, or
--- `in_body` with `body_fails`). At `in_err-stream` and at `in_err-finish` memory ran out, and there is nothing more to show (`no_memory`).
+-- `in_body` with `body_fails`). At `in_err-stream` and at `in_err-finish` memory ran out, and there is nothing more to show (`MatchResult-out_of_memory`).
 -- If the tokens end early or are no test, the text has no frame by `no_frame-if_no_test` and `HasNoTest-if_no_tokens_or_no_parse`. In
 -- each answer `whole` says that the lexer's text is the argument. The head computed in memory is the head that the text says
 -- (`resolved_head-head_of_syntax`).
@@ -20,22 +20,25 @@ use Rattle.lw_text.proofs.Faults.{MatchResult-weakened_error, Err-clause_known}
 use Rattle.lw_text.proofs.read.read_text.Goals as goal
 
 -- If a result is `None` for one reason, or a value with Q, and Q implies R, each value has R.
-some_within : {F : Type 0} (P : Type 0) (Q R : F → Type 0) (o : Option F) → MatchOption o P Q → ((f : F) → Q f → R f) → IfSome o R
-some_within P Q R None p h = tt
-some_within P Q R (Some f) q h = h f q
+IfSome-of_match : {F : Type 0} (P : Type 0) (Q R : F → Type 0) (o : Option F)
+    → MatchOption o P Q
+    → ((f : F) → Q f → R f)
+    → IfSome o R
+IfSome-of_match P Q R None p h = tt
+IfSome-of_match P Q R (Some f) q h = h f q
 
 -- The first two of what holds of a fault.
-first_two : {F : Type 0} (P : Type 0) (A B C : F → Type 0) (o : Option F)
+MatchOption-first_two : {F : Type 0} (P : Type 0) (A B C : F → Type 0) (o : Option F)
     → MatchOption o P (λ f. A f × B f × C f)
     → MatchOption o P (λ f. A f × B f)
-first_two P A B C None p = p
-first_two P A B C (Some f) p = (p.0, p.1)
+MatchOption-first_two P A B C None p = p
+MatchOption-first_two P A B C (Some f) p = (p.0, p.1)
 
 -- A result that fails for lack of memory, at position 0, promises nothing else.
-no_memory : {T : Type 0} (P : T → Type 0) (X : Type 0) (Y : Fault → Type 0) (len : ℕ) (r : Result T Fault)
+MatchResult-out_of_memory : {T : Type 0} (P : T → Type 0) (X : Type 0) (Y : Fault → Type 0) (len : ℕ) (r : Result T Fault)
     → IsErrAnd r (λ f. (f.at ≡ 0) × (f.cause ≡ Memory))
     → MatchResult r P (λ f. (f.cause ≢ Memory → X) × (f.at ≤ len) × (f.cause ≢ Memory → Y f))
-no_memory P X Y len r h =
+MatchResult-out_of_memory P X Y len r h =
     MatchResult-weakened_error P _ r h (λ f k. (λ other. absurd (other k.1), omega (arith, k.0), λ other. absurd (other k.1)))
 
 pub returns-in_err-preamble : goal.returns-in_err-preamble
@@ -60,7 +63,7 @@ body-read-requires-clause-places g c =
 pub body-read-requires-clause-fault : goal.body-read-requires-clause-fault
 body-read-requires-clause-fault g c =
     let whole = c.in_ok-preamble.ensures.same ∙ c.new-lexer.ensures.text in
-    some_within _ _ _ c.in_ok-stream.stream.fault c.in_ok-stream.ensures.0 (λ f h. omega (arith, h.1, ap length whole))
+    IfSome-of_match _ _ _ c.in_ok-stream.stream.fault c.in_ok-stream.ensures.0 (λ f h. omega (arith, h.1, ap length whole))
 
 pub returns-in_err-body : goal.returns-in_err-body
 returns-in_err-body g c =
@@ -79,7 +82,7 @@ returns-in_err-body g c =
       λ ne.
           no_frame-if_no_test c.args.text.now arch name rest preamble
           (HasNoTest-if_no_tokens_or_no_parse arch stream.fault _ _ rest stream.tokens
-          (first_two _ _ _ _ stream.fault c.in_ok-stream.ensures.0) (c.in_err-body.ensures.0 ne)),
+          (MatchOption-first_two _ _ _ _ stream.fault c.in_ok-stream.ensures.0) (c.in_err-body.ensures.0 ne)),
       c.in_err-body.ensures.1,
       λ ne. in_body arch name rest preamble (body_fails tokens_or_stop (c.in_err-body.ensures.2 ne)),
     )
@@ -92,8 +95,8 @@ finish-requires-clause-within g c =
     HasRows-within len _ c.in_ok-stream.stream.tokens body.parts.threads body.rows c.in_ok-body.ensures.2 within
 
 -- A frame is its head and its cells.
-same_frame : (f : TestFrame) {h : TestHead} {a : CellGrid} → f.head ≡ h → f.cells ≡ a → f ≡ record { head = h; cells = a }
-same_frame f p q = rw (← p, ← q)
+TestFrame-eq : (f : TestFrame) {h : TestHead} {a : CellGrid} → f.head ≡ h → f.cells ≡ a → f ≡ record { head = h; cells = a }
+TestFrame-eq f p q = rw (← p, ← q)
 
 pub returns : goal.returns
 returns g c =
@@ -126,7 +129,7 @@ returns g c =
         stream = read_whole (length c.args.text.now) rest all.tokens stream;
         parts = says.parts;
         proposition = body_proposition arch (token_texts all.tokens) body says;
-        made = same_frame _ head cells;
+        made = TestFrame-eq _ head cells;
       },
       record {
         arch = arch;
@@ -144,10 +147,10 @@ returns g c =
     )
 
 pub returns-in_err-stream : goal.returns-in_err-stream
-returns-in_err-stream g c = no_memory _ _ _ _ _ c.from_residual-in_err-stream.ensures.1
+returns-in_err-stream g c = MatchResult-out_of_memory _ _ _ _ _ c.from_residual-in_err-stream.ensures.1
 
 pub returns-in_err-finish : goal.returns-in_err-finish
-returns-in_err-finish g c = no_memory _ _ _ _ _ c.from_residual-in_err-finish.ensures.1
+returns-in_err-finish g c = MatchResult-out_of_memory _ _ _ _ _ c.from_residual-in_err-finish.ensures.1
 
 pub finish-requires-clause-name : goal.finish-requires-clause-name
 finish-requires-clause-name g c = c.in_ok-preamble.ensures.reads.3.is_name

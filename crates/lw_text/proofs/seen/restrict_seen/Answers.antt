@@ -21,19 +21,19 @@ loop-cpu-preserved g c =
     (rw at at c.in_ok-see_registers.ensures)
 
 -- An index past the first `len` numbers is `len`.
-passed : (n len i : ℕ) {all xs : List ℕ}
+index-at_end : (n len i : ℕ) {all xs : List ℕ}
     → all ≡ range_with_len 0 n
     → xs ≡ take len all
     → len ≤ n
     → i ≤ length xs
     → length xs ≤ i
     → i ≡ len
-passed n len i {all = all} e f few at_most at_least =
+index-at_end n len i {all = all} e f few at_most at_least =
     omega (arith, at_most, at_least, ap length f, length-take len all, ap length e, length-range_with_len 0 n)
 
 pub returns : goal.returns
 returns g c =
     let all =
-    passed most_threads c.args.threads _ c.all.ensures refl c.requires.threads c.loop-cpu.auto.cpu-index-end
+    index-at_end most_threads c.args.threads _ c.all.ensures refl c.requires.threads c.loop-cpu.auto.cpu-index-end
     c.loop-cpu-test.false in
     rw (c.in_ok-see_locations.ensures, c.loop-cpu.invariant, all) (sym (filter-append (is_listed c.args.sites.now) _ _))

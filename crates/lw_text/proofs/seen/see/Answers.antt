@@ -6,18 +6,18 @@ use Rattle.lw_text.proofs.Common.{take_all, ◌∙◌}
 use Rattle.lw_text.proofs.seen.see.Goals as goal
 
 -- No element up to the next index passes the test.
-none_more : {X : Type 0} (p : X → Bool) (xs : List X) (i : ℕ) (x : X)
+list_any-take_next : {X : Type 0} (p : X → Bool) (xs : List X) (i : ℕ) (x : X)
     → list_any p (take i xs) ≡ false
     → i < length xs
     → x ≡ get_or xs i x
     → false ≡ p x
     → list_any p (take (i + 1) xs) ≡ false
-none_more p xs i x none here at fails = rw (list_any_more p xs i x here, none, ← at) (sym fails)
+list_any-take_next p xs i x none here at fails = rw (list_any_more p xs i x here, none, ← at) (sym fails)
 
 pub loop-listed-preserved : goal.loop-listed-preserved
 loop-listed-preserved g c = record {
   same = c.loop-listed.invariant.same;
-  none = none_more _ _ _ _ c.loop-listed.invariant.none c.loop-listed-test.true c.listed-item.is c.if-is_same.ensures;
+  none = list_any-take_next _ _ _ _ c.loop-listed.invariant.none c.loop-listed-test.true c.listed-item.is c.if-is_same.ensures;
 }
 
 pub returns-then-is_same : goal.returns-then-is_same

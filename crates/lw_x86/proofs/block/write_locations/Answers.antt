@@ -8,13 +8,13 @@ use Rattle.lw_x86.proofs.BlockTexts.{location_initializer, initializer_texts-loc
 use Rattle.lw_x86.proofs.block.write_locations.Goals as goal
 
 -- The location's index is below the number of locations.
-below_len : (len : ℕ) {k x : ℕ} {all xs : List ℕ}
+location-lt : (len : ℕ) {k x : ℕ} {all xs : List ℕ}
     → all ≡ range_with_len 0 most_locations
     → xs ≡ take len all
     → k < length xs
     → x ≡ get_or xs k x
     → x < len
-below_len len {all = all} e f here at =
+location-lt len {all = all} e f here at =
     rw (is_index most_locations len e f here at) (omega (arith, here, ap length f, length-take len all))
 
 pub loop-loc-preserved : goal.loop-loc-preserved
@@ -43,8 +43,8 @@ returns g c =
 
 pub write_location-requires-clause-name : goal.write_location-requires-clause-name
 write_location-requires-clause-name g c =
-    rw (← c.len.ensures.len) (below_len c.len.result c.all.ensures refl c.loop-loc-test.true c.loc-item.is)
+    rw (← c.len.ensures.len) (location-lt c.len.result c.all.ensures refl c.loop-loc-test.true c.loc-item.is)
 
 pub write_location-requires-clause-word : goal.write_location-requires-clause-word
 write_location-requires-clause-word g c =
-    rw (c.requires.words, ← c.len.ensures.len) (below_len c.len.result c.all.ensures refl c.loop-loc-test.true c.loc-item.is)
+    rw (c.requires.words, ← c.len.ensures.len) (location-lt c.len.result c.all.ensures refl c.loop-loc-test.true c.loc-item.is)

@@ -1,6 +1,6 @@
 -- `write_listed` promises the line of the list of names, or nothing if the test has none. Each round writes a
 -- separator and an element (`joined_prefix-push`); the interesting case is the empty list, which has no line
--- (`listed_is`).
+-- (`listed_text-if_not_empty`).
 use Rattle.lw_x86.proofs.Common.{◌≡◌, ◌++◌, ◌==◌, List, [], ◌∷◌, length, map, codes, refl, ap, ◌∙◌, false}
 use Rattle.lw_x86.proofs.Common.{sym, arith, length-map, All-from_recursion, slice_get-map, slice_get_read}
 use Rattle.lw_x86.proofs.Common.{option_map, joined, NameTable, Seen, written-append, written-equal_text}
@@ -9,11 +9,11 @@ use Rattle.lw_x86.proofs.SeparatedTexts.{joined_prefix-push, joined_prefix-whole
 use Rattle.lw_x86.proofs.canonical.write_listed.Goals as goal
 
 -- The list of names is not empty.
-listed_is : (names : NameTable) (ss : List Seen)
+listed_text-if_not_empty : (names : NameTable) (ss : List Seen)
     → (length ss == 0) ≡ false
     → codes "locations [" ++ (joined (codes " ") (map (element_text names) ss) ++ codes "]\n") ≡ listed_text names ss
-listed_is names [] some = absurd cc
-listed_is names (s ∷ ss) some = refl
+listed_text-if_not_empty names [] some = absurd cc
+listed_text-if_not_empty names (s ∷ ss) some = refl
 
 pub write_element-requires : goal.write_element-requires
 write_element-requires g c =
@@ -44,5 +44,5 @@ returns g c =
       c.loop-number-test.false,
     )) in
     let some = rw c.as_slice-listed.ensures at (sym c.is_empty.ensures ∙ c.if-is_empty.false) in
-    written-equal_text _ _ _ _ _ (listed_is head.locs head.listed some)
+    written-equal_text _ _ _ _ _ (listed_text-if_not_empty head.locs head.listed some)
     (line_written c.push_str-2.result _ _ _ (codes "]\n") c.in_ok-push_str.ensures.bytes elements c.push_str-2.ensures.bytes)

@@ -1,14 +1,14 @@
 -- `write_on_memory` promises a mnemonic, a location in brackets and an operand. The written pieces are these,
--- differently grouped (`on_memory`), followed by the operand.
+-- differently grouped (`operands-regrouped`), followed by the operand.
 use Rattle.lw_x86.proofs.Common.{◌≡◌, [], ◌∷◌, ◌++◌, append_assoc, refl, get_or_from_slice_get, Bytes}
 use Rattle.lw_x86.proofs.Common.{written-two_parts}
 use Rattle.lw_x86.proofs.instruction_text.write_on_memory.Goals as goal
 
 -- The mnemonic, the location in brackets, the comma and the operand are the same text, however the pieces are grouped.
-on_memory : (mnemonic name x operand : Bytes)
+operands-regrouped : (mnemonic name x operand : Bytes)
     → x ≡ name
     → (mnemonic ++ (32 ∷ 91 ∷ (name ++ (93 ∷ 44 ∷ [])))) ++ operand ≡ mnemonic ++ (32 ∷ ((91 ∷ (x ++ 93 ∷ [])) ++ (44 ∷ operand)))
-on_memory mnemonic name x operand named =
+operands-regrouped mnemonic name x operand named =
     rw (
       named,
       append_assoc mnemonic (32 ∷ 91 ∷ (name ++ (93 ∷ 44 ∷ []))),
@@ -19,5 +19,5 @@ on_memory mnemonic name x operand named =
 pub returns : goal.returns
 returns g c =
     written-two_parts _ _ _ _ _ c.in_ok-write.ensures.bytes
-    (on_memory _ _ _ _ (get_or_from_slice_get c.args.names.now c.args.loc c.name.result.now [] c.name.ensures))
+    (operands-regrouped _ _ _ _ (get_or_from_slice_get c.args.names.now c.args.loc c.name.result.now [] c.name.ensures))
     c.write_operand.ensures

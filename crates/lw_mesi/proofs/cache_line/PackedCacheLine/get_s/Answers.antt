@@ -1,7 +1,7 @@
 -- Of `PackedCacheLine::get_s`, the bus transaction of a load without a copy, as the protocol's table says.
 -- One lemma for each case: a dirty owner under MOESI (`unpacked-shared_by_dirty_owner`), another owner (`unpacked-shared_by_clean_owner`), no
 -- holder (`unpacked-first_reader`), and sharers only (`unpacked-next_reader`). Under MESI no owner is in O, so the packed line
--- stays well formed (`unowned`).
+-- stays well formed (`not_owned`).
 use Rattle.lw_mesi.proofs.Common.{◌≡◌, ◌<◌, ℕ, Some, false, sym, ◌∙◌, subst, length-set, true≢false, Invalid}
 use Rattle.lw_mesi.proofs.Common.{copy_of, HasProtocolStates, table_of, Moesi, CacheLine, Protocol, Inside}
 use Rattle.lw_mesi.proofs.Common.{IsPacked, unpacked, most_threads, copy_word, cache_line_to_read}
@@ -12,20 +12,20 @@ use Rattle.lw_mesi.proofs.cache_line.PackedCacheLine.get_s.Goals.{in_default-via
 use Rattle.lw_mesi.proofs.cache_line.PackedCacheLine.get_s.Goals.{in_default-via-in_default}
 use Rattle.lw_mesi.proofs.cache_line.PackedCacheLine.get_s.Goals as goal
 
-clean : (c : goal.After-insert-in_default-2) → c.args.protocol ≡ Moesi → c.self.inside.is_dirty ≡ false
-clean c e = elim c.in_default.branch [
+not_dirty-if_moesi : (c : goal.After-insert-in_default-2) → c.args.protocol ≡ Moesi → c.self.inside.is_dirty ≡ false
+not_dirty-if_moesi c e = elim c.in_default.branch [
   | in_default-via-in-Moesi+else-self w ↦ w.if-self.false
   | in_default-via-in_default w ↦ absurd (w.in_default.not-Moesi e)
 ]
 
-unowned : (c : goal.After-insert-in_default-2) → c.self.inside.is_owned ≡ false
-unowned c =
+not_owned : (c : goal.After-insert-in_default-2) → c.self.inside.is_owned ≡ false
+not_owned c =
     is_owned-false_if_clean c.self.inside c.args.protocol c.self.invariant
-    (subst (HasProtocolStates c.args.protocol) (sym c.self.view_is) c.requires.states) (clean c)
+    (subst (HasProtocolStates c.args.protocol) (sym c.self.view_is) c.requires.states) (not_dirty-if_moesi c)
 
 pub invariant_of-self-in_default : goal.invariant_of-self-in_default
 invariant_of-self-in_default c =
-    IsPacked-no_owner c.self.inside.word c.self.inside.is_owned _ (unowned c)
+    IsPacked-no_owner c.self.inside.word c.self.inside.is_owned _ (not_owned c)
     (rw (c.insert-in_default-2.ensures, c.insert-in_default.ensures)
     (length-set _ _ _ ∙ (length-set _ _ _ ∙ c.self.invariant.as_many)))
 
@@ -59,8 +59,8 @@ pub returns-in_default-clause-line : goal.returns-in_default-clause-line
 returns-in_default-clause-line c =
     let asks = IsReader-of_line c.self.inside c.self.view_is c.self.invariant c.requires.cpu c.requires.without in
     rw (← c.self.view_is, c.insert-in_default-2.ensures, c.insert-in_default.ensures)
-    (unpacked-shared_by_clean_owner c.self.inside c.args.cpu c.in-Some.owner c.args.protocol asks c.in-Some.is (unowned c)
-    (clean c))
+    (unpacked-shared_by_clean_owner c.self.inside c.args.cpu c.in-Some.owner c.args.protocol asks c.in-Some.is (not_owned c)
+    (not_dirty-if_moesi c))
 
 pub returns-in-None-clause-line : goal.returns-in-None-clause-line
 returns-in-None-clause-line c =

@@ -8,10 +8,10 @@ use Rattle.lw_mesi.proofs.caches.SnoopingCachesMemorySystem.update.Goals.{After-
 use Rattle.lw_mesi.proofs.caches.SnoopingCachesMemorySystem.update.Goals as goal
 
 -- The cache line, before the update.
-borrowed : (g : Over) (c : After-index_mut-line g)
+IsBorrowedLine-before : (g : Over) (c : After-index_mut-line g)
     → (let m : Caches = record { cpus = c.self.inside.cpus; cache_lines = c.self.inside.cache_lines.items } in
     IsBorrowedLine g.P.ProtocolType.protocol m c.args.self.now c.args.cpu c.args.loc c.index.result c.index_mut-line.result.now)
-borrowed g c = record {
+IsBorrowedLine-before g c = record {
   same = c.self.view_is;
   kept = c.self.invariant.1;
   within_line_limit = c.self.invariant.0;
@@ -27,11 +27,11 @@ index_mut-line-requires g c = index_in_range _ _ c.self.inside.cache_lines _ _ c
 pub invariant_of-self : goal.invariant_of-self
 invariant_of-self g c =
     SatisfiesProtocol-set_line g.P.ProtocolType.protocol _ _ c.args.cpu _ _ _
-    (borrowed g (goal.at.invariant_of-self g c).After-index_mut-line) _ (λ lt s.
+    (IsBorrowedLine-before g (goal.at.invariant_of-self g c).After-index_mut-line) _ (λ lt s.
     subst (LineSatisfiesProtocol g.P.ProtocolType.protocol) (sym c.write.ensures.line) (write_kept _ c.args.cpu _ lt s _))
 
 pub returns-clause-served : goal.returns-clause-served
 returns-clause-served g c =
     ProtocolTransition-borrowed g.P.ProtocolType.protocol _ _ c.args.cpu _ _ _
-    (borrowed g (goal.at.returns-clause-served g c).After-index_mut-line) (table_of g.P.ProtocolType.protocol)
+    (IsBorrowedLine-before g (goal.at.returns-clause-served g c).After-index_mut-line) (table_of g.P.ProtocolType.protocol)
     (Update c.args.change) _ _ c.write.ensures.word (cc)

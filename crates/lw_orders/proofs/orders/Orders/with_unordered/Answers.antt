@@ -1,5 +1,5 @@
 -- Of `Orders::with_unordered`, which creates the iterator. At the first pair, with no pair reversed, the
--- remaining orders are all of them (`from_reversals-start`, in `same`); and the search's invariant holds with the table
+-- remaining orders are all of them (`from_reversals-start`, in `remaining_orders-at_start`); and the search's invariant holds with the table
 -- of the preserved pairs, which have no cycle.
 use Rattle.lw_orders.proofs.Common.{CanBeSearched, false, Some, arith, ◌≡◌, ◌+◌, ◌≤◌, length, get_or}
 use Rattle.lw_orders.proofs.Common.{replicate, ap, ◌∙◌, sym, subst, refl, pow_mono, orientation_count}
@@ -15,30 +15,30 @@ use Rattle.lw_orders.proofs.orders.Orders.with_unordered.Goals as goal
 
 module _ (g : Over) (c : In_ok-neighbours g) where
   -- The copied pairs are the preserved pairs of the items.
-  preserved_is : c.in_ok-preserved.preserved.items ≡ c.args.items.now.preserved
-  preserved_is = c.in_ok-preserved.ensures.items ∙ (c.deref-2.ensures.value ∙ ap (λ t. t.preserved) c.items.view_is)
+  preserved-copied : c.in_ok-preserved.preserved.items ≡ c.args.items.now.preserved
+  preserved-copied = c.in_ok-preserved.ensures.items ∙ (c.deref-2.ensures.value ∙ ap (λ t. t.preserved) c.items.view_is)
 
   -- The length read is the number of items.
-  len_is : c.items.inside.len ≡ c.args.items.now.len
-  len_is = ap (λ (t : Constraints). t.len) c.items.view_is
+  len-read : c.items.inside.len ≡ c.args.items.now.len
+  len-read = ap (λ (t : Constraints). t.len) c.items.view_is
 
   -- The count read is the number of unordered pairs.
-  count_is : c.len.result ≡ length c.args.unordered.items
-  count_is = c.len.ensures ∙ c.args.unordered.ok.0
+  count-read : c.len.result ≡ length c.args.unordered.items
+  count-read = c.len.ensures ∙ c.args.unordered.ok.0
 
   -- No pair is reversed.
-  reversals_are : c.in_ok-reversals.reversals.items ≡ replicate c.len.result false
-  reversals_are = c.in_ok-reversals.ensures.items_if_clones_equal (λ y e. e)
+  reversals-at_start : c.in_ok-reversals.reversals.items ≡ replicate c.len.result false
+  reversals-at_start = c.in_ok-reversals.ensures.items_if_clones_equal (λ y e. e)
 
   -- The orders that remain at the start are all orders of the items.
-  same : remaining_orders (Some 0) c.items.inside.len c.in_ok-preserved.preserved.items c.args.unordered.items
-      c.in_ok-reversals.reversals.items
+  remaining_orders-at_start : remaining_orders (Some 0) c.items.inside.len c.in_ok-preserved.preserved.items
+      c.args.unordered.items c.in_ok-reversals.reversals.items
       ≡ orders c.args.items.now
-  same =
+  remaining_orders-at_start =
       from_reversals-start c.items.inside.len _ c.args.unordered.items c.in_ok-reversals.reversals.items
-      (ap length reversals_are ∙ (length-replicate c.len.result false ∙ count_is))
-      (ap (λ ws. get_or ws 0 false) reversals_are ∙ get_or-replicate_false c.len.result)
-      ∙ rw (len_is, preserved_is, c.requires.unordered) refl
+      (ap length reversals-at_start ∙ (length-replicate c.len.result false ∙ count-read))
+      (ap (λ ws. get_or ws 0 false) reversals-at_start ∙ get_or-replicate_false c.len.result)
+      ∙ rw (len-read, preserved-copied, c.requires.unordered) refl
 
 pub invariant_of-result : goal.invariant_of-result
 invariant_of-result g c =
@@ -48,7 +48,7 @@ invariant_of-result g c =
     let preserved_up : AreAscending c.items.inside.len c.in_ok-preserved.preserved.items =
     subst (AreAscending c.items.inside.len) preserved c.items.invariant.preserved_up in
     let unordered_up : AreAscending c.items.inside.len c.args.unordered.items =
-    rw (len_is g d, c.requires.unordered) (unordered_conflicts-ascending are) in
+    rw (len-read g d, c.requires.unordered) (unordered_conflicts-ascending are) in
     let unordered_bounded : length (unordered_conflicts c.args.items.now) ≤ most_unordered =
     rw (c.requires.unordered) at c.requires.bounded in
     let few_reversals : orientation_count c.args.items.now ≤ most_orders = pow_mono unordered_bounded in
@@ -60,10 +60,10 @@ invariant_of-result g c =
     } in
     record {
       is_search_state =
-          IsSearchState-start c.args.reach.now c.len.result can (count_is g d) (reversals_are g d)
+          IsSearchState-start c.args.reach.now c.len.result can (count-read g d) (reversals-at_start g d)
           (c.in_ok-chosen.ensures.items ∙ c.deref.ensures.value)
           (c.in_ok-saved.ensures ∙ ap (λ n. replicate (n + 1) c.args.reach.now) (c.len-2.ensures ∙ sym c.len.ensures))
-          (rw (len_is g d, preserved_is g d) c.requires.reach);
+          (rw (len-read g d, preserved-copied g d) c.requires.reach);
       tabled = Tabled-start c.predecessors_of.result c.neighbours_of-neighbours.result can (record {
         copies = c.in_ok-tables.ensures;
         predecessors =
@@ -78,11 +78,11 @@ invariant_of-result g c =
             subst (λ ps. AreNeighbours ps c.neighbours_of-neighbours.result) c.deref-5.ensures.value
             c.neighbours_of-neighbours.ensures.unordered;
       });
-      counted = omega (arith, ap length (same g d), length-orders_le are, few_reversals);
+      counted = omega (arith, ap length (remaining_orders-at_start g d), length-orders_le are, few_reversals);
     }
 
 pub returns-clause-sequence : goal.returns-clause-sequence
-returns-clause-sequence g c = same g (goal.at.returns-clause-sequence g c).In_ok-neighbours
+returns-clause-sequence g c = remaining_orders-at_start g (goal.at.returns-clause-sequence g c).In_ok-neighbours
 
 pub predecessors_of-requires : goal.predecessors_of-requires
 predecessors_of-requires g c =

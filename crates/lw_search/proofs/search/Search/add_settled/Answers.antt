@@ -2,7 +2,7 @@
 -- event leads there, the successor is covered. `IsCovered-transition` does the work, whether the key of the state at the end is new or known.
 use Rattle.lw_search.proofs.Common.{◌∙◌, ◌∷◌, ap, subst, refl, slice_get, on_ok_weaker, Transition}
 use Rattle.lw_search.proofs.Common.{SettlesFrom, IsWorking}
-use Rattle.lw_search.proofs.Rows.{extends-trans}
+use Rattle.lw_search.proofs.Rows.{Extends-trans}
 use Rattle.lw_search.proofs.ThreadTransitions.{copied-row, IsCovered-transition, AreTransitions-extended}
 use Rattle.lw_search.proofs.ThreadTransitions.{IsPrefix-inserted_runs}
 use Rattle.lw_search.proofs.search.Search.add_settled.Goals as goal
@@ -36,7 +36,7 @@ returns-clause-covered g c =
 pub returns-clause-kept : goal.returns-clause-kept
 returns-clause-kept g c =
     let program = c.args.self.now.program.now.threads in
-    let extended = extends-trans c.in_ok-all.ensures.settled.extended c.in_ok-memory.ensures.extended in
+    let extended = Extends-trans c.in_ok-all.ensures.settled.extended c.in_ok-memory.ensures.extended in
     on_ok_weaker c.insert.result (λ adds.
     rw c.in_ok-all.ensures.transitions
     (AreTransitions-extended program c.args.self.now.transitions extended

@@ -1,11 +1,11 @@
 -- Of `expand`, which finds all successors of the state at an index, so that one more state counts as visited.
--- Each round covers the events of one more thread. `expands-both` is the reason that this is enough: states
+-- Each round covers the events of one more thread. `ExpandsState-both` is the reason that this is enough: states
 -- found later keep what was covered before.
 use Rattle.lw_search.proofs.Common.{◌+◌, ◌∙◌, arith, ap, length, CoversThread, DescribeState}
 use Rattle.lw_search.proofs.Common.{HasConflictsOfOthers, State}
-use Rattle.lw_search.proofs.Settling.{describe-same_program, represents-threads}
-use Rattle.lw_search.proofs.Successors.{expands-both, expands-if_more_holds, expands-weaker}
-use Rattle.lw_search.proofs.Successors.{covers_threads-monotone, covers_threads-more, ExpandsUpTo-all_threads}
+use Rattle.lw_search.proofs.Settling.{DescribeState-same_program, RepresentsThreads-of_state}
+use Rattle.lw_search.proofs.Successors.{ExpandsState-both, ExpandsState-if_more_holds, ExpandsState-weaker}
+use Rattle.lw_search.proofs.Successors.{IsMonotone-CoversThreads, CoversThreads-next, ExpandsUpTo-all_threads}
 use Rattle.lw_search.proofs.Successors.{CoversThreads}
 use Rattle.lw_search.proofs.search.Search.expand.Goals as goal
 
@@ -21,12 +21,12 @@ loop-thread-preserved g c =
     record {
       same = c.in_ok-expand_thread.ensures.program ∙ c.loop-thread.invariant.same;
       expands =
-          expands-weaker program c.args.at key Described
+          ExpandsState-weaker program c.args.at key Described
           (λ s more. CoversThreads program thread s more × CoversThread program thread s more)
-          (CoversThreads program (thread + 1)) (covers_threads-more program thread)
-          (expands-both program c.args.at key Described (CoversThreads program thread) (CoversThread program thread)
-          (covers_threads-monotone program thread) c.loop-thread.invariant.expands
-          (expands-if_more_holds program c.args.at key
+          (CoversThreads program (thread + 1)) (CoversThreads-next program thread)
+          (ExpandsState-both program c.args.at key Described (CoversThreads program thread) (CoversThread program thread)
+          (IsMonotone-CoversThreads program thread) c.loop-thread.invariant.expands
+          (ExpandsState-if_more_holds program c.args.at key
           (λ s. HasConflictsOfOthers program s thread c.conflicts_with_others-conflicts.result) Described
           (CoversThread program thread) (are_conflicts program) thread_covered));
       kept = rw c.loop-thread.invariant.same at c.in_ok-expand_thread.ensures.kept;
@@ -40,5 +40,5 @@ returns-clause-expanded g c =
     let outlooks = c.outlooks-outlooks.result.threads in
     ExpandsUpTo-all_threads program c.args.at c.loop-thread.thread key (λ s. DescribeState program s outlooks)
     (omega (arith, c.loop-thread-test.false, ap length c.as_slice-code-items.ensures)) c.key-key.ensures (λ s is_represented.
-    describe-same_program program key outlooks s c.requires.kept.of_program (c.outlooks-outlooks.ensures s)
-    (represents-threads program tables key s is_represented)) c.loop-thread.invariant.expands
+    DescribeState-same_program program key outlooks s c.requires.kept.of_program (c.outlooks-outlooks.ensures s)
+    (RepresentsThreads-of_state program tables key s is_represented)) c.loop-thread.invariant.expands

@@ -1,8 +1,8 @@
 -- Of `settle_all`, which takes invisible events of all threads, round by round: the appended events lead to a
--- state that covers the first one. `settles_from-trans` joins the rounds. That no invisible event is left is
+-- state that covers the first one. `SettlesFrom-trans` joins the rounds. That no invisible event is left is
 -- not claimed, so each early exit is right.
 use Rattle.lw_search.proofs.Common.{◌∙◌, refl}
-use Rattle.lw_search.proofs.Settling.{settles_from-none, settles_from-trans}
+use Rattle.lw_search.proofs.Settling.{SettlesFrom-none, SettlesFrom-trans}
 use Rattle.lw_search.proofs.search.Search.settle_all.Goals as goal
 
 pub loop-init : goal.loop-init
@@ -10,7 +10,7 @@ loop-init g c = record {
   same = refl;
   states = refl;
   transitions = refl;
-  settled = settles_from-none c.args.self.now.program.now.threads c.args.key.now c.args.self.now.words c.args.self.now.run;
+  settled = SettlesFrom-none c.args.self.now.program.now.threads c.args.key.now c.args.self.now.words c.args.self.now.run;
 }
 
 pub loop-preserved : goal.loop-preserved
@@ -19,14 +19,14 @@ loop-preserved g c = record {
   states = c.in_ok-next.ensures.states ∙ c.loop.invariant.states;
   transitions = c.in_ok-next.ensures.transitions ∙ c.loop.invariant.transitions;
   settled =
-      settles_from-trans c.args.self.now.program.now.threads c.loop.next c.in_ok-next.next c.loop.self.words
+      SettlesFrom-trans c.args.self.now.program.now.threads c.loop.next c.in_ok-next.next c.loop.self.words
       c.settle_in_turn.new.self.words c.args.self.now.run c.loop.self.run c.settle_in_turn.new.self.run c.loop.invariant.settled
       (rw c.loop.invariant.same at c.in_ok-next.ensures.settled);
 }
 
 pub returns-then-len-count-clause-settled : goal.returns-then-len-count-clause-settled
 returns-then-len-count-clause-settled g c =
-    settles_from-trans c.args.self.now.program.now.threads c.loop.next c.in_ok-next.next c.loop.self.words
+    SettlesFrom-trans c.args.self.now.program.now.threads c.loop.next c.in_ok-next.next c.loop.self.words
     c.settle_in_turn.new.self.words c.args.self.now.run c.loop.self.run c.settle_in_turn.new.self.run c.loop.invariant.settled
     (rw c.loop.invariant.same at c.in_ok-next.ensures.settled)
 

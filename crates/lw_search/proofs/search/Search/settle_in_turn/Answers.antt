@@ -1,8 +1,8 @@
 -- Of `settle_in_turn`, which lets each thread take its invisible events once: the appended events lead to a
--- state that covers the first one. `settles_from-trans` joins the threads.
+-- state that covers the first one. `SettlesFrom-trans` joins the threads.
 use Rattle.lw_search.proofs.Common.{◌<◌, ◌∙◌, arith, ap, length, refl}
 use Rattle.lw_search.proofs.Collected.{slice_get-loop_item}
-use Rattle.lw_search.proofs.Settling.{settles_from-none, settles_from-trans}
+use Rattle.lw_search.proofs.Settling.{SettlesFrom-none, SettlesFrom-trans}
 use Rattle.lw_search.proofs.search.Search.settle_in_turn.Goals as goal
 
 pub loop-thread-init : goal.loop-thread-init
@@ -10,7 +10,7 @@ loop-thread-init g c = record {
   same = refl;
   states = refl;
   transitions = refl;
-  settled = settles_from-none c.args.self.now.program.now.threads c.args.key.now c.args.self.now.words c.args.self.now.run;
+  settled = SettlesFrom-none c.args.self.now.program.now.threads c.args.key.now c.args.self.now.words c.args.self.now.run;
 }
 
 pub loop-thread-preserved : goal.loop-thread-preserved
@@ -19,7 +19,7 @@ loop-thread-preserved g c = record {
   states = c.in_ok-next.ensures.states ∙ c.loop-thread.invariant.states;
   transitions = c.in_ok-next.ensures.transitions ∙ c.loop-thread.invariant.transitions;
   settled =
-      settles_from-trans c.args.self.now.program.now.threads c.loop-thread.next c.in_ok-next.next c.loop-thread.self.words
+      SettlesFrom-trans c.args.self.now.program.now.threads c.loop-thread.next c.in_ok-next.next c.loop-thread.self.words
       c.settle_thread.new.self.words c.args.self.now.run c.loop-thread.self.run c.settle_thread.new.self.run
       c.loop-thread.invariant.settled (rw c.loop-thread.invariant.same at c.in_ok-next.ensures.settled);
 }

@@ -1,8 +1,8 @@
 -- Of `StateTable::insert`, which appends a key and its origin unless the table has the key. This is the case
--- of a new key: by `absent-any` the set's test, that no key compares equal, means that no row has it.
+-- of a new key: by `not-slice_get-if_absent` the set's test, that no key compares equal, means that no row has it.
 use Rattle.lw_search.proofs.Common.{◌≡◌, ◌∙◌, Bool, false, ◌++◌, ◌∷◌, [], if◌then◌else◌, sym, ap, inl, nat_eq}
 use Rattle.lw_search.proofs.Common.{on_ok_weaker, unsigned_Decides, pointwise, pointwise_decides, list_any}
-use Rattle.lw_search.proofs.Rows.{absent-any, false-if_not_true}
+use Rattle.lw_search.proofs.Rows.{not-slice_get-if_absent, false-if_not_true}
 use Rattle.lw_search.proofs.states.StateTable.insert.Goals as goal
 
 pub returns-then-is_new : goal.returns-then-is_new
@@ -12,7 +12,7 @@ returns-then-is_new g c =
     false-if_not_true _ (sym c.in_ok-is_new.ensures.added ∙ c.if-is_new.true) in
     rw (← c.self.view_is)
     (on_ok_weaker c.push_origin.result (λ h. inl (
-      absent-any (pointwise nat_eq) (pointwise_decides unsigned_Decides) keys c.args.key new,
+      not-slice_get-if_absent (pointwise nat_eq) (pointwise_decides unsigned_Decides) keys c.args.key new,
       h.0 ∙ c.in_ok-is_new.ensures.keys ∙ ap (λ (b : Bool). if b then keys else (keys ++ c.args.key ∷ [])) new,
       record { origin = h.1.origin; parent_is = h.1.parent_is; origins = h.1.origins; runs = h.1.runs; listed = h.1.listed },
     )) c.push_origin.ensures)

@@ -1,9 +1,9 @@
--- Of `Tables::outlooks`: each round sets the outlook of one more thread (`holds_of_first-set`), which is right of each state that the key
+-- Of `Tables::outlooks`: each round sets the outlook of one more thread (`HoldsOfFirst-set`), which is right of each state that the key
 -- represents.
 use Rattle.lw_search.proofs.Common.{◌≡◌, ◌<◌, ◌+◌, ◌∙◌, arith, ap, sym, refl, subst, Some, length, length-set}
 use Rattle.lw_search.proofs.Common.{slice_get, slice_index, slice_get_within, thread_code, Processor}
 use Rattle.lw_search.proofs.Common.{Components, HasConflictsOf}
-use Rattle.lw_search.proofs.AccessSets.{holds_of_first-set}
+use Rattle.lw_search.proofs.AccessSets.{HoldsOfFirst-set}
 use Rattle.lw_search.proofs.Collected.{slice_get-loop_item}
 use Rattle.lw_search.proofs.tables.Tables.outlooks.Goals as goal
 
@@ -27,7 +27,7 @@ loop-index-preserved g c =
     record {
       size = length-set c.loop-index.threads n c.outlook.result ∙ c.loop-index.invariant.size;
       holds =
-          holds_of_first-set (λ u o.
+          HoldsOfFirst-set (λ u o.
           (p : Processor)
           → u < length tables.program
           → slice_get tables.threads (slice_index c.args.key.now (u + 1)) ≡ Some p

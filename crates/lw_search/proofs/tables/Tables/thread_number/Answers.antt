@@ -4,15 +4,15 @@
 use Rattle.lw_search.proofs.Common.{◌≡◌, ◌∙◌, Some, true, refl, sym, ap, slice_get, IfOk-weaker, Components}
 use Rattle.lw_search.proofs.Common.{list_any}
 use Rattle.lw_search.proofs.AccessSets.{DescribeRows-appended}
-use Rattle.lw_search.proofs.Rows.{thread_eq, thread_eq-sound, Decides-thread_eq, position-item}
-use Rattle.lw_search.proofs.Rows.{prefix-insert_if, prefix-refl, distinct-insert, extends-refl}
+use Rattle.lw_search.proofs.Rows.{thread_eq, thread_eq-sound, Decides-thread_eq, slice_get-at_position}
+use Rattle.lw_search.proofs.Rows.{IsPrefix-insert_if, IsPrefix-refl, HasUniqueIndices-insert, Extends-refl}
 use Rattle.lw_search.proofs.tables.Tables.thread_number.Goals as goal
 
 pub returns-in-Some-clause-found : goal.returns-in-Some-clause-found
 returns-in-Some-clause-found g c =
     let at =
-    position-item thread_eq thread_eq-sound c.self.inside.threads.keys c.args.thread.now c.get_index_of.result c.in-Some.index
-    c.get_index_of.ensures.index c.in-Some.is in
+    slice_get-at_position thread_eq thread_eq-sound c.self.inside.threads.keys c.args.thread.now c.get_index_of.result
+    c.in-Some.index c.get_index_of.ensures.index c.in-Some.is in
     IfOk-weaker c.row_number.result _ _ (λ n is.
     ap (λ (t : Components). slice_get t.threads n) (sym c.self.view_is) ∙ ap (slice_get c.self.inside.threads.keys) is ∙ at)
     c.row_number.ensures
@@ -22,9 +22,9 @@ returns-in_ok-index-in-None-clause-extended g c =
     rw (← c.self.view_is)
     (IfOk-weaker c.row_number-in-None.result _ _ (λ n is. record {
       program = refl;
-      threads = prefix-insert_if _ _ _ _ c.in_ok-index-in-None.ensures.keys;
-      memories = prefix-refl _;
-      distinct_threads = distinct-insert thread_eq Decides-thread_eq _ _ _ c.in_ok-index-in-None.ensures.keys;
+      threads = IsPrefix-insert_if _ _ _ _ c.in_ok-index-in-None.ensures.keys;
+      memories = IsPrefix-refl _;
+      distinct_threads = HasUniqueIndices-insert thread_eq Decides-thread_eq _ _ _ c.in_ok-index-in-None.ensures.keys;
       distinct_memories = λ d. d;
     }) c.row_number-in-None.ensures)
 
@@ -38,7 +38,7 @@ returns-in_ok-index-in-None-clause-found g c =
 
 pub returns-in-Some-clause-extended : goal.returns-in-Some-clause-extended
 returns-in-Some-clause-extended g c =
-    IfOk-weaker c.row_number.result _ _ (λ n is. extends-refl c.args.self.now) c.row_number.ensures
+    IfOk-weaker c.row_number.result _ _ (λ n is. Extends-refl c.args.self.now) c.row_number.ensures
 
 pub invariant_of-self-in-None : goal.invariant_of-self-in-None
 invariant_of-self-in-None g c =

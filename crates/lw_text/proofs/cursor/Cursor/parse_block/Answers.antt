@@ -48,15 +48,16 @@ returns-then-accept g c =
     }
 
 -- If no `}` is next, a site is read at the same position.
-kept : (g : Over) (c : After-parse_site g) → remaining_texts c.accept.new.self ≡ remaining_texts c.initializers.self
-kept g c = ap remaining_texts (c.accept.ensures.kept c.if-accept.false)
+remaining_texts-if_no_brace : (g : Over) (c : After-parse_site g)
+    → remaining_texts c.accept.new.self ≡ remaining_texts c.initializers.self
+remaining_texts-if_no_brace g c = ap remaining_texts (c.accept.ensures.kept c.if-accept.false)
 
 -- An initializer was read.
-entry_read : (g : Over) (c : In_ok-word g)
+More-initializer_read : (g : Over) (c : In_ok-word g)
     → More (initializer_kind c.args.arch) c.initializers.locs c.parse_site.new.locs (remaining_texts c.initializers.self)
     (remaining_texts c.parse_value.new.self)
     (record { at = c.place-at.result; site = c.in_ok-site.site; word = c.in_ok-word.word })
-entry_read g c = record {
+More-initializer_read g c = record {
   grows = c.in_ok-site.ensures.names_are;
   is_in = c.in_ok-site.ensures.within;
   fits = tt;
@@ -66,30 +67,33 @@ entry_read g c = record {
 }
 
 -- What remains after the initializer and its mark is a suffix of the text.
-advances : (g : Over) (c : In_ok-expect_either g) → IsSuffix (remaining c.args.self.now) (remaining c.expect_either.new.self)
-advances g c =
+IsSuffix-after_initializer : (g : Over) (c : In_ok-expect_either g)
+    → IsSuffix (remaining c.args.self.now) (remaining c.expect_either.new.self)
+IsSuffix-after_initializer g c =
     IsSuffix-join c.initializers.invariant.advances
     (IsSuffix-join c.accept.ensures.advances
     (IsSuffix-join c.in_ok-site.ensures.advances (IsSuffix-join c.in_ok-word.ensures.1 c.in_ok-expect_either.ensures.1)))
 
 -- An initializer that fails makes the block fail.
-element_fails : (g : Over) (c : After-parse_site g) (rest : TokenList) (cause : TextCause)
+FailsInBlock-initializer : (g : Over) (c : After-parse_site g) (rest : TokenList) (cause : TextCause)
     → FailsInAssignment c.args.arch None c.initializers.locs Unexpected (remaining_texts c.accept.new.self) rest cause
     → FailsInBlock c.args.arch c.args.locs.now (remaining_texts c.args.self.now) rest cause
-element_fails g c rest cause w =
+FailsInBlock-initializer g c rest cause w =
     c.initializers.invariant.fails rest cause
     (in_element (c.accept.ensures.other c.if-accept.false)
-    (subst (λ ts. FailsInAssignment c.args.arch None c.initializers.locs Unexpected ts rest cause) (kept g c) w))
+    (subst (λ ts. FailsInAssignment c.args.arch None c.initializers.locs Unexpected ts rest cause)
+    (remaining_texts-if_no_brace g c) w))
 
 -- What remains before an initializer is a suffix of the text.
-advances_before : (g : Over) (c : After-parse_site g) → IsSuffix (remaining c.args.self.now) (remaining c.accept.new.self)
-advances_before g c = IsSuffix-join c.initializers.invariant.advances c.accept.ensures.advances
+IsSuffix-before_initializer : (g : Over) (c : After-parse_site g)
+    → IsSuffix (remaining c.args.self.now) (remaining c.accept.new.self)
+IsSuffix-before_initializer g c = IsSuffix-join c.initializers.invariant.advances c.accept.ensures.advances
 
 -- The initializer that was read begins at its place, after those before.
-begins : (g : Over) (c : In_ok-word g)
+BeginsInitializer-at_place : (g : Over) (c : In_ok-word g)
     → BeginsInitializer c.args.arch c.args.self.now c.initializers.initializers
     (record { at = c.place-at.result; site = c.in_ok-site.site; word = c.in_ok-word.word })
-begins g c =
+BeginsInitializer-at_place g c =
     let read = c.initializers.invariant.read in
     let same = ap remaining_texts (c.accept.ensures.kept c.if-accept.false) in
     record {
@@ -117,25 +121,25 @@ begins g c =
 pub returns-in_err-site : goal.returns-in_err-site
 returns-in_err-site g c =
     let d = (goal.at.returns-in_err-site g c).After-parse_site in
-    let same = kept g d in
+    let same = remaining_texts-if_no_brace g d in
     Err-clause_known _ _ _ c.from_residual-in_err-site.ensures.1 (λ ne.
     let lost = c.in_err-site.ensures ne in (
       initializers_fault c.args.arch c.initializers.invariant.read (c.accept.ensures.other c.if-accept.false)
           (λ e back initializer some. (rw same at lost.0) e.site initializer.0 initializer.1 tt some),
-      Fails-later (advances_before g d) (λ rest cause w. element_fails g d rest cause (in_site w)) lost.1,
+      Fails-later (IsSuffix-before_initializer g d) (λ rest cause w. FailsInBlock-initializer g d rest cause (in_site w)) lost.1,
     ))
 
 pub returns-in_err-word : goal.returns-in_err-word
 returns-in_err-word g c =
     let d = (goal.at.returns-in_err-word g c).After-parse_site in
-    let same = kept g d in
+    let same = remaining_texts-if_no_brace g d in
     Err-clause_known _ _ _ c.from_residual-in_err-word.ensures.1 (λ ne. (
       initializers_fault c.args.arch c.initializers.invariant.read (c.accept.ensures.other c.if-accept.false)
           (λ e back initializer some.
           no_initializer-if_no_value c.args.arch _ _ _ (rw same at c.in_ok-site.ensures.parsed) c.in_err-word.ensures.0 e back
           initializer),
-      Fails-later (IsSuffix-join (advances_before g d) c.in_ok-site.ensures.advances) (λ rest cause w.
-          element_fails g d rest cause
+      Fails-later (IsSuffix-join (IsSuffix-before_initializer g d) c.in_ok-site.ensures.advances) (λ rest cause w.
+          FailsInBlock-initializer g d rest cause
           (in_value _ c.in_ok-site.ensures.parsed c.in_ok-site.ensures.threads_exist
           (subst (λ (table : NameTable). length table ≤ most_locations) c.in_ok-site.ensures.names_are
           c.in_ok-site.ensures.bounded) w)) c.in_err-word.ensures.1,
@@ -144,13 +148,13 @@ returns-in_err-word g c =
 pub returns-in_err-expect_either : goal.returns-in_err-expect_either
 returns-in_err-expect_either g c =
     let d = goal.at.returns-in_err-expect_either g c in
-    let initializer = entry_read g d.In_ok-word in
+    let initializer = More-initializer_read g d.In_ok-word in
     Err-clause_known _ _ _ c.from_residual-in_err-expect_either.ensures.1 (λ ne. (
       λ es rest block few.
           no_list-if_no_separator c.initializers.invariant.read _ _ initializer.parsed c.in_err-expect_either.ensures.1
           c.in_err-expect_either.ensures.0 es rest block,
       Fails-later
-          (IsSuffix-join (advances_before g d.After-parse_site)
+          (IsSuffix-join (IsSuffix-before_initializer g d.After-parse_site)
           (IsSuffix-join c.in_ok-site.ensures.advances c.in_ok-word.ensures.1)) (λ rest cause w.
           c.initializers.invariant.fails rest cause
           (no_mark (c.accept.ensures.other c.if-accept.false) initializer.parsed
@@ -163,27 +167,29 @@ returns-then-branch g c =
     let d = goal.at.returns-then-branch g c in
     let mark = rw c.if-branch.true at c.in_ok-expect_either.ensures.0 in
     let whole =
-    Read-closed c.initializers.invariant.read (entry_read g d.In_ok-word) (remaining_texts c.expect_either.new.self) mark in
+    Read-closed c.initializers.invariant.read (More-initializer_read g d.In_ok-word) (remaining_texts c.expect_either.new.self)
+    mark in
     rw c.in_ok-push.ensures.ok (record {
       parsed = whole.whole;
       names_are = whole.names_are;
       within = whole.within;
-      advances = advances g d.In_ok-expect_either;
-      places = BeginInitializers-push _ _ [] _ _ c.initializers.invariant.places (begins g d.In_ok-word);
+      advances = IsSuffix-after_initializer g d.In_ok-expect_either;
+      places = BeginInitializers-push _ _ [] _ _ c.initializers.invariant.places (BeginsInitializer-at_place g d.In_ok-word);
       bounded = c.in_ok-site.ensures.bounded;
     })
 
 -- The order of numbers is transitive.
-less : (k m n : ℕ) → k < m → m < n → k < n
-less k m n p q = omega arith
+lt_trans : (k m n : ℕ) → k < m → m < n → k < n
+lt_trans k m n p q = omega arith
 
 pub initializers-smaller : goal.initializers-smaller
 initializers-smaller g c =
     let mark = rw c.if-branch.false at c.in_ok-expect_either.ensures.0 in
-    let same = kept g (goal.at.initializers-smaller g c).After-parse_site in
+    let same = remaining_texts-if_no_brace g (goal.at.initializers-smaller g c).After-parse_site in
     tail-shorter _ _ _ _
     (rw same at
-    (less _ _ _ (Value-shorter _ _ _ c.in_ok-word.ensures.0) (IsSite-shorter c.args.arch _ _ _ c.in_ok-site.ensures.parsed))) mark
+    (lt_trans _ _ _ (Value-shorter _ _ _ c.in_ok-word.ensures.0) (IsSite-shorter c.args.arch _ _ _ c.in_ok-site.ensures.parsed)))
+    mark
 
 pub initializers-preserved : goal.initializers-preserved
 initializers-preserved g c =
@@ -191,10 +197,10 @@ initializers-preserved g c =
     let mark = rw c.if-branch.false at c.in_ok-expect_either.ensures.0 in
     rw c.in_ok-push.ensures.ok (record {
       read =
-          Read-separator c.initializers.invariant.read (entry_read g d.In_ok-word) (remaining_texts c.expect_either.new.self)
-          mark;
-      advances = advances g d.In_ok-expect_either;
-      places = BeginInitializers-push _ _ [] _ _ c.initializers.invariant.places (begins g d.In_ok-word);
+          Read-separator c.initializers.invariant.read (More-initializer_read g d.In_ok-word)
+          (remaining_texts c.expect_either.new.self) mark;
+      advances = IsSuffix-after_initializer g d.In_ok-expect_either;
+      places = BeginInitializers-push _ _ [] _ _ c.initializers.invariant.places (BeginsInitializer-at_place g d.In_ok-word);
       bounded = c.in_ok-site.ensures.bounded;
       fails = λ rest cause w.
           c.initializers.invariant.fails rest cause
@@ -202,11 +208,11 @@ initializers-preserved g c =
           (subst (λ mid.
           IsInitializer c.args.arch (remaining_texts c.initializers.self) (named_initializer c.parse_site.new.locs
           (record { at = c.place-at.result; site = c.in_ok-site.site; word = c.in_ok-word.word })) mid) mark
-          (entry_read g d.In_ok-word).parsed)
-          (subst (λ (table : NameTable). length table ≤ most_locations) (entry_read g d.In_ok-word).grows
+          (More-initializer_read g d.In_ok-word).parsed)
+          (subst (λ (table : NameTable). length table ≤ most_locations) (More-initializer_read g d.In_ok-word).grows
           c.in_ok-site.ensures.bounded)
           (subst (λ names. FailsInInitializers c.args.arch rest cause names (remaining_texts c.expect_either.new.self))
-          (entry_read g d.In_ok-word).grows w));
+          (More-initializer_read g d.In_ok-word).grows w));
     })
 
 pub returns-in_err-push : goal.returns-in_err-push

@@ -66,14 +66,15 @@ returns-then-accept g c =
     }
 
 -- If no `]` is next, a site is read at the same position.
-kept : (g : Over) (c : After-parse_site g) → remaining_texts c.accept-in-sites.new.self ≡ remaining_texts c.sites.self
-kept g c = ap remaining_texts (c.accept-in-sites.ensures.kept c.if-accept.false)
+remaining_texts-if_no_bracket : (g : Over) (c : After-parse_site g)
+    → remaining_texts c.accept-in-sites.new.self ≡ remaining_texts c.sites.self
+remaining_texts-if_no_bracket g c = ap remaining_texts (c.accept-in-sites.ensures.kept c.if-accept.false)
 
 -- A site was read.
-site_read : (g : Over) (c : In_ok-parse_site g)
+More-site_read : (g : Over) (c : In_ok-parse_site g)
     → More (site_kind c.args.arch c.args.threads) c.sites.locs c.parse_site.new.locs (remaining_texts c.sites.self)
     (remaining_texts c.parse_site.new.self) c.in_ok-parse_site.field-0
-site_read g c = record {
+More-site_read g c = record {
   grows = c.in_ok-parse_site.ensures.names_are;
   is_in = c.in_ok-parse_site.ensures.within;
   fits = c.in_ok-parse_site.ensures.threads_exist;
@@ -83,14 +84,14 @@ site_read g c = record {
 }
 
 -- What remains before a site is a suffix of the text.
-advances_before : (g : Over) (c : After-parse_site g)
+IsSuffix-before_site : (g : Over) (c : After-parse_site g)
     → IsSuffix (remaining c.args.self.now) (remaining c.accept-in-sites.new.self)
-advances_before g c = IsSuffix-join c.sites.invariant.advances c.accept-in-sites.ensures.advances
+IsSuffix-before_site g c = IsSuffix-join c.sites.invariant.advances c.accept-in-sites.ensures.advances
 
 pub returns-in_err-parse_site : goal.returns-in_err-parse_site
 returns-in_err-parse_site g c =
     let d = (goal.at.returns-in_err-parse_site g c).After-parse_site in
-    let same = kept g d in
+    let same = remaining_texts-if_no_bracket g d in
     Err-clause_known _ _ _ c.from_residual-in_err-parse_site.ensures.1 (λ ne.
     let lost = c.in_err-parse_site.ensures ne in (
       λ all rest listed there few.
@@ -99,7 +100,7 @@ returns-in_err-parse_site g c =
           (rw same at lost.0) all rest
           (Whole-Listed _ c.args.threads (remaining_texts c.args.self.now) (codes "[" ∷ c.sites.invariant.read.start)
           c.sites.invariant.read.begun all rest listed) there (HasRoomFor-map_same c.args.locs.now all few),
-      Fails-later (advances_before g d) (λ rest cause w.
+      Fails-later (IsSuffix-before_site g d) (λ rest cause w.
           c.sites.invariant.fails rest cause
           (in_element (c.accept-in-sites.ensures.other c.if-accept.false)
           (subst (λ ts. FailsInSite c.args.arch (Some c.args.threads) c.sites.locs Condition ts rest cause) same w))) lost.1,
@@ -108,14 +109,14 @@ returns-in_err-parse_site g c =
 pub returns-in_err-expect_either : goal.returns-in_err-expect_either
 returns-in_err-expect_either g c =
     let d = goal.at.returns-in_err-expect_either g c in
-    let site = site_read g d.In_ok-parse_site in
+    let site = More-site_read g d.In_ok-parse_site in
     Err-clause_known _ _ _ c.from_residual-in_err-expect_either.ensures.1 (λ ne. (
       λ all rest listed there few.
           no_list-if_no_separator c.sites.invariant.read _ _ site.parsed c.in_err-expect_either.ensures.1
           c.in_err-expect_either.ensures.0 all rest
           (Whole-Listed c.args.arch c.args.threads (remaining_texts c.args.self.now) _ c.sites.invariant.read.begun all rest
           listed),
-      Fails-later (IsSuffix-join (advances_before g d.After-parse_site) c.in_ok-parse_site.ensures.advances) (λ rest cause w.
+      Fails-later (IsSuffix-join (IsSuffix-before_site g d.After-parse_site) c.in_ok-parse_site.ensures.advances) (λ rest cause w.
           c.sites.invariant.fails rest cause
           (no_mark (c.accept-in-sites.ensures.other c.if-accept.false) (site.parsed, site.fits)
           (subst (λ (table : NameTable). length table ≤ most_locations) site.grows c.in_ok-parse_site.ensures.bounded) w))
@@ -125,7 +126,7 @@ returns-in_err-expect_either g c =
 pub returns-then-branch : goal.returns-then-branch
 returns-then-branch g c =
     let d = goal.at.returns-then-branch g c in
-    let site = site_read g d.In_ok-parse_site in
+    let site = More-site_read g d.In_ok-parse_site in
     let mark = rw c.if-branch.true at c.in_ok-expect_either.ensures.0 in
     let whole = Read-closed c.sites.invariant.read site (remaining_texts c.expect_either.new.self) mark in
     rw c.in_ok-push.ensures.ok (record {
@@ -134,26 +135,26 @@ returns-then-branch g c =
       names_are = whole.names_are;
       within = whole.within;
       advances =
-          IsSuffix-join (advances_before g d.After-parse_site)
+          IsSuffix-join (IsSuffix-before_site g d.After-parse_site)
           (IsSuffix-join c.in_ok-parse_site.ensures.advances c.in_ok-expect_either.ensures.1);
       bounded = c.in_ok-parse_site.ensures.bounded;
     })
 
 pub sites-smaller : goal.sites-smaller
 sites-smaller g c =
-    let same = kept g (goal.at.sites-smaller g c).After-parse_site in
+    let same = remaining_texts-if_no_bracket g (goal.at.sites-smaller g c).After-parse_site in
     let mark = rw c.if-branch.false at c.in_ok-expect_either.ensures.0 in
     tail-shorter _ _ _ _ (rw same at (IsSite-shorter c.args.arch _ _ _ c.in_ok-parse_site.ensures.parsed)) mark
 
 pub sites-preserved : goal.sites-preserved
 sites-preserved g c =
     let d = goal.at.sites-preserved g c in
-    let site = site_read g d.In_ok-parse_site in
+    let site = More-site_read g d.In_ok-parse_site in
     let mark = rw c.if-branch.false at c.in_ok-expect_either.ensures.0 in
     rw c.in_ok-push.ensures.ok (record {
       read = Read-separator c.sites.invariant.read site (remaining_texts c.expect_either.new.self) mark;
       advances =
-          IsSuffix-join (advances_before g d.After-parse_site)
+          IsSuffix-join (IsSuffix-before_site g d.After-parse_site)
           (IsSuffix-join c.in_ok-parse_site.ensures.advances c.in_ok-expect_either.ensures.1);
       bounded = c.in_ok-parse_site.ensures.bounded;
       fails = λ rest cause w.

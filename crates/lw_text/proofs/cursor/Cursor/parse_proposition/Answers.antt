@@ -17,11 +17,11 @@ use Rattle.lw_text.proofs.PropositionCases.{IsDuplicateFree-names, node_count_at
 use Rattle.lw_text.proofs.cursor.Cursor.parse_proposition.Goals as goal
 
 -- A reader of tokens may report that they end too early.
-of_reader : IsParserCause Unterminated
-of_reader = (λ e. cc, λ e. cc)
+IsParserCause-unterminated : IsParserCause Unterminated
+IsParserCause-unterminated = (λ e. cc, λ e. cc)
 
 pub refusal-requires : goal.refusal-requires
-refusal-requires g c = of_reader
+refusal-requires g c = IsParserCause-unterminated
 
 pub returns-then-self : goal.returns-then-self
 returns-then-self g c =

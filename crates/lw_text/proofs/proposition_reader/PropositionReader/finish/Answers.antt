@@ -7,16 +7,18 @@ use Rattle.lw_text.proofs.Common.{state_result}
 use Rattle.lw_text.proofs.proposition_reader.PropositionReader.finish.Goals as goal
 
 -- While a group is open, the terminals are no whole proposition.
-said_inside : (o : Option Formula) (l : Pending) (os : List Pending) → os ≢ [] → state_result (reader_state_in o l os) ≡ None
-said_inside None l os ne = refl
-said_inside (Some p) l [] ne = absurd (ne refl)
-said_inside (Some p) l (o ∷ os) ne = refl
+no_result-if_group_open : (o : Option Formula) (l : Pending) (os : List Pending)
+    → os ≢ []
+    → state_result (reader_state_in o l os) ≡ None
+no_result-if_group_open None l os ne = refl
+no_result-if_group_open (Some p) l [] ne = absurd (ne refl)
+no_result-if_group_open (Some p) l (o ∷ os) ne = refl
 
 pub returns-then-not-is_empty : goal.returns-then-not-is_empty
 returns-then-not-is_empty g c =
     let groups = c.args.self.now.outer.items in
     λ _. (
-      said_inside _ _ (reverse (map group_of groups))
+      no_result-if_group_open _ _ (reverse (map group_of groups))
           (λ e. eqb-false _ _ (sym c.is_empty.ensures ∙ c.if-not-is_empty.true) (omega (
             arith,
             ap (λ l. length l) e,
