@@ -48,7 +48,8 @@ impl Arena {
     {
         let place = self.shelves.get(class)?;
         let shelf = place.replace(None)?;
-        if !shelf.holds(units) {
+        // A shelf of this class always has blocks of these units; it is tested since no contract says what a cell holds.
+        if !shelf.is_of(units) {
             place.set(Some(shelf));
             return None;
         }
@@ -85,7 +86,7 @@ impl Arena {
                 Some(shelf) => shelf,
                 None => Shelf::new(units),
             };
-            if shelf.holds(units) {
+            if shelf.is_of(units) {
                 place.set(Some(shelf.put(block)));
             }
         }

@@ -66,8 +66,8 @@ pub(crate) struct Shelf {
     units: usize,
     count: usize,
     list: SpareList,
-    ghost some: { 1 ≤ units },
-    ghost told: { (list.units ≡ units) × (list.count ≡ count) },
+    ghost has_units: { 1 ≤ units },
+    ghost list_agrees: { (list.units ≡ units) × (list.count ≡ count) },
 }
 
 impl Shelf {
@@ -84,7 +84,7 @@ impl Shelf {
     }
 
     /// Returns whether the blocks of this shelf have `units` units.
-    pub(crate) fn holds(&self, units: usize) -> bool
+    pub(crate) fn is_of(&self, units: usize) -> bool
         ensures { result ≡ true → self.now.units ≡ units }
     {
         self.units == units

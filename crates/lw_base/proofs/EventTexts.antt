@@ -17,12 +17,12 @@ split_blanks-first_piece (b ∷ w) r ps others e =
     rw (not-true (is_blank b) others.0, split_blanks-first_piece w r ps others.1 e) refl
 
 -- Removing the blanks at the start of a text does not change its pieces.
-pub event_texts-behind : (text w r : Bytes)
+pub event_texts-after_blanks : (text w r : Bytes)
     → text ≡ w ++ r
     → AllByRecursion (λ b. is_blank b ≡ true) w
     → event_texts text ≡ event_texts r
-event_texts-behind text [] r e all = ap event_texts e
-event_texts-behind text (b ∷ w) r e all = rw (e, all.0) (event_texts-behind (w ++ r) w r refl all.1)
+event_texts-after_blanks text [] r e all = ap event_texts e
+event_texts-after_blanks text (b ∷ w) r e all = rw (e, all.0) (event_texts-after_blanks (w ++ r) w r refl all.1)
 
 -- A text that is not empty begins with a piece: no blank is before it or in it, and it ends at a blank or with the text.
 pub record BeginsWithPiece (text piece after : Bytes) : Type 0 where
@@ -105,7 +105,7 @@ pub record OneMoreRead (names : NameTable) (text last : Bytes) (es : List Event)
   pub after : Bytes
   pub before : event_texts text ≡ map (event_text names) es ++ event_texts rest
   pub first : event_texts rest ≡ piece ∷ event_texts after
-  pub behind : event_texts after ≡ event_texts last
+  pub after_blanks : event_texts after ≡ event_texts last
   pub says : event_text names e ≡ piece
 
 -- If one more event is read, the pieces of the text are those of the events fs that were read, and of the last part, which is not read yet.
@@ -119,7 +119,7 @@ event_texts-push names text last es fs e x more =
     ap (λ ds. map piece ds ++ event_texts last) more
     ∙ ap (λ ws. ws ++ event_texts last) (map-append piece es (e ∷ []))
     ∙ append_assoc (map piece es) (piece e ∷ []) (event_texts last) in
-    let two = ap (λ ws. map piece es ++ ws) (x.first ∙ ap (λ ws. x.piece ∷ ws) x.behind) in
+    let two = ap (λ ws. map piece es ++ ws) (x.first ∙ ap (λ ws. x.piece ∷ ws) x.after_blanks) in
     x.before ∙ two ∙ ap (λ v. map piece es ++ v ∷ event_texts last) (sym x.says) ∙ sym one
 
 -- If nothing of a text remains, its pieces are the texts of the events that were read.

@@ -1,5 +1,5 @@
 -- Pieces of a schedule that have the shape of an event, and pieces that are rejected. For `parse_event` and
--- `parse_eviction`, which must be right when they fail.
+-- `parse_eviction`, which must be right when they fail. (In bytes, 48 is `0`, 58 is `:`, 68 is `D`, 69 is `E` and 80 is `P`.)
 use Rattle.lw_base.proofs.Common.{All-from_recursion, rules, ◌≡◌, ◌≢◌, ◌⊎◌, not, ℕ, ◌<◌, ◌+◌, ◌==◌, inl, inr}
 use Rattle.lw_base.proofs.Common.{true, false, [], ◌∷◌, ◌++◌, length, refl, sym, ap, ◌∙◌, subst, arith}
 use Rattle.lw_base.proofs.Common.{true≢false, eqb-true, append-nil, slice_get, slice_index_or, Some, Contains}
@@ -40,10 +40,10 @@ colon_split-unique [] (d ∷ c) n m h k e = absurd (k.0 cc)
 colon_split-unique (b ∷ a) [] n m h k e = absurd (h.0 cc)
 colon_split-unique (b ∷ a) (d ∷ c) n m h k e = let p = colon_split-unique a c n m h.1 k.1 cc in (cc, p.1)
 
--- A text that contains a `:` has a byte that is a `:`.
-not-no_colon-append_colon : (ds n : Bytes) → AllByRecursion (λ b. b ≢ 58) (ds ++ 58 ∷ n) → ⊥
-not-no_colon-append_colon [] n h = h.0 refl
-not-no_colon-append_colon (b ∷ ds) n h = not-no_colon-append_colon ds n h.1
+-- Not all bytes of a text with a `:` in it differ from `:`.
+not-no_colon-of_append : (ds n : Bytes) → AllByRecursion (λ b. b ≢ 58) (ds ++ 58 ∷ n) → ⊥
+not-no_colon-of_append [] n h = h.0 refl
+not-no_colon-of_append (b ∷ ds) n h = not-no_colon-of_append ds n h.1
 
 -- A text after `E` that has no `:` is rejected, since it does not have the shape of an event.
 pub IsFaultyPiece-no_colon : (names : NameTable) (text : Bytes)
@@ -54,7 +54,7 @@ IsFaultyPiece-no_colon names text others ds shape = go shape.1
     go : HasEventParts (69 ∷ text) ds → ⊥
     go (inl e) = cons-ne 69 80 _ _ (λ k. omega arith) e
     go (inr (inl e)) = cons-ne 69 68 _ _ (λ k. omega arith) e
-    go (inr (inr h)) = not-no_colon-append_colon ds h.0 (subst (AllByRecursion (λ b. b ≢ 58)) (cons-tail_eq 69 69 _ _ h.2) others)
+    go (inr (inr h)) = not-no_colon-of_append ds h.0 (subst (AllByRecursion (λ b. b ≢ 58)) (cons-tail_eq 69 69 _ _ h.2) others)
 
 -- A text after `E`, split at its first `:`.
 module _ (names : NameTable) (text digits name : Bytes) (cut : text ≡ digits ++ 58 ∷ name)

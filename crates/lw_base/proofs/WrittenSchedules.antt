@@ -8,7 +8,7 @@ use Rattle.lw_base.proofs.Common.{IsLocationName, IsNameTable, IsEvent, event_te
 use Rattle.lw_base.proofs.Common.{event_texts, IsSchedule, Event, Step, Drain, Evict, append-nil}
 use Rattle.lw_base.proofs.Common.{append_assoc}
 use Rattle.lw_base.proofs.api.Blanks.{is_blank-passes}
-use Rattle.lw_base.proofs.EventTexts.{event_texts-behind, event_texts-first}
+use Rattle.lw_base.proofs.EventTexts.{event_texts-after_blanks, event_texts-first}
 
 -- The text of an event after a space.
 abbrev pub spaced_event_text : NameTable → Event → Bytes
@@ -120,10 +120,10 @@ module _ (names : NameTable) (table : IsNameTable names) where
       → event_texts (event_text names e ++ rest_of es) ≡ event_text names e ∷ map (event_text names) es
   event_texts-written_events e [] is all = event_texts-first_event e [] is refl
   event_texts-written_events e (f ∷ es) is all =
-      let behind : event_texts (rest_of (f ∷ es)) ≡ event_texts (event_text names f ++ rest_of es) =
-      event_texts-behind (rest_of (f ∷ es)) (32 ∷ []) (event_text names f ++ rest_of es) refl (refl, tt) in
+      let rest_texts : event_texts (rest_of (f ∷ es)) ≡ event_texts (event_text names f ++ rest_of es) =
+      event_texts-after_blanks (rest_of (f ∷ es)) (32 ∷ []) (event_text names f ++ rest_of es) refl (refl, tt) in
       event_texts-first_event e (rest_of (f ∷ es)) is refl
-      ∙ ap (λ ws. event_text names e ∷ ws) (behind ∙ event_texts-written_events f es all.0 all.1)
+      ∙ ap (λ ws. event_text names e ∷ ws) (rest_texts ∙ event_texts-written_events f es all.0 all.1)
 
 -- A written schedule is read back as the same events.
 pub schedule_text-read_back : (names : NameTable) (events : List Event)

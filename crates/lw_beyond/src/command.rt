@@ -1,4 +1,4 @@
-//! The words of a command line, and the request that they name.
+//! The words of a command line, and the request that they name. No contract says what the words mean (docs/DECISIONS.md).
 
 use crate::lists::{Output, Request};
 

@@ -235,13 +235,13 @@ module _ (starts : List ℕ) (v : Thread) where
         ≡ record { position = if told (slice_index v.regs a == k) then to else (v.position + 1); regs = v.regs }
         → ExecutesFrom s (Two (lower_compare a k) i)
     ExecutesLowering-jump {s = s} a k to {i = i} told l goes after next m q n done =
-        let behind = p.position + 1 + 1 in
+        let after_jump = p.position + 1 + 1 in
         let r : Processor =
         record { position = p.position + 1; regs = p.regs; zero_flag = slice_index p.regs a == k; buffer = p.buffer } in
         let jump = start-of_jump (told (slice_index v.regs a == k)) to (omega arith) in
         AdvancesToLast-of_step s r q i m n refl refl
         (EffectExecutesStatement-local l (λ b. goes (record r { buffer = b }))
-        (ap (λ l. if told (slice_index l a == k) then slice_index starts to else behind) regs
+        (ap (λ l. if told (slice_index l a == k) then slice_index starts to else after_jump) regs
         ∙ jump
         ∙ ap (λ t. slice_index starts t.position) (sym after)) (regs ∙ ap (λ t. t.regs) (sym after))) done
 

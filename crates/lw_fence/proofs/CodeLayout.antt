@@ -88,8 +88,8 @@ starts_from-last starts n fences (x ∷ code) =
 record LoweredCodeSplit (starts : List ℕ) (n : ℕ) (fences : List Bool) (code : List Stmt) (j : ℕ) (f : Bool)
     (x : Stmt) : Type 0 where
   before : List Instr
-  behind : List Instr
-  whole : lowered_code starts fences code ≡ before ++ (instrs_of (lowered starts f x) ++ behind)
+  rest : List Instr
+  whole : lowered_code starts fences code ≡ before ++ (instrs_of (lowered starts f x) ++ rest)
   start_is : slice_index (starts_from n fences code) j ≡ n + length before
   next : slice_index (starts_from n fences code) (j + 1) ≡ n + (length before + length (instrs_of (lowered starts f x)))
 
@@ -101,7 +101,7 @@ LoweredCodeSplit-at starts n fences [] j x found_at = absurd (none-some x found_
 LoweredCodeSplit-at starts n fences (y ∷ code) zero x found_at =
     subst (LoweredCodeSplit starts n fences (y ∷ code) 0 (get_or fences 0 false)) (same_Some y x found_at) (record {
       before = [];
-      behind = lowered_code starts (drop 1 fences) code;
+      rest = lowered_code starts (drop 1 fences) code;
       whole = lowered_code-cons starts fences y code;
       start_is = omega (arith, starts_from-first n fences (y ∷ code));
       next =
@@ -119,11 +119,11 @@ LoweredCodeSplit-at starts n fences (y ∷ code) (suc j) x found_at =
     let first = length-lowered_any_starts starts (get_or fences 0 false) y in
     record {
       before = is ++ c.before;
-      behind = c.behind;
+      rest = c.rest;
       whole =
           lowered_code-cons starts fences y code
           ∙ ap (λ l. is ++ l) c.whole
-          ∙ sym (append_assoc is c.before (instrs_of (lowered starts (get_or fences (suc j) false) x) ++ c.behind));
+          ∙ sym (append_assoc is c.before (instrs_of (lowered starts (get_or fences (suc j) false) x) ++ c.rest));
       start_is = ap (λ l. slice_index l (suc j)) (starts_from-cons n fences y code) ∙ omega (arith, c.start_is, long, first);
       next =
           ap (λ l. slice_index l (suc j + 1)) (starts_from-cons n fences y code)
@@ -179,7 +179,7 @@ HasLowering-with_fences {fences} {code} {instrs} {starts} c j x found_at =
     record {
       fence = get_or fences j false;
       lowering_at_start =
-          subst₂ (λ l k. StandsAt l k is) (sym (c.instrs_are ∙ a.whole)) here (StandsAt-middle is a.before a.behind);
+          subst₂ (λ l k. StandsAt l k is) (sym (c.instrs_are ∙ a.whole)) here (StandsAt-middle is a.before a.rest);
       next = omega (arith, ap (λ s. slice_index s (j + 1)) c.starts_are, here, a.next);
     }
 

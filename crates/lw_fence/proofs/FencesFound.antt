@@ -60,19 +60,19 @@ module _ (code : List Stmt) (marks : List Bool) where
       → AreFencesOfFirst (length code) fences
       → (j : ℕ)
       → (slice_get fences j ≡ Some true) ↔ NeedsFence code j
-  NeedsFence-found behind fences found j = (needed_if_set, set_if_needed)
+  NeedsFence-found reachable fences found j = (needed_if_set, set_if_needed)
     where
       -- A flag that is set is at a load that a store reaches.
       needed_if_set : slice_get fences j ≡ Some true → NeedsFence code j
       needed_if_set found_at =
           let both =
           and_parts (is_some_load (slice_get code j)) (slice_index_or marks j false) (sym (found.each j true found_at)) in
-          (both.0, (behind j (omega (arith, slice_get_within fences j true found_at, found.as_many))).0 both.1)
+          (both.0, (reachable j (omega (arith, slice_get_within fences j true found_at, found.as_many))).0 both.1)
 
       -- The flag of such a load is set.
       set_if_needed : NeedsFence code j → slice_get fences j ≡ Some true
       set_if_needed needs =
           let within = position_in_range-of_load code j needs.0 in
           let at = slice_get-in_range fences j (omega (arith, within, found.as_many)) in
-          let both = and_from _ _ needs.0 ((behind j (omega (arith, within))).1 needs.1) in
+          let both = and_from _ _ needs.0 ((reachable j (omega (arith, within))).1 needs.1) in
           at.1 ∙ ap Some (found.each j at.0 at.1 ∙ both)

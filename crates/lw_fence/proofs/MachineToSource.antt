@@ -148,9 +148,9 @@ module _ (source : SourceTest) (program : X86Test) (starts : List (List ℕ)) (c
       -- One thread more catches up.
       CaughtUp-suc : CaughtUp ss n → CaughtUp ss (suc n)
       CaughtUp-suc d =
-          let th = ThreadsCorrespond-thread source (LagAt source program starts) d.end ms d.caught.behind n le in
-          let c = ThreadsCorrespond-processor source (LagAt source program starts) d.end ms d.caught.behind n le in
-          let a = CaughtUp-one_thread n d.end th.0 c.0 d.caught.behind d.over le th.1 c.1 in
+          let th = ThreadsCorrespond-thread source (LagAt source program starts) d.end ms d.caught.related n le in
+          let c = ThreadsCorrespond-processor source (LagAt source program starts) d.end ms d.caught.related n le in
+          let a = CaughtUp-one_thread n d.end th.0 c.0 d.caught.related d.over le th.1 c.1 in
           record { end = a.end; caught = SimulatedToEnd-trans source program starts d.end a.end d.caught a.caught; over = a.over }
 
 module _ (source : SourceTest) (program : X86Test) (starts : List (List ℕ)) (well_scoped : IsWellScopedSource source)
@@ -169,7 +169,7 @@ module _ (source : SourceTest) (program : X86Test) (starts : List (List ℕ)) (w
       → SimulationRelation source program starts ss ms
       → AreFirstOver source program starts compiled ms final ss (length source.threads)
       → IsTrue (is_over source.threads ss)
-  is_over-all_threads ss ms final behind over = list_all_zip-of_each _ source.threads ss.threads each_past_end
+  is_over-all_threads ss ms final related over = list_all_zip-of_each _ source.threads ss.threads each_past_end
     where
       -- Each thread is at the end of its code.
       each_past_end : (t : ℕ) (code : List Stmt) (th : Thread)
@@ -178,7 +178,7 @@ module _ (source : SourceTest) (program : X86Test) (starts : List (List ℕ)) (w
           → nat_le (length code) th.position ≡ true
       each_past_end t code th thread_at f =
           let within = slice_get_within source.threads t code thread_at in
-          let c = ThreadsCorrespond-processor source (LagAt source program starts) ss ms behind t within in
+          let c = ThreadsCorrespond-processor source (LagAt source program starts) ss ms related t within in
           let own : thread_code source.threads t ≡ code = get_or_from_slice_get source.threads t code [] thread_at in
           le-leb (length code) th.position (omega (arith, (over t th c.0 f c.1 within).0, ap length own))
 
@@ -194,16 +194,16 @@ SourceOutcome-of_machine s p starts o well_scoped compiled (events, r) =
     let a =
     SimulatedToEnd-run s p starts well_scoped compiled events (initial_state s) r.end
     (SimulationRelation-start s p starts well_scoped compiled) ran in
-    let d = CaughtUp-first_threads s p starts compiled r.end r.final (length s.threads) a.0 (omega arith) a.1.behind in
+    let d = CaughtUp-first_threads s p starts compiled r.end r.final (length s.threads) a.0 (omega arith) a.1.related in
     let c = SimulatedToEnd-trans s p starts a.0 d.end a.1 d.caught in
     let within = λ (t : ℕ) (th : Thread) (e : slice_get d.end.threads t ≡ Some th). slice_get_within d.end.threads t th e in
     let run : InterleavesTo s c.order o = record {
       end = d.end;
       ran = c.ran;
-      final = is_over-all_threads s p starts well_scoped compiled d.end r.end r.final c.behind d.over;
+      final = is_over-all_threads s p starts well_scoped compiled d.end r.end r.final c.related d.over;
       outcome_is =
           r.outcome_is
-          ∙ sym (ThreadsCorrespond-outcome s (LagAt s p starts) d.end r.end c.behind
-          (λ t th x e f. (d.over t th x e f (omega (arith, within t th e, c.behind.as_many))).1));
+          ∙ sym (ThreadsCorrespond-outcome s (LagAt s p starts) d.end r.end c.related
+          (λ t th x e f. (d.over t th x e f (omega (arith, within t th e, c.related.as_many))).1));
     } in
     (c.order, run)

@@ -37,7 +37,7 @@ IsReachableFromStore-successor : (code : List Stmt) (i j : ℕ)
     → IsFlowSuccessor source_language (slice_get code i) i j
     → MayWait code (slice_get code i) i
     → IsReachableFromStore code j
-IsReachableFromStore-successor code i j f (inl s) = record { store = i; between = []; stores = s; path = (f, tt); waits = tt }
+IsReachableFromStore-successor code i j f (inl s) = record { store = i; between = []; stores = s; path = (f, tt); preserved = tt }
 IsReachableFromStore-successor code i j f (inr p) =
     let b = p.1 in
     record {
@@ -45,7 +45,7 @@ IsReachableFromStore-successor code i j f (inr p) =
       between = b.between ++ i ∷ [];
       stores = b.stores;
       path = IsFlowPath-push code b.store b.between i j b.path f;
-      waits = HasOperation-push code b.between i b.waits p.0;
+      preserved = HasOperation-push code b.between i b.preserved p.0;
     }
 
 -- If a store may be buffered after the statement x at i, each successor of x is reachable from a store.
@@ -223,7 +223,7 @@ module _ (code : List Stmt)
       → IsReachableFromStore code j
       → is_marked marks j ≡ true
   AreMarksAfter-complete m j le b =
-      let l = IsReachableFromStore-last_step code j b.store b.between (inl b.stores) b.path b.waits in
+      let l = IsReachableFromStore-last_step code j b.store b.between (inl b.stores) b.path b.preserved in
       m.complete l.0 j (omega (arith, le, some_forward l.0 j (slice_get code l.0) refl l.1)) l.1 l.2
 
   -- What holds at an index, which is i.

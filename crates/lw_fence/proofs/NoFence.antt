@@ -35,8 +35,8 @@ starts_from-no_fences n fences [] none = refl
 starts_from-no_fences n [] (x ∷ code) none = refl
 starts_from-no_fences n (true ∷ fences) (x ∷ code) none = absurd (none 0 refl)
 starts_from-no_fences n (false ∷ fences) (x ∷ code) none =
-    let behind = n + length (instrs_of (lowered [] false x)) in
-    ap (λ (starts : List ℕ). n ∷ starts) (starts_from-no_fences behind fences code (λ j at. none (suc j) at))
+    let next = n + length (instrs_of (lowered [] false x)) in
+    ap (λ (starts : List ℕ). n ∷ starts) (starts_from-no_fences next fences code (λ j at. none (suc j) at))
 
 module _ (code : List Stmt) (needless : (j : ℕ) → NeedsFence code j → ⊥) {instrs : List Instr} {starts : List ℕ} where
   -- If no statement needs a fence, a thread lowered without fences is a compiled thread.

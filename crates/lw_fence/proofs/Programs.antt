@@ -199,7 +199,7 @@ module _ (locs : ℕ) (code : List Stmt) (instrs : List Instr) (starts : List �
 
   -- Each statement after the one of number j starts at or after the next start, and within the code.
   Reaches-next_start : (j : ℕ) → Reaches locs (length instrs) (length code) starts j (start (j + 1))
-  Reaches-next_start j to behind within =
+  Reaches-next_start j to after within =
       let e : j + 1 + (to - (j + 1)) ≡ to = omega arith in
       let f : to + (length code - to) ≡ length code = omega arith in (
         subst (λ k. start (j + 1) ≤ start k) e (start-monotone (j + 1) (to - (j + 1)) (omega arith)),

@@ -25,7 +25,7 @@ module _ (source : SourceTest) (program : X86Test) (starts : List (List ℕ)) wh
   pub record SimulatedToEnd (ss end : State) (ms : MachineState (List ℕ)) : Type 0 where
     pub order : List ℕ
     pub ran : SourceRunsTo source.threads (map Step order) ss end
-    pub behind : SimulationRelation end ms
+    pub related : SimulationRelation end ms
 
   -- If thread t follows its processor, which has reached q over the memory n, the source follows the machine to its state `mid`.
   pub SimulatedToEnd-followed : (t : ℕ) (ss : State) (ms mid : MachineState (List ℕ)) (th : Thread) (c q : Processor) (n : List ℕ)
@@ -40,7 +40,7 @@ module _ (source : SourceTest) (program : X86Test) (starts : List (List ℕ)) wh
       record {
         order = followed.turns.order;
         ran = rw b.words at (followed.turns.on ss.threads was);
-        behind =
+        related =
             subst (SimulationRelation end) (sym is)
             (ThreadsCorrespond-set source LagAt ss ms b t th followed.now c q n was processor_at followed.lag);
       }
@@ -53,12 +53,12 @@ module _ (source : SourceTest) (program : X86Test) (starts : List (List ℕ)) wh
   SimulatedToEnd-trans {ss = ss} mid end a b = record {
     order = a.order ++ b.order;
     ran = SourceRunsTo-append source.threads a.order b.order ss mid end a.ran b.ran;
-    behind = b.behind;
+    related = b.related;
   }
 
   -- If the source already lags behind the machine, no step is needed.
   pub SimulatedToEnd-refl : {ss : State} {ms : MachineState (List ℕ)} → SimulationRelation ss ms → SimulatedToEnd ss ss ms
-  SimulatedToEnd-refl b = record { order = []; ran = refl; behind = b }
+  SimulatedToEnd-refl b = record { order = []; ran = refl; related = b }
 
 module _ (source : SourceTest) (program : X86Test) (starts : List (List ℕ)) (well_scoped : IsWellScopedSource source)
     (compiled : IsCompiled source program starts) where
@@ -99,5 +99,5 @@ module _ (source : SourceTest) (program : X86Test) (starts : List (List ℕ)) (w
       (ss, SimulatedToEnd-refl source program starts (subst (λ a. SimulationRelation source program starts ss a) (sym ran) b))
   SimulatedToEnd-run (e ∷ es) ss {ms = ms} last b ran =
       let a = SimulatedToEnd-event e ss ms ran.0 b (EventOccurrence-of_event program.threads e ms ran.0 ran.1) in
-      let c = SimulatedToEnd-run es a.0 last a.1.behind ran.2 in
+      let c = SimulatedToEnd-run es a.0 last a.1.related ran.2 in
       (c.0, SimulatedToEnd-trans source program starts a.0 c.0 a.1 c.1)

@@ -189,8 +189,8 @@ module _ (program : List (List Stmt)) (t : ℕ) (instrs : List Instr) (starts : 
       empty-by_buffer : (b : List (ℕ × ℕ)) → p.buffer ≡ b → b ≡ []
       empty-by_buffer [] empty = refl
       empty-by_buffer (entry ∷ newer) full =
-          let behind = IsReachableFromStore-pending_store code th v owes (λ e. let f = sym full ∙ e in cc) in
-          absurd (false≢true (sym none ∙ needs.1 (subst (HasKind is_load) (sym found_at) load, behind)))
+          let reachable = IsReachableFromStore-pending_store code th v owes (λ e. let f = sym full ∙ e in cc) in
+          absurd (false≢true (sym none ∙ needs.1 (subst (HasKind is_load) (sym found_at) load, reachable)))
 
   -- At the start of a statement, or at the end of the code, the source follows the processor's next instruction.
   begun : (o : Option Stmt)

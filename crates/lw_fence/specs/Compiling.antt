@@ -70,7 +70,7 @@ pub record IsCompiledThread (code : List Stmt) (instrs : List Instr) (starts : L
   pub instrs_are : instrs ≡ lowered_code starts fences code
 
 -- The program has the source's head, in x86, and the compiled threads. In `starts`, each thread has a table of the indices at which its
--- statements start.
+-- statements start, and at the end the number of its instructions.
 pub record IsCompiled (source : SourceTest) (program : X86Test) (starts : List (List ℕ)) : Type 0 where
   pub head : program.head ≡ record source.head { arch = X86 }  -- The source's head, except the language.
   pub as_many : length program.threads ≡ length source.threads

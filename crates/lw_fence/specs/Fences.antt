@@ -34,7 +34,7 @@ pub record IsReachableFromStore (code : List Stmt) (j : ℕ) : Type 0 where
   pub between : List ℕ
   pub stores : HasOperation is_store code store
   pub path : IsFlowPath code (store ∷ (between ++ j ∷ []))
-  pub waits : AllByRecursion (HasOperation preserves_pending_stores code) between  -- Stores may remain in the buffer past each of these.
+  pub preserved : AllByRecursion (HasOperation preserves_pending_stores code) between  -- Stores may remain in the buffer past each of these.
 
 -- The statement at this index is a load that is reachable from such a store.
 abbrev pub NeedsFence : List Stmt → ℕ → Type 0

@@ -18,7 +18,7 @@ fn marks_of<A: Allocator>(alloc: A, code: &[Stmt]) -> Result<Vec<bool, A>, Alloc
     requires forward { (j : ℕ) (s : SourceStatement) → slice_get code.now j ≡ Some s
         → ForSome (branch_target (source_operation s)) (λ to. (j < to) × (to ≤ length code.now)) }
     ensures as_many { IfOk result (λ v. length v.items ≡ length code.now + 1) }
-    ensures behind { IfOk result (λ v. (j : ℕ) → j ≤ length code.now
+    ensures reachable { IfOk result (λ v. (j : ℕ) → j ≤ length code.now
         → (slice_index_or v.items j false ≡ true) ↔ IsReachableFromStore code.now j) }
 {
     let mut marks = vec![in alloc; false; code.len() + 1]?;
@@ -32,8 +32,8 @@ fn marks_of<A: Allocator>(alloc: A, code: &[Stmt]) -> Result<Vec<bool, A>, Alloc
 fn stores_wait_past(operation: Operation, before: bool) -> bool
     ensures { result ≡ may_wait operation before }
 {
-    let waits = matches!(operation, Operation::Load { .. }) || operation.waits();
-    operation.is_store() || !waits && before
+    let ends_waiting = matches!(operation, Operation::Load { .. }) || operation.needs_empty_buffer();
+    operation.is_store() || !ends_waiting && before
 }
 
 /// Marks the successors of an operation if a store may be in the buffer after it.

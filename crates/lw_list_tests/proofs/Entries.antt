@@ -29,7 +29,7 @@ outcomes_of_test head entries are =
     (All-weaker (IsListedOutcome head) (λ (e : FinalState × List Event). HasOutcomeShape head.threads (length head.locs) e.0)
     (λ e is. is.outcome) entries are)
 
--- there is none in an empty list
+-- There is none in an empty list.
 pub outcomes_of-empty : (head : TestHead) (entries : OutcomeEntries)
     → length entries ≡ 0
     → All (HasOutcomeShape head.threads (length head.locs)) (outcomes_of entries)

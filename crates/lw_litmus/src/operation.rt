@@ -105,7 +105,7 @@ impl Operation {
     }
 
     /// Returns whether x86 executes the operation only if the store buffer is empty.
-    pub fn waits(&self) -> bool
+    pub fn needs_empty_buffer(&self) -> bool
         ensures { result ≡ operations.needs_empty_buffer self.now }
     {
         matches!(self, Operation::Fence) || self.is_locked()

@@ -22,7 +22,7 @@ IsDirty (Exclusive w) = ⊥
 IsDirty (Shared w) = ⊥
 IsDirty Invalid = ⊥
 
--- The cache line is coherent: a IsCoherentCacheLine-if_single writer or many readers, and one word.
+-- The cache line is coherent: a single writer or many readers, and one word.
 pub record IsCoherentCacheLine (line : CacheLine) : Type 0 where
   pub as_many : length line.copies ≡ most_threads
   -- If a copy is in M or E, there is no other copy.

@@ -22,7 +22,7 @@ pub type Moesi<A = Global> = SnoopingCaches<MoesiProtocol, A>;
 
 /// A cache for each processor, snooping on one atomic bus, over one memory.
 /// A contract sees for each location the copies in the caches, and memory's word. Every call ensures that the caches
-/// are coherent (a IsCoherentCacheLine-if_single writer or many readers, and one word in all copies) and in states of their protocol.
+/// are coherent (a single writer or many readers, and one word in all copies) and in states of their protocol.
 #[derive(Drop)]
 pub struct SnoopingCaches<P: ProtocolType, A: Allocator = Global> {
     cpus: usize,

@@ -38,12 +38,12 @@ fn given_orders(alloc: Global, items: &Items) -> Result<Vec<u8>, AllocError> {
 fn have_orders(
     alloc: Global,
     items: &Items,
-    directions: u64,
+    orientations: u64,
     wanted: &[u8],
 ) -> Result<bool, AllocError> {
-    let has_directions = count(alloc, items)? == Some(directions);
+    let has_orientations = count(alloc, items)? == Some(orientations);
     let orders = given_orders(alloc, items)?;
-    Ok(has_directions && orders.as_slice() == wanted)
+    Ok(has_orientations && orders.as_slice() == wanted)
 }
 
 #[test]
@@ -83,7 +83,7 @@ fn tries_of(alloc: Global, items: &Items) -> Result<Vec<u64>, AllocError> {
 
 /// Two threads of two items have three orders, and the fourth call returns none.
 #[test]
-fn each_direction_tried_is_counted(rt: HostRuntime) -> Result<(), Fail> {
+fn each_orientation_tried_is_counted(rt: HostRuntime) -> Result<(), Fail> {
     let items = items_of(rt.alloc(), 4, &[(0, 1), (2, 3)], &[(0, 3), (1, 2)])?;
     assert!(rt; tries_of(rt.alloc(), &items)?.as_slice() == [2, 3, 6, 6].as_slice());
     Ok(())

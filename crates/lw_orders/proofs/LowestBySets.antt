@@ -317,11 +317,11 @@ pub ArePredecessors-empty : (none : List ℕ)
 ArePredecessors-empty none zero' i j li lj = ap (λ n. has n j) (zero' i li) ∙ ap (λ n. eqb n 1) (bit_at-zero j)
 
 -- A set copied to the front of a table is read at its index.
-pub get_or-copied_set : (len i : ℕ) (before front behind : List ℕ)
+pub get_or-copied_set : (len i : ℕ) (before front rest : List ℕ)
     → i < len
     → len ≤ length before
     → front ≡ take len before
-    → get_or (front ++ behind) i 0 ≡ get_or before i 0
-get_or-copied_set len i before front behind l long e =
-    ap (λ xs. get_or (xs ++ behind) i 0) e
-    ∙ (get_or_append_left (take len before) behind 0 i (omega (arith, length-take len before)) ∙ get_or-take len before i 0 l)
+    → get_or (front ++ rest) i 0 ≡ get_or before i 0
+get_or-copied_set len i before front rest l long e =
+    ap (λ xs. get_or (xs ++ rest) i 0) e
+    ∙ (get_or_append_left (take len before) rest 0 i (omega (arith, length-take len before)) ∙ get_or-take len before i 0 l)

@@ -1,4 +1,4 @@
--- The search's invariant: its start, one step, and the number of directions that one call tries. For
+-- The search's invariant: its start, one step, and the number of orientations that one call tries. For
 -- `Orders::with_unordered` and, by `OneCall`, for `next`.
 use Rattle.lw_orders.proofs.Common.{most_items, ℕ, zero, suc, ◌≡◌, ◌+◌, ◌-◌, ◌*◌, ◌<◌, ◌≤◌, List, [], ◌∷◌}
 use Rattle.lw_orders.proofs.Common.{◌++◌, length, get_or, take, replicate, ap, sym, ◌∙◌, refl, subst, inl}
@@ -18,8 +18,8 @@ use Rattle.lw_orders.proofs.GrowingClosure.{IsAcyclicClosure-start, IsAcyclicClo
 use Rattle.lw_orders.proofs.GrowingClosure.{not-Before-if_cycle, lowest_order-if_acyclic}
 use Rattle.lw_orders.proofs.api.Complete.{All-parts, IsWithin, IsAscendingPair, Respects-push_inv}
 
--- The number of directions that one call tries is at most 3 k, for k unordered pairs. At first the call may go up, from a reversed pair
--- that closes a cycle to the pair before it, and tries one direction for each pair that it leaves. After the first direction taken it goes
+-- The number of orientations that one call tries is at most 3 k, for k unordered pairs. At first the call may go up, from a reversed pair
+-- that closes a cycle to the pair before it, and tries one orientation for each pair that it leaves. After the first orientation taken it goes
 -- down, and tries at most two for each pair: if the first closes a cycle, the second does not.
 abbrev pub Phase : List (ℕ × ℕ) → SearchState → Option ℕ → ℕ → Type 0
 Phase unordered s None tried = tried ≤ 3 * length unordered
@@ -96,7 +96,7 @@ take-oriented (suc i) [] ws = refl
 take-oriented (suc i) (p ∷ ps) [] = refl
 take-oriented (suc i) (p ∷ ps) (w ∷ ws) = ap (λ xs. reverse_if w p ∷ xs) (take-oriented i ps ws)
 
--- What holds of each pair in both directions holds of the oriented pairs.
+-- What holds of each pair in both orientations holds of the oriented pairs.
 All-oriented : (P : ℕ × ℕ → Type 0) (ps : List (ℕ × ℕ)) (ws : List Bool)
     → All (λ p. P p × P (p.1, p.0)) ps
     → All P (oriented ps ws)
@@ -146,9 +146,9 @@ module _ {len : ℕ} {preserved unordered : List (ℕ × ℕ)} {s : SearchState}
         closed = λ k lk. st.closed k (omega (arith, lk, low));
       }
 
-  -- At a leaf every pair has its direction: the only order there comes first, and then those after it.
+  -- At a leaf every pair has its orientation: the only order there comes first, and then those after it.
   module _ (leaf : level ≡ length unordered) where
-    -- All directions are chosen.
+    -- All orientations are chosen.
     all_chosen : take level s.chosen ≡ s.chosen
     all_chosen = take_all level s.chosen (omega (arith, st.chosen_long, leaf))
 
@@ -156,19 +156,19 @@ module _ {len : ℕ} {preserved unordered : List (ℕ × ℕ)} {s : SearchState}
     all_reversals : (k : ℕ) → level ≤ k → take k s.reversals ≡ s.reversals
     all_reversals k l = take_all k s.reversals (omega (arith, st.reversals_long, leaf))
 
-    -- The directions chosen are those of the reversals.
+    -- The orientations chosen are those of the reversals.
     chosen_directed : s.chosen ≡ oriented unordered s.reversals
     chosen_directed = sym all_chosen ∙ (st.reversals_chosen ∙ ap (oriented unordered) (all_reversals _ (omega arith)))
 
-    -- The saved sets are the acyclic closure of the preserved pairs and all directions chosen.
+    -- The saved sets are the acyclic closure of the preserved pairs and all orientations chosen.
     pub leaf_closes : IsAcyclicClosure len (preserved ++ s.chosen) (reaches_in (get_or s.saved level []))
     leaf_closes = rw all_chosen at (st.closed level (omega arith))
 
-    -- The directions chosen are of items in range.
+    -- The orientations chosen are of items in range.
     pub chosen_within : AreInRange len s.chosen
     chosen_within = (All-parts (IsWithin len) preserved s.chosen leaf_closes.within).1
 
-    -- Neighbours by the preserved pairs and the unordered ones include those by the directions chosen.
+    -- Neighbours by the preserved pairs and the unordered ones include those by the orientations chosen.
     pub leaf_neighbours : (neighbours : List ℕ)
         → EdgesAreIn preserved neighbours
         → AreNeighbours unordered neighbours
@@ -177,7 +177,7 @@ module _ {len : ℕ} {preserved unordered : List (ℕ × ℕ)} {s : SearchState}
         All-append (λ p. reaches_in neighbours p.0 p.1 ≡ true) preserved s.chosen into
         (rw chosen_directed (All-oriented (λ p. reaches_in neighbours p.0 p.1 ≡ true) unordered s.reversals both))
 
-    -- There is a lowest order with the directions chosen, and it comes before the orders that are left.
+    -- There is a lowest order with the orientations chosen, and it comes before the orders that are left.
     pub lowest_order-at_leaf : (o : List ℕ)
         × (lowest_order len (preserved ++ s.chosen) ≡ Some o)
         × (from_reversals len preserved unordered (take (level + 1) s.reversals)
@@ -191,9 +191,9 @@ module _ {len : ℕ} {preserved unordered : List (ℕ × ℕ)} {s : SearchState}
               (ap (λ cs. lowest_order len (preserved ++ cs)) (sym chosen_directed) ∙ h)),
         )
 
-  -- At a pair the search tries a direction.
+  -- At a pair the search tries an orientation.
   module _ (below : level < length unordered) where
-    -- The direction to try.
+    -- The orientation to try.
     abbrev p : ℕ × ℕ
     p = pair_at unordered s.reversals level
 
@@ -205,18 +205,18 @@ module _ {len : ℕ} {preserved unordered : List (ℕ × ℕ)} {s : SearchState}
     long_here : length (take level s.reversals) ≡ level
     long_here = length_take-reversals s.reversals unordered st.reversals_long level st.level_in
 
-    -- Oriented by the reversals up to this pair, the pairs are those chosen before, and the direction to try.
+    -- Oriented by the reversals up to this pair, the pairs are those chosen before, and the orientation to try.
     reversal_chosen : oriented unordered (take (level + 1) s.reversals) ≡ take level s.chosen ++ p ∷ []
     reversal_chosen =
         ap (oriented unordered)
         (take_reversals-suc s.reversals _ st.reversals_long level (get_or s.reversals level false) below refl)
         ∙ (oriented-push _ _ _ (0, 0) (omega (arith, long_here)) ∙ rw (long_here, st.reversals_chosen) refl)
 
-    -- The preserved pairs with these oriented pairs are those at the level, and the direction to try.
+    -- The preserved pairs with these oriented pairs are those at the level, and the orientation to try.
     graph_is : preserved ++ oriented unordered (take (level + 1) s.reversals) ≡ (preserved ++ take level s.chosen) ++ p ∷ []
     graph_is = ap (λ ds. preserved ++ ds) reversal_chosen ∙ sym (append_assoc preserved (take level s.chosen) (p ∷ []))
 
-    -- A direction that closes a cycle has no orders, so the search skips it.
+    -- An orientation that closes a cycle has no orders, so the search skips it.
     pub from_reversals-closing_cycle : reach s.saved level p.1 p.0 ≡ true
         → from_reversals len preserved unordered (take (level + 1) s.reversals)
         ≡ after_reversals len preserved unordered (take (level + 1) s.reversals)
@@ -231,14 +231,14 @@ module _ {len : ℕ} {preserved unordered : List (ℕ × ℕ)} {s : SearchState}
         closure_at_level : IsAcyclicClosure len (preserved ++ take level s.chosen) (reach s.saved level)
         closure_at_level = st.closed level (omega arith)
 
-        -- No order respects the direction, since it closes a cycle.
+        -- No order respects the orientation, since it closes a cycle.
         no_order : (o : List ℕ) → Respects ((preserved ++ take level s.chosen) ++ p ∷ []) o → ⊥
         no_order o keeps =
             let (graph, pair) = Respects-push_inv (preserved ++ take level s.chosen) p o keeps in
             not-Before-if_cycle p.0 p.1 p_within.0 p_within.1 closure_at_level back o graph pair
 
     module _ {next : SearchState} (taken : IsTaken len p level s next) where
-      -- After a direction that closes no cycle, the search is at the next pair.
+      -- After an orientation that closes no cycle, the search is at the next pair.
       pub IsSearchState-down : reach s.saved level p.1 p.0 ≡ false → IsSearchState len preserved unordered next (level + 1)
       IsSearchState-down free = record {
         can = st.can;
@@ -261,7 +261,7 @@ module _ {len : ℕ} {preserved unordered : List (ℕ × ℕ)} {s : SearchState}
         ];
       }
         where
-          -- The pairs chosen now are those before, and the direction.
+          -- The pairs chosen now are those before, and the orientation.
           chosen_now : take (level + 1) next.chosen ≡ take level s.chosen ++ p ∷ []
           chosen_now = ap (take (level + 1)) taken.chosen ∙ take_more_set s.chosen level p (omega (arith, st.chosen_long, below))
 
@@ -274,14 +274,14 @@ module _ {len : ℕ} {preserved unordered : List (ℕ × ℕ)} {s : SearchState}
             (omega (arith, length_take-reversals s.reversals unordered st.reversals_long (level + 1) (omega arith)))
             ∙ ap (from_reversals len preserved unordered)
             (ap (λ ws. ws ++ false ∷ []) (sym taken.before)
-            ∙ sym (take_reversals-suc next.reversals unordered (taken.long ∙ st.reversals_long) (level + 1) false l taken.behind))
+            ∙ sym (take_reversals-suc next.reversals unordered (taken.long ∙ st.reversals_long) (level + 1) false l taken.next_unreversed))
         | inr g ↦
             ap (from_reversals len preserved unordered)
             (sym (take_all (level + 1 + 1) next.reversals (omega (arith, st.reversals_long, taken.long))
             ∙ (sym (take_all (level + 1) next.reversals (omega (arith, st.reversals_long, taken.long))) ∙ taken.before)))
       ]
 
-    -- ---- the count of directions tried: at most one direction of a pair closes a cycle
+    -- ---- the count of orientations tried: at most one orientation of a pair closes a cycle
     not-both_close_cycle : reach s.saved level (get_or unordered level (0, 0)).1 (get_or unordered level (0, 0)).0 ≡ true
         → reach s.saved level (get_or unordered level (0, 0)).0 (get_or unordered level (0, 0)).1 ≡ true
         → ⊥
@@ -290,25 +290,25 @@ module _ {len : ℕ} {preserved unordered : List (ℕ × ℕ)} {s : SearchState}
         omega (arith, closure-antisym (st.closed level (omega arith)) _ _ (omega arith) b y x)
 
     module _ (tried : ℕ) (ph : Phase unordered s (Some level) tried) where
-      -- The count of tries is within its bound after a direction that closes a cycle is abandoned.
-      pub Phase-direction_abandoned : (reversed : Bool) (next : List Bool) (found : Option ℕ)
+      -- The count of tries is within its bound after an orientation that closes a cycle is abandoned.
+      pub Phase-orientation_abandoned : (reversed : Bool) (next : List Bool) (found : Option ℕ)
           → get_or s.reversals level false ≡ reversed
           → reach s.saved level (reverse_if reversed (get_or unordered level (0, 0))).1
           (reverse_if reversed (get_or unordered level (0, 0))).0
           ≡ true
           → TurnedLast s.reversals next (level + 1) found
           → Phase unordered (record { reversals = next; chosen = s.chosen; saved = s.saved }) found (tried + 1)
-      Phase-direction_abandoned false next None e back (same, all) = cc (all level (omega arith))
-      Phase-direction_abandoned true next None e back (same, all) =
+      Phase-orientation_abandoned false next None e back (same, all) = cc (all level (omega arith))
+      Phase-orientation_abandoned true next None e back (same, all) =
           elim ph [ inl a ↦ omega (arith, a.1) | inr b ↦ absurd (not-both_close_cycle (b.1 e) back) ]
-      Phase-direction_abandoned true next (Some i) e back (li, off, is, on) =
+      Phase-orientation_abandoned true next (Some i) e back (li, off, is, on) =
           let ne : i ≡ level → ⊥ = λ q. cc (e, off, q) in
           inl (
             ap (λ ws. get_or ws i false) is
                 ∙ get_or-set_same s.reversals i true false (omega (arith, li, below, st.reversals_long)),
             elim ph [ inl a ↦ omega (arith, a.1, li, ne) | inr b ↦ absurd (not-both_close_cycle (b.1 e) back) ],
           )
-      Phase-direction_abandoned false next (Some i) e back (li, off, is, on) = elim (cases_eq i level) [
+      Phase-orientation_abandoned false next (Some i) e back (li, off, is, on) = elim (cases_eq i level) [
         | inl q ↦ inr (
           rw (is, get_or-set_same s.reversals i true false (omega (arith, li, below, st.reversals_long)), q)
               (elim ph [ inl a ↦ cc (a.0, e) | inr b ↦ omega (arith, rw e at b.0) ]),
@@ -317,14 +317,14 @@ module _ {len : ℕ} {preserved unordered : List (ℕ × ℕ)} {s : SearchState}
         | inr n ↦ cc (on level (omega arith) (omega arith))
       ]
 
-      -- The count of tries is within its bound after a direction is taken.
+      -- The count of tries is within its bound after an orientation is taken.
       pub Phase-next_pair : (next : SearchState)
           → get_or next.reversals (level + 1) false ≡ false
           → Phase unordered next (Some (level + 1)) (tried + 1)
       Phase-next_pair next off =
           inr (rw off (elim ph [ inl a ↦ omega (arith, a.1) | inr b ↦ grind (arith, b.0) ]), λ t. cc (off, t))
 
-  -- A call tries at most three directions for each unordered pair.
+  -- A call tries at most three orientations for each unordered pair.
   pub tries-le_three_per_pair : (tried : ℕ) → Phase unordered s (Some level) tried → tried ≤ 3 * length unordered
   tries-le_three_per_pair tried (inl a) = omega (arith, a.1)
   tries-le_three_per_pair tried (inr b) = elim (cases_lt level (length unordered)) [

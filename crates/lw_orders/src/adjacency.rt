@@ -31,7 +31,7 @@ pub(crate) fn predecessors_of(pairs: &[(u8, u8)]) -> Predecessors
     ensures { ArePredecessors most_items pairs.now result }
 {
     let mut sets = [ItemSet::empty(); MAX_ITEMS];
-    add_pairs(&mut sets, pairs);
+    add_predecessors(&mut sets, pairs);
     sets
 }
 
@@ -41,12 +41,13 @@ pub(crate) fn successors_of(pairs: &[(u8, u8)]) -> Successors
     ensures { (i j : ℕ) → i < most_items → j < most_items → has (slice_index result i) j ≡ has_edge pairs.now i j }
 {
     let mut sets = [ItemSet::empty(); MAX_ITEMS];
-    add_reversed(&mut sets, pairs);
+    add_successors(&mut sets, pairs);
     sets
 }
 
 /// Returns the neighbours of each item: its successors along the preserved pairs, and the items with which it is in
-/// an unordered pair.
+/// an unordered pair. However the unordered pairs are oriented, an item's successors are among its neighbours, so one table serves the whole
+/// search.
 pub(crate) fn neighbours_of(preserved: &[(u8, u8)], unordered: &[(u8, u8)]) -> SetOfEach
     requires preserved { AreInRange most_items preserved.now }
     requires unordered { AreInRange most_items unordered.now }
@@ -54,14 +55,14 @@ pub(crate) fn neighbours_of(preserved: &[(u8, u8)], unordered: &[(u8, u8)]) -> S
     ensures unordered { AreNeighbours unordered.now result }
 {
     let mut neighbours = [ItemSet::empty(); MAX_ITEMS];
-    add_reversed(&mut neighbours, preserved);
-    add_reversed(&mut neighbours, unordered);
-    add_pairs(&mut neighbours, unordered);
+    add_successors(&mut neighbours, preserved);
+    add_successors(&mut neighbours, unordered);
+    add_predecessors(&mut neighbours, unordered);
     neighbours
 }
 
 /// Inserts the first item of each pair into the set of its second.
-fn add_pairs(sets: &mut SetOfEach, pairs: &[(u8, u8)])
+fn add_predecessors(sets: &mut SetOfEach, pairs: &[(u8, u8)])
     requires { AreInRange most_items pairs.now }
     ensures { (i j : ℕ) → i < most_items → j < most_items →
         has (slice_index sets.new i) j ≡ (has (slice_index sets.old i) j || has_edge pairs.now j i) }
@@ -72,7 +73,7 @@ fn add_pairs(sets: &mut SetOfEach, pairs: &[(u8, u8)])
 }
 
 /// Inserts the second item of each pair into the set of its first.
-fn add_reversed(sets: &mut SetOfEach, pairs: &[(u8, u8)])
+fn add_successors(sets: &mut SetOfEach, pairs: &[(u8, u8)])
     requires { AreInRange most_items pairs.now }
     ensures { (i j : ℕ) → i < most_items → j < most_items →
         has (slice_index sets.new i) j ≡ (has (slice_index sets.old i) j || has_edge pairs.now i j) }
@@ -119,5 +120,5 @@ fn fill_predecessors(
     ensures { (preserved : List (ℕ × ℕ)) → ArePredecessors most_items preserved before.now → ArePredecessors len (preserved ++ chosen.now) sets.new }
 {
     sets[..len].copy_from_slice(&before[..len]);
-    add_pairs(sets, chosen);
+    add_predecessors(sets, chosen);
 }

@@ -1,4 +1,4 @@
--- The conflicts of items are those of the items that access a location. Then one turn of each loop that lists
+-- The conflicts of items are those of the items that access a location. Then one round of each loop that lists
 -- them. For `conflicts.rt`, which pairs accesses only.
 use Rattle.lw_paths.proofs.Common.{◌≡◌, ℕ, zero, suc, ◌+◌, ◌<◌, drop, drop-cons, get_or, Bool, false}
 use Rattle.lw_paths.proofs.Common.{if◌then◌else◌, List, [], ◌∷◌, ◌++◌, length, map, Option, Some, None, refl}

@@ -1,4 +1,4 @@
--- One turn of each loop that lists the items or their reduced pairs: what is listed, followed by what
+-- One round of each loop that lists the items or their reduced pairs: what is listed, followed by what
 -- remains, is still `whole`. For `items.rt` and `preserved_order.rt`.
 use Rattle.lw_paths.proofs.Common.{take-append_seam, take, ap, Result, Ok, Err, OnErr, ◌≡◌, ℕ, suc, ◌+◌, ◌<◌}
 use Rattle.lw_paths.proofs.Common.{Bool, false, ◌||◌, List, [], ◌∷◌, ◌++◌, length, map, drop, get_or}

@@ -81,16 +81,16 @@ module _ {S : Type 0} {language : Language S} {code : List S} where
           absurd (rw (slice_get_past code (length code) (omega arith)) at follows)
 
   -- At a position, given the maximum over its successors.
-  module _ {at behind : ℕ} {s : S} (most : ℕ → ℕ) (statement_at : slice_get code at ≡ Some s)
+  module _ {at rest_size : ℕ} {s : S} (most : ℕ → ℕ) (statement_at : slice_get code at ≡ Some s)
       (forward : JumpsForward language code) (later : (k : ℕ) → at < k → k ≤ length code → IsKnown language code k (most k))
-      (largest : IsMost (Contains (successors language s at)) most behind) where
+      (largest : IsMost (Contains (successors language s at)) most rest_size) where
     -- For each successor of the statement the maximum is known.
     IsKnown-successor : (k : ℕ) → Contains (successors language s at) k → IsKnown language code k (most k)
     IsKnown-successor k is_member =
         let (up, within) = successors-in_range language code at k s forward statement_at is_member in later k up within
 
     -- The maximum at the statement is its size plus the largest maximum of its successors.
-    IsKnown-statement : IsKnown language code at (statement_size language s + behind)
+    IsKnown-statement : IsKnown language code at (statement_size language s + rest_size)
     IsKnown-statement =
         let rest = (IsKnown-successor largest.element largest.is_element).is_most in
         record {
@@ -119,7 +119,7 @@ module _ {S : Type 0} {language : Language S} {code : List S} where
         -- A path has the statement, and then a path from one of its successors.
         size-at_statement : (path : List ℕ)
             → IsFlowPathFrom language code at path
-            → path_size language code path ≤ statement_size language s + behind
+            → path_size language code path ≤ statement_size language s + rest_size
         size-at_statement [] ends = absurd (omega (arith, slice_get_within code at s statement_at, ends))
         size-at_statement (j ∷ path) (same, next, follows, further) =
             let c = successors-has language (slice_get code at) s at next statement_at follows in
@@ -147,21 +147,21 @@ module _ {S : Type 0} {language : Language S} {code : List S} {most : List ℕ} 
     each = λ j after within. let at : j ≡ length code = omega (arith, end, after, within) in rw (at, none) IsKnown-end;
   }
 
-  module _ {k at behind : ℕ} {s : S} (known : AreKnownFrom language code k most) (next : k ≡ suc at)
+  module _ {k at rest_size : ℕ} {s : S} (known : AreKnownFrom language code k most) (next : k ≡ suc at)
       (statement_at : slice_get code at ≡ Some s) (forward : JumpsForward language code) (short : length code ≤ 32)
-      (largest : IsMost (Contains (successors language s at)) (λ n. slice_index most n) behind) where
+      (largest : IsMost (Contains (successors language s at)) (λ n. slice_index most n) rest_size) where
     -- The same, with the maxima of the successors taken from the table.
-    IsKnown-by_table : IsKnown language code at (statement_size language s + behind)
+    IsKnown-by_table : IsKnown language code at (statement_size language s + rest_size)
     IsKnown-by_table =
         IsKnown-statement (λ n. slice_index most n) statement_at forward
         (λ n up within. known.each n (omega (arith, up, next)) within) largest
 
     -- The sum of the statement's items and the maximum over its successors does not overflow.
-    pub size_sum_small : statement_size language s + behind ≤ 66
+    pub size_sum_small : statement_size language s + rest_size ≤ 66
     size_sum_small = omega (arith, IsKnown-by_table.at_most_two_each, short)
 
     -- The table is right from this position on after its maximum is set.
-    pub AreKnownFrom-set : (v : ℕ) → v ≡ statement_size language s + behind → AreKnownFrom language code at (slice_set most at v)
+    pub AreKnownFrom-set : (v : ℕ) → v ≡ statement_size language s + rest_size → AreKnownFrom language code at (slice_set most at v)
     AreKnownFrom-set v sum = record {
       room = length-set most at v ∙ known.room;
       each = λ j after within. elim (cases_eq j at) [

@@ -51,7 +51,7 @@ pub fn has_no_conflicts<S: Statement, A: Allocator>(program: &[Sequence<S, A>]) 
     has_no_access(program)
 }
 
-/// Returns whether a program has few enough branches to have few path assignments.
+/// Returns whether a program has few enough branches to have few path assignments. The contract promises nothing of `false`.
 fn has_few_branches<S: Statement, A: Allocator>(program: &[Sequence<S, A>]) -> bool
     ensures { result ≡ true → sum_by (branches S.language) program.now ≤ most_unordered }
 {
@@ -67,7 +67,7 @@ fn has_few_branches<S: Statement, A: Allocator>(program: &[Sequence<S, A>]) -> b
 }
 
 /// Returns whether a program is known to be within the limit of orders: each path assignment has one order, and there
-/// are few path assignments.
+/// are few path assignments. The contract promises nothing of `false`: then the orders are counted.
 pub(crate) fn has_few_orders<S: Statement, A: Allocator>(program: &[Sequence<S, A>]) -> bool
     requires { IsVisitable S.language program.now }
     ensures { result ≡ true → total_of S.language program.now ≤ most_orders }

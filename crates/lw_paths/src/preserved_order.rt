@@ -7,7 +7,7 @@ ghost use Rattle.lw_paths.specs.Items.{needs_earlier_drains};
 ghost use Rattle.lw_paths.specs.TransitiveReduction.{none_before, edge_from, record_last, last_of_thread, reduced_from};
 
 use crate::item::{Item, LastItems};
-use crate::statement::waits;
+use crate::statement::needs_empty_buffer;
 use lw_base::{Cpu, Sequence};
 use lw_litmus::Statement;
 use std::alloc::{AllocError, Allocator};
@@ -74,7 +74,7 @@ fn needs_earlier_drains<S: Statement, B: Allocator>(program: &[Sequence<S, B>], 
         return true;
     }
     match statement_of(program, item) {
-        Some(stmt) => waits(stmt),
+        Some(stmt) => needs_empty_buffer(stmt),
         None => false,
     }
 }

@@ -34,8 +34,8 @@ pub(crate) fn drains<S: Statement>(stmt: &S) -> Option<Loc>
 }
 
 /// Returns whether a statement takes effect only after all earlier entries of its thread's buffer have drained.
-pub(crate) fn waits<S: Statement>(stmt: &S) -> bool
+pub(crate) fn needs_empty_buffer<S: Statement>(stmt: &S) -> bool
     ensures { result ≡ items.statement_needs_empty_buffer S.language stmt.now }
 {
-    S::is_buffered() && stmt.operation().waits()
+    S::is_buffered() && stmt.operation().needs_empty_buffer()
 }

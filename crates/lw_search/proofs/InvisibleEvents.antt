@@ -62,12 +62,13 @@ HasInstr-of_step (Some i) p q m n d = record { instr = i; instr_is = refl; does 
 abbrev with_oldest : ℕ × ℕ → Processor → Processor
 with_oldest entry p = record p { buffer = entry ∷ p.buffer }
 
--- What a drain does: the oldest entry leaves the store buffer for memory.
+-- The effect of a drain that leads from p and m to q and n: p is the processor `without` the entry and with the entry as its oldest; q is
+-- `without`, and n is m with the entry's word written.
 record DrainEffect (p q : Processor) (m n : List ℕ) : Type 0 where
   entry : ℕ × ℕ
-  behind : Processor
-  processor_is : p ≡ with_oldest entry behind
-  left : q ≡ behind
+  without : Processor
+  processor_is : p ≡ with_oldest entry without
+  left : q ≡ without
   words : n ≡ slice_set m entry.0 entry.1
 
 -- A drain that is enabled has an oldest entry, and writes it to memory.
@@ -78,19 +79,19 @@ DrainEffect-of_drain p q m n does = go p.buffer refl does
     go [] e d = absurd d
     go (entry ∷ newer) e d = record {
       entry = entry;
-      behind = record p { buffer = newer };
+      without = record p { buffer = newer };
       processor_is = ap (λ b. record p { buffer = b }) e;
       left = d.0;
       words = d.1;
     }
 
--- An operation that is done while the store buffer has the entry as its oldest preserves that entry and memory, and is enabled after the
--- drain of the entry too.
-record PassesDrain (entry : ℕ × ℕ) (o : Operation) (behind q : Processor) (m n : List ℕ) : Type 0 where
+-- An operation commutes with the drain of the entry. Before the drain it leads from the processor `without` with the entry as its oldest to q
+-- and n: q is `new` with the entry as its oldest, and memory is unchanged. After the drain it leads from `without` to `new`.
+record PassesDrain (entry : ℕ × ℕ) (o : Operation) (without q : Processor) (m n : List ℕ) : Type 0 where
   new : Processor
   processor_is : q ≡ with_oldest entry new
   kept : n ≡ m
-  does : EffectLeadsTo (slice_set m entry.0 entry.1) (operation_effect o behind) new (slice_set m entry.0 entry.1)
+  does : EffectLeadsTo (slice_set m entry.0 entry.1) (operation_effect o without) new (slice_set m entry.0 entry.1)
 
 -- A load beside the drain of an entry: `found` is the newest word of the other entries, `same` says whether the entry is for the location.
 load_effect-after_drain : (entry : ℕ × ℕ) (x : ℕ) (next : ℕ → Processor) (q : Processor) (m n : List ℕ) (found : Option ℕ)
@@ -115,12 +116,12 @@ load_effect-after_drain entry x next q m n None false is range d =
     (next (slice_index m x), d.0, d.1, (ap next (sym read), refl))
 
 -- An operation that does not access memory commutes with the drain of the oldest entry.
-PassesDrain-local : (entry : ℕ × ℕ) (o : Operation) (behind next q : Processor) (m n : List ℕ)
-    → operation_effect o behind ≡ LocalStep next
+PassesDrain-local : (entry : ℕ × ℕ) (o : Operation) (without next q : Processor) (m n : List ℕ)
+    → operation_effect o without ≡ LocalStep next
     → q ≡ with_oldest entry next
     → n ≡ m
-    → PassesDrain entry o behind q m n
-PassesDrain-local entry o behind next q m n act is kept = record {
+    → PassesDrain entry o without q m n
+PassesDrain-local entry o without next q m n act is kept = record {
   new = next;
   processor_is = is;
   kept = kept;
@@ -129,24 +130,24 @@ PassesDrain-local entry o behind next q m n act is kept = record {
 
 -- An operation that does not wait commutes with the drain of the oldest entry: a load of the entry's own location is forwarded the
 -- word before the drain, and reads it from memory after it.
-PassesDrain-operation : (entry : ℕ × ℕ) (o : Operation) (behind q : Processor) (m n : List ℕ)
+PassesDrain-operation : (entry : ℕ × ℕ) (o : Operation) (without q : Processor) (m n : List ℕ)
     → ((x : ℕ) → operation_access o ≡ Some (x, false) → entry.0 ≡ x → x < length m)
-    → EffectLeadsTo m (operation_effect o (with_oldest entry behind)) q n
-    → PassesDrain entry o behind q m n
-PassesDrain-operation entry (Set d v) behind q m n range does =
-    PassesDrain-local entry (Set d v) behind _ q m n refl does.0 does.1
-PassesDrain-operation entry (Sum d a v) behind q m n range does =
-    PassesDrain-local entry (Sum d a v) behind _ q m n refl does.0 does.1
-PassesDrain-operation entry (Compare a v) behind q m n range does =
-    PassesDrain-local entry (Compare a v) behind _ q m n refl does.0 does.1
-PassesDrain-operation entry (Store x v) behind q m n range does =
-    PassesDrain-local entry (Store x v) behind _ q m n refl does.0 does.1
-PassesDrain-operation entry (Branch c to) behind q m n range does =
-    PassesDrain-local entry (Branch c to) behind _ q m n refl does.0 does.1
-PassesDrain-operation entry (Load d x) behind q m n range does =
-    let r = load_effect-after_drain entry x _ q m n (newest_buffered behind.buffer x) (entry.0 == x) refl (range x refl) does in
+    → EffectLeadsTo m (operation_effect o (with_oldest entry without)) q n
+    → PassesDrain entry o without q m n
+PassesDrain-operation entry (Set d v) without q m n range does =
+    PassesDrain-local entry (Set d v) without _ q m n refl does.0 does.1
+PassesDrain-operation entry (Sum d a v) without q m n range does =
+    PassesDrain-local entry (Sum d a v) without _ q m n refl does.0 does.1
+PassesDrain-operation entry (Compare a v) without q m n range does =
+    PassesDrain-local entry (Compare a v) without _ q m n refl does.0 does.1
+PassesDrain-operation entry (Store x v) without q m n range does =
+    PassesDrain-local entry (Store x v) without _ q m n refl does.0 does.1
+PassesDrain-operation entry (Branch c to) without q m n range does =
+    PassesDrain-local entry (Branch c to) without _ q m n refl does.0 does.1
+PassesDrain-operation entry (Load d x) without q m n range does =
+    let r = load_effect-after_drain entry x _ q m n (newest_buffered without.buffer x) (entry.0 == x) refl (range x refl) does in
     record { new = r.0; processor_is = r.1; kept = r.2; does = r.3 }
-PassesDrain-operation entry _ behind q m n range does = absurd does
+PassesDrain-operation entry _ without q m n range does = absurd does
 
 -- ---- accesses
 
@@ -333,13 +334,13 @@ module _ (program : List (List Instr)) (forward : IsForward program) where
 
   -- ---- an invisible event, and another event before it
 
-  -- Events e and f are enabled in the same state, and lead to `first` and `mid`: each is enabled after the other, with the same end, and e
-  -- is still invisible.
+  -- Events e and f are enabled in the same state, and lead to `first` and `mid`: e is enabled in `mid`, f in `first`, both lead to `end`,
+  -- and e is still invisible in `mid`.
   record AreExchangedInvisibly (e f : Event) (first mid : State) : Type 0 where
     end : State
-    again : MachineTransition flat_memory program e mid (Ok tt) end
-    behind : MachineTransition flat_memory program f first (Ok tt) end
-    still : IsInvisible program e mid
+    e_enabled : MachineTransition flat_memory program e mid (Ok tt) end
+    f_enabled : MachineTransition flat_memory program f first (Ok tt) end
+    invisible_in_mid : IsInvisible program e mid
 
   -- The position of a thread whose next instruction is to be executed.
   IsAtPosition-exists : (e : Event) (s : State) (p : Processor)
@@ -407,9 +408,9 @@ module _ (program : List (List Instr)) (forward : IsForward program) where
     AreExchangedInvisibly-other_thread : cpu_of f ≢ cpu_of e → AreExchangedInvisibly e f first mid
     AreExchangedInvisibly-other_thread ne = record {
       end = z.0;
-      again = z.1;
-      behind = subst (λ o. MachineTransition flat_memory program f o (Ok tt) z.0) once x.2.done;
-      still = λ p access at is. IsUncontended-after f s mid (cpu_of e) access g (invisible p access (there p at) is);
+      e_enabled = z.1;
+      f_enabled = subst (λ o. MachineTransition flat_memory program f o (Ok tt) z.0) once x.2.done;
+      invisible_in_mid = λ p access at is. IsUncontended-after f s mid (cpu_of e) access g (invisible p access (there p at) is);
     }
       where
         there : (p : Processor) → slice_get mid.processors (cpu_of e) ≡ Some p → slice_get s.processors (cpu_of e) ≡ Some p
@@ -446,14 +447,15 @@ module _ (program : List (List Instr)) (forward : IsForward program) where
 
   -- ---- the step and the drain of one thread
 
-  -- The step and the drain of a thread, both enabled in s, lead to the same state in either order.
+  -- The step and the drain of a thread, both enabled in s, lead to the same state in either order. The thread's processor in s is `without`
+  -- with the entry as its oldest; after the step it is `new` with that entry, and after the drain it is `without`.
   record StepDrainDiamond (t : ℕ) (s stepped drained : State) : Type 0 where
     entry : ℕ × ℕ
-    behind : Processor
+    without : Processor
     new : Processor
-    was : slice_get s.processors t ≡ Some (with_oldest entry behind)
+    was : slice_get s.processors t ≡ Some (with_oldest entry without)
     stepped_at : slice_get stepped.processors t ≡ Some (with_oldest entry new)
-    drained_at : slice_get drained.processors t ≡ Some behind
+    drained_at : slice_get drained.processors t ≡ Some without
     end : State
     drains : MachineTransition flat_memory program (Drain t) stepped (Ok tt) end
     steps : MachineTransition flat_memory program (Step t) drained (Ok tt) end
@@ -470,15 +472,15 @@ module _ (program : List (List Instr)) (forward : IsForward program) where
       → StepDrainDiamond t s stepped drained
   StepDrainDiamond-of_thread t s stepped drained range step drain = record {
     entry = b.entry;
-    behind = b.behind;
+    without = b.without;
     new = i.new;
     was = was;
     stepped_at =
         ap (λ (z : State). slice_get z.processors t) stepped_is
-        ∙ get-set_same s.processors t held (with_oldest b.entry b.behind) was;
+        ∙ get-set_same s.processors t held (with_oldest b.entry b.without) was;
     drained_at =
         ap (λ (z : State). slice_get z.processors t) drained_is
-        ∙ get-set_same s.processors t b.behind (with_oldest b.entry b.behind) was;
+        ∙ get-set_same s.processors t b.without (with_oldest b.entry b.without) was;
     end = state (slice_set s.processors t i.new) written;
     drains =
         subst (λ z. MachineTransition flat_memory program (Drain t) z (Ok tt) (state (slice_set s.processors t i.new) written))
@@ -487,16 +489,16 @@ module _ (program : List (List Instr)) (forward : IsForward program) where
         MachineTransition flat_memory program (Drain t) (state (slice_set s.processors t held) s.memory) (Ok tt)
         (state ps written)) (set-set s.processors t held i.new)
         (MachineTransition-of_effect program (Drain t) (slice_set s.processors t held) held i.new s.memory written
-        (get-set_same s.processors t held (with_oldest b.entry b.behind) was) (refl, refl)));
+        (get-set_same s.processors t held (with_oldest b.entry b.without) was) (refl, refl)));
     steps =
         subst (λ z. MachineTransition flat_memory program (Step t) z (Ok tt) (state (slice_set s.processors t i.new) written))
         (sym drained_is)
         (subst (λ ps.
-        MachineTransition flat_memory program (Step t) (state (slice_set s.processors t b.behind) written) (Ok tt)
-        (state ps written)) (set-set s.processors t b.behind i.new)
-        (MachineTransition-of_effect program (Step t) (slice_set s.processors t b.behind) b.behind i.new written written
-        (get-set_same s.processors t b.behind (with_oldest b.entry b.behind) was)
-        (subst (λ o. EffectLeadsTo written (step_effect o b.behind) i.new written) (sym instr.instr_is) i.does)));
+        MachineTransition flat_memory program (Step t) (state (slice_set s.processors t b.without) written) (Ok tt)
+        (state ps written)) (set-set s.processors t b.without i.new)
+        (MachineTransition-of_effect program (Step t) (slice_set s.processors t b.without) b.without i.new written written
+        (get-set_same s.processors t b.without (with_oldest b.entry b.without) was)
+        (subst (λ o. EffectLeadsTo written (step_effect o b.without) i.new written) (sym instr.instr_is) i.does)));
   }
     where
       x : EventOccurrence program (Step t) s stepped
@@ -513,21 +515,21 @@ module _ (program : List (List Instr)) (forward : IsForward program) where
           DrainEffect-of_drain x.from y.to s.memory y.words
           (subst (λ (r : Processor). EffectLeadsTo s.memory (drain_effect r.buffer r) y.to y.words) same y.does)
 
-      was : slice_get s.processors t ≡ Some (with_oldest b.entry b.behind)
+      was : slice_get s.processors t ≡ Some (with_oldest b.entry b.without)
       was = x.was ∙ ap Some b.processor_is
 
-      instr : HasInstr (slice_get (thread_code program t) b.behind.position) (with_oldest b.entry b.behind) x.to s.memory x.words
+      instr : HasInstr (slice_get (thread_code program t) b.without.position) (with_oldest b.entry b.without) x.to s.memory x.words
       instr =
-          HasInstr-of_step (slice_get (thread_code program t) b.behind.position) (with_oldest b.entry b.behind) x.to s.memory
+          HasInstr-of_step (slice_get (thread_code program t) b.without.position) (with_oldest b.entry b.without) x.to s.memory
           x.words
           (subst
           (λ (r : Processor). EffectLeadsTo s.memory (step_effect (slice_get (thread_code program t) r.position) r) x.to x.words)
           b.processor_is x.does)
 
-      i : PassesDrain b.entry (x86_operation instr.instr) b.behind x.to s.memory x.words
+      i : PassesDrain b.entry (x86_operation instr.instr) b.without x.to s.memory x.words
       i =
-          PassesDrain-operation b.entry (x86_operation instr.instr) b.behind x.to s.memory x.words (λ l access e.
-          range (with_oldest b.entry b.behind) l was (ap step_access instr.instr_is ∙ access) (ap (λ z. Some (z, true)) e))
+          PassesDrain-operation b.entry (x86_operation instr.instr) b.without x.to s.memory x.words (λ l access e.
+          range (with_oldest b.entry b.without) l was (ap step_access instr.instr_is ∙ access) (ap (λ z. Some (z, true)) e))
           instr.does
 
       held : Processor
@@ -539,7 +541,7 @@ module _ (program : List (List Instr)) (forward : IsForward program) where
       stepped_is : stepped ≡ state (slice_set s.processors t held) s.memory
       stepped_is = x.state_is ∙ ap₂ (λ q m. state (slice_set s.processors t q) m) i.processor_is i.kept
 
-      drained_is : drained ≡ state (slice_set s.processors t b.behind) written
+      drained_is : drained ≡ state (slice_set s.processors t b.without) written
       drained_is = y.state_is ∙ ap₂ (λ q m. state (slice_set s.processors t q) m) b.left b.words
 
   -- The step is invisible, and the drain comes first.
@@ -554,12 +556,12 @@ module _ (program : List (List Instr)) (forward : IsForward program) where
       done in
       record {
         end = d.end;
-        again = d.steps;
-        behind = d.drains;
-        still = λ p access at is.
-            let same : d.behind ≡ p = same_Some d.behind p (sym d.drained_at ∙ at) in
+        e_enabled = d.steps;
+        f_enabled = d.drains;
+        invisible_in_mid = λ p access at is.
+            let same : d.without ≡ p = same_Some d.without p (sym d.drained_at ∙ at) in
             IsUncontended-after (Drain t) s mid t access (EventOccurrence-of_event program (Drain t) s mid done)
-            (invisible (with_oldest d.entry d.behind) access d.was
+            (invisible (with_oldest d.entry d.without) access d.was
             (ap (λ (r : Processor). step_access (slice_get (thread_code program t) r.position)) same ∙ is));
       }
 
@@ -574,12 +576,12 @@ module _ (program : List (List Instr)) (forward : IsForward program) where
       StepDrainDiamond-of_thread t s mid first (λ p x at access entry. (invisible p (x, true) at entry).in_range) done enabled in
       record {
         end = d.end;
-        again = d.drains;
-        behind = d.steps;
-        still = λ p access at is.
+        e_enabled = d.drains;
+        f_enabled = d.steps;
+        invisible_in_mid = λ p access at is.
             let same : with_oldest d.entry d.new ≡ p = same_Some (with_oldest d.entry d.new) p (sym d.stepped_at ∙ at) in
             IsUncontended-after (Step t) s mid t access (EventOccurrence-of_event program (Step t) s mid done)
-            (invisible (with_oldest d.entry d.behind) access d.was (ap (λ (r : Processor). drain_access r.buffer) same ∙ is));
+            (invisible (with_oldest d.entry d.without) access d.was (ap (λ (r : Processor). drain_access r.buffer) same ∙ is));
       }
 
   -- ---- runs
@@ -613,8 +615,8 @@ module _ (program : List (List Instr)) (forward : IsForward program) where
         → AreExchangedInvisibly e f first mid
         → ShorterRun (f ∷ es) first end
     ShorterRun-exchanged e f rest both =
-        let r = rest both.end both.again both.still in
-        record { more = f ∷ r.more; no_longer = omega (arith, r.no_longer); ran = (both.end, both.behind, r.ran) }
+        let r = rest both.end both.e_enabled both.invisible_in_mid in
+        record { more = f ∷ r.more; no_longer = omega (arith, r.no_longer); ran = (both.end, both.f_enabled, r.ran) }
 
     -- The run's first event, if the claim holds for the rest of the run.
     ShorterRun-of_event : (e f : Event)
@@ -690,7 +692,7 @@ module _ (program : List (List Instr)) (forward : IsForward program) where
           absurd (omega (arith, past, within))
       go (Drain t) a past empty =
           let b = DrainEffect-of_drain a.from a.to s.memory a.words a.does in
-          let size : length a.from.buffer ≡ length (b.entry ∷ b.behind.buffer) =
+          let size : length a.from.buffer ≡ length (b.entry ∷ b.without.buffer) =
           ap (λ (r : Processor). length r.buffer) b.processor_is in
           let none : length a.from.buffer ≡ 0 = eqb-true (length a.from.buffer) 0 empty in
           absurd (omega (arith, size, none))

@@ -10,7 +10,7 @@ ghost use Rattle.lw_search.specs.inner.StateKeys.{State};
 
 use crate::invisible::{access_of, drain_access_of};
 use crate::search::instr_at;
-use crate::thread_state::{ThreadState, waits_for_drains};
+use crate::thread_state::{ThreadState, needs_empty_buffer};
 use lw_base::{Cpu, Word};
 use lw_litmus::{Instr, Program, Statement};
 use std::alloc::Allocator;
@@ -138,15 +138,15 @@ impl Conflicts {
         }
     }
 
-    /// Returns whether the set lacks the access of a location that writes it, or reads it. Returns `false` of a location that the set has
-    /// no bits for.
+    /// Returns whether the set lacks the access of a location that writes it (`written`), or reads it. The contract promises nothing of
+    /// `false`, which is returned of a location that the set has no bits for.
     pub(crate) fn lacks(self, loc: u8, written: bool) -> bool
         ensures { result ≡ true → (loc < most_locations) × Lacks self loc written }
     {
         loc < LOCATIONS && self.bits & 1 << bit_of(loc, written) == 0
     }
 
-    /// Returns whether both are the same set.
+    /// Returns whether both are the same set. The contract promises nothing of `false`.
     pub(crate) fn is_same(self, other: Conflicts) -> bool
         ensures { result ≡ true → self ≡ other }
     {
@@ -223,7 +223,7 @@ fn step_access<A: Allocator>(thread: &ThreadState<A>, code: &[Instr]) -> EventAc
     let Some(instr) = instr_at(code, thread.position) else {
         return EventAccess::NOT_ENABLED;
     };
-    if waits_for_drains(instr.operation()) && !thread.buffer.is_empty() {
+    if needs_empty_buffer(instr.operation()) && !thread.buffer.is_empty() {
         return EventAccess::NOT_ENABLED;
     }
     EventAccess::new(access_of(instr.operation()))

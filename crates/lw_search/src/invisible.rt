@@ -31,7 +31,8 @@ pub(crate) fn access_of(operation: Operation) -> Option<(u8, bool)>
     }
 }
 
-/// Returns whether an access, if there is one, is of a location of memory, and is none of these conflicts.
+/// Returns whether an access, if there is one, is of a location of memory, and is none of these conflicts. The contract promises nothing of
+/// `false`, with which an event is only not taken early.
 fn is_invisible<A: Allocator>(
     conflicts: Conflicts,
     words: &Sequence<Word, A>,

@@ -455,7 +455,7 @@ impl<'a, A: Allocator + Copy> Search<'a, A> {
             OnOk result (ExpandsState program self.old.tables self.old.states self.new.tables self.new.states at key.now
             (λ s. HasConflictsOfOthers program s cpu conflicts) (λ s more. IsCovered program more s (of.Step cpu))) }
     {
-        if self.tables.refuse_step(key, cpu, code) {
+        if self.tables.refuses_step(key, cpu, code) {
             return Ok(());
         }
         self.add_successor(at, key, cpu, RunEvent::step(cpu), code, outlooks, conflicts)
@@ -479,7 +479,7 @@ impl<'a, A: Allocator + Copy> Search<'a, A> {
             OnOk result (ExpandsState program self.old.tables self.old.states self.new.tables self.new.states at key.now
             (λ s. HasConflictsOfOthers program s cpu conflicts) (λ s more. IsCovered program more s (of.Drain cpu))) }
     {
-        if self.tables.have_empty_buffer(key, cpu) {
+        if self.tables.has_empty_buffer(key, cpu) {
             return Ok(());
         }
         self.add_successor(

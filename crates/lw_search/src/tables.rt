@@ -80,7 +80,7 @@ impl<'a, A: Allocator + Copy> Tables<'a, A> {
         }
     }
 
-    /// Returns whether a number is that of a memory.
+    /// Returns whether the memory with a number has these words. The contract promises nothing of `false`: then the words are looked up.
     fn has_memory(&self, number: u32, words: &Sequence<Word, A>) -> bool
         ensures { result ≡ true → slice_get self.now.memories number ≡ Some words.now }
     {
@@ -121,8 +121,8 @@ impl<'a, A: Allocator> Tables<'a, A> {
         self.threads.get_index(number as usize)
     }
 
-    /// Returns whether the next step of a thread of a state is rejected.
-    pub(crate) fn refuse_step(&self, key: &StateKey, cpu: Cpu, code: &[Instr]) -> bool
+    /// Returns whether the next step of a thread of a state is rejected. The contract promises nothing of `false`: then the step is tried.
+    pub(crate) fn refuses_step(&self, key: &StateKey, cpu: Cpu, code: &[Instr]) -> bool
         ensures { result ≡ true → HasRow self.now.threads key.now cpu (RefusesStep code.now) }
     {
         match self.thread(key[cpu.index() + 1]) {
@@ -131,8 +131,8 @@ impl<'a, A: Allocator> Tables<'a, A> {
         }
     }
 
-    /// Returns whether the store buffer of a thread of a state is empty.
-    pub(crate) fn have_empty_buffer(&self, key: &StateKey, cpu: Cpu) -> bool
+    /// Returns whether the store buffer of a thread of a state is empty. The contract promises nothing of `false`: then the drain is tried.
+    pub(crate) fn has_empty_buffer(&self, key: &StateKey, cpu: Cpu) -> bool
         ensures { result ≡ true → HasRow self.now.threads key.now cpu (λ p. (length p.buffer == 0) ≡ true) }
     {
         match self.thread(key[cpu.index() + 1]) {

@@ -67,8 +67,9 @@ fn byte_of(loc: Loc) -> u8
     loc.index() as u8
 }
 
-/// Returns whether an operation waits until the store buffer is empty: a fence, or a locked instruction.
-pub(crate) fn waits_for_drains(operation: Operation) -> bool
+/// Returns whether an operation is enabled only if the store buffer is empty, as a fence or a locked instruction is. The contract promises
+/// nothing of `false`, with which the search would only be slower.
+pub(crate) fn needs_empty_buffer(operation: Operation) -> bool
     ensures { result ≡ true → (p : Processor) → (length p.buffer == 0) ≡ false
         → (stop : Stop) × (operation_effect operation p ≡ Refused stop) }
 {
@@ -122,7 +123,8 @@ impl<A: Allocator> ThreadState<A> {
         self.position
     }
 
-    /// Returns whether the next step is rejected: the thread is at the end of its code, or its operation waits.
+    /// Returns whether the next step is rejected: the thread is at the end of its code, or its operation needs an empty buffer and has none.
+    /// The contract promises nothing of `false`.
     pub(crate) fn refuses_step(&self, code: &[Instr]) -> bool
         ensures { result ≡ true → RefusesStep code.now self.now }
     {
@@ -132,7 +134,7 @@ impl<A: Allocator> ThreadState<A> {
         if self.buffer.is_empty() {
             return false;
         }
-        waits_for_drains(instr.operation())
+        needs_empty_buffer(instr.operation())
     }
 
     /// Returns whether the store buffer is empty.

@@ -361,8 +361,8 @@ module _ (program : List (List Instr)) where
             full : Processor
             full = having_written locked w []
 
-            behind : Processor
-            behind = record (locked.next w) { buffer = [] }
+            drained : Processor
+            drained = record (locked.next w) { buffer = [] }
 
             n : MachineState (List ℕ)
             n = state (slice_set m.processors cpu (locked.next w)) words
@@ -375,12 +375,12 @@ module _ (program : List (List Instr)) where
                 locked pending.next)
 
             expected : MachineTransition flat_memory program (Drain cpu) (writing [] w) (Ok tt)
-                (state (slice_set (slice_set m.processors cpu full) cpu behind) words)
+                (state (slice_set (slice_set m.processors cpu full) cpu drained) words)
             expected =
-                MachineTransition-of_effect program (Drain cpu) (slice_set m.processors cpu full) full behind m.memory words
+                MachineTransition-of_effect program (Drain cpu) (slice_set m.processors cpu full) full drained m.memory words
                 (get-set_same m.processors cpu full (with_empty_buffer from) was) (refl, refl)
 
-            same_processor : behind ≡ locked.next w
+            same_processor : drained ≡ locked.next w
             same_processor =
                 ap (λ b. record (locked.next w) { buffer = b })
                 (sym (buffer_empty-after_locked_step (slice_get (thread_code program cpu) from.position) from locked w
@@ -391,7 +391,7 @@ module _ (program : List (List Instr)) where
                 (MachineTransition-deterministic program (Drain cpu) (writing [] w) after.machine _ (Ok tt) (Ok tt) done
                 expected).1
                 ∙ ap (λ ps. state ps words)
-                (set-set m.processors cpu full behind ∙ ap (slice_set m.processors cpu) same_processor)
+                (set-set m.processors cpu full drained ∙ ap (slice_set m.processors cpu) same_processor)
 
             still : IsStillRead after.lock n
             still = subst (λ k. IsStillRead k n) (sym lock) tt

@@ -60,8 +60,8 @@ module _ (program : List (List Instr)) where
     written = having_written l word []
 
     -- Its processor after the drain of its write.
-    abbrev behind : Processor
-    behind = record (l.next word) { buffer = [] }
+    abbrev drained : Processor
+    drained = record (l.next word) { buffer = [] }
 
     -- A state with phases, of a state of the machine and a lock.
     abbrev with_lock : MachineState (List ℕ) → Lock → PhasedState
@@ -73,7 +73,7 @@ module _ (program : List (List Instr)) where
 
     -- The machine after the write is drained.
     abbrev ending : MachineState (List ℕ)
-    ending = state (slice_set (slice_set s.processors t written) t behind) words
+    ending = state (slice_set (slice_set s.processors t written) t drained) words
 
     -- After the write, processor t is the one with the write in its buffer.
     written_processor_found : slice_get (slice_set s.processors t written) t ≡ Some written
@@ -82,17 +82,17 @@ module _ (program : List (List Instr)) where
     -- The drain of the write leads from the state `writing` to `ending`.
     write_drains : MachineTransition flat_memory program (Drain t) writing (Ok tt) ending
     write_drains =
-        MachineTransition-of_effect program (Drain t) (slice_set s.processors t written) written behind s.memory words
+        MachineTransition-of_effect program (Drain t) (slice_set s.processors t written) written drained s.memory words
         written_processor_found (refl, refl)
 
     -- After the drain the buffer is empty, so the lock can be released.
     buffer_empty_at_end : buffer_of ending t ≡ []
     buffer_empty_at_end =
-        buffer_of-in_range ending t behind
-        (get-set_same (slice_set s.processors t written) t behind written written_processor_found)
+        buffer_of-in_range ending t drained
+        (get-set_same (slice_set s.processors t written) t drained written written_processor_found)
 
     -- The processor after the drain is the one that executed the instruction at once, since both buffers are empty.
-    same_processor : behind ≡ l.next word
+    same_processor : drained ≡ l.next word
     same_processor =
         ap (λ b. record (l.next word) { buffer = b })
         (sym (buffer_empty-after_locked_step (slice_get (thread_code program t) p.position) p l word at.locked))
@@ -100,7 +100,7 @@ module _ (program : List (List Instr)) where
     -- The phases end in the state that the instruction reaches at once.
     ends_equal : done_at_once ≡ ending
     ends_equal =
-        ap (λ ps. state ps words) (sym (set-set s.processors t written behind ∙ ap (slice_set s.processors t) same_processor))
+        ap (λ ps. state ps words) (sym (set-set s.processors t written drained ∙ ap (slice_set s.processors t) same_processor))
 
     -- What a locked instruction does at once, it also does in phases: lock, read, write, drain, unlock.
     InPhases-locked : InPhases s done_at_once

@@ -14,7 +14,8 @@ use Rattle.lw_litmus.specs.Tests.{X86Test}
 abbrev pub initial_caches : X86Test → Caches
 initial_caches test = empty_caches test.head.threads test.head.init_words
 
--- A test fits the caches: it has at most as many threads as they have processors, which are four.
+-- A test fits the caches: it has at most four threads, since a cache line has four copies (`unheld_cache_line`). The caches have a processor
+-- for each thread.
 abbrev pub FitsCaches : X86Test → Type 0
 FitsCaches test = test.head.threads ≤ most_threads
 

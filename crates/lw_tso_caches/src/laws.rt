@@ -15,8 +15,7 @@ ghost use Rattle.lw_tso_caches.specs.OverCaches.{FitsCaches, ReplaysToOverCaches
 
 use lw_mesi::empty_caches_are_coherent;
 
-/// States that an x86 test has the same outcomes over caches of each protocol that it fits, empty at the start, as over
-/// flat memory.
+/// States that an x86 test that fits the caches has the same outcomes over those of each protocol, empty at the start, as over flat memory.
 pub fn outcomes_over_caches_are_flat()
     ensures { (protocol : Protocol) (test : X86Test) (o : FinalState) → IsWellScopedProgram test → FitsCaches test
         → OutcomeOverCaches protocol test o ↔ IsMachineOutcome flat_memory test test.head.init_words o }
@@ -24,8 +23,8 @@ pub fn outcomes_over_caches_are_flat()
     empty_caches_are_coherent();
 }
 
-/// States that a list of steps and drains replays to an outcome over caches of each protocol that the test fits, empty
-/// at the start, if and only if it does over flat memory. The events of a replay over caches, evictions included, name
+/// States that a list of steps and drains replays to an outcome of a test that fits the caches over those of each protocol,
+/// empty at the start, if and only if it does over flat memory. The events of a replay over caches, evictions included, name
 /// only the test's processors and locations, and its outcome has as many threads and locations.
 pub fn replays_over_caches_are_flat()
     ensures flat { (protocol : Protocol) (test : X86Test) (events : List Event) (o : FinalState) → IsWellScopedProgram test

@@ -149,20 +149,20 @@ filter_has_seen-sublist (u ∷ us) (l ∷ ls) au al all =
         → filter (has_seen (l ∷ ls)) (u ∷ us) ≡ l ∷ ls
     go (inl e) first whole =
         let same : l ≡ u = seen_eq-sound l u e in
-        let behind = subst (λ (x : Seen). AllByRecursion (IsSeenLess x) ls) same al.0 in
+        let later = subst (λ (x : Seen). AllByRecursion (IsSeenLess x) ls) same al.0 in
         let ahead = subst (λ (x : Seen). AllByRecursion (IsSeenLess x) us) (sym same) au.0 in
         let rest : filter (has_seen (l ∷ ls)) us ≡ ls =
         filter-same_on_list (has_seen (l ∷ ls)) (has_seen ls) us (has_seen-greater_than_head l ls us ahead)
-        ∙ first (has_seen-tail us u ls (seen_eq-false_all u ls behind) all.1) in
+        ∙ first (has_seen-tail us u ls (seen_eq-false_all u ls later) all.1) in
         rw e (ap (λ (x : Seen). x ∷ filter (has_seen (l ∷ ls)) us) (sym same) ∙ ap (λ xs. l ∷ xs) rest)
     go (inr e) first whole =
         let apart : seen_eq u l ≡ false =
         seen_eq-false u l
         (λ f. let g : seen_eq l u ≡ true = subst (λ (x : Seen). seen_eq l x ≡ true) (sym f) (seen_eq-refl l) in cc) in
         let before : IsSeenLess u l = IsSeenLess-member u l us au.0 (rw apart at all.0) in
-        let behind : AllByRecursion (IsSeenLess u) (l ∷ ls) = IsSeenLess-all l u ls before al.0 in
-        let none : has_seen (l ∷ ls) u ≡ false = has_seen-false us u (l ∷ ls) (seen_eq-false_from_all u (l ∷ ls) behind) in
-        rw none (whole (has_seen-tail us u (l ∷ ls) (seen_eq-false_all u (l ∷ ls) behind) all))
+        let later : AllByRecursion (IsSeenLess u) (l ∷ ls) = IsSeenLess-all l u ls before al.0 in
+        let none : has_seen (l ∷ ls) u ≡ false = has_seen-false us u (l ∷ ls) (seen_eq-false_from_all u (l ∷ ls) later) in
+        rw none (whole (has_seen-tail us u (l ∷ ls) (seen_eq-false_all u (l ∷ ls) later) all))
 
 -- ---- All registers and locations.
 

@@ -41,13 +41,14 @@ shared_content m (Shared w ∷ copies) = shared_content m copies
 shared_content m (Invalid ∷ copies) = shared_content m copies
 shared_content m _ = refl
 
--- A GetS preserves the coherent word, by each protocol.
-content_kept : (p : Protocol) (line : CacheLine) → HasProtocolStates p line
+-- Another cache's GetS, done to every copy and to memory, preserves the coherent word, by each protocol. The requestor's new copy is put after
+-- it (`get_s_loaded`).
+coherent_word-after_get_s : (p : Protocol) (line : CacheLine) → HasProtocolStates p line
     → dirty_word_or ((table_of p).memory_after_get_s line) (map (table_of p).on_other_get_s line.copies) ≡ coherent_word line
-content_kept Mesi line states =
+coherent_word-after_get_s Mesi line states =
     dirty_word_or-if_clean (coherent_word line) (map mesi_on_other_get_s line.copies)
     (λ u d. shared_clean (copy_of line u) (states u) (subst IsDirty (copy_in-map mesi_on_other_get_s line.copies u refl) d))
-content_kept Moesi line states = shared_content line.memory line.copies
+coherent_word-after_get_s Moesi line states = shared_content line.memory line.copies
 
 module _ (p : Protocol) (t : ℕ) (line : CacheLine) (lt : t < most_threads) (sound : IsCoherentCacheLine line) (states : HasProtocolStates p line) where
   -- Whatever the copy of t was, a write finds that only t has a copy, with the coherent word.
@@ -72,7 +73,7 @@ module _ (p : Protocol) (t : ℕ) (line : CacheLine) (lt : t < most_threads) (so
   loaded (Exclusive w) e = Loaded-if_hit t line lt sound (Exclusive w) w e refl
   loaded (Shared w) e = Loaded-if_hit t line lt sound (Shared w) w e refl
   loaded Invalid e =
-      get_s_loaded t line lt sound (table_of p).on_other_get_s ((table_of p).memory_after_get_s line) shares (content_kept p line states)
+      get_s_loaded t line lt sound (table_of p).on_other_get_s ((table_of p).memory_after_get_s line) shares (coherent_word-after_get_s p line states)
       e (is_held_anywhere line.copies) (λ none. none)
 
   -- The eviction of a copy that is held preserves the coherent word and the coherence of the line.

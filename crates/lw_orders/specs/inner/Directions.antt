@@ -13,7 +13,7 @@ pub record IsTaken (len : ℕ) (p : ℕ × ℕ) (level : ℕ) (old new : SearchS
       → reach new.saved (level + 1) i j ≡ (reach old.saved level i j || (reach old.saved level i p.0 && reach old.saved level p.1 j))
   pub long : length new.reversals ≡ length old.reversals
   pub before : take (level + 1) new.reversals ≡ take (level + 1) old.reversals
-  pub behind : slice_index_or new.reversals (level + 1) false ≡ false
+  pub next_unreversed : slice_index_or new.reversals (level + 1) false ≡ false
 
 -- The effect of trying the orientation p on the search, from old to new, and the level at which it continues. If p closes a cycle (true),
 -- the last pair up to here that can be is reversed; otherwise p is chosen.

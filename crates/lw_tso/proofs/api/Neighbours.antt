@@ -147,24 +147,24 @@ module _ (program : List (List Instr)) where
     -- Two events of one processor, which has this entry as its oldest.
     module _ (t : ℕ) (from : Processor) (pass : PassedEntry from.buffer (slice_get (thread_code program t) from.position)) where
       -- The processor without its oldest entry.
-      abbrev behind : Processor
-      behind = record from { buffer = pass.newer }
+      abbrev without_entry : Processor
+      without_entry = record from { buffer = pass.newer }
 
-      -- The processor is `behind` with the oldest entry in its buffer.
-      from_is : from ≡ with_oldest pass.entry behind
+      -- The processor is `without_entry` with the oldest entry in its buffer.
+      from_is : from ≡ with_oldest pass.entry without_entry
       from_is = ap (λ b. record from { buffer = b }) pass.buffer_is
 
       -- The effect of the step after the drain.
       abbrev stepping : EventEffect
-      stepping = step_effect (Some pass.instr) behind
+      stepping = step_effect (Some pass.instr) without_entry
 
       -- The effect of the drain of the oldest entry.
       abbrev draining : EventEffect
-      draining = MemoryAccess pass.entry.0 (to.Store pass.entry.1) (λ none. behind)
+      draining = MemoryAccess pass.entry.0 (to.Store pass.entry.1) (λ none. without_entry)
 
       -- The step before the drain keeps the oldest entry, has otherwise the effect of the step after it, and does not access the entry's location.
-      leaves : LeavesAlone pass.entry stepping (step_effect (Some pass.instr) (with_oldest pass.entry behind))
-      leaves = LeavesAlone-operation pass.entry (x86_operation pass.instr) behind pass.may
+      leaves : LeavesAlone pass.entry stepping (step_effect (Some pass.instr) (with_oldest pass.entry without_entry))
+      leaves = LeavesAlone-operation pass.entry (x86_operation pass.instr) without_entry pass.may
 
       -- The effect of the step before the drain is `stepping`, with the oldest entry kept in the buffer.
       first_act : step_effect (slice_get (thread_code program t) from.position) from ≡ effect_keeping_oldest pass.entry stepping
@@ -202,40 +202,40 @@ module _ (program : List (List Instr)) where
           words : y.words ≡ slice_set x.words pass.entry.0 pass.entry.1
           words = drain.1 ∙ ap (λ (z : MachineState (List ℕ)). slice_set z.memory pass.entry.0 pass.entry.1) x.state_is
 
-          way : DoneInTurn draining stepping behind step.0 s.memory y.words
+          way : DoneInTurn draining stepping without_entry step.0 s.memory y.words
           way =
-              DoneInTurn-swap stepping draining step.0 behind s.memory y.words (λ z e f. absurd (leaves.free (e ∙ sym f)))
+              DoneInTurn-swap stepping draining step.0 without_entry s.memory y.words (λ z e f. absurd (leaves.free (e ∙ sym f)))
               (record { between = x.words; first = step.2; second = (refl, words) })
 
           other : MachineState (List ℕ)
-          other = state (slice_set s.processors t behind) way.between
+          other = state (slice_set s.processors t without_entry) way.between
 
           first : EventOccurrence program (Drain t) s other
           first = record {
             from = from;
-            to = behind;
+            to = without_entry;
             words = way.between;
             was = was;
             does =
-                subst (λ (p : Processor). EffectLeadsTo s.memory (drain_effect p.buffer p) behind way.between) (sym from_is)
+                subst (λ (p : Processor). EffectLeadsTo s.memory (drain_effect p.buffer p) without_entry way.between) (sym from_is)
                 way.first;
             state_is = refl;
           }
 
           second : EventOccurrence program (Step t) other end
           second = record {
-            from = behind;
+            from = without_entry;
             to = step.0;
             words = y.words;
-            was = get-set_same s.processors t behind from was;
-            does = subst (λ o. EffectLeadsTo way.between (step_effect o behind) step.0 y.words) (sym pass.at) way.second;
+            was = get-set_same s.processors t without_entry from was;
+            does = subst (λ o. EffectLeadsTo way.between (step_effect o without_entry) step.0 y.words) (sym pass.at) way.second;
             state_is =
                 y.state_is
                 ∙ ap (λ (z : MachineState (List ℕ)). state (slice_set z.processors t y.to) y.words) x.state_is
                 ∙ ap (λ ps. state ps y.words)
                 (set-set s.processors t x.to y.to
                 ∙ ap (slice_set s.processors t) drain.0
-                ∙ sym (set-set s.processors t behind step.0));
+                ∙ sym (set-set s.processors t without_entry step.0));
           }
 
       -- The drain followed by a step.
@@ -252,10 +252,10 @@ module _ (program : List (List Instr)) where
           was : slice_get s.processors t ≡ Some from
           was = x.was ∙ ap Some is
 
-          drain : (x.to ≡ behind) × (x.words ≡ slice_set s.memory pass.entry.0 pass.entry.1)
+          drain : (x.to ≡ without_entry) × (x.words ≡ slice_set s.memory pass.entry.0 pass.entry.1)
           drain = rw (is ∙ from_is) at x.does
 
-          now : y.from ≡ behind
+          now : y.from ≡ without_entry
           now =
               same_Some y.from _
               (sym y.was
@@ -265,16 +265,16 @@ module _ (program : List (List Instr)) where
 
           step : EffectLeadsTo x.words stepping y.to y.words
           step =
-              subst (λ o. EffectLeadsTo x.words (step_effect o behind) y.to y.words) pass.at
+              subst (λ o. EffectLeadsTo x.words (step_effect o without_entry) y.to y.words) pass.at
               (subst (λ (z : MachineState (List ℕ)).
-              EffectLeadsTo z.memory (step_effect (slice_get (thread_code program t) behind.position) behind) y.to y.words)
+              EffectLeadsTo z.memory (step_effect (slice_get (thread_code program t) without_entry.position) without_entry) y.to y.words)
               x.state_is
               (subst (λ (p : Processor).
               EffectLeadsTo mid.memory (step_effect (slice_get (thread_code program t) p.position) p) y.to y.words) now y.does))
 
-          way : DoneInTurn stepping draining y.to behind s.memory y.words
+          way : DoneInTurn stepping draining y.to without_entry s.memory y.words
           way =
-              DoneInTurn-swap draining stepping behind y.to s.memory y.words (λ z e f. absurd (leaves.free (f ∙ sym e)))
+              DoneInTurn-swap draining stepping without_entry y.to s.memory y.words (λ z e f. absurd (leaves.free (f ∙ sym e)))
               (record { between = x.words; first = (refl, drain.1); second = step })
 
           new : Processor

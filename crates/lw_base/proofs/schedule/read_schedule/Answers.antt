@@ -6,7 +6,7 @@ use Rattle.lw_base.proofs.Common.{◌≤◌, ◌++◌, ◌∙◌, ap, sym, map, 
 use Rattle.lw_base.proofs.Common.{event_texts, event_text, Memory}
 use Rattle.lw_base.proofs.Shapes.{not-event_text-if_faulty}
 use Rattle.lw_base.proofs.api.Returns.{Err-clause_converted, Err-clause_memory}
-use Rattle.lw_base.proofs.EventTexts.{not-IsSchedule-if_no_event_text, event_texts-first, event_texts-behind}
+use Rattle.lw_base.proofs.EventTexts.{not-IsSchedule-if_no_event_text, event_texts-first, event_texts-after_blanks}
 use Rattle.lw_base.proofs.EventTexts.{text_eq-append_piece, IsEvent-push, event_texts-push, length_le-suffix}
 use Rattle.lw_base.proofs.EventTexts.{drop-back, event_texts-all_read, positive-if_not_zero}
 use Rattle.lw_base.proofs.EventTexts.{length_lt-after_piece}
@@ -17,7 +17,7 @@ loop-rest-init g c =
     let back = sym c.as_bytes.ensures.value ∙ c.prefix_of_kind.ensures.parts in
     record {
       events = rw c.new-events.ensures tt;
-      event_texts = rw c.new-events.ensures (event_texts-behind _ _ _ back c.prefix_of_kind.ensures.bytes_pass);
+      event_texts = rw c.new-events.ensures (event_texts-after_blanks _ _ _ back c.prefix_of_kind.ensures.bytes_pass);
       others = c.prefix_of_kind.ensures.longest;
       shorter = length_le-suffix _ _ _ back;
       back = (c.prefix_of_kind.result.0.now, back);
@@ -46,8 +46,8 @@ loop-rest-preserved g c =
               others = c.prefix_of_kind-in-loop-rest.ensures.bytes_pass;
               ends = c.prefix_of_kind-in-loop-rest.ensures.longest;
             });
-            behind =
-                event_texts-behind _ _ _ c.prefix_of_kind-in-loop-rest-2.ensures.parts
+            after_blanks =
+                event_texts-after_blanks _ _ _ c.prefix_of_kind-in-loop-rest-2.ensures.parts
                 c.prefix_of_kind-in-loop-rest-2.ensures.bytes_pass;
             says = c.in-Ok.ensures.ok.1;
           }) c.in_ok-push-in-Ok.ensures.ok;

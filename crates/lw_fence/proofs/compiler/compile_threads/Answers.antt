@@ -1,15 +1,15 @@
 -- Of `compile_threads`: each thread of the source is compiled. `AreCompiled-push` appends the next thread, which
--- is well-formed, as `compile_thread` requires (`IsWellFormedThread-of_turn`).
+-- is well-formed, as `compile_thread` requires (`IsWellFormedThread-of_round`).
 use Rattle.lw_fence.proofs.Common.{◌∙◌, ap, arith, get_or, length, refl, subst, sym, slice_get_read}
 use Rattle.lw_fence.proofs.Common.{source_language, IsWellFormedThread}
 use Rattle.lw_fence.proofs.CompiledThreads.{AreCompiled-none, AreCompiled-push}
 use Rattle.lw_fence.proofs.compiler.compile_threads.Given as given
 use Rattle.lw_fence.proofs.compiler.compile_threads.Goals as goal
 
--- The thread of this turn is well-formed.
-IsWellFormedThread-of_turn : (g : given.Over) (c : goal.After-as_slice g)
+-- The thread of this round is well-formed.
+IsWellFormedThread-of_round : (g : given.Over) (c : goal.After-as_slice g)
     → IsWellFormedThread source_language (length c.args.source.now.head.locs) c.as_slice.result.now
-IsWellFormedThread-of_turn g c =
+IsWellFormedThread-of_round g c =
     let stmts = c.stmts-item.result in
     let k = c.loop-stmts.stmts-index in
     let all = c.as_slice-stmts-items.ensures in
@@ -28,10 +28,10 @@ loop-stmts-preserved g c =
     c.in_ok-push-2.ensures.ok
 
 pub compile_thread-requires-clause-short : goal.compile_thread-requires-clause-short
-compile_thread-requires-clause-short g c = (IsWellFormedThread-of_turn g c).short
+compile_thread-requires-clause-short g c = (IsWellFormedThread-of_round g c).short
 
 pub compile_thread-requires-clause-forward : goal.compile_thread-requires-clause-forward
-compile_thread-requires-clause-forward g c = (IsWellFormedThread-of_turn g c).forward
+compile_thread-requires-clause-forward g c = (IsWellFormedThread-of_round g c).forward
 
 pub bounds-stmts-items-stmts-index : goal.bounds-stmts-items-stmts-index
 bounds-stmts-items-stmts-index g c = c.loop-stmts-test.true

@@ -27,5 +27,5 @@ returns-clause-needed g c =
     let code = c.args.code.now in
     let passed : c.loop-index.index ≡ length code = omega (arith, c.loop-index-test.false, c.loop-index.auto.index-end) in
     let marks = c.in_ok-marks.marks.items in
-    NeedsFence-found code marks c.in_ok-marks.ensures.behind c.loop-index.fences.items
+    NeedsFence-found code marks c.in_ok-marks.ensures.reachable c.loop-index.fences.items
     (subst (λ (k : ℕ). AreFencesOfFirst code marks k c.loop-index.fences.items) passed c.loop-index.invariant)

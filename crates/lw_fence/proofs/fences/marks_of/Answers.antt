@@ -18,8 +18,8 @@ loop-index-preserved g c =
     let back = take-replaced_front marks _ _ _ (omega arith) (new.as_many ∙ sym c.loop-index.invariant.as_many) in
     subst (AreMarksAfter code (c.loop-index.index + 1)) (sym back) new
 
-pub returns-clause-behind : goal.returns-clause-behind
-returns-clause-behind g c =
+pub returns-clause-reachable : goal.returns-clause-reachable
+returns-clause-reachable g c =
     let code = c.args.code.now in
     let marks = c.loop-index.marks.items in
     AreMarksAfter-end code c.requires.forward marks

@@ -8,4 +8,4 @@ pub returns : goal.returns
 returns c =
     ArePredecessors-append most_items (replicate most_items c.empty-sets.result) _ [] _
     (ArePredecessors-empty (replicate most_items c.empty-sets.result)
-    (λ i l. get_or-replicate most_items i c.empty-sets.result 0 l ∙ c.empty-sets.ensures)) c.add_pairs.ensures
+    (λ i l. get_or-replicate most_items i c.empty-sets.result 0 l ∙ c.empty-sets.ensures)) c.add_predecessors.ensures

@@ -20,7 +20,7 @@ returns g c =
     let full : (length c.args.self.now.buffer == 0) ≡ false =
     ap (λ (p : Processor). length p.buffer == 0) (sym c.self.view_is) ∙ sym c.is_empty.ensures ∙ c.if-is_empty.false in
     λ yes.
-    let refused = c.waits_for_drains.ensures yes c.args.self.now full in (
+    let refused = c.needs_empty_buffer.ensures yes c.args.self.now full in (
       refused.0,
       ap (λ i. step_effect i c.args.self.now) next
           ∙ ap (λ o. operation_effect o c.args.self.now) (sym c.operation.ensures)

@@ -1,6 +1,6 @@
 -- At each round the sets have what they had at first, and the second item of each of the first pairs.
 use Rattle.lw_orders.proofs.Common.{most_items, ℕ, ◌≡◌, ◌<◌, ◌||◌, slice_index, take, has, has_edge}
-use Rattle.lw_orders.proofs.adjacency.add_reversed.Given as goal
+use Rattle.lw_orders.proofs.adjacency.add_successors.Given as goal
 
 abbrev pub invariant-loop-pair : goal.invariant-loop-pair
 invariant-loop-pair l =

@@ -1,12 +1,12 @@
--- Of `try_direction`, which tries the current orientation of a level's pair. If it closes a cycle, the last
+-- Of `try_orientation`, which tries the current orientation of a level's pair. If it closes a cycle, the last
 -- pair that can be is reversed. Otherwise it is chosen: the pair is recorded, reachability with it is saved,
 -- and the next pair is not reversed (`reversal_reset-at_index`).
 use Rattle.lw_orders.proofs.Common.{◌≡◌, ℕ, List, ◌+◌, ◌<◌, ◌≤◌, Bool, true, false, ◌⊎◌, inl, inr, Option}
 use Rattle.lw_orders.proofs.Common.{length, get_or, set, take, ap, sym, ◌∙◌, subst, refl, arith}
 use Rattle.lw_orders.proofs.Common.{get_or-set_same, length-set, take-set, get_or_past, has, reach}
 use Rattle.lw_orders.proofs.Common.{SearchState, TriedAs, TriesOrientation, pair_at}
-use Rattle.lw_orders.proofs.orders.try_direction.Goals.{then-level-unordered, else-level-unordered}
-use Rattle.lw_orders.proofs.orders.try_direction.Goals as goal
+use Rattle.lw_orders.proofs.orders.try_orientation.Goals.{then-level-unordered, else-level-unordered}
+use Rattle.lw_orders.proofs.orders.try_orientation.Goals as goal
 
 -- What is tried as the test of a cycle says is what the definition tries, for the pair of the level.
 TriesOrientation-of_case : (len level : ℕ) (unordered : List (ℕ × ℕ)) (old new : SearchState) (found : Option ℕ) (q : ℕ × ℕ)
@@ -53,7 +53,7 @@ returns c =
         reached = c.reach_next.ensures.more;
         long = reversals.0;
         before = reversals.1;
-        behind = reversals.2;
+        next_unreversed = reversals.2;
       },
       refl,
     )

@@ -1,7 +1,7 @@
--- Of `have_empty_buffer`: if it returns `true`, the thread's number has a row, and the store buffer there is
+-- Of `has_empty_buffer`: if it returns `true`, the thread's number has a row, and the store buffer there is
 -- empty. Immediate from the contracts of `thread` and `has_empty_buffer`.
 use Rattle.lw_search.proofs.Common.{◌∙◌, sym, ap, option_copied}
-use Rattle.lw_search.proofs.tables.Tables.have_empty_buffer.Goals as goal
+use Rattle.lw_search.proofs.tables.Tables.has_empty_buffer.Goals as goal
 
 pub returns-in-Some : goal.returns-in-Some
 returns-in-Some g c = λ yes. (

@@ -1,8 +1,8 @@
--- Of `add_pairs`, which inserts the first item of each pair into the set of its second. Each round inserts
+-- Of `add_predecessors`, which inserts the first item of each pair into the set of its second. Each round inserts
 -- one item, and a pair is among the first k + 1 if it is among the first k or is the next one; the rest is
 -- Boolean reasoning (`grind`).
 use Rattle.lw_orders.proofs.Common.{◌&&◌, arith, eqb, list_any_more}
-use Rattle.lw_orders.proofs.adjacency.add_pairs.Goals as goal
+use Rattle.lw_orders.proofs.adjacency.add_predecessors.Goals as goal
 
 pub loop-pair-preserved : goal.loop-pair-preserved
 loop-pair-preserved c i j li lj =

@@ -1,7 +1,7 @@
--- Of `add_reversed`, which inserts the second item of each pair into the set of its first. As `add_pairs`,
+-- Of `add_successors`, which inserts the second item of each pair into the set of its first. As `add_predecessors`,
 -- with the items of a pair reversed.
 use Rattle.lw_orders.proofs.Common.{◌&&◌, arith, eqb, list_any_more}
-use Rattle.lw_orders.proofs.adjacency.add_reversed.Goals as goal
+use Rattle.lw_orders.proofs.adjacency.add_successors.Goals as goal
 
 pub loop-pair-preserved : goal.loop-pair-preserved
 loop-pair-preserved c i j li lj =
