@@ -45,7 +45,7 @@ pub use Rattle.lw_litmus.specs.declared.stmt.Stmt.{Stmt}
 pub use Rattle.lw_interleaving.proofs.Common.{SourceOutcome, SourceRunsTo, State, initial_state}
 pub use Rattle.lw_interleaving.proofs.Common.{initial_thread, is_source_final, source_outcome, source_step}
 pub use Rattle.lw_interleaving.proofs.Common.{state_after_step, thread_after, thread_step}
-pub use Rattle.lw_interleaving.proofs.api.Commutation.{StepEffect, step-decompose}
+pub use Rattle.lw_interleaving.proofs.api.Commutation.{StepEffect, StepEffect-of_step}
 pub use Rattle.lw_interleaving.specs.declared.thread.Thread.{Thread}
 pub use Rattle.lw_memory.proofs.Common.{flat_memory}
 pub use Rattle.lw_tso.proofs.Common.{EndsBlock, IsFencedCode, IsFencedTest, IsInserted, IsMachineOutcome}

@@ -7,7 +7,7 @@ use Rattle.lw_axiomatic.proofs.Common.{leb-true, le-leb, length-set, option_map,
 use Rattle.lw_axiomatic.proofs.Common.{length-map, slice_get-map, slice_get_within, slice_get-get_or}
 use Rattle.lw_axiomatic.proofs.Common.{get_or_from_slice_get, get-map, list_all_zip-of_each}
 use Rattle.lw_axiomatic.proofs.Common.{list_all_zip-at_index, FinalState, thread_code, Step, StepEffect}
-use Rattle.lw_axiomatic.proofs.Common.{step-decompose, State, SourceRunsTo, SourceOutcome, initial_state}
+use Rattle.lw_axiomatic.proofs.Common.{StepEffect-of_step, State, SourceRunsTo, SourceOutcome, initial_state}
 use Rattle.lw_axiomatic.proofs.Common.{initial_thread, is_source_final, source_outcome, source_step}
 use Rattle.lw_axiomatic.proofs.Common.{thread_step, state_after_step, thread_after, Thread, Stmt}
 use Rattle.lw_axiomatic.proofs.Common.{source_language, source_operation, SourceTest, Interleaved, read_value}
@@ -71,7 +71,7 @@ module _ (program : List (List Stmt)) where
       → source_step program t (without_flags s) ≡ Ok mid
       → (next : Interleaved) × IsStep source_language program t s next × (without_flags next ≡ mid)
   IsStep-source_step t s mid e =
-      let d : StepEffect program t (without_flags s) mid = step-decompose program t (without_flags s) mid e in
+      let d : StepEffect program t (without_flags s) mid = StepEffect-of_step program t (without_flags s) mid e in
       let mapped = get-map without_flag s.threads t d.thread d.was in (
         after t mapped.0 (source_operation d.stmt) s,
         record {

@@ -51,9 +51,9 @@ pub use Rattle.lw_interleaving.proofs.Common.{InterleavesTo, IsStepResult, Sourc
 pub use Rattle.lw_interleaving.proofs.Common.{SourceRunsTo, State, advance, initial_state, source_outcome}
 pub use Rattle.lw_interleaving.proofs.Common.{source_step, state_after_step, thread_after, thread_step}
 pub use Rattle.lw_interleaving.proofs.Common.{words_after}
-pub use Rattle.lw_interleaving.proofs.api.Commutation.{IsSuccessor-thread_after, StepEffect, state_after}
-pub use Rattle.lw_interleaving.proofs.api.Commutation.{state_of, step-decompose, thread_after-no_location}
-pub use Rattle.lw_interleaving.proofs.api.Commutation.{words_after-no_location}
+pub use Rattle.lw_interleaving.proofs.api.Commutation.{IsSuccessor-thread_after, StepEffect}
+pub use Rattle.lw_interleaving.proofs.api.Commutation.{StepEffect-of_step, state_after, state_of}
+pub use Rattle.lw_interleaving.proofs.api.Commutation.{thread_after-no_location, words_after-no_location}
 pub use Rattle.lw_interleaving.proofs.api.Runs.{ReturnsEventResult-ok}
 pub use Rattle.lw_interleaving.specs.declared.thread.Thread.{Thread}
 pub use Rattle.lw_memory.proofs.Common.{Memory, flat_memory, words_invariant, words_lawful}

@@ -92,10 +92,10 @@ module _ (source : SourceTest) (program : X86Test) (starts : List (List ℕ)) (c
     caught =
         SimulatedToEnd-followed source program starts n ss ms ms th c c ms.memory b was processor_at (record {
           now = lag_of_thread.ahead;
-          turns =
-              ThreadMoves-pending_statements source.threads n th lag_of_thread.ahead c.buffer ms.memory lag_of_thread.owes
-              processor_has_ended.1;
-          lag = lag_of_caught_up;
+          moves =
+              ThreadMoves-pending_statements source.threads n th lag_of_thread.ahead c.buffer ms.memory
+              lag_of_thread.pending_stores processor_has_ended.1;
+          simulated = lag_of_caught_up;
         }) (ap (λ l. state l ms.memory) (sym processors_same));
     over = λ t x d e f.
         OfFellows-set_both (λ u y z. u < suc n → HasEnded (thread_code source.threads u) y z) ss.threads ms.processors n
@@ -123,11 +123,11 @@ module _ (source : SourceTest) (program : X86Test) (starts : List (List ℕ)) (c
       lag_of_caught_up : LagAt source program starts n lag_of_thread.ahead c
       lag_of_caught_up = record {
         ahead = lag_of_thread.ahead;
-        owes =
+        pending_stores =
             subst (λ l. HasPendingStores (thread_code source.threads n) lag_of_thread.ahead l lag_of_thread.ahead)
             (sym processor_has_ended.1) nothing;
         stage = lag_of_thread.stage;
-        sane = lag_of_thread.sane;
+        in_bounds = lag_of_thread.in_bounds;
       }
 
       -- Then the thread has ended too.
@@ -159,9 +159,9 @@ module _ (source : SourceTest) (program : X86Test) (starts : List (List ℕ)) (w
   SimulationRelation-start : SimulationRelation source program starts (initial_state source) (compiled_start source)
   SimulationRelation-start = ThreadsCorrespond-start source (LagAt source program starts) well_scoped (λ t regs lt six. record {
     ahead = thread_starting regs;
-    owes = nothing;
+    pending_stores = nothing;
     stage = whole (sym (IsFencedAsNeeded-at source program starts compiled t lt).laid.first) refl;
-    sane = record { register_count = six; position_in_range = omega arith };
+    in_bounds = record { register_count = six; position_in_range = omega arith };
   })
 
   -- Where all threads are at their ends, the source has ended.

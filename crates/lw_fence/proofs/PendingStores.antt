@@ -92,8 +92,8 @@ module _ (program : List (List Stmt)) (t : ℕ) where
   -- The thread has executed the oldest store, and the later statements are still pending.
   pub record ExecutesOldestStore (th : Thread) (m : List ℕ) (oldest : ℕ × ℕ) (newer : List (ℕ × ℕ)) (end : Thread) : Type 0 where
     pub mid : Thread
-    pub turns : ThreadMoves program t th m mid (slice_set m oldest.0 oldest.1)
-    pub owes : HasPendingStores (thread_code program t) mid newer end
+    pub moves : ThreadMoves program t th m mid (slice_set m oldest.0 oldest.1)
+    pub pending_stores : HasPendingStores (thread_code program t) mid newer end
 
   -- If the store buffer has an entry, the thread can execute its statements up to the oldest store, and the newer ones are still pending.
   pub ExecutesOldestStore-pending : (th end : Thread) {buffer : List (ℕ × ℕ)} (m : List ℕ) (oldest : ℕ × ℕ) (newer : List (ℕ × ℕ))
@@ -105,16 +105,16 @@ module _ (program : List (List Stmt)) (t : ℕ) where
       let a = ExecutesOldestStore-pending _ end m oldest newer o e in
       record {
         mid = a.mid;
-        turns = ThreadMoves-trans program t th a.mid m m (ThreadMoves-local_statement th m s at l) a.turns;
-        owes = a.owes;
+        moves = ThreadMoves-trans program t th a.mid m m (ThreadMoves-local_statement th m s at l) a.moves;
+        pending_stores = a.pending_stores;
       }
   ExecutesOldestStore-pending th end m oldest newer (store {buffer = rest} x v at o) e =
       let first : (x, operand_value v th.regs) ≡ oldest = cc in
       let others : rest ≡ newer = cc in
       record {
         mid = advance th;
-        turns =
+        moves =
             subst (λ (entry : ℕ × ℕ). ThreadMoves program t th m (advance th) (slice_set m entry.0 entry.1)) first
             (ThreadMoves-statement program t th m (Store x v) at);
-        owes = subst (λ b. HasPendingStores (thread_code program t) (advance th) b end) others o;
+        pending_stores = subst (λ b. HasPendingStores (thread_code program t) (advance th) b end) others o;
       }

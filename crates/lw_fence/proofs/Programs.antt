@@ -246,8 +246,8 @@ module _ (locs : ℕ) (code : List Stmt) (instrs : List Instr) (starts : List �
       (subst (λ n. j < n) (sym stands.last) (slice_get_within instrs j i found_at)) found_at
 
   -- The compiled code is a well-scoped thread.
-  thread_scoped : IsWellScopedThread x86_language locs instrs
-  thread_scoped = record {
+  IsWellScopedThread-compiled : IsWellScopedThread x86_language locs instrs
+  IsWellScopedThread-compiled = record {
     statements_formed = λ j d lt. (FitsHere-every_instr j _ (at_index instrs j d lt)).0;
     forward = λ j i e. (FitsHere-every_instr j i e).1;
   }
@@ -258,7 +258,8 @@ IsWellFormedThread-laid_out : (locs : ℕ) (code : List Stmt) (instrs : List Ins
     → IsLaidOut code instrs starts
     → IsWellFormedThread x86_language locs instrs
 IsWellFormedThread-laid_out locs code instrs starts well_formed stands =
-    let scoped = thread_scoped locs code instrs starts (IsWellScopedThread-well_formed source_language well_formed) stands in
+    let scoped =
+    IsWellScopedThread-compiled locs code instrs starts (IsWellScopedThread-well_formed source_language well_formed) stands in
     record {
       short = omega (arith, stands.short, well_formed.short);
       statements_formed = scoped.statements_formed;
@@ -326,8 +327,8 @@ IsWellScopedProgram-laid_out s p starts well_scoped laid = record {
   arch = ap (λ (h : TestHead). h.arch) laid.head;
   as_many = thread_count-laid_out s p starts well_scoped.as_many laid;
   code =
-      All-laid_out_threads (IsWellScopedThread source_language) (IsWellScopedThread x86_language) thread_scoped s p starts laid
-      well_scoped.code;
+      All-laid_out_threads (IsWellScopedThread source_language) (IsWellScopedThread x86_language) IsWellScopedThread-compiled s p
+      starts laid well_scoped.code;
 }
 
 -- What is laid out of a well-formed source, whatever its fences, is a well-formed program.

@@ -7,8 +7,8 @@ use Rattle.lw_fence.proofs.Common.{slice_get, slice_index, slice_index_or, IsOk,
 use Rattle.lw_fence.proofs.Common.{get_or_read, get_or_past, slice_get_within, same_Some, thread_code, Event}
 use Rattle.lw_fence.proofs.Common.{Step, Drain, Stop, slice_get-in_range, at_index, Stmt, Thread, SourceTest}
 use Rattle.lw_fence.proofs.Common.{X86Test, State, SourceRunsTo, SourceRunState, IsStepResult, source_step}
-use Rattle.lw_fence.proofs.Common.{step-decompose, is_store, source_operation, IsCompiled, statement_events}
-use Rattle.lw_fence.proofs.Common.{thread_events, after_step, compiled_schedule, get-map}
+use Rattle.lw_fence.proofs.Common.{StepEffect-of_step, is_store, source_operation, IsCompiled}
+use Rattle.lw_fence.proofs.Common.{statement_events, thread_events, after_step, compiled_schedule, get-map}
 use Rattle.lw_fence.proofs.CodeLayout.{IsFencedAsNeeded-at, length-starts_from}
 
 -- If a call that has appended `more` to the old events fails, the old ones are still the first.
@@ -131,7 +131,7 @@ module _ {program : List (List Stmt)} {order : List ℕ} {i t : ℕ} (within : i
   NextThreadStep-of_run {s} possible =
       let ran =
       subst (λ (ts : List ℕ). SourceRunsTo program (map Step ts) s possible.0) (drop_order-cons order i t within is) possible.1 in
-      let d = step-decompose program t s ran.0 ran.1 in
+      let d = StepEffect-of_step program t s ran.0 ran.1 in
       record {
         mid = ran.0;
         step = ran.1;

@@ -38,11 +38,11 @@ module _ (source : SourceTest) (program : X86Test) (starts : List (List ℕ)) wh
   SimulatedToEnd-followed t ss ms mid th c q n b was processor_at followed is =
       let end = state_of (slice_set ss.threads t followed.now) n in
       record {
-        order = followed.turns.order;
-        ran = rw b.words at (followed.turns.on ss.threads was);
+        order = followed.moves.order;
+        ran = rw b.words at (followed.moves.on ss.threads was);
         related =
             subst (SimulationRelation end) (sym is)
-            (ThreadsCorrespond-set source LagAt ss ms b t th followed.now c q n was processor_at followed.lag);
+            (ThreadsCorrespond-set source LagAt ss ms b t th followed.now c q n was processor_at followed.simulated);
       }
 
   -- If the source follows to one state, and from there to another, it follows to the other.
@@ -69,12 +69,12 @@ module _ (source : SourceTest) (program : X86Test) (starts : List (List ℕ)) (w
       → EffectLeadsTo ms.memory (event_effect program.threads (length ms.memory) e c) q n
       → SourceFollows source.threads (cpu_of e) (thread_code program.threads (cpu_of e)) (thread_code starts (cpu_of e)) th
       ms.memory q n
-  SourceFollows-event (Step t) ss ms th c q n lt lag d =
+  SourceFollows-event (Step t) ss ms th c q n lt simulated d =
       SourceFollows-step source.threads t (thread_code program.threads t) (thread_code starts t)
       (IsAllowedStatement-in_source source well_scoped t) (IsFencedAsNeeded-at source program starts compiled t lt) th c ms.memory
-      lag.ahead lag.owes lag.sane lag.stage q n d
-  SourceFollows-event (Drain t) ss ms th c q n lt lag d = SourceFollows-drain source.threads t ms.memory q n lag d
-  SourceFollows-event (Evict t x) ss ms th c q n lt lag d =
+      simulated.ahead simulated.pending_stores simulated.in_bounds simulated.stage q n d
+  SourceFollows-event (Drain t) ss ms th c q n lt simulated d = SourceFollows-drain source.threads t ms.memory q n simulated d
+  SourceFollows-event (Evict t x) ss ms th c q n lt simulated d =
       absurd (not-EffectLeadsTo-evict_event program.threads (length ms.memory) t x c q ms.memory n d)
 
   -- Whatever event the machine executes, the source follows by some steps.

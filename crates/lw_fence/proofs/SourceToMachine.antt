@@ -7,7 +7,7 @@ use Rattle.lw_fence.proofs.Common.{and_from, slice_get_within, get_or_from_slice
 use Rattle.lw_fence.proofs.Common.{Event, Step, slice_get-in_range, list_all_zip-of_each}
 use Rattle.lw_fence.proofs.Common.{list_all_zip-at_index, flat_memory, Stmt, Instr, source_operation}
 use Rattle.lw_fence.proofs.Common.{SourceTest, X86Test, Thread, thread_after, words_after, State}
-use Rattle.lw_fence.proofs.Common.{SourceRunsTo, InterleavesTo, initial_state, StepEffect, step-decompose}
+use Rattle.lw_fence.proofs.Common.{SourceRunsTo, InterleavesTo, initial_state, StepEffect, StepEffect-of_step}
 use Rattle.lw_fence.proofs.Common.{Processor, MachineState, MachineRunsTo, ReplaysTo, has_terminated}
 use Rattle.lw_fence.proofs.Common.{is_final, state, lowered, instrs_of, IsCompiled, statement_events}
 use Rattle.lw_fence.proofs.Common.{thread_events, after_step, compiled_schedule}
@@ -91,7 +91,7 @@ module _ (source : SourceTest) (program : X86Test) (starts : List (List ℕ)) (w
   MachineFollowsBy-run [] after ms i r = record { end = ms; ran = refl; in_step = subst (λ a. InStep a ms) (sym r) i }
   MachineFollowsBy-run (t ∷ order) {ss = ss} after ms i r =
       let now = thread_events source.threads starts t (slice_get ss.threads t) in
-      let a = MachineFollowsBy-step t ss r.0 ms i (step-decompose source.threads t ss r.0 r.1) in
+      let a = MachineFollowsBy-step t ss r.0 ms i (StepEffect-of_step source.threads t ss r.0 r.1) in
       let b = MachineFollowsBy-run order after a.end a.in_step r.2 in
       record {
         end = b.end;

@@ -59,10 +59,10 @@ pub IsThreadInBounds-step : {code : List Stmt} (th : Thread) (m : List ℕ) (x :
     → slice_get code th.position ≡ Some x
     → IsThreadInBounds code th
     → IsThreadInBounds code (thread_after (source_operation x) th m)
-IsThreadInBounds-step {code = code} th m x ok found_at sane =
+IsThreadInBounds-step {code = code} th m x ok found_at in_bounds =
     let o = source_operation x in
     record {
-      register_count = length-regs_thread_after o th m ∙ sane.register_count;
+      register_count = length-regs_thread_after o th m ∙ in_bounds.register_count;
       position_in_range =
           (IsSuccessor-forward _ _ _ o ok.target (slice_get_within code th.position x found_at)
           (IsSuccessor-thread_after o th m)).1;

@@ -32,16 +32,16 @@ pub data Stage (code : List Stmt) (instrs : List Instr) (starts : List ℕ) (v :
 pub record ThreadSimulation (code : List Stmt) (instrs : List Instr) (starts : List ℕ) (th : Thread)
     (p : Processor) : Type 0 where
   pub ahead : Thread
-  pub owes : HasPendingStores code th p.buffer ahead
+  pub pending_stores : HasPendingStores code th p.buffer ahead
   pub stage : Stage code instrs starts ahead p
-  pub sane : IsThreadInBounds code ahead
+  pub in_bounds : IsThreadInBounds code ahead
 
 -- The source follows an event of processor t that leads to q and the memory n: thread t takes some steps, and is simulated again.
 pub record SourceFollows (program : List (List Stmt)) (t : ℕ) (instrs : List Instr) (starts : List ℕ) (th : Thread) (m : List ℕ)
     (q : Processor) (n : List ℕ) : Type 0 where
   pub now : Thread
-  pub turns : ThreadMoves program t th m now n
-  pub lag : ThreadSimulation (thread_code program t) instrs starts now q
+  pub moves : ThreadMoves program t th m now n
+  pub simulated : ThreadSimulation (thread_code program t) instrs starts now q
 
 -- A drain preserves the processor's stage.
 Stage-drain : {code : List Stmt} {instrs : List Instr} {starts : List ℕ} {v : Thread} {p : Processor} (newer : List (ℕ × ℕ))
@@ -58,7 +58,7 @@ pub SourceFollows-drain : (program : List (List Stmt)) (t : ℕ) {instrs : List 
     → ThreadSimulation (thread_code program t) instrs starts th p
     → EffectLeadsTo m (drain_effect p.buffer p) q n
     → SourceFollows program t instrs starts th m q n
-SourceFollows-drain program t {instrs = instrs} {starts = starts} {th = th} {p = p} m q n lag =
+SourceFollows-drain program t {instrs = instrs} {starts = starts} {th = th} {p = p} m q n simulated =
     SourceFollows-by_buffer p.buffer refl
   where
     -- By the buffer, whose oldest entry is drained.
@@ -68,12 +68,17 @@ SourceFollows-drain program t {instrs = instrs} {starts = starts} {th = th} {p =
         → SourceFollows program t instrs starts th m q n
     SourceFollows-by_buffer [] is d = absurd d
     SourceFollows-by_buffer (oldest ∷ newer) is d =
-        let a = ExecutesOldestStore-pending program t th lag.ahead m oldest newer lag.owes is in
+        let a = ExecutesOldestStore-pending program t th simulated.ahead m oldest newer simulated.pending_stores is in
         let full : p.buffer ≢ [] = λ none. let is_nil : oldest ∷ newer ≡ [] = sym is ∙ none in cc in
         let left : SourceFollows program t instrs starts th m (record p { buffer = newer }) _ = record {
           now = a.mid;
-          turns = a.turns;
-          lag = record { ahead = lag.ahead; owes = a.owes; stage = Stage-drain newer full lag.stage; sane = lag.sane };
+          moves = a.moves;
+          simulated = record {
+            ahead = simulated.ahead;
+            pending_stores = a.pending_stores;
+            stage = Stage-drain newer full simulated.stage;
+            in_bounds = simulated.in_bounds;
+          };
         } in
         subst₂ (λ c l. SourceFollows program t instrs starts th m c l) (sym d.0) (sym d.1) left
 
@@ -81,7 +86,8 @@ SourceFollows-drain program t {instrs = instrs} {starts = starts} {th = th} {p =
 module _ (program : List (List Stmt)) (t : ℕ) (instrs : List Instr) (starts : List ℕ)
     (allowed : (j : ℕ) (s : Stmt) → slice_get (thread_code program t) j ≡ Some s → IsAllowedStatement (thread_code program t) j s)
     (placed : IsFencedAsNeeded (thread_code program t) instrs starts) (th : Thread) (p : Processor) (m : List ℕ) (v : Thread)
-    (owes : HasPendingStores (thread_code program t) th p.buffer v) (sane : IsThreadInBounds (thread_code program t) v) where
+    (pending_stores : HasPendingStores (thread_code program t) th p.buffer v)
+    (in_bounds : IsThreadInBounds (thread_code program t) v) where
   -- The code of thread t in the source.
   abbrev code : List Stmt
   code = thread_code program t
@@ -95,19 +101,19 @@ module _ (program : List (List Stmt)) (t : ℕ) (instrs : List Instr) (starts : 
   After act = (q : Processor) (n : List ℕ) → EffectLeadsTo m act q n → Goal q n
 
   -- The instruction at the processor's position.
-  at_instruction : (i : Instr)
+  SourceFollows-at_instruction : (i : Instr)
       → slice_get instrs p.position ≡ Some i
       → After (step_effect (Some i) p)
       → After (step_effect (slice_get instrs p.position) p)
-  at_instruction i found_at after = subst (λ o. After (step_effect o p)) (sym found_at) after
+  SourceFollows-at_instruction i found_at after = subst (λ o. After (step_effect o p)) (sym found_at) after
 
   -- The last instruction of a statement: either the statement becomes pending too, or the thread catches up and executes it.
-  carried : (s : Stmt)
+  SourceFollows-last_instruction : (s : Stmt)
       → slice_get code v.position ≡ Some s
       → (q : Processor) (n : List ℕ)
       → ExecutesStatement starts s v p.buffer m q n
       → Goal q n
-  carried s found_at q n c = Goal-by_statement c.stored
+  SourceFollows-last_instruction s found_at q n c = Goal-by_statement c.stored
     where
       -- The thread after the statement.
       thread_after_statement : Thread
@@ -115,14 +121,19 @@ module _ (program : List (List Stmt)) (t : ℕ) (instrs : List Instr) (starts : 
 
       -- It is in the bounds of its code.
       next_in_bounds : IsThreadInBounds code thread_after_statement
-      next_in_bounds = IsThreadInBounds-step v m s (allowed v.position s found_at) found_at sane
+      next_in_bounds = IsThreadInBounds-step v m s (allowed v.position s found_at) found_at in_bounds
 
       -- If the statement becomes pending, the source takes no step.
       Goal-of_pending : HasPendingStores code th q.buffer thread_after_statement → n ≡ m → Goal q n
       Goal-of_pending o same = record {
         now = th;
-        turns = subst (λ k. ThreadMoves program t th m th k) (sym same) (ThreadMoves-refl program t th m);
-        lag = record { ahead = thread_after_statement; owes = o; stage = whole c.position c.regs; sane = next_in_bounds };
+        moves = subst (λ k. ThreadMoves program t th m th k) (sym same) (ThreadMoves-refl program t th m);
+        simulated = record {
+          ahead = thread_after_statement;
+          pending_stores = o;
+          stage = whole c.position c.regs;
+          in_bounds = next_in_bounds;
+        };
       }
 
       -- By what the statement does: it is apart from memory, buffered, or executed at once.
@@ -130,23 +141,23 @@ module _ (program : List (List Stmt)) (t : ℕ) (instrs : List Instr) (starts : 
       Goal-by_statement (apart l still same) =
           Goal-of_pending
           (subst₂ (λ b w. HasPendingStores code th b w) (append-nil p.buffer ∙ sym still)
-          (thread_after-no_location (source_operation s) v [] m l) (HasPendingStores-append v owes (local s found_at l nothing)))
-          same
+          (thread_after-no_location (source_operation s) v [] m l)
+          (HasPendingStores-append v pending_stores (local s found_at l nothing))) same
       Goal-by_statement (buffered x w is more same) =
           Goal-of_pending
           (subst₂ (λ b w. HasPendingStores code th b w) (sym more) (ap (λ z. thread_after (source_operation z) v m) (sym is))
-          (HasPendingStores-append v owes (store x w (found_at ∙ ap Some is) nothing))) same
+          (HasPendingStores-append v pending_stores (store x w (found_at ∙ ap Some is) nothing))) same
       Goal-by_statement (at_once none empty still left) = record {
         now = thread_after_statement;
-        turns =
+        moves =
             subst (λ k. ThreadMoves program t th m thread_after_statement k) (sym left)
-            (ThreadMoves-trans program t th thread_after_statement m m (ThreadMoves-pending_statements _ t th v _ m owes empty)
-            (ThreadMoves-statement _ t v m s found_at));
-        lag = record {
+            (ThreadMoves-trans program t th thread_after_statement m m
+            (ThreadMoves-pending_statements _ t th v _ m pending_stores empty) (ThreadMoves-statement _ t v m s found_at));
+        simulated = record {
           ahead = thread_after_statement;
-          owes = subst (λ b. HasPendingStores code thread_after_statement b thread_after_statement) (sym still) nothing;
+          pending_stores = subst (λ b. HasPendingStores code thread_after_statement b thread_after_statement) (sym still) nothing;
           stage = whole c.position c.regs;
-          sane = next_in_bounds;
+          in_bounds = next_in_bounds;
         };
       }
 
@@ -158,20 +169,21 @@ module _ (program : List (List Stmt)) (t : ℕ) (instrs : List Instr) (starts : 
       → ExecutesLowering starts v s p r
       → After (step_effect (slice_get instrs p.position) p)
   SourceFollows-lowering s found_at (One i) has ends =
-      at_instruction i has.0 (λ q n d. carried s found_at q n (ends.carries p.buffer m ends.empty q n d))
+      SourceFollows-at_instruction i has.0
+      (λ q n d. SourceFollows-last_instruction s found_at q n (ends.carries p.buffer m ends.empty q n d))
   SourceFollows-lowering s found_at (Two i j) has leads =
-      at_instruction i has.0 (λ q n d. Goal-of_first_instruction q n (leads m q n d))
+      SourceFollows-at_instruction i has.0 (λ q n d. Goal-of_first_instruction q n (leads m q n d))
     where
       -- After the first of two instructions the processor is in the middle of the statement.
       Goal-of_first_instruction : (q : Processor) (n : List ℕ) → AdvancesToLast starts v s p j q × (n ≡ m) → Goal q n
       Goal-of_first_instruction q n (led, same) = record {
         now = th;
-        turns = subst (λ k. ThreadMoves program t th m th k) (sym same) (ThreadMoves-refl program t th m);
-        lag = record {
+        moves = subst (λ k. ThreadMoves program t th m th k) (sym same) (ThreadMoves-refl program t th m);
+        simulated = record {
           ahead = v;
-          owes = subst (λ b. HasPendingStores code th b v) (sym led.buffer) owes;
+          pending_stores = subst (λ b. HasPendingStores code th b v) (sym led.buffer) pending_stores;
           stage = midway s j found_at (ap (λ k. slice_get instrs k) led.position ∙ has.1.0) led.ends;
-          sane = sane;
+          in_bounds = in_bounds;
         };
       }
 
@@ -189,40 +201,42 @@ module _ (program : List (List Stmt)) (t : ℕ) (instrs : List Instr) (starts : 
       empty-by_buffer : (b : List (ℕ × ℕ)) → p.buffer ≡ b → b ≡ []
       empty-by_buffer [] empty = refl
       empty-by_buffer (entry ∷ newer) full =
-          let reachable = IsReachableFromStore-pending_store code th v owes (λ e. let f = sym full ∙ e in cc) in
+          let reachable = IsReachableFromStore-pending_store code th v pending_stores (λ e. let f = sym full ∙ e in cc) in
           absurd (false≢true (sym none ∙ needs.1 (subst (HasKind is_load) (sym found_at) load, reachable)))
 
   -- At the start of a statement, or at the end of the code, the source follows the processor's next instruction.
-  begun : (o : Option Stmt)
+  SourceFollows-at_start : (o : Option Stmt)
       → slice_get code v.position ≡ o
       → p.position ≡ slice_index starts v.position
       → p.regs ≡ v.regs
       → After (step_effect (slice_get instrs p.position) p)
-  begun None e position regs = λ q n done. absurd (subst (λ o. EffectLeadsTo m (step_effect o p) q n) no_instruction_at_end done)
+  SourceFollows-at_start None e position regs =
+      λ q n done. absurd (subst (λ o. EffectLeadsTo m (step_effect o p) q n) no_instruction_at_end done)
     where
       -- The thread is at the end of its code.
       thread_at_end : v.position ≡ length code
       thread_at_end =
           ⊎_elim (λ lt. let a = slice_get-in_range code v.position lt in absurd (none-some a.0 (sym e ∙ a.1)))
-          (λ ge. omega (arith, ge, sane.position_in_range)) (cases_lt v.position (length code))
+          (λ ge. omega (arith, ge, in_bounds.position_in_range)) (cases_lt v.position (length code))
 
       -- So the processor has no further instruction.
       no_instruction_at_end : slice_get instrs p.position ≡ None
       no_instruction_at_end =
           slice_get_past instrs p.position
           (omega (arith, position, ap (λ k. slice_index starts k) thread_at_end, placed.laid.last))
-  begun (Some s) at position regs =
+  SourceFollows-at_start (Some s) at position regs =
       let stands = placed.laid.at v.position s at in
       let has =
       subst (λ k. StandsAt instrs k (instrs_of (lowered starts stands.fence s))) (sym position) stands.lowering_at_start in
       let next : slice_index starts (v.position + 1) ≡ p.position + length (instrs_of (lowered starts stands.fence s)) =
       omega (arith, stands.next, position) in
       SourceFollows-lowering s at (lowered starts stands.fence s) has
-      (ExecutesLowering-lowered starts v p regs s sane.register_count (allowed v.position s at).registers
+      (ExecutesLowering-lowered starts v p regs s in_bounds.register_count (allowed v.position s at).registers
       (buffer_empty-if_unfenced at stands.fence (placed.needed v.position s at)) next)
 
   -- Whatever the processor's next instruction does, the source follows.
   pub SourceFollows-step : Stage code instrs starts v p → After (step_effect (slice_get instrs p.position) p)
-  SourceFollows-step (whole position regs) = begun (slice_get code v.position) refl position regs
+  SourceFollows-step (whole position regs) = SourceFollows-at_start (slice_get code v.position) refl position regs
   SourceFollows-step (midway s i at stands ends) =
-      at_instruction i stands (λ q n d. carried s at q n (ends.carries p.buffer m ends.empty q n d))
+      SourceFollows-at_instruction i stands
+      (λ q n d. SourceFollows-last_instruction s at q n (ends.carries p.buffer m ends.empty q n d))

@@ -39,9 +39,9 @@ pub use Rattle.lw_litmus.specs.declared.stmt.Stmt.{Stmt}
 pub use Rattle.lw_interleaving.proofs.Common.{FollowsFlow, InterleavesTo, SourceOutcome, SourceRunsTo, State}
 pub use Rattle.lw_interleaving.proofs.Common.{initial_state, initial_thread, is_source_final, next_statement}
 pub use Rattle.lw_interleaving.proofs.Common.{source_outcome, source_step, thread_position}
-pub use Rattle.lw_interleaving.proofs.api.Commutation.{FollowsFlow-source_step, StepsCommute-no_conflict}
-pub use Rattle.lw_interleaving.proofs.api.Commutation.{next_statement-at_position, source_step-other_position}
-pub use Rattle.lw_interleaving.proofs.api.Commutation.{step-decompose}
+pub use Rattle.lw_interleaving.proofs.api.Commutation.{FollowsFlow-source_step, StepEffect-of_step}
+pub use Rattle.lw_interleaving.proofs.api.Commutation.{StepsCommute-no_conflict, next_statement-at_position}
+pub use Rattle.lw_interleaving.proofs.api.Commutation.{source_step-other_position}
 pub use Rattle.lw_interleaving.specs.declared.thread.Thread.{Thread}
 pub use Rattle.lw_memory.proofs.Common.{Invariant, Memory, flat_memory}
 pub use Rattle.lw_mesi.proofs.Common.{caches_by, caches_invariant, coherent_word, unheld_cache_line}

@@ -2,7 +2,7 @@
 -- of the source runner.
 use Rattle.lw_finals.proofs.Common.{◌≡◌, ◌<◌, length, ℕ, subst, List, [], ◌∷◌, ◌++◌, refl, sym, ap, ap₂, ◌∙◌}
 use Rattle.lw_finals.proofs.Common.{All, slice_get, All-nil, All-cons, slice_get_within, same_Some, get-map}
-use Rattle.lw_finals.proofs.Common.{step-decompose, FinalState, thread_code, Event, Stmt, Thread, State}
+use Rattle.lw_finals.proofs.Common.{StepEffect-of_step, FinalState, thread_code, Event, Stmt, Thread, State}
 use Rattle.lw_finals.proofs.Common.{InterleavesTo, initial_state, flat_memory, ReplaysTo, SourceTest}
 use Rattle.lw_finals.proofs.Common.{statement_events, thread_events, after_step, compiled_schedule, Item}
 use Rattle.lw_finals.proofs.Common.{item_at, OrderRunsTo, source_item_system, SourceFollowsPathsToEnd}
@@ -16,7 +16,7 @@ HasStatementAt-if_executed : (program : List (List Stmt)) (item : Item) (s next 
     → HasStatementAt program item
 HasStatementAt-if_executed program item s next (at, step) =
     let a = get-map (λ (th : Thread). th.position) s.threads item.thread item.position at in
-    let d = step-decompose program item.thread s next step in
+    let d = StepEffect-of_step program item.thread s next step in
     let same_thread : a.0 ≡ d.thread = same_Some a.0 d.thread (sym a.1 ∙ d.was) in
     let index_in : item.position ≡ d.thread.position = a.2 ∙ ap (λ (th : Thread). th.position) same_thread in
     subst (λ (k : ℕ). k < length (thread_code program item.thread)) (sym index_in) (slice_get_within _ _ d.stmt d.at)

@@ -274,7 +274,8 @@ module _ {len : ℕ} {preserved unordered : List (ℕ × ℕ)} {s : SearchState}
             (omega (arith, length_take-reversals s.reversals unordered st.reversals_long (level + 1) (omega arith)))
             ∙ ap (from_reversals len preserved unordered)
             (ap (λ ws. ws ++ false ∷ []) (sym taken.before)
-            ∙ sym (take_reversals-suc next.reversals unordered (taken.long ∙ st.reversals_long) (level + 1) false l taken.next_unreversed))
+            ∙ sym (take_reversals-suc next.reversals unordered (taken.long ∙ st.reversals_long) (level + 1) false l
+            taken.next_unreversed))
         | inr g ↦
             ap (from_reversals len preserved unordered)
             (sym (take_all (level + 1 + 1) next.reversals (omega (arith, st.reversals_long, taken.long))

@@ -83,12 +83,12 @@ module _ {S : Type 0} (language : Language S) where
         )
 
     -- Whatever successors a statement has, the paths through them are within the bound.
-    by_led : (o : Option ℕ) (goes : Bool)
+    by_successors : (o : Option ℕ) (goes : Bool)
         → branch_target (language.operation_of s) ≡ o
         → length (flat_map rest (successor_list o goes j)) ≤ 2 ^ branches_from code j
-    by_led None goes is = one_led (j + 1) (omega arith)
-    by_led (Some to) false is = one_led to (forward j s statement_at to is).0
-    by_led (Some to) true is = by_second_successor (j + 1 == to)
+    by_successors None goes is = one_led (j + 1) (omega arith)
+    by_successors (Some to) false is = one_led to (forward j s statement_at to is).0
+    by_successors (Some to) true is = by_second_successor (j + 1 == to)
       where
         -- By whether the target is the next statement too.
         by_second_successor : (b : Bool)
@@ -107,7 +107,8 @@ module _ {S : Type 0} (language : Language S) where
   length-paths_through_le code forward j rest few None at = one-le-pow (branches_from code j) 2 (omega arith)
   length-paths_through_le code forward j rest few (Some s) at = omega (
     arith,
-    by_led code forward j s at rest few (branch_target (language.operation_of s)) (falls_through (language.operation_of s)) refl,
+    by_successors code forward j s at rest few (branch_target (language.operation_of s)) (falls_through (language.operation_of s))
+        refl,
     length-map (flat_map rest (successors language s j)) (λ path. j ∷ path),
   )
 

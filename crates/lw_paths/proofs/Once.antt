@@ -7,7 +7,7 @@ use Rattle.lw_paths.proofs.Common.{Language, IsFlowPathFrom, JumpsForward, paths
 use Rattle.lw_paths.proofs.Common.{paths_of, path_assignments, successors, cons-head_eq}
 use Rattle.lw_paths.proofs.api.Members.{not-Contains-nil, Contains-head, Contains-tail, Contains-map_inv}
 use Rattle.lw_paths.proofs.api.Members.{Contains-flat_map_inv}
-use Rattle.lw_paths.proofs.api.Successors.{successors-in_range, led_to-once}
+use Rattle.lw_paths.proofs.api.Successors.{successors-in_range, IsDuplicateFree-successor_list}
 use Rattle.lw_paths.proofs.api.Enumerated.{paths-only}
 
 -- An injective function maps a list without duplicates to one without.
@@ -75,7 +75,7 @@ module _ {S : Type 0} (language : Language S) where
             let in_code : (k : ℕ) → Contains (successors language s j) k → (j < k) × (k ≤ length code) =
             λ k c. successors-in_range language code j k s forward e c in
             IsDuplicateFree-map _ _ (λ p q h. cons-injective_tail j p q h)
-            (IsDuplicateFree-flat_map rest (successors language s j) (led_to-once _ _ j)
+            (IsDuplicateFree-flat_map rest (successors language s j) (IsDuplicateFree-successor_list _ _ j)
             (λ k c. each k (in_code k c).0 (in_code k c).1)
             (λ k m p a b c d. flow_path_start-unique code k m p (only k p (in_code k a).1 c) (only m p (in_code m b).1 d)))
 

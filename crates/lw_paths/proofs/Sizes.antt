@@ -161,7 +161,9 @@ module _ {S : Type 0} {language : Language S} {code : List S} {most : List ℕ} 
     size_sum_small = omega (arith, IsKnown-by_table.at_most_two_each, short)
 
     -- The table is right from this position on after its maximum is set.
-    pub AreKnownFrom-set : (v : ℕ) → v ≡ statement_size language s + rest_size → AreKnownFrom language code at (slice_set most at v)
+    pub AreKnownFrom-set : (v : ℕ)
+        → v ≡ statement_size language s + rest_size
+        → AreKnownFrom language code at (slice_set most at v)
     AreKnownFrom-set v sum = record {
       room = length-set most at v ∙ known.room;
       each = λ j after within. elim (cases_eq j at) [

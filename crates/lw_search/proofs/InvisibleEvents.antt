@@ -518,7 +518,8 @@ module _ (program : List (List Instr)) (forward : IsForward program) where
       was : slice_get s.processors t ≡ Some (with_oldest b.entry b.without)
       was = x.was ∙ ap Some b.processor_is
 
-      instr : HasInstr (slice_get (thread_code program t) b.without.position) (with_oldest b.entry b.without) x.to s.memory x.words
+      instr :
+          HasInstr (slice_get (thread_code program t) b.without.position) (with_oldest b.entry b.without) x.to s.memory x.words
       instr =
           HasInstr-of_step (slice_get (thread_code program t) b.without.position) (with_oldest b.entry b.without) x.to s.memory
           x.words

@@ -29,10 +29,10 @@ pub record StepEffect (program : List (List Stmt)) (t : ℕ) (s mid : State) : T
   pub state_is : mid ≡ state_after t thread (source_operation stmt) s
 
 -- A step that is enabled executes its thread's statement.
-pub step-decompose : (program : List (List Stmt)) (t : ℕ) (s mid : State)
+pub StepEffect-of_step : (program : List (List Stmt)) (t : ℕ) (s mid : State)
     → source_step program t s ≡ Ok mid
     → StepEffect program t s mid
-step-decompose program t s mid a = StepEffect-of_thread (slice_get s.threads t) refl a
+StepEffect-of_step program t s mid a = StepEffect-of_thread (slice_get s.threads t) refl a
   where
     -- By the statement at the thread's position.
     StepEffect-of_statement : (th : Thread) (o : Option Stmt)
@@ -210,7 +210,7 @@ pub source_step-other_thread : (program : List (List Stmt)) (t u : ℕ) (s mid :
     → source_step program t s ≡ Ok mid
     → slice_get mid.threads u ≡ slice_get s.threads u
 source_step-other_thread program t u s mid ne a =
-    let d = step-decompose program t s mid a in
+    let d = StepEffect-of_step program t s mid a in
     ap (λ (x : State). slice_get x.threads u) d.state_is ∙ get-set_other s.threads t u _ ne
 
 -- A step does not change another thread's position.
@@ -240,7 +240,7 @@ pub FollowsFlow-source_step : (program : List (List Stmt)) (t : ℕ) (s mid : St
     → source_step program t s ≡ Ok mid
     → FollowsFlow program t s mid
 FollowsFlow-source_step program t s mid a =
-    let d = step-decompose program t s mid a in
+    let d = StepEffect-of_step program t s mid a in
     let next : Thread = thread_after (source_operation d.stmt) d.thread s.words in
     record {
       from = d.thread.position;
@@ -261,11 +261,11 @@ StepsCommute-no_conflict program t u s ne none mid end step_t step_u = (state_af
   where
     -- The step of thread t.
     step_of_t : StepEffect program t s mid
-    step_of_t = step-decompose program t s mid step_t
+    step_of_t = StepEffect-of_step program t s mid step_t
 
     -- The step of thread u after it.
     step_of_u : StepEffect program u mid end
-    step_of_u = step-decompose program u mid end step_u
+    step_of_u = StepEffect-of_step program u mid end step_u
 
     -- The operation of t.
     operation_of_t : Operation

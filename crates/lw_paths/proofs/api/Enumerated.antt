@@ -12,12 +12,12 @@ use Rattle.lw_paths.proofs.api.Successors.{successors-has, successors-only, succ
 module _ {S : Type 0} (language : Language S) where
   module _ (code : List S) (forward : JumpsForward language code) where
     -- If the lists from later positions contain each path from there, the list through a statement contains each path from it.
-    on-has : (rest : ℕ → List (List ℕ)) (j : ℕ) (path : List ℕ)
+    paths_through-has : (rest : ℕ → List (List ℕ)) (j : ℕ) (path : List ℕ)
         → IsFlowPathFrom language code j path
         → ((k : ℕ) (p : List ℕ) → j < k → k ≤ length code → IsFlowPathFrom language code k p → Contains (rest k) p)
         → Contains (paths_through language rest (slice_get code j) j) path
-    on-has rest j [] e more = rw (slice_get_past code j (omega (arith, e))) (Contains-head [] [] [] refl)
-    on-has rest j (i ∷ path) (same, next, f, goes) more = has-at_statement (slice_get code j) refl f
+    paths_through-has rest j [] e more = rw (slice_get_past code j (omega (arith, e))) (Contains-head [] [] [] refl)
+    paths_through-has rest j (i ∷ path) (same, next, f, goes) more = has-at_statement (slice_get code j) refl f
       where
         -- By the statement at the position, which has this successor.
         has-at_statement : (o : Option S)
@@ -31,12 +31,12 @@ module _ {S : Type 0} (language : Language S) where
             rw same (Contains-map _ _ _ (Contains-flat_map _ _ next path c (more next path up within goes)))
 
     -- If the lists from later positions contain only paths from there, the list through a statement contains only paths from it.
-    on-only : (rest : ℕ → List (List ℕ)) (j : ℕ) (path : List ℕ)
+    paths_through-only : (rest : ℕ → List (List ℕ)) (j : ℕ) (path : List ℕ)
         → j ≤ length code
         → ((k : ℕ) (p : List ℕ) → j < k → k ≤ length code → Contains (rest k) p → IsFlowPathFrom language code k p)
         → Contains (paths_through language rest (slice_get code j) j) path
         → IsFlowPathFrom language code j path
-    on-only rest j path l more on_path = only-at_statement (slice_get code j) refl on_path
+    paths_through-only rest j path l more on_path = only-at_statement (slice_get code j) refl on_path
       where
         -- A position without a statement is the end of the code.
         position_is_end : slice_get code j ≡ None → j ≡ length code
@@ -65,16 +65,16 @@ module _ {S : Type 0} (language : Language S) where
         → length code ≤ j + n
         → IsFlowPathFrom language code j path
         → Contains (paths_from language n code j) path
-    paths-has zero j path l flows = on-has (λ k. []) j path flows (λ k p a b g. absurd (omega arith))
-    paths-has (suc n) j path l flows = on-has _ j path flows (λ k p a b g. paths-has n k p (omega arith) g)
+    paths-has zero j path l flows = paths_through-has (λ k. []) j path flows (λ k p a b g. absurd (omega arith))
+    paths-has (suc n) j path l flows = paths_through-has _ j path flows (λ k p a b g. paths-has n k p (omega arith) g)
 
     -- The list contains only such paths.
     pub paths-only : (n j : ℕ) (path : List ℕ)
         → j ≤ length code
         → Contains (paths_from language n code j) path
         → IsFlowPathFrom language code j path
-    paths-only zero j path l on_path = on-only (λ k. []) j path l (λ k p a b g. absurd (not-Contains-nil p g)) on_path
-    paths-only (suc n) j path l on_path = on-only _ j path l (λ k p a b g. paths-only n k p b g) on_path
+    paths-only zero j path l on_path = paths_through-only (λ k. []) j path l (λ k p a b g. absurd (not-Contains-nil p g)) on_path
+    paths-only (suc n) j path l on_path = paths_through-only _ j path l (λ k p a b g. paths-only n k p b g) on_path
 
   -- The list contains each path assignment.
   assignments-has : (program : List (List S))

@@ -154,31 +154,32 @@ module _ {S : Type 0} (language : Language S) where
       (Contains-head (item t j true) (item t j true) [] refl))
 
   -- An item of a position on a thread's path is an item of the path.
-  has_thread : (t : ℕ) (code : List S) (path : List ℕ) (j : ℕ) (a : Item)
+  Contains-path_items : (t : ℕ) (code : List S) (path : List ℕ) (j : ℕ) (a : Item)
       → IsMember j path
       → Contains (items_at language t j (slice_get code j)) a
       → Contains (path_items language t code path) a
-  has_thread t code [] j a is_member g = absurd is_member
-  has_thread t code (k ∷ path) j a (inl same) is_member =
+  Contains-path_items t code [] j a is_member g = absurd is_member
+  Contains-path_items t code (k ∷ path) j a (inl same) is_member =
       Contains-append_left (items_at language t k (slice_get code k)) (path_items language t code path) a
       (subst (λ (n : ℕ). Contains (items_at language t n (slice_get code n)) a) (sym same) is_member)
-  has_thread t code (k ∷ path) j a (inr h) is_member = Contains-append_right _ _ a (has_thread t code path j a h is_member)
+  Contains-path_items t code (k ∷ path) j a (inr h) is_member =
+      Contains-append_right _ _ a (Contains-path_items t code path j a h is_member)
 
   -- An item of a position on the path of thread k is an item of the path assignment.
-  has_from : (t : ℕ) (program : List (List S)) (paths : List (List ℕ)) (k u j : ℕ) (a : Item)
+  Contains-items_from : (t : ℕ) (program : List (List S)) (paths : List (List ℕ)) (k u j : ℕ) (a : Item)
       → u ≡ t + k
       → length paths ≡ length program
       → k < length program
       → IsMember j (thread_code paths k)
       → Contains (items_at language u j (slice_get (thread_code program k) j)) a
       → Contains (items_from language t program paths) a
-  has_from t (code ∷ program) (path ∷ paths) zero u j a e len in_range is_member on_path =
+  Contains-items_from t (code ∷ program) (path ∷ paths) zero u j a e len in_range is_member on_path =
       let same : t ≡ u = omega arith in
-      Contains-append_left (path_items language t code path) _ a (has_thread t code path j a is_member (rw same on_path))
-  has_from t (code ∷ program) (path ∷ paths) (suc k) u j a e len in_range is_member on_path =
+      Contains-append_left (path_items language t code path) _ a (Contains-path_items t code path j a is_member (rw same on_path))
+  Contains-items_from t (code ∷ program) (path ∷ paths) (suc k) u j a e len in_range is_member on_path =
       Contains-append_right (path_items language t code path) (items_from language (suc t) program paths) a
-      (has_from (suc t) program paths k u j a (omega arith) (omega arith) (omega arith) is_member on_path)
-  has_from t _ _ k u j a e len in_range is_member on_path = absurd (omega arith)
+      (Contains-items_from (suc t) program paths k u j a (omega arith) (omega arith) (omega arith) is_member on_path)
+  Contains-items_from t _ _ k u j a e len in_range is_member on_path = absurd (omega arith)
 
   -- Of the items at a position, the store has a lower rank than its drain.
   Pairwise-items_at : (t j : ℕ) (o : Option S) → Pairwise IsLower (items_at language t j o)
@@ -194,13 +195,13 @@ module _ {S : Type 0} (language : Language S) where
       )
 
   -- Along an ascending path the ranks of its items increase.
-  thread_sorted : (t low : ℕ) (code : List S) (path : List ℕ)
+  Pairwise-path_items : (t low : ℕ) (code : List S) (path : List ℕ)
       → IsAscendingFrom low path
       → Pairwise IsLower (path_items language t code path)
-  thread_sorted t low code [] u = tt
-  thread_sorted t low code (j ∷ path) u =
+  Pairwise-path_items t low code [] u = tt
+  Pairwise-path_items t low code (j ∷ path) u =
       Pairwise-append IsLower (items_at language t j (slice_get code j)) (path_items language t code path)
-      (Pairwise-items_at t j (slice_get code j)) (thread_sorted t (suc j) code path u.1)
+      (Pairwise-items_at t j (slice_get code j)) (Pairwise-path_items t (suc j) code path u.1)
       (All-items_at (λ (a : Item). All (IsLower a) (path_items language t code path)) t j (slice_get code j)
       (λ s b e store.
       All-path_items (IsLower (item t j b)) t code path
@@ -280,7 +281,7 @@ module _ {S : Type 0} (language : Language S) where
     HasItem-on_path t j s b len in_range is_member found_at store =
         let on_path : Contains (items_at language t j (slice_get (thread_code program t) j)) (item t j b) =
         rw found_at (Contains-items_at t j s b store) in
-        let (i, li, is) = has_from 0 program paths t t j (item t j b) (omega arith) len in_range is_member on_path in
+        let (i, li, is) = Contains-items_from 0 program paths t t j (item t j b) (omega arith) len in_range is_member on_path in
         (i, li, get_or_default items i _ (item t j b) li ∙ is)
 
     -- The item is on its thread's path: its statement, or the drain of a store.
@@ -321,7 +322,7 @@ module _ {S : Type 0} (language : Language S) where
           → thread_rank (at i) < thread_rank (at j)
       thread_rank-increasing i j less in_range same =
           Pairwise-at IsLower items i j
-          (Pairwise-items_from IsLower (IsAscendingFrom 0) (λ t code path up. thread_sorted t 0 code path up)
+          (Pairwise-items_from IsLower (IsAscendingFrom 0) (λ t code path up. Pairwise-path_items t 0 code path up)
           (λ a b less same. absurd (omega (arith, less, same))) 0 program paths (λ t l.
           IsAscendingFrom-flow_path (thread_code program t) 0 (thread_code paths t) (forward t)
           (IsFlowPathFrom-path_assignment program paths assignment t l))) less in_range same

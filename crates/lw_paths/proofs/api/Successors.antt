@@ -44,10 +44,10 @@ next_and_target-once next to = elim (cases_eq next to) [
 ]
 
 -- The list of successors has no duplicates, even if a jump targets the next position.
-pub led_to-once : (o : Option ℕ) (goes : Bool) (j : ℕ) → IsDuplicateFree (successor_list o goes j)
-led_to-once None goes j = IsDuplicateFree-singleton (j + 1)
-led_to-once (Some to) true j = next_and_target-once (j + 1) to
-led_to-once (Some to) false j = IsDuplicateFree-singleton to
+pub IsDuplicateFree-successor_list : (o : Option ℕ) (goes : Bool) (j : ℕ) → IsDuplicateFree (successor_list o goes j)
+IsDuplicateFree-successor_list None goes j = IsDuplicateFree-singleton (j + 1)
+IsDuplicateFree-successor_list (Some to) true j = next_and_target-once (j + 1) to
+IsDuplicateFree-successor_list (Some to) false j = IsDuplicateFree-singleton to
 
 -- An operation without a target falls through to the next statement.
 falls_through-no_target : (o : Operation) → branch_target o ≡ None → falls_through o ≡ true
@@ -55,25 +55,25 @@ falls_through-no_target (Branch c to) is_none = absurd cc
 falls_through-no_target _ is_none = refl
 
 -- The list contains each successor, by the target or by falling through.
-led_to-has : (o : Option ℕ) (goes : Bool) (j k : ℕ)
+successor_list-has : (o : Option ℕ) (goes : Bool) (j k : ℕ)
     → ((goes ≡ true) × (k ≡ j + 1)) ⊎ (o ≡ Some k)
     → Contains (successor_list o goes j) k
-led_to-has None goes j k (inl (g, e)) = Contains-head (j + 1) k [] (sym e)
-led_to-has None goes j k (inr e) = absurd (none-some k e)
-led_to-has (Some to) true j k (inl (g, e)) = next_and_target-has (j + 1) to k (inr e)
-led_to-has (Some to) false j k (inl (g, e)) = absurd (true≢false (sym g))
-led_to-has (Some to) true j k (inr e) = next_and_target-has (j + 1) to k (inl (sym (same_Some to k e)))
-led_to-has (Some to) false j k (inr e) = Contains-head to k [] (same_Some to k e)
+successor_list-has None goes j k (inl (g, e)) = Contains-head (j + 1) k [] (sym e)
+successor_list-has None goes j k (inr e) = absurd (none-some k e)
+successor_list-has (Some to) true j k (inl (g, e)) = next_and_target-has (j + 1) to k (inr e)
+successor_list-has (Some to) false j k (inl (g, e)) = absurd (true≢false (sym g))
+successor_list-has (Some to) true j k (inr e) = next_and_target-has (j + 1) to k (inl (sym (same_Some to k e)))
+successor_list-has (Some to) false j k (inr e) = Contains-head to k [] (same_Some to k e)
 
 -- The list contains only successors, by the target or by falling through.
-led_to-only : (o : Option ℕ) (goes : Bool) (j k : ℕ)
+successor_list-only : (o : Option ℕ) (goes : Bool) (j k : ℕ)
     → (o ≡ None → goes ≡ true)
     → Contains (successor_list o goes j) k
     → ((goes ≡ true) × (k ≡ j + 1)) ⊎ (o ≡ Some k)
-led_to-only None goes j k on is_member = inl (on refl, Contains-singleton (j + 1) k is_member)
-led_to-only (Some to) true j k on is_member =
+successor_list-only None goes j k on is_member = inl (on refl, Contains-singleton (j + 1) k is_member)
+successor_list-only (Some to) true j k on is_member =
     elim (next_and_target-only (j + 1) to k is_member) [ inl e ↦ inr (ap Some (sym e)) | inr e ↦ inl (refl, e) ]
-led_to-only (Some to) false j k on is_member = inr (ap Some (sym (Contains-singleton to k is_member)))
+successor_list-only (Some to) false j k on is_member = inr (ap Some (sym (Contains-singleton to k is_member)))
 
 module _ {S : Type 0} (language : Language S) where
   -- The list of a statement's successors contains each.
@@ -81,14 +81,15 @@ module _ {S : Type 0} (language : Language S) where
       → o ≡ Some s
       → IsFlowSuccessor language o j k
       → Contains (successors language s j) k
-  successors-has o s j k e f = led_to-has _ (falls_through (language.operation_of s)) j k (rw e at f)
+  successors-has o s j k e f = successor_list-has _ (falls_through (language.operation_of s)) j k (rw e at f)
 
   -- The list of a statement's successors contains only these.
   pub successors-only : (o : Option S) (s : S) (j k : ℕ)
       → o ≡ Some s
       → Contains (successors language s j) k
       → IsFlowSuccessor language o j k
-  successors-only o s j k e is_member = rw e (led_to-only _ _ j k (falls_through-no_target (language.operation_of s)) is_member)
+  successors-only o s j k e is_member =
+      rw e (successor_list-only _ _ j k (falls_through-no_target (language.operation_of s)) is_member)
 
   -- If jumps go forward, a successor is later in the code, at most at its end.
   pub IsFlowSuccessor-in_range : (code : List S) (j k : ℕ)

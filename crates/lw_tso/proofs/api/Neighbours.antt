@@ -217,8 +217,8 @@ module _ (program : List (List Instr)) where
             words = way.between;
             was = was;
             does =
-                subst (λ (p : Processor). EffectLeadsTo s.memory (drain_effect p.buffer p) without_entry way.between) (sym from_is)
-                way.first;
+                subst (λ (p : Processor). EffectLeadsTo s.memory (drain_effect p.buffer p) without_entry way.between)
+                (sym from_is) way.first;
             state_is = refl;
           }
 
@@ -267,8 +267,8 @@ module _ (program : List (List Instr)) where
           step =
               subst (λ o. EffectLeadsTo x.words (step_effect o without_entry) y.to y.words) pass.at
               (subst (λ (z : MachineState (List ℕ)).
-              EffectLeadsTo z.memory (step_effect (slice_get (thread_code program t) without_entry.position) without_entry) y.to y.words)
-              x.state_is
+              EffectLeadsTo z.memory (step_effect (slice_get (thread_code program t) without_entry.position) without_entry) y.to
+              y.words) x.state_is
               (subst (λ (p : Processor).
               EffectLeadsTo mid.memory (step_effect (slice_get (thread_code program t) p.position) p) y.to y.words) now y.does))
 

@@ -6,10 +6,10 @@ use Rattle.lw_base.proofs.Common.{◌≤◌, ◌++◌, ◌∙◌, ap, sym, map, 
 use Rattle.lw_base.proofs.Common.{event_texts, event_text, Memory}
 use Rattle.lw_base.proofs.Shapes.{not-event_text-if_faulty}
 use Rattle.lw_base.proofs.api.Returns.{Err-clause_converted, Err-clause_memory}
-use Rattle.lw_base.proofs.EventTexts.{not-IsSchedule-if_no_event_text, event_texts-first, event_texts-after_blanks}
-use Rattle.lw_base.proofs.EventTexts.{text_eq-append_piece, IsEvent-push, event_texts-push, length_le-suffix}
-use Rattle.lw_base.proofs.EventTexts.{drop-back, event_texts-all_read, positive-if_not_zero}
-use Rattle.lw_base.proofs.EventTexts.{length_lt-after_piece}
+use Rattle.lw_base.proofs.EventTexts.{not-IsSchedule-if_no_event_text, event_texts-first}
+use Rattle.lw_base.proofs.EventTexts.{event_texts-after_blanks, text_eq-append_piece, IsEvent-push}
+use Rattle.lw_base.proofs.EventTexts.{event_texts-push, length_le-suffix, drop-back, event_texts-all_read}
+use Rattle.lw_base.proofs.EventTexts.{positive-if_not_zero, length_lt-after_piece}
 use Rattle.lw_base.proofs.schedule.read_schedule.Goals as goal
 
 pub loop-rest-init : goal.loop-rest-init

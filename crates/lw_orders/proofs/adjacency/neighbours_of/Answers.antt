@@ -11,7 +11,8 @@ returns-clause-preserved c k d l =
     let (a, b) = c.requires.preserved k d l in
     let there = has_edge-of_member c.args.preserved.now p.0 p.1 (Contains-get_or c.args.preserved.now k d l) in
     c.add_predecessors.ensures p.0 p.1 a b
-    ∙ or_left _ _ (c.add_successors-2.ensures p.0 p.1 a b ∙ or_left _ _ (c.add_successors.ensures p.0 p.1 a b ∙ or_right _ _ there))
+    ∙ or_left _ _
+    (c.add_successors-2.ensures p.0 p.1 a b ∙ or_left _ _ (c.add_successors.ensures p.0 p.1 a b ∙ or_right _ _ there))
 
 pub returns-clause-unordered : goal.returns-clause-unordered
 returns-clause-unordered c k d l =
