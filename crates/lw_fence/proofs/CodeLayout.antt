@@ -17,19 +17,19 @@ pub both_cases-selected : (P : Lowered → Type 0) (b : Bool) (r s : Lowered)
 both_cases-selected P true r s first second = first refl
 both_cases-selected P false r s first second = second refl
 
--- The instructions are in the code at this index.
-abbrev pub StandsAt : List Instr → ℕ → List Instr → Type 0
-StandsAt code pc [] = Unit {0}
-StandsAt code pc (i ∷ is) = (slice_get code pc ≡ Some i) × StandsAt code (pc + 1) is
+-- The code has these instructions at this index.
+abbrev pub ContainsAt : List Instr → ℕ → List Instr → Type 0
+ContainsAt code pc [] = Unit {0}
+ContainsAt code pc (i ∷ is) = (slice_get code pc ≡ Some i) × ContainsAt code (pc + 1) is
 
--- Instructions in the middle of a code are in it at the length of those before them.
-StandsAt-middle : (is pre post : List Instr) → StandsAt (pre ++ (is ++ post)) (length pre) is
-StandsAt-middle [] pre post = tt
-StandsAt-middle (i ∷ is) pre post =
+-- A code has its middle instructions at the number of those before them.
+ContainsAt-middle : (is pre post : List Instr) → ContainsAt (pre ++ (is ++ post)) (length pre) is
+ContainsAt-middle [] pre post = tt
+ContainsAt-middle (i ∷ is) pre post =
     let in_range : length pre < length (pre ++ i ∷ (is ++ post)) = omega (arith, length-append pre (i ∷ (is ++ post))) in
     let here = slice_get-get_or _ (length pre) i in_range ∙ ap Some (get_or-append_seam pre i (is ++ post) i) in
     let next : length (pre ++ i ∷ []) ≡ length pre + 1 = omega (arith, length-append pre (i ∷ [])) in
-    (here, subst₂ (λ l k. StandsAt l k is) (append_assoc pre (i ∷ []) (is ++ post)) next (StandsAt-middle is _ post))
+    (here, subst₂ (λ l k. ContainsAt l k is) (append_assoc pre (i ∷ []) (is ++ post)) next (ContainsAt-middle is _ post))
 
 -- The length of a lowering does not depend on its jumps' targets.
 pub length-lowered_any_starts : (starts : List ℕ) (f : Bool) (x : Stmt)
@@ -134,7 +134,7 @@ LoweredCodeSplit-at starts n fences (y ∷ code) (suc j) x found_at =
 -- The lowering of statement j is at its start, with or without a fence, and the next start is after it.
 pub record HasLowering (instrs : List Instr) (starts : List ℕ) (j : ℕ) (x : Stmt) : Type 0 where
   pub fence : Bool
-  pub lowering_at_start : StandsAt instrs (slice_index starts j) (instrs_of (lowered starts fence x))
+  pub lowering_at_start : ContainsAt instrs (slice_index starts j) (instrs_of (lowered starts fence x))
   pub next : slice_index starts (j + 1) ≡ slice_index starts j + length (instrs_of (lowered starts fence x))
 
 -- A thread laid out in x86, whatever its fences: each statement's lowering is at its start.
@@ -179,7 +179,7 @@ HasLowering-with_fences {fences} {code} {instrs} {starts} c j x found_at =
     record {
       fence = get_or fences j false;
       lowering_at_start =
-          subst₂ (λ l k. StandsAt l k is) (sym (c.instrs_are ∙ a.whole)) here (StandsAt-middle is a.before a.rest);
+          subst₂ (λ l k. ContainsAt l k is) (sym (c.instrs_are ∙ a.whole)) here (ContainsAt-middle is a.before a.rest);
       next = omega (arith, ap (λ s. slice_index s (j + 1)) c.starts_are, here, a.next);
     }
 

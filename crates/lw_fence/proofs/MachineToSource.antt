@@ -19,10 +19,12 @@ use Rattle.lw_fence.proofs.Beside.{ThreadsCorrespond-outcome, ThreadsCorrespond-
 use Rattle.lw_fence.proofs.Beside.{initial_machine_state-compiled}
 use Rattle.lw_fence.proofs.ThreadSimulation.{Stage, whole, midway}
 use Rattle.lw_fence.proofs.PendingStores.{HasPendingStores, nothing, ThreadMoves-pending_statements}
-use Rattle.lw_fence.proofs.CodeLayout.{IsFencedAsNeeded, StandsAt, IsFencedAsNeeded-at}
+use Rattle.lw_fence.proofs.CodeLayout.{IsFencedAsNeeded, ContainsAt, IsFencedAsNeeded-at}
 
 -- A lowering is not empty, so the code is longer than its position.
-position_in_range-of_lowering : (instrs : List Instr) (k : ℕ) (r : Lowered) → StandsAt instrs k (instrs_of r) → k < length instrs
+position_in_range-of_lowering : (instrs : List Instr) (k : ℕ) (r : Lowered)
+    → ContainsAt instrs k (instrs_of r)
+    → k < length instrs
 position_in_range-of_lowering instrs k (One i) has = slice_get_within instrs k i has.0
 position_in_range-of_lowering instrs k (Two i j) has = slice_get_within instrs k i has.0
 

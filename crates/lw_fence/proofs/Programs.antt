@@ -14,7 +14,7 @@ use Rattle.lw_fence.proofs.Common.{operand_registers, operand_numbers, branch_ta
 use Rattle.lw_fence.proofs.Common.{source_operation, IsWellFormedSource, IsWellFormedProgram, SourceTest}
 use Rattle.lw_fence.proofs.Common.{X86Test, Instr, x86_language, One, Two, with_move_if, lower_compare}
 use Rattle.lw_fence.proofs.Common.{lowered, instrs_of, IsCompiledThread, IsCompiled}
-use Rattle.lw_fence.proofs.CodeLayout.{both_cases-selected, StandsAt, IsLaidOut, LaidOut, LaidOut-compiled}
+use Rattle.lw_fence.proofs.CodeLayout.{both_cases-selected, ContainsAt, IsLaidOut, LaidOut, LaidOut-compiled}
 use Rattle.lw_litmus.specs.declared.instr.Instr.TheVariants as instr
 use Rattle.lw_litmus.specs.Programs as programs
 
@@ -24,8 +24,8 @@ AllAt P k [] = Unit {0}
 AllAt P k (i ∷ is) = P k i × AllAt P (k + 1) is
 
 -- In the code a lowering begins at k, and at j, which is within it, is the instruction i.
-record StandsWithin (instrs : List Instr) (k : ℕ) (is : List Instr) (j : ℕ) (i : Instr) : Type 0 where
-  lowering : StandsAt instrs k is
+record IsWithinLowering (instrs : List Instr) (k : ℕ) (is : List Instr) (j : ℕ) (i : Instr) : Type 0 where
+  lowering : ContainsAt instrs k is
   from : k ≤ j
   before : j < k + length is
   instr_at : slice_get instrs j ≡ Some i
@@ -33,7 +33,7 @@ record StandsWithin (instrs : List Instr) (k : ℕ) (is : List Instr) (j : ℕ) 
 -- What holds of each instruction of a lowering, with its index in the code, holds of the one at j.
 AllAt-within : (P : ℕ → Instr → Type 0) (instrs : List Instr) (k : ℕ) (is : List Instr) (j : ℕ) (i : Instr)
     → AllAt P k is
-    → StandsWithin instrs k is j i
+    → IsWithinLowering instrs k is j i
     → P j i
 AllAt-within P instrs k [] j i all at = absurd (omega (arith, at.from, at.before))
 AllAt-within P instrs k (y ∷ is) j i all at =

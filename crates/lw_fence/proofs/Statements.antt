@@ -10,7 +10,7 @@ use Rattle.lw_fence.proofs.Carried.{BuffersStatement, apart, buffered, at_once, 
 use Rattle.lw_fence.proofs.Carried.{ExecutesLowering, no_store_no_load-if_unlocated, ExecutesLowering-lowered}
 use Rattle.lw_fence.proofs.Moves.{ProcessorMoves, ProcessorMoves-append, ProcessorMoves-step}
 use Rattle.lw_fence.proofs.Moves.{ProcessorMoves-drain}
-use Rattle.lw_fence.proofs.CodeLayout.{StandsAt, HasLowering}
+use Rattle.lw_fence.proofs.CodeLayout.{ContainsAt, HasLowering}
 use Rattle.lw_fence.proofs.Steps.{IsAllowedStatement}
 use Rattle.lw_litmus.specs.Programs as programs
 
@@ -100,7 +100,7 @@ module _ (program : List (List Instr)) (t : ℕ) (starts : List ℕ) (th : Threa
 
   -- If the lowering at the statement's start executes the statement, the processor executes it by these instructions.
   StatementTurn-of_lowering : (r : Lowered)
-      → StandsAt (thread_code program t) (slice_index starts th.position) (instrs_of r)
+      → ContainsAt (thread_code program t) (slice_index starts th.position) (instrs_of r)
       → ExecutesLowering starts th x begin r
       → StatementTurn program t starts th z m x (events_for t (length (instrs_of r)) x)
   StatementTurn-of_lowering (One i) has ends =

@@ -16,7 +16,7 @@ use Rattle.lw_fence.proofs.PendingStores.{HasPendingStores, ExecutesOldestStore-
 use Rattle.lw_fence.proofs.PendingStores.{store, HasPendingStores-append, ThreadMoves-pending_statements}
 use Rattle.lw_fence.proofs.PendingStores.{IsReachableFromStore-pending_store}
 use Rattle.lw_fence.proofs.Steps.{IsThreadInBounds, IsAllowedStatement, IsThreadInBounds-step}
-use Rattle.lw_fence.proofs.CodeLayout.{IsFencedAsNeeded, StandsAt}
+use Rattle.lw_fence.proofs.CodeLayout.{IsFencedAsNeeded, ContainsAt}
 
 -- The processor is at the start of v's next statement, with v's registers, or at an instruction whose effect executes this statement.
 pub data Stage (code : List Stmt) (instrs : List Instr) (starts : List ℕ) (v : Thread) (p : Processor) : Type 0 where
@@ -165,7 +165,7 @@ module _ (program : List (List Stmt)) (t : ℕ) (instrs : List Instr) (starts : 
   SourceFollows-lowering : (s : Stmt)
       → slice_get code v.position ≡ Some s
       → (r : Lowered)
-      → StandsAt instrs p.position (instrs_of r)
+      → ContainsAt instrs p.position (instrs_of r)
       → ExecutesLowering starts v s p r
       → After (step_effect (slice_get instrs p.position) p)
   SourceFollows-lowering s found_at (One i) has ends =
@@ -227,7 +227,7 @@ module _ (program : List (List Stmt)) (t : ℕ) (instrs : List Instr) (starts : 
   SourceFollows-at_start (Some s) at position regs =
       let stands = placed.laid.at v.position s at in
       let has =
-      subst (λ k. StandsAt instrs k (instrs_of (lowered starts stands.fence s))) (sym position) stands.lowering_at_start in
+      subst (λ k. ContainsAt instrs k (instrs_of (lowered starts stands.fence s))) (sym position) stands.lowering_at_start in
       let next : slice_index starts (v.position + 1) ≡ p.position + length (instrs_of (lowered starts stands.fence s)) =
       omega (arith, stands.next, position) in
       SourceFollows-lowering s at (lowered starts stands.fence s) has

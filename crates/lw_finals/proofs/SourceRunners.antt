@@ -1,4 +1,4 @@
--- The schedules of the orders of a source test's items reach the orders' outcomes. For `entry` and `is_led`
+-- The schedules of the orders of a source test's items reach the orders' outcomes. For `entry` and `has_kept`
 -- of the source runner.
 use Rattle.lw_finals.proofs.Common.{◌≡◌, ◌<◌, length, ℕ, subst, List, [], ◌∷◌, ◌++◌, refl, sym, ap, ap₂, ◌∙◌}
 use Rattle.lw_finals.proofs.Common.{All, slice_get, All-nil, All-cons, slice_get_within, same_Some, get-map}

@@ -4,7 +4,7 @@ ghost use Rattle.lw_orders.specs.Limits.{most_items};
 ghost use Rattle.lw_paths.specs.Items.{constraints_of};
 ghost use Rattle.lw_paths.specs.declared.item.Item.{Item};
 ghost use Rattle.lw_paths.specs.Counts.{LimitFaultIsTrue, IsWithinLimits};
-ghost use Rattle.lw_paths.specs.Totals.{LimitFaultOfAssignment, TellsOfGiven};
+ghost use Rattle.lw_paths.specs.Totals.{LimitFaultOfAssignment, LimitFaultOfOrders};
 ghost use Rattle.lw_finals.specs.inner.Collected.{RunResult, CollectsOutcomes, OutcomesOfOne, OutcomesOfItems, OutcomesOfAssignment, OutcomesOfProgram};
 ghost use Rattle.lw_outcome_map.specs.Listings.{IsStrictlySorted, outcomes_of};
 ghost use Rattle.lw_paths.specs.Visits.{IsVisitable};
@@ -79,20 +79,20 @@ fn collect_orders<A: Allocator, R: OrderRunner<A>>(
 fn collect_items<S: Statement, A: Allocator + Copy, B: Allocator, R: OrderRunner<A>>(
     alloc: A,
     program: &[Sequence<S, B>],
-    is_apart: bool,
+    is_conflict_free: bool,
     runner: &mut R,
     items: &[Item],
     found: &mut OutcomeMap<A, R::Kept>,
 ) -> Result<(), ListFault>
     requires bounded { length items.now ≤ most_items }
-    requires apart { is_apart ≡ true → (constraints_of S.language program.now items.now).conflicts ≡ [] }
+    requires apart { is_conflict_free ≡ true → (constraints_of S.language program.now items.now).conflicts ≡ [] }
     ensures same { R.test runner.new ≡ R.test runner.old }
     ensures gathered { OnOk result (CollectsOutcomes
         (OutcomesOfItems S.language (R.ends (R.test runner.old)) program.now items.now)
         (R.leads (R.test runner.old)) found.old found.new) }
-    ensures err { IfErr result (TellsOfGiven S.language program.now items.now) }
+    ensures err { IfErr result (LimitFaultOfOrders S.language program.now items.now) }
 {
-    if is_apart {
+    if is_conflict_free {
         return collect_single_order(program, runner, items, found);
     }
     let conflicts = conflicts_of(alloc, program, items)?;
@@ -117,7 +117,7 @@ fn collect_conflicting<S: Statement, A: Allocator + Copy, B: Allocator, R: Order
     ensures gathered { OnOk result (CollectsOutcomes
         (OutcomesOfItems S.language (R.ends (R.test runner.old)) program.now items.now)
         (R.leads (R.test runner.old)) found.old found.new) }
-    ensures err { IfErr result (TellsOfGiven S.language program.now items.now) }
+    ensures err { IfErr result (LimitFaultOfOrders S.language program.now items.now) }
 {
     let constraints = reduced_constraints(alloc, program, items, conflicts)?;
     let Some(orders) = Orders::new(alloc, &constraints)? else {
@@ -140,7 +140,7 @@ fn collect_single_order<S: Statement, A: Allocator, B: Allocator, R: OrderRunner
     ensures gathered { OnOk result (CollectsOutcomes
         (OutcomesOfItems S.language (R.ends (R.test runner.old)) program.now items.now)
         (R.leads (R.test runner.old)) found.old found.new) }
-    ensures err { IfErr result (TellsOfGiven S.language program.now items.now) }
+    ensures err { IfErr result (LimitFaultOfOrders S.language program.now items.now) }
 {
     one_order_without_unordered_conflicts();
     let order = Order::ascending(items.len());
@@ -154,11 +154,11 @@ struct Gatherer<'a, 'r, S: Statement, A: Allocator, B: Allocator, R: OrderRunner
     alloc: A,
     program: &'a [Sequence<S, B>],
     // Whether it is known that nothing conflicts.
-    is_apart: bool,
+    is_conflict_free: bool,
     items: Vec<Item, A>,
     runner: &'r mut R,
     found: OutcomeMap<A, R::Kept>,
-    ghost apart: { is_apart ≡ true → (items : List Item) → (constraints_of S.language program.now items).conflicts ≡ [] },
+    ghost apart: { is_conflict_free ≡ true → (items : List Item) → (constraints_of S.language program.now items).conflicts ≡ [] },
 }
 
 impl<'a, 'r, S: Statement, A: Allocator + Copy, B: Allocator, R: OrderRunner<A>> Visitor
@@ -176,7 +176,7 @@ impl<'a, 'r, S: Statement, A: Allocator + Copy, B: Allocator, R: OrderRunner<A>>
         collect_items(
             self.alloc,
             self.program,
-            self.is_apart,
+            self.is_conflict_free,
             self.runner,
             self.items.as_slice(),
             &mut self.found,
@@ -201,7 +201,7 @@ pub(crate) fn list_program<S: Statement, A: Allocator + Copy, B: Allocator, R: O
     let mut gatherer = Gatherer {
         alloc,
         program,
-        is_apart: has_no_conflicts(program),
+        is_conflict_free: has_no_conflicts(program),
         items: Vec::new(alloc),
         runner,
         found: OutcomeMap::new(alloc),

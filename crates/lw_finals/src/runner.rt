@@ -40,7 +40,7 @@ pub(crate) trait OrderRunner<A: Allocator> {
         ensures { result.now ≡ end self.now };
 
     /// States that the outcome of the last run has something that is kept for it.
-    fn is_led(&self, items: &[Item], order: &[u8])
+    fn has_kept(&self, items: &[Item], order: &[u8])
         requires within { All (λ i. i < length items.now) order.now }
         requires ran { ends (test self.now) items.now order.now (end self.now) }
         ensures { (kept : Self.Kept) × leads (test self.now) kept (end self.now) };
@@ -104,13 +104,13 @@ impl<A: Allocator + Copy, R: OrderRunner<A>> OrderRunner<A> for OutcomeRunner<R>
     }
 
     /// States that some schedule reaches the outcome.
-    fn is_led(&self, items: &[Item], order: &[u8]) {
-        self.runner.is_led(items, order);
+    fn has_kept(&self, items: &[Item], order: &[u8]) {
+        self.runner.has_kept(items, order);
     }
 
     /// Returns a copy of the outcome of the last run.
     fn entry(&self, items: &[Item], order: &[u8]) -> Result<(Outcome<A>, ()), AllocError> {
-        self.runner.is_led(items, order);
+        self.runner.has_kept(items, order);
         let outcome = copy_outcome(self.runner.last_outcome())?;
         Ok((outcome, ()))
     }

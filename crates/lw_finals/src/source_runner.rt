@@ -154,7 +154,7 @@ impl<'a, A: Allocator + Copy> OrderRunner<A> for SourceRunner<'a, A> {
     }
 
     /// States that some schedule of the compiled program reaches the outcome.
-    fn is_led(&self, _items: &[Item], _order: &[u8]) {
+    fn has_kept(&self, _items: &[Item], _order: &[u8]) {
         // (The proof needs the runner's invariant, which holds when a field is read.)
         let _source = self.source;
         schedules_replay();

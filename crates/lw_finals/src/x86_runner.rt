@@ -186,7 +186,7 @@ impl<'a, A: Allocator + Copy> OrderRunner<A> for X86Runner<'a, A> {
     }
 
     /// States that some schedule reaches the outcome.
-    fn is_led(&self, _items: &[Item], _order: &[u8]) {}
+    fn has_kept(&self, _items: &[Item], _order: &[u8]) {}
 
     /// Returns the outcome of the last run, with the schedule of the order's events.
     fn entry(

@@ -4,7 +4,7 @@ ghost use Rattle.lw_litmus.specs.Tests.{SourceTest, X86Test};
 ghost use Rattle.lw_litmus.specs.WellFormedTests.{IsWellFormedSource, IsWellFormedProgram};
 ghost use Rattle.lw_litmus.specs.WellScopedTests.{IsWellScopedSource, IsWellScopedProgram};
 
-/// A well-formed test is well-scoped: what laws say of all well-scoped tests, they say of all tests that are read.
+/// States that a well-formed test is well-scoped: what laws say of all well-scoped tests, they say of all tests that are read.
 pub fn well_formed_tests_are_well_scoped()
     ensures source { (test : SourceTest) → IsWellFormedSource test → IsWellScopedSource test }
     ensures x86 { (test : X86Test) → IsWellFormedProgram test → IsWellScopedProgram test }

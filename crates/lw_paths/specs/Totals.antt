@@ -33,16 +33,16 @@ module _ {S : Type 0} (language : Language S) (program : List (List S)) where
   LimitFaultOfAssignment before paths Memory = Unit {0}
 
   -- The reason for which the items of a path assignment are rejected: there are too many, or memory was refused.
-  abbrev pub LimitFaultOfItems : List (List ℕ) → ListFault → Type 0
-  LimitFaultOfItems paths TooManyItems = most_items < items_of_assignment language program paths
-  LimitFaultOfItems paths TooManyOrders = ⊥
-  LimitFaultOfItems paths Memory = Unit {0}
+  abbrev pub LimitFaultOfPaths : List (List ℕ) → ListFault → Type 0
+  LimitFaultOfPaths paths TooManyItems = most_items < items_of_assignment language program paths
+  LimitFaultOfPaths paths TooManyOrders = ⊥
+  LimitFaultOfPaths paths Memory = Unit {0}
 
   -- The reason for which the orders of items are rejected: there are too many, or memory was refused.
-  abbrev pub TellsOfGiven : List Item → ListFault → Type 0
-  TellsOfGiven items TooManyItems = ⊥
-  TellsOfGiven items TooManyOrders = most_orders < orientation_count (transitive_reduction language program items)
-  TellsOfGiven items Memory = Unit {0}
+  abbrev pub LimitFaultOfOrders : List Item → ListFault → Type 0
+  LimitFaultOfOrders items TooManyItems = ⊥
+  LimitFaultOfOrders items TooManyOrders = most_orders < orientation_count (transitive_reduction language program items)
+  LimitFaultOfOrders items Memory = Unit {0}
 
   -- The reason for which a visit of all path assignments fails.
   abbrev pub LimitFaultOfAssignments : ListFault → Type 0

@@ -3,7 +3,7 @@ ghost use Rattle.std.specs.Prelude.{◌≡◌, ◌+◌, ◌<◌, ◌≤◌, ℕ,
 ghost use Rattle.lw_orders.specs.Orientations.{orientation_count};
 ghost use Rattle.lw_orders.specs.Limits.{most_items, most_orders};
 ghost use Rattle.lw_paths.specs.Counts.{items_of_assignment};
-ghost use Rattle.lw_paths.specs.Totals.{orders_of_assignment, LimitFaultOfItems, LimitFaultOfAssignment};
+ghost use Rattle.lw_paths.specs.Totals.{orders_of_assignment, LimitFaultOfPaths, LimitFaultOfAssignment};
 ghost use Rattle.lw_paths.specs.Items.{constraints_of, items_of};
 ghost use Rattle.lw_paths.specs.TransitiveReduction.{transitive_reduction};
 ghost use Rattle.lw_paths.specs.Views.{assignment_of};
@@ -29,7 +29,7 @@ pub fn fill_few_items<S: Statement, A: Allocator, B: Allocator>(
 ) -> Result<(), ListFault>
     ensures ok { OnOk result (items.new.items ≡ items_of S.language program.now (assignment_of assignment.now)) }
     ensures bounded { OnOk result (length items.new.items ≤ most_items) }
-    ensures err { IfErr result (LimitFaultOfItems S.language program.now (assignment_of assignment.now)) }
+    ensures err { IfErr result (LimitFaultOfPaths S.language program.now (assignment_of assignment.now)) }
     ensures left { OnErr result ((filled : ℕ) × (items.new.items ≡ take filled (items_of S.language program.now (assignment_of assignment.now)))) }
 {
     fill_items(program, assignment, items)?;

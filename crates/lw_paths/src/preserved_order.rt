@@ -93,19 +93,19 @@ fn push_edge<A: Allocator>(
     Ok(())
 }
 
-/// Appends the pairs of an item with the last statement before it, and with the last drain if `is_behind_drains` is
+/// Appends the pairs of an item with the last statement before it, and with the last drain if `is_after_drains` is
 /// set.
 fn push_preserved<A: Allocator>(
     pairs: &mut Vec<(u8, u8), A>,
     last: LastItems,
-    is_behind_drains: bool,
+    is_after_drains: bool,
     index: u8,
 ) -> Result<(), AllocError>
     ensures { OnOk result (pairs.new.items ≡ pairs.old.items ++ edge_from last.statement index
-        ++ (if is_behind_drains then edge_from last.drain index else [])) }
+        ++ (if is_after_drains then edge_from last.drain index else [])) }
 {
     push_edge(pairs, last.statement, index)?;
-    if is_behind_drains {
+    if is_after_drains {
         push_edge(pairs, last.drain, index)?;
     }
     Ok(())
@@ -126,8 +126,8 @@ pub(crate) fn reduced_pairs<S: Statement, A: Allocator, B: Allocator>(
     for (index, item) in items.iter().enumerate() {
         last = last.of(item.thread, before);
         before = item.thread;
-        let is_behind_drains = needs_earlier_drains(program, *item);
-        push_preserved(&mut pairs, last, is_behind_drains, index as u8)?;
+        let is_after_drains = needs_earlier_drains(program, *item);
+        push_preserved(&mut pairs, last, is_after_drains, index as u8)?;
         last = last.with(item.is_drain, index as u8);
     }
     Ok(pairs)

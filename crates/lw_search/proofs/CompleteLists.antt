@@ -24,11 +24,11 @@ module _ (test : X86Test)
   start = initial_machine_state test test.head.init_words
 
   -- A run that was found is a replay over caches.
-  ReplaysToOverCaches-of_entry : {Kept : Type 0} (StandsFor : Kept → List Event → Type 0) (protocol : Protocol)
-      (e : FinalState × Kept) (leads : LeadsTo StandsFor test.threads start e)
+  ReplaysToOverCaches-of_entry : {Kept : Type 0} (Describes : Kept → List Event → Type 0) (protocol : Protocol)
+      (e : FinalState × Kept) (leads : LeadsTo Describes test.threads start e)
       → ReplaysToOverCaches protocol test leads.0 e.0
   unfolding start
-  ReplaysToOverCaches-of_entry StandsFor protocol e leads =
+  ReplaysToOverCaches-of_entry Describes protocol e leads =
       let reached = leads.2 in
       (replay protocol leads.0 e.0
       (without_evictions-flat_run test.threads leads.0 (initial_machine_state test test.head.init_words) reached.0 reached.1)).1 (record {
@@ -38,13 +38,13 @@ module _ (test : X86Test)
         outcome_is = reached.3;
       })
 
-  module _ (Agrees : FinalState → FinalState → Type 0) {Kept : Type 0} (StandsFor : Kept → List Event → Type 0)
+  module _ (Agrees : FinalState → FinalState → Type 0) {Kept : Type 0} (Describes : Kept → List Event → Type 0)
       (flat : (protocol : Protocol) (o : FinalState)
       → OutcomeOverCaches protocol test o ↔ IsMachineOutcome flat_memory test test.head.init_words o) (tables : Components)
       (visited : FoundStates) (finished : IsFinished test tables visited) (entries : OutcomesWith Kept)
-      (collected : CollectsAll Agrees StandsFor test.threads tables visited entries) where
+      (collected : CollectsAll Agrees Describes test.threads tables visited entries) where
     -- A run from the initial state reaches the outcome of each entry, and the entry represents this run.
-    All-LeadsTo : All (LeadsTo StandsFor test.threads (initial_machine_state test test.head.init_words)) entries
+    All-LeadsTo : All (LeadsTo Describes test.threads (initial_machine_state test test.head.init_words)) entries
     All-LeadsTo = collected.lead (initial_machine_state test test.head.init_words) finished.0 (length visited.keys) finished.1
 
     -- Each listed outcome is one of the test over flat memory.
@@ -52,7 +52,7 @@ module _ (test : X86Test)
     reached o c =
         let e = Contains-entry_of_outcome entries o c in
         let to =
-        All-contains (LeadsTo StandsFor test.threads (initial_machine_state test test.head.init_words)) entries e.0 All-LeadsTo
+        All-contains (LeadsTo Describes test.threads (initial_machine_state test test.head.init_words)) entries e.0 All-LeadsTo
         e.1 in
         subst (IsMachineOutcome flat_memory test test.head.init_words) e.2
         (to.0, record { end = to.2.0; ran = to.2.1; final = to.2.2; outcome_is = to.2.3 })
@@ -74,7 +74,7 @@ module _ (test : X86Test)
         finished.1 at.1 h.final)
 
     -- For each outcome of the test one is listed that agrees with it, and each listed outcome is one of the test.
-    pub lists_agreeing : ListsAgreeing Agrees StandsFor test entries
+    pub lists_agreeing : ListsAgreeing Agrees Describes test entries
     unfolding start
     lists_agreeing = record {
       covered = covered;
@@ -82,9 +82,9 @@ module _ (test : X86Test)
       flat = flat;
       shapes =
           All-map (HasOutcomeShape test.head.threads (length test.head.locs)) (λ (e : FinalState × Kept). e.0) entries
-          (All-weaker (LeadsTo StandsFor test.threads (initial_machine_state test test.head.init_words))
+          (All-weaker (LeadsTo Describes test.threads (initial_machine_state test test.head.init_words))
           (λ (e : FinalState × Kept). HasOutcomeShape test.head.threads (length test.head.locs) e.0)
-          (λ e to. (of_test Mesi to.0 e.0 (ReplaysToOverCaches-of_entry StandsFor Mesi e to)).outcome) entries All-LeadsTo);
+          (λ e to. (of_test Mesi to.0 e.0 (ReplaysToOverCaches-of_entry Describes Mesi e to)).outcome) entries All-LeadsTo);
       lead = All-LeadsTo;
     }
 

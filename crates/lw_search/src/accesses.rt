@@ -179,8 +179,8 @@ impl EventAccess {
         EventAccess { bits }
     }
 
-    /// Returns whether the event is enabled, and its access is none of these.
-    fn is_apart(self, conflicts: Conflicts) -> bool {
+    /// Returns whether the event is enabled, and its access, if it has one, is none of these.
+    fn avoids(self, conflicts: Conflicts) -> bool {
         self.bits & conflicts.bits == 0
     }
 }
@@ -214,7 +214,7 @@ impl Outlook {
 
     /// Returns whether an invisible event may be enabled, given the conflicts of the other threads. No contract depends on the answer.
     fn may_settle(&self, conflicts: Conflicts) -> bool {
-        self.step.is_apart(conflicts) || self.drain.is_apart(conflicts)
+        self.step.avoids(conflicts) || self.drain.avoids(conflicts)
     }
 }
 
@@ -260,7 +260,7 @@ impl Outlooks {
         threads: [Outlook::NONE; 4],
     };
 
-    /// Returns what conflicts with the threads but one, now or later.
+    /// Returns the accesses that conflict with the events, now or later, of all threads except one.
     pub(crate) fn conflicts_with_others(&self, cpu: Cpu) -> Conflicts
         ensures { (program : List (List Instr)) (s : State) → DescribeState program s self.now.threads → HasConflictsOfOthers program s cpu result }
     {
@@ -280,8 +280,8 @@ impl Outlooks {
         next
     }
 
-    /// Returns whether the accesses that conflict with a thread are those of another outlook of the thread. No contract depends on the
-    /// answer.
+    /// Returns whether the accesses that conflict with a thread are those of another outlook of the thread. No contract depends on the answer:
+    /// `false` costs another look at the threads.
     pub(crate) fn has_same_conflicts(&self, cpu: Cpu, outlook: &Outlook) -> bool {
         self.threads[cpu.index()]
             .conflicts

@@ -11,14 +11,14 @@ ghost use Rattle.lw_search.specs.inner.InvisibleEvents.{IsInvisible, IsForward};
 ghost use Rattle.lw_search.specs.inner.StateKeys.{State, Components, FoundStates};
 ghost use Rattle.lw_search.specs.inner.Invariant.{Covers, SearchInvariant};
 
-/// An invisible event can be taken before all other events: each final state that some run reaches from the state before it is
+/// States that an invisible event can be taken before all other events: each final state that some run reaches from the state before it is
 /// reached from the state after it, by a run that is no longer.
 pub(crate) fn invisible_events_can_be_taken_first()
     ensures { (program : List (List Instr)) (e : Event) (s next : State) → IsForward program
         → MachineTransition flat_memory program e s (Ok tt) next → IsInvisible program e s → cpu_of e < length program → Covers program next s }
 {}
 
-/// A search that has visited each state that it found has found all final states that are reachable.
+/// States that a search that has visited each state that it found has found all final states that are reachable.
 pub(crate) fn all_final_states_are_found()
     ensures { (program : List (List Instr)) (start : State) (tables : Components) (visited : FoundStates) (found : List State)
         → SearchInvariant program start tables visited found (length found)

@@ -240,7 +240,7 @@ impl<A: Allocator> Processor<A> {
         Ok(())
     }
 
-    /// Advances. Is rejected unless the store buffer is empty.
+    /// Executes a fence, which only advances. Is rejected unless the store buffer is empty.
     fn fence(&mut self) -> Result<(), Stop>
         requires { self.old.position + 1 < 2 ^ 64 }
         ensures waits { result ≡ (if length self.old.buffer.entries == 0 then Ok tt else Err Stop.FenceWaits) }

@@ -194,8 +194,8 @@ module _ (t : ℕ) (line : CacheLine) (lt : t < most_threads) (sound : IsCoheren
       → LineAfterRequest (coherent_word line) (record { copies = set line.copies t Invalid; memory = line.memory })
   LineAfterRequest-if_clean_copy_evicted c e not = LineAfterRequest-without_own line.memory (dirty_word_or-set_clean line.memory line.copies t Invalid (λ d. not (subst IsDirty e d)) (λ d. d))
 
-  -- What each case of a protocol's table preserves: what a write finds, and what a load and an eviction leave.
-  pub record Keeps (table : ProtocolTable) : Type 0 where
+  -- The cases of a protocol's table preserve the coherent cache line: what a write finds, and what a load and an eviction leave.
+  pub record PreservesCoherentLine (table : ProtocolTable) : Type 0 where
     pub to_write : ToWrite (cache_line_to_write t line)
     pub loaded : Loaded (cache_line_to_read table t line)
     pub evicted : is_held (copy_state (copy_of line t)) ≡ true → LineAfterRequest (coherent_word line) (cache_line_evicted t line)

@@ -10,7 +10,7 @@ use Rattle.lw_mesi.specs.Coherence.{IsOnlyCopy, IsDirty, IsCoherentCacheLine, Is
 use Rattle.lw_mesi.specs.Snooping.{is_held_anywhere, copy_from, get_m, on_load, on_write, on_evict, cache_line_to_read, cache_line_to_write, cache_line_written, cache_line_evicted}
 use Rattle.lw_mesi.specs.Protocols.{table_of, mesi_on_other_get_s, moesi_on_other_get_s}
 use Rattle.lw_mesi.specs.laws.Coherent.{copy_in, copy_in-map, dirty_word_or-if_clean, LineAfterRequest}
-use Rattle.lw_mesi.specs.laws.Cases.{SharesOthers, ToWrite, ToWrite-if_hit, ToWrite-after_get_m, Loaded, Loaded-if_hit, get_s_loaded, written_back, LineAfterRequest-if_clean_copy_evicted, Keeps}
+use Rattle.lw_mesi.specs.laws.Cases.{SharesOthers, ToWrite, ToWrite-if_hit, ToWrite-after_get_m, Loaded, Loaded-if_hit, get_s_loaded, written_back, LineAfterRequest-if_clean_copy_evicted, PreservesCoherentLine}
 
 -- Each protocol has the state I.
 pub invalid_state : (p : Protocol) → IsProtocolState p Invalid
@@ -85,7 +85,7 @@ module _ (p : Protocol) (t : ℕ) (line : CacheLine) (lt : t < most_threads) (so
   evicted Invalid e h = cc
 
   -- The table of each protocol preserves coherence and the coherent word, in each case.
-  pub keeps : Keeps t line lt sound (table_of p)
+  pub keeps : PreservesCoherentLine t line lt sound (table_of p)
   keeps = record { to_write = to_write (copy_of line t) refl; loaded = loaded (copy_of line t) refl; evicted = evicted (copy_of line t) refl }
 
 -- Each protocol has the state M, in which a write leaves a copy.

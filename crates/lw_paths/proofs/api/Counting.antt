@@ -4,7 +4,7 @@ use Rattle.lw_paths.proofs.Common.{◌^◌, ◌-◌, ◌≡◌, ℕ, ◌+◌, �
 use Rattle.lw_paths.proofs.Common.{inl, inr, arith, All, Contains, orientation_count, most_items, most_orders}
 use Rattle.lw_paths.proofs.Common.{ListFault, TooManyItems, TooManyOrders, Memory, Item, JumpsForward}
 use Rattle.lw_paths.proofs.Common.{path_assignments, items_of_assignment, orders_of_assignment, orders_of}
-use Rattle.lw_paths.proofs.Common.{total_of, HasTooManyItems, LimitFaultOfAssignment, TellsOfGiven}
+use Rattle.lw_paths.proofs.Common.{total_of, HasTooManyItems, LimitFaultOfAssignment, LimitFaultOfOrders}
 use Rattle.lw_paths.proofs.Common.{LimitFaultOfAssignments, LimitFaultIsTrue, IsWithinLimits, Language}
 use Rattle.lw_paths.proofs.Common.{items_of, constraints_of, VisitsAll, VisitFails}
 use Rattle.lw_paths.proofs.api.Enumerated.{Contains-path_assignments}
@@ -207,7 +207,7 @@ module _ {S : Type 0} (language : Language S) where
 
   -- The cause for which a path assignment's items are rejected is a cause for the first path assignment.
   pub LimitFaultOfAssignment-items_refused : (program : List (List S)) (paths : List (List ℕ)) (e : ListFault)
-      → TellsOfGiven language program (items_of language program paths) e
+      → LimitFaultOfOrders language program (items_of language program paths) e
       → LimitFaultOfAssignment language program 0 paths e
   LimitFaultOfAssignment-items_refused program paths TooManyItems h = absurd h
   LimitFaultOfAssignment-items_refused program paths TooManyOrders h =

@@ -169,9 +169,9 @@ IsScheduleOf schedule events = schedule ≡ events
 abbrev pub IsOfSomeRun : Unit {0} → List Event → Type 0
 IsOfSomeRun nothing events = Unit {0}
 
--- What is kept for an outcome stands for the events of some run from the start to a final state with this outcome.
+-- What is kept for an outcome describes the events of some run from the start to a final state with this outcome.
 abbrev pub LeadsTo : {Kept : Type 0} → (Kept → List Event → Type 0) → List (List Instr) → State → FinalState × Kept → Type 0
-LeadsTo StandsFor program start e = (events : List Event) × StandsFor e.1 events × ReachesOutcome program start events e.0
+LeadsTo Describes program start e = (events : List Event) × Describes e.1 events × ReachesOutcome program start events e.0
 
 -- The outcome of the state at an index is among the new entries, if the state is final; the old outcomes still are; and if the schedules
 -- reach all old outcomes, they reach all new ones.
@@ -194,13 +194,13 @@ AreSame p o = p ≡ o
 abbrev pub HaveSameWords : List Seen → FinalState → FinalState → Type 0
 HaveSameWords names p o = final_words names p ≡ final_words names o
 
-module _ (Agrees : FinalState → FinalState → Type 0) {Kept : Type 0} (StandsFor : Kept → List Event → Type 0) where
+module _ (Agrees : FinalState → FinalState → Type 0) {Kept : Type 0} (Describes : Kept → List Event → Type 0) where
   -- For each final state that was found an outcome is listed that agrees with the state's; and something leads to each listed outcome.
   pub record CollectsAll (program : List (List Instr)) (tables : Components) (visited : FoundStates) (entries : OutcomesWith Kept) : Type 0 where
     pub covered : (start : State) (found : List State) (closed : ℕ) (i : ℕ) (s : State) → SearchInvariant program start tables visited found closed
         → slice_get found i ≡ Some s → IsTrue (is_final program s) → ContainsAgreeing Agrees (outcomes_of entries) (machine_outcome flat_memory s)
     pub lead : (start : State) (found : List State) (closed : ℕ) → SearchInvariant program start tables visited found closed
-        → All (LeadsTo StandsFor program start) entries
+        → All (LeadsTo Describes program start) entries
 
   -- For each outcome of a test one is listed that agrees with it. Each listed outcome is one of the test, over caches of each protocol too,
   -- has its threads and locations, and something leads to it.
@@ -209,4 +209,4 @@ module _ (Agrees : FinalState → FinalState → Type 0) {Kept : Type 0} (Stands
     pub reached : (o : FinalState) → Contains (outcomes_of entries) o → IsMachineOutcome flat_memory test test.head.init_words o
     pub flat : (protocol : Protocol) (o : FinalState) → OutcomeOverCaches protocol test o ↔ IsMachineOutcome flat_memory test test.head.init_words o
     pub shapes : All (HasOutcomeShape test.head.threads (length test.head.locs)) (outcomes_of entries)
-    pub lead : All (LeadsTo StandsFor test.threads (initial_machine_state test test.head.init_words)) entries
+    pub lead : All (LeadsTo Describes test.threads (initial_machine_state test test.head.init_words)) entries

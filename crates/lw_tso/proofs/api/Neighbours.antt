@@ -18,9 +18,9 @@ use Rattle.lw_memory.specs.declared.request.Access.TheVariants as to
 -- ---- positions
 
 -- The event is a drain, or the processor is at this position for its step.
-abbrev StandsAtIndex : Event → ℕ → Processor → Type 0
-StandsAtIndex (Step t) j p = p.position ≡ j
-StandsAtIndex _ j p = Unit {0}
+abbrev IsAtIndex : Event → ℕ → Processor → Type 0
+IsAtIndex (Step t) j p = p.position ≡ j
+IsAtIndex _ j p = Unit {0}
 
 -- The position of a processor in range is that in the machine.
 pub position_of-in_range : (s : MachineState (List ℕ)) (t : ℕ) {p : Processor}
@@ -29,17 +29,17 @@ pub position_of-in_range : (s : MachineState (List ℕ)) (t : ℕ) {p : Processo
 position_of-in_range s t at = slice_get-map _ s.processors t ∙ ap (option_map (λ (q : Processor). q.position)) at
 
 -- If an event is at position j in the machine's state, so is it in its processor's.
-StandsAtIndex-of_machine : (e : Event) (j : ℕ) (s : MachineState (List ℕ)) (p : Processor)
+IsAtIndex-of_machine : (e : Event) (j : ℕ) (s : MachineState (List ℕ)) (p : Processor)
     → slice_get s.processors (cpu_of e) ≡ Some p
     → IsAtPosition e j s
-    → StandsAtIndex e j p
-StandsAtIndex-of_machine (Step t) j s p at stands = same_Some p.position j (sym (position_of-in_range s t at) ∙ stands)
-StandsAtIndex-of_machine _ j s p at stands = tt
+    → IsAtIndex e j p
+IsAtIndex-of_machine (Step t) j s p at stands = same_Some p.position j (sym (position_of-in_range s t at) ∙ stands)
+IsAtIndex-of_machine _ j s p at stands = tt
 
 -- If an event is at position j in its processor's state, so is it in the machine's.
 IsAtPosition-of_processor : (e : Event) (j : ℕ) (s : MachineState (List ℕ)) (p : Processor)
     → slice_get s.processors (cpu_of e) ≡ Some p
-    → StandsAtIndex e j p
+    → IsAtIndex e j p
     → IsAtPosition e j s
 IsAtPosition-of_processor (Step t) j s p at is = position_of-in_range s t at ∙ ap Some is
 IsAtPosition-of_processor _ j s p at is = tt
@@ -71,7 +71,7 @@ module _ (program : List (List Instr)) where
 
   -- An event whose processor is at position j is a transition at this position.
   TransitionAt-of_occurrence : (e : Event) (j : ℕ) (s mid : MachineState (List ℕ)) (d : EventOccurrence program e s mid)
-      → StandsAtIndex e j d.from
+      → IsAtIndex e j d.from
       → TransitionAt flat_memory program e j s mid
   TransitionAt-of_occurrence e j s mid d is = record {
     is_at_position = IsAtPosition-of_processor e j s d.from d.was is;
@@ -93,8 +93,8 @@ module _ (program : List (List Instr)) where
         → cpu_of e ≢ cpu_of f
         → AreIndependent program e f s
         → (x : EventOccurrence program e s mid) (y : EventOccurrence program f mid end)
-        → StandsAtIndex e j x.from
-        → StandsAtIndex f k y.from
+        → IsAtIndex e j x.from
+        → IsAtIndex f k y.from
         → AreExchanged e f j k s end
     AreExchanged-two_processors e f j k ne free x y on off =
         (other, TransitionAt-of_occurrence f k s other first off, TransitionAt-of_occurrence e j other end second on)
@@ -317,7 +317,7 @@ module _ (program : List (List Instr)) where
         let x = EventOccurrence-of_event program (Step t) s mid a.done in
         step_drain s mid end t x.from (PassedEntry-of_buffer _ _ (pass x.from x.was)) j k x
         (EventOccurrence-of_event program (Drain t) mid end b.done) refl
-        (StandsAtIndex-of_machine (Step t) j s x.from x.was a.is_at_position)
+        (IsAtIndex-of_machine (Step t) j s x.from x.was a.is_at_position)
 
     -- A drain and the next step of its thread commute, if the instruction commutes with the drain of the oldest entry.
     EventsCommute-drain_step : (t : ℕ) → PassEachOther (Drain t) (Step t) → EventsCommute program (Drain t) (Step t) s
@@ -325,7 +325,7 @@ module _ (program : List (List Instr)) where
         let x = EventOccurrence-of_event program (Drain t) s mid a.done in
         let y = EventOccurrence-of_event program (Step t) mid end b.done in
         drain_step s mid end t x.from (PassedEntry-of_buffer _ _ (pass x.from x.was)) j k x y refl
-        (StandsAtIndex-of_machine (Step t) k mid y.from y.was b.is_at_position)
+        (IsAtIndex-of_machine (Step t) k mid y.from y.was b.is_at_position)
 
     -- If the processor does not exist, no event of it is enabled.
     EventsCommute-no_processor : {e : Event} (f : Event)
@@ -355,8 +355,8 @@ module _ (program : List (List Instr)) where
     EventsCommute-two_processors e f ne free j k mid end a b =
         let x = EventOccurrence-of_event program e s mid a.done in
         let y = EventOccurrence-of_event program f mid end b.done in
-        AreExchanged-two_processors s mid end e f j k ne free x y (StandsAtIndex-of_machine e j s _ x.was a.is_at_position)
-        (StandsAtIndex-of_machine f k mid y.from y.was b.is_at_position)
+        AreExchanged-two_processors s mid end e f j k ne free x y (IsAtIndex-of_machine e j s _ x.was a.is_at_position)
+        (IsAtIndex-of_machine f k mid y.from y.was b.is_at_position)
 
   -- Independent events commute.
   pub EventsCommute-independent : (e f : Event) (s : MachineState (List ℕ))

@@ -8,7 +8,7 @@ pub loop-index-preserved : goal.loop-index-preserved
 loop-index-preserved g c =
     reduced_from-push g.S.Statement.language c.args.program.now c.args.items.now c.loop-index.index c.loop-index.before
     c.loop-index.last c.loop-index.pairs.items c.loop-index-test.true c.index-items-index.is
-    c.needs_earlier_drains-is_behind_drains.ensures c.of-last.ensures c.with-last.ensures c.in_ok-push_preserved.ensures
+    c.needs_earlier_drains-is_after_drains.ensures c.of-last.ensures c.with-last.ensures c.in_ok-push_preserved.ensures
     c.loop-index.invariant
 
 pub loop-index-init : goal.loop-index-init

@@ -1,8 +1,8 @@
--- Of the x86 runner's `is_led`: some schedule reaches the outcome of the last run, namely the order's events
+-- Of the x86 runner's `has_kept`: some schedule reaches the outcome of the last run, namely the order's events
 -- (`ReplaysTo-of_order`).
 use Rattle.lw_finals.proofs.Common.{events_of}
 use Rattle.lw_finals.proofs.X86Outcomes.{ReplaysTo-of_order}
-use Rattle.lw_finals.proofs.x86_runner.X86RunnerOrderRunner.is_led.Goals as goal
+use Rattle.lw_finals.proofs.x86_runner.X86RunnerOrderRunner.has_kept.Goals as goal
 
 pub returns : goal.returns
 returns g c =

@@ -1,10 +1,10 @@
--- Of the source runner's `is_led`: some schedule of the compiled program reaches the outcome of the last run.
+-- Of the source runner's `has_kept`: some schedule of the compiled program reaches the outcome of the last run.
 -- As for `entry`, but the events are only named and not computed.
 use Rattle.lw_finals.proofs.Common.{IsWellScoped-well_formed, source_language, ◌≡◌, List, refl, ap, sym}
 use Rattle.lw_finals.proofs.Common.{subst, Event, source_of, program_of, SourceFollowsPathsToEnd}
 use Rattle.lw_finals.proofs.Common.{ReplaysFlatTo, RunnerState, CompiledSource, item_events, SourceTest}
 use Rattle.lw_finals.proofs.SourceRunners.{ReplaysTo-item_events}
-use Rattle.lw_finals.proofs.source_runner.SourceRunnerOrderRunner.is_led.Goals as goal
+use Rattle.lw_finals.proofs.source_runner.SourceRunnerOrderRunner.has_kept.Goals as goal
 
 pub returns : goal.returns
 returns g c =
