@@ -195,13 +195,13 @@ module _ {S : Type 0} (language : Language S) where
       )
 
   -- Along an ascending path the ranks of its items increase.
-  Pairwise-path_items : (t low : ℕ) (code : List S) (path : List ℕ)
+  Pairwise-ascending_path : (t low : ℕ) (code : List S) (path : List ℕ)
       → IsAscendingFrom low path
       → Pairwise IsLower (path_items language t code path)
-  Pairwise-path_items t low code [] u = tt
-  Pairwise-path_items t low code (j ∷ path) u =
+  Pairwise-ascending_path t low code [] u = tt
+  Pairwise-ascending_path t low code (j ∷ path) u =
       Pairwise-append IsLower (items_at language t j (slice_get code j)) (path_items language t code path)
-      (Pairwise-items_at t j (slice_get code j)) (Pairwise-path_items t (suc j) code path u.1)
+      (Pairwise-items_at t j (slice_get code j)) (Pairwise-ascending_path t (suc j) code path u.1)
       (All-items_at (λ (a : Item). All (IsLower a) (path_items language t code path)) t j (slice_get code j)
       (λ s b e store.
       All-path_items (IsLower (item t j b)) t code path
@@ -322,7 +322,7 @@ module _ {S : Type 0} (language : Language S) where
           → thread_rank (at i) < thread_rank (at j)
       thread_rank-increasing i j less in_range same =
           Pairwise-at IsLower items i j
-          (Pairwise-items_from IsLower (IsAscendingFrom 0) (λ t code path up. Pairwise-path_items t 0 code path up)
+          (Pairwise-items_from IsLower (IsAscendingFrom 0) (λ t code path up. Pairwise-ascending_path t 0 code path up)
           (λ a b less same. absurd (omega (arith, less, same))) 0 program paths (λ t l.
           IsAscendingFrom-flow_path (thread_code program t) 0 (thread_code paths t) (forward t)
           (IsFlowPathFrom-path_assignment program paths assignment t l))) less in_range same
