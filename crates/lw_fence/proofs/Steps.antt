@@ -6,7 +6,7 @@ use Rattle.lw_fence.proofs.Common.{slice_index_or, ForSome, cases_lt, get_or_pas
 use Rattle.lw_fence.proofs.Common.{get_or_from_slice_get, thread_code, IsRegisterIndex, IsWellFormedStatement}
 use Rattle.lw_fence.proofs.Common.{registers_of, Stmt, Operation, Thread, branch_target, source_language}
 use Rattle.lw_fence.proofs.Common.{source_operation, SourceTest, thread_after, IsSuccessor-thread_after}
-use Rattle.lw_fence.proofs.Common.{length-set_word_if_some, Compare, Fence, Branch}
+use Rattle.lw_fence.proofs.Common.{length-set_word_if_some, Compare, Fence, Branch, registers}
 use Rattle.lw_litmus.specs.declared.operation.Operation.TheVariants.{Store, FetchAdd}
 use Rattle.lw_fence.proofs.Marks.{IsSuccessor-forward}
 

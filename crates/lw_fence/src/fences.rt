@@ -32,7 +32,8 @@ fn marks_of<A: Allocator>(alloc: A, code: &[Stmt]) -> Result<Vec<bool, A>, Alloc
 fn stores_wait_past(operation: Operation, before: bool) -> bool
     ensures { result ≡ may_wait operation before }
 {
-    let ends_waiting = matches!(operation, Operation::Load { .. }) || operation.needs_empty_buffer();
+    let ends_waiting = matches!(operation, Operation::Load { .. })
+        || operation.needs_empty_buffer();
     operation.is_store() || !ends_waiting && before
 }
 
