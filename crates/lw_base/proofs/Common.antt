@@ -36,7 +36,7 @@ pub use Rattle.lw_base.specs.FinalWords.{ContainsWordsOf, final_word, final_word
 pub use Rattle.lw_base.specs.Formula.{And, Formula, No, Not, Or, Reg_is, Word_is, Yes, nodes}
 pub use Rattle.lw_base.specs.Heads.{TestHead, head_of, set_location_names}
 pub use Rattle.lw_base.specs.Languages.{arch_keyword}
-pub use Rattle.lw_base.specs.Limits.{most_locations, most_name_bytes, most_nodes, most_text_bytes}
+pub use Rattle.lw_base.specs.Limits.{most_locations, most_name_bytes, most_nodes, most_rows, most_text_bytes}
 pub use Rattle.lw_base.specs.Limits.{most_threads, registers}
 pub use Rattle.lw_base.specs.ListedOutcomes.{IsListedOutcome}
 pub use Rattle.lw_base.specs.Lists.{IsDuplicateFree}

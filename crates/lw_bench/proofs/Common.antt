@@ -102,15 +102,15 @@ pub use Rattle.lw_report.specs.declared.judgement.Claim.{Claim}
 pub use Rattle.lw_report.specs.declared.judgement.Claim.TheVariants.{Exact}
 pub use Rattle.lw_text.proofs.Common.{Atom, Close, Comment, Conjunction, Derives, DisjunctionLevel, FailsAt}
 pub use Rattle.lw_text.proofs.Common.{HasFrame, Holds, InThread, IsNameOrNumber, IsNumber, IsSymbol, IsToken}
-pub use Rattle.lw_text.proofs.Common.{Open, ParsesTest, PlacedCell, Preamble, Terminal, TestFrame, TestSyntax}
-pub use Rattle.lw_text.proofs.Common.{Tokens, and, atom, begins_mark, blank, closed, comment, conjunction}
-pub use Rattle.lw_text.proofs.Common.{ends_cell, frame_of, frame_of_syntax, is_one_byte_symbol}
-pub use Rattle.lw_text.proofs.Common.{is_two_byte_symbol, opens_comment, other, parens, part, placed_cells}
+pub use Rattle.lw_text.proofs.Common.{Open, ParsesQuestion, ParsesTest, PlacedCell, Preamble, Terminal}
+pub use Rattle.lw_text.proofs.Common.{TestFrame, TestSyntax, Tokens, and, atom, begins_mark, blank, closed}
+pub use Rattle.lw_text.proofs.Common.{comment, conjunction, ends_cell, frame_of, frame_of_syntax}
+pub use Rattle.lw_text.proofs.Common.{is_one_byte_symbol, is_two_byte_symbol, opens_comment, other, parens}
+pub use Rattle.lw_text.proofs.Common.{part, placed_cells}
 pub use Rattle.lw_text.proofs.api.Frames.{frame_columns, frame_well_formed}
 pub use Rattle.lw_text.proofs.api.Indices.{is_index}
 pub use Rattle.lw_text.proofs.api.Places.{grid_placed}
 pub use Rattle.lw_text.proofs.api.Spelling.{is_name_text, list_all-AllByRecursion, name_by_test}
-pub use Rattle.lw_text.specs.Conditions.{Condition}
 pub use Rattle.lw_text.specs.Tokens.{none}
 pub use Rattle.lw_text.specs.declared.fault.TextCause.{TextCause}
 pub use Rattle.lw_text.specs.declared.fault.TextFault.{TextFault}

@@ -9,9 +9,9 @@ use Rattle.lw_bench.proofs.Common.{IsRegisterName, store_buffering_notes, store_
 use Rattle.lw_bench.proofs.Common.{store_buffering_text, CellSyntax, ParsesCell, Column, LabelsLeadForward}
 use Rattle.lw_bench.proofs.Common.{statements, ParsesStatement, IsNumber, Tokens, none, blank, comment}
 use Rattle.lw_bench.proofs.Common.{Preamble, InThread, Terminal, Open, Close, Conjunction, Atom, Derives}
-use Rattle.lw_bench.proofs.Common.{DisjunctionLevel, atom, parens, part, and, conjunction, Holds, Condition}
-use Rattle.lw_bench.proofs.Common.{ends_cell, TestSyntax, ParsesTest, HasFrame, frame_of_syntax, x86_grammar}
-use Rattle.lw_bench.proofs.Common.{x86_spelling, printed_form}
+use Rattle.lw_bench.proofs.Common.{DisjunctionLevel, atom, parens, part, and, conjunction, Holds}
+use Rattle.lw_bench.proofs.Common.{ParsesQuestion, ends_cell, TestSyntax, ParsesTest, HasFrame}
+use Rattle.lw_bench.proofs.Common.{frame_of_syntax, x86_grammar, x86_spelling, printed_form}
 use Rattle.lw_text.specs.Preambles.{none as no_notes}
 use Rattle.lw_bench.proofs.Classics.{one_letter}
 use Rattle.lw_bench.proofs.TokenTexts.{are_tokens, Tokens-by_test, IsToken-by_test, plain_comment}
@@ -116,8 +116,8 @@ IsRegisterName-eax : IsRegisterName X86 (codes "EAX") 0
 IsRegisterName-eax = (omega arith, refl)
 
 -- The tokens of the condition say the quantifier and the terminals.
-condition : Condition X86 2 condition_tokens [] Exists syntax.terminals
-condition = record {
+question : ParsesQuestion X86 2 condition_tokens [] Exists syntax.terminals
+question = record {
   after_list = condition_tokens;
   after_quant = _;
   lists = inr (refl, refl, refl);
@@ -191,7 +191,7 @@ ParsesTest-store_buffering = record {
     ),
     omega arith,
   );
-  condition = condition;
+  question = question;
   few_names = omega arith;
   few_nodes = omega arith;
 }

@@ -13,13 +13,13 @@ use Rattle.lw_text.proofs.Common.{no_blank, bad_name, FailsInKeyLine, no_equals_
 use Rattle.lw_text.proofs.Common.{open_quote, in_key_line, FailsInNotes, open_comment_in_notes, in_note}
 use Rattle.lw_text.proofs.Common.{after_note, IsNoteCause, FailsInPreamble, in_keyword, no_keyword}
 use Rattle.lw_text.proofs.Common.{other_keyword, in_test_name, in_notes, TextCause}
+use Rattle.lw_text.proofs.NoteRows.{HasNoByte-of_all, Quoted-front, no_quoted_text-if_no_quote, KeyLine-front}
+use Rattle.lw_text.proofs.NoteRows.{no_key_line-if_no_equals, no_note-if_neither_kind}
+use Rattle.lw_text.proofs.NoteRows.{no_note-if_quote_is_unclosed, Note-unique, note_no_trivia}
+use Rattle.lw_text.proofs.NoteRows.{block_no_trivia, Notes-note_inv, Notes-trivia_first, key_front}
 use Rattle.lw_text.proofs.api.Numbers.{number_first}
 use Rattle.lw_text.proofs.NameRuns.{IsLongestPrefix-unique, run_front, symbol_front, token_no_trivia}
 use Rattle.lw_text.proofs.NameRuns.{token_nonempty}
-use Rattle.lw_text.proofs.NoteRows.{Quoted-front, Quoted-open, KeyLine-front, no_key_line-if_no_equals}
-use Rattle.lw_text.proofs.NoteRows.{no_note-if_neither_kind, no_note-if_quote_is_unclosed, Note-unique}
-use Rattle.lw_text.proofs.NoteRows.{note_no_trivia, block_no_trivia, Notes-note_inv, Notes-trivia_first}
-use Rattle.lw_text.proofs.NoteRows.{key_front, Without-of_all}
 use Rattle.lw_text.proofs.Preambles.{graphic_no_blank, ParsesTestName-parts, ParsesTestName-unique}
 use Rattle.lw_text.proofs.Preambles.{arch_keyword-unique}
 use Rattle.lw_text.proofs.TokenRows.{IsFirstToken-unique, no_first_token-if_only_trivia}
@@ -32,7 +32,7 @@ IsSameFault rest cause other because = (rest ≡ other) × (cause ≡ because)
 
 -- ---- Tokens.
 
--- A digit may be in a name.
+-- No byte is a digit but no name byte: a digit may be in a name.
 digit_in_name : (bytes : Bytes) → first_byte_is is_ascii_digit bytes ≡ true → first_byte_is is_name_byte bytes ≡ false → ⊥
 digit_in_name [] p q = cc
 digit_in_name (b ∷ bytes) p q = grind (arith, nat_tests)
@@ -58,7 +58,7 @@ FailsInToken-unique bytes c d (no_symbol some other lacks p) (no_name_run w r ru
     absurd (false≢true (sym other ∙ name))
 FailsInToken-unique bytes c d (no_symbol some other lacks p) (no_symbol also off never q) = p ∙ sym q
 
--- Where a token is, lacks fails.
+-- Where a token begins, no token fails.
 not-FailsInToken-if_parsed : (t rest : Bytes) (cause : TextCause) → FailsInToken (t ++ rest) cause → IsToken t rest → ⊥
 not-FailsInToken-if_parsed t rest cause (no_number_run w r run digit never c) (inl name) =
     let same =
@@ -128,9 +128,9 @@ not-FailsInFirstToken-if_parsed text r t after c (in_token trivia stop fails) is
     (subst (λ x. FailsInToken x c) (Trivia-unique trivia is.0 stop (token_no_trivia t after is.1)) fails) is.1
 
 -- A text that is only trivia does not fail in a token.
-pub FailsInFirstToken-end : (text r : Bytes) (c : TextCause) → FailsInFirstToken text r c → Trivia text [] → ⊥
-FailsInFirstToken-end text r c (open_comment never end p) is = never [] refl is
-FailsInFirstToken-end text r c (in_token trivia stop fails) is =
+pub not-FailsInFirstToken-if_only_trivia : (text r : Bytes) (c : TextCause) → FailsInFirstToken text r c → Trivia text [] → ⊥
+not-FailsInFirstToken-if_only_trivia text r c (open_comment never end p) is = never [] refl is
+not-FailsInFirstToken-if_only_trivia text r c (in_token trivia stop fails) is =
     not-FailsInToken-if_at_end c (subst (λ x. FailsInToken x c) (Trivia-unique trivia is stop refl) fails)
 
 -- ---- The test's name.
@@ -143,7 +143,7 @@ first_byte-of_blanks : (text : Bytes)
 first_byte-of_blanks [] all some = absurd (omega (arith, some))
 first_byte-of_blanks (b ∷ text) all some = all.0
 
--- Bytes of which lacks is a blank do not begin with one.
+-- A name without blanks does not begin with a blank, whatever follows.
 plain_front : (name after : Bytes)
     → AllByRecursion (λ b. is_blank b ≡ false) name
     → 0 < length name
@@ -192,14 +192,14 @@ FailsInTestName-unique text r s c d (bad_name blanks name after e f some are pla
     has)
 FailsInTestName-unique text r s c d (bad_name blanks name after e f has are plain too longest not_name p) (no_blank some other at q) =
     absurd (false≢true (sym other ∙ blank_first text blanks r e has are))
-FailsInTestName-unique text r s c d (bad_name blanks name after e f some are plain has longest not_name p) (bad_name spaces word behind g h many blank also too last off q) = (
+FailsInTestName-unique text r s c d (bad_name blanks name after e f some are plain has longest not_name p) (bad_name spaces word later g h many blank also too last off q) = (
   (IsLongestPrefix-unique is_blank blanks spaces {text = text}
       (record { parts = e; bytes_pass = are; longest = ap (first_byte_is is_blank) f ∙ plain_front name after plain has })
-      (record { parts = g; bytes_pass = blank; longest = ap (first_byte_is is_blank) h ∙ plain_front word behind also too })).1,
+      (record { parts = g; bytes_pass = blank; longest = ap (first_byte_is is_blank) h ∙ plain_front word later also too })).1,
   p ∙ sym q,
 )
 
--- A test's name does not fail.
+-- A test's name with blanks before it does not fail.
 pub not-FailsInTestName-if_parsed : (text r name after : Bytes) (c : TextCause)
     → FailsInTestName text r c
     → ParsesTestName text name after
@@ -209,9 +209,9 @@ not-FailsInTestName-if_parsed text r name after c (no_name all end p) is =
     (All-mono _ _ (λ b e. graphic_no_blank b e) name is.is_name.are_graphic_bytes) is.is_name.not_empty
 not-FailsInTestName-if_parsed text r name after c (no_blank some other at p) is =
     false≢true (sym other ∙ blank_first text is.blanks (name ++ after) is.parts is.apart is.blank)
-not-FailsInTestName-if_parsed text r name after c (bad_name blanks word behind e f some are plain has longest not_name p) is =
+not-FailsInTestName-if_parsed text r name after c (bad_name blanks word later e f some are plain has longest not_name p) is =
     not_name (subst IsTestName
-    (ParsesTestName-parts text blanks r word behind e are (ap (first_byte_is is_blank) f ∙ plain_front word behind plain has) f
+    (ParsesTestName-parts text blanks r word later e are (ap (first_byte_is is_blank) f ∙ plain_front word later plain has) f
     (All-mono _ _ (λ b e. ap not e) word plain) longest name after is).1 is.is_name)
 
 -- ---- The notes.
@@ -220,29 +220,29 @@ not-FailsInTestName-if_parsed text r name after c (bad_name blanks word behind e
 not-both-first_byte : (p : ℕ → Bool) (text : Bytes) → first_byte_is p text ≡ true → first_byte_is p text ≡ false → ⊥
 not-both-first_byte p text holds other = false≢true (sym other ∙ holds)
 
--- A key line fails at one place only, and for one cause.
+-- A line `Key=value` fails at one place only.
 FailsInKeyLine-unique : (text r s : Bytes) → FailsInKeyLine text r → FailsInKeyLine text s → r ≡ s
 FailsInKeyLine-unique text r s (no_key_byte other at) (no_key_byte off is) = at ∙ sym is
 FailsInKeyLine-unique text r s (no_key_byte other at) (no_equals_sign key spaces e some all blank after stop sign) =
     absurd (not-both-first_byte is_key_byte text (ap (first_byte_is is_key_byte) e ∙ key_front key (spaces ++ s) some all) other)
 FailsInKeyLine-unique text r s (no_equals_sign key spaces e some all blank after stop sign) (no_key_byte other at) =
     absurd (not-both-first_byte is_key_byte text (ap (first_byte_is is_key_byte) e ∙ key_front key (spaces ++ r) some all) other)
-FailsInKeyLine-unique text r s (no_equals_sign key spaces e some all blank after stop sign) (no_equals_sign word room f many every space behind end mark) =
+FailsInKeyLine-unique text r s (no_equals_sign key spaces e some all blank after stop sign) (no_equals_sign word room f many every space later end mark) =
     let outer =
     IsLongestPrefix-unique is_key_byte key word {text = text} (record { parts = e; bytes_pass = all; longest = after })
-    (record { parts = f; bytes_pass = every; longest = behind }) in
+    (record { parts = f; bytes_pass = every; longest = later }) in
     (IsLongestPrefix-unique is_space spaces room {text = spaces ++ r}
     (record { parts = refl; bytes_pass = blank; longest = stop })
     (record { parts = outer.1; bytes_pass = space; longest = end })).1
 
--- A key line does not fail.
+-- A line `Key=value` does not fail as one.
 not-FailsInKeyLine-if_parsed : (text r end : Bytes) → FailsInKeyLine text r → KeyLine text end → ⊥
 not-FailsInKeyLine-if_parsed text r end (no_key_byte other at) is =
     not-both-first_byte is_key_byte text (KeyLine-front text end is) other
 not-FailsInKeyLine-if_parsed text r end (no_equals_sign key spaces e some all blank after stop sign) is =
     no_key_line-if_no_equals text key (spaces ++ r) spaces r e all after refl blank stop sign end is
 
--- A note fails at one place only, and for one cause.
+-- A note fails at one place only.
 FailsInNote-unique : (text r s : Bytes) → FailsInNote text r → FailsInNote text s → r ≡ s
 FailsInNote-unique text r s (open_quote inside e plain end) (open_quote within f also is) = end ∙ sym is
 FailsInNote-unique text r s (open_quote inside e plain end) (in_key_line other q) =
@@ -251,16 +251,17 @@ FailsInNote-unique text r s (in_key_line other q) (open_quote inside e plain end
     absurd (not-both-first_byte (λ b. b == 34) text (ap (first_byte_is (λ b. b == 34)) e) other)
 FailsInNote-unique text r s (in_key_line other p) (in_key_line too q) = FailsInKeyLine-unique text r s p q
 
--- A note does not fail.
+-- A note does not fail as one.
 not-FailsInNote-if_parsed : (text r end : Bytes) → FailsInNote text r → Note text end → ⊥
 not-FailsInNote-if_parsed text r end (open_quote inside e plain ends) is =
     no_note-if_quote_is_unclosed text (ap (first_byte_is (λ b. b == 34)) e)
-    (Quoted-open text inside inside [] e (sym (append-nil inside)) (Without-of_all 34 inside plain) refl refl) end is
+    (no_quoted_text-if_no_quote text inside inside [] e (sym (append-nil inside)) (HasNoByte-of_all 34 inside plain) refl refl)
+    end is
 not-FailsInNote-if_parsed text r end (in_key_line other q) (inl is) =
     not-both-first_byte (λ b. b == 34) text (Quoted-front text end is) other
 not-FailsInNote-if_parsed text r end (in_key_line other q) (inr is) = not-FailsInKeyLine-if_parsed text r end q is
 
--- Notes fail at one place only, and for one cause.
+-- Notes fail at one place only.
 FailsInNotes-unique : (r s : Bytes) (text : Bytes) → FailsInNotes r text → FailsInNotes s text → r ≡ s
 FailsInNotes-unique r s text (open_comment_in_notes never end) (open_comment_in_notes lacks is) = end ∙ sym is
 FailsInNotes-unique r s text (open_comment_in_notes never end) (in_note {mid = mid} trivia stop other q) =
@@ -279,12 +280,12 @@ FailsInNotes-unique r s text (after_note {mid = mid} {after = after} trivia is q
 FailsInNotes-unique r s text (after_note {mid = end} {after = after} also is q) (in_note {mid = mid} trivia stop other p) =
     absurd (not-FailsInNote-if_parsed mid s after p
     (subst (λ x. Note x after) (sym (Trivia-unique trivia also stop (note_no_trivia end after is))) is))
-FailsInNotes-unique r s text (after_note {mid = mid} {after = after} trivia is p) (after_note {mid = end} {after = behind} also too q) =
-    let same = Trivia-unique trivia also (note_no_trivia mid after is) (note_no_trivia end behind too) in
-    let ends = Note-unique mid after behind is (subst (λ x. Note x behind) (sym same) too) in
+FailsInNotes-unique r s text (after_note {mid = mid} {after = after} trivia is p) (after_note {mid = end} {after = later} also too q) =
+    let same = Trivia-unique trivia also (note_no_trivia mid after is) (note_no_trivia end later too) in
+    let ends = Note-unique mid after later is (subst (λ x. Note x later) (sym same) too) in
     FailsInNotes-unique r s after p (subst (FailsInNotes s) (sym ends) q)
 
--- Notes do not fail.
+-- Notes that a `{` follows do not fail.
 not-FailsInNotes-if_parsed : (r : Bytes) (text end : Bytes) → FailsInNotes r text → Notes text end → ⊥
 not-FailsInNotes-if_parsed r text end (open_comment_in_notes never ends) is =
     let start = Notes-trivia_first is in never start.0 start.2 start.1
@@ -298,7 +299,7 @@ not-FailsInNotes-if_parsed r text end (in_note {mid = mid} trivia stop other p) 
 not-FailsInNotes-if_parsed r text end (after_note {mid = mid} {after = after} trivia is p) more =
     not-FailsInNotes-if_parsed r after end p (Notes-note_inv more trivia is)
 
--- Notes fail for one cause.
+-- The cause of a failure in the notes is unique: the rest of the text determines it.
 IsNoteCause-unique : (rest : Bytes) (c d : TextCause) → IsNoteCause rest c → IsNoteCause rest d → c ≡ d
 IsNoteCause-unique [] c d p q = p ∙ sym q
 IsNoteCause-unique (b ∷ rest) c d p q = p ∙ sym q
@@ -318,14 +319,16 @@ pub FailsInPreamble-unique : (text r s : Bytes) (c d : TextCause)
     → FailsInPreamble text s d
     → IsSameFault r c s d
 FailsInPreamble-unique text r s c d (in_keyword p) (in_keyword q) = FailsInFirstToken-unique text r s c d p q
-FailsInPreamble-unique text r s c d (in_keyword p) (no_keyword end is q) = absurd (FailsInFirstToken-end text r c p end)
+FailsInPreamble-unique text r s c d (in_keyword p) (no_keyword end is q) =
+    absurd (not-FailsInFirstToken-if_only_trivia text r c p end)
 FailsInPreamble-unique text r s c d (in_keyword p) (other_keyword t after is at other q) =
     absurd (not-FailsInFirstToken-if_parsed text r t after c p is)
 FailsInPreamble-unique text r s c d (in_keyword p) (in_test_name arch after is q) =
     absurd (not-FailsInFirstToken-if_parsed text r _ after c p is)
 FailsInPreamble-unique text r s c d (in_keyword p) (in_notes arch mid name after is names q cause) =
     absurd (not-FailsInFirstToken-if_parsed text r _ mid c p is)
-FailsInPreamble-unique text r s c d (no_keyword end is p) (in_keyword q) = absurd (FailsInFirstToken-end text s d q end)
+FailsInPreamble-unique text r s c d (no_keyword end is p) (in_keyword q) =
+    absurd (not-FailsInFirstToken-if_only_trivia text s d q end)
 FailsInPreamble-unique text r s c d (no_keyword end is p) (no_keyword also at q) = (is ∙ sym at, p ∙ sym q)
 FailsInPreamble-unique text r s c d (no_keyword end is p) (other_keyword t after first at other q) =
     absurd (no_first_token-if_only_trivia text t after end first)
@@ -337,12 +340,12 @@ FailsInPreamble-unique text r s c d (other_keyword t after is at other q) (in_ke
     absurd (not-FailsInFirstToken-if_parsed text s t after d p is)
 FailsInPreamble-unique text r s c d (other_keyword t after first at other q) (no_keyword end is p) =
     absurd (no_first_token-if_only_trivia text t after end first)
-FailsInPreamble-unique text r s c d (other_keyword t after is at other p) (other_keyword u behind also place another q) =
-    let same = IsFirstToken-unique text t after u behind is also in
+FailsInPreamble-unique text r s c d (other_keyword t after is at other p) (other_keyword u later also place another q) =
+    let same = IsFirstToken-unique text t after u later is also in
     (at ∙ ap (λ x. x ++ after) same.0 ∙ ap (λ x. u ++ x) same.1 ∙ sym place, p ∙ sym q)
 FailsInPreamble-unique text r s c d (other_keyword t after is at other p) (in_test_name arch mid also q) =
     absurd (other arch (first_token-is_keyword text t after mid arch is also))
-FailsInPreamble-unique text r s c d (other_keyword t after is at other p) (in_notes arch mid name behind also names q cause) =
+FailsInPreamble-unique text r s c d (other_keyword t after is at other p) (in_notes arch mid name later also names q cause) =
     absurd (other arch (first_token-is_keyword text t after mid arch is also))
 FailsInPreamble-unique text r s c d (in_test_name arch after is q) (in_keyword p) =
     absurd (not-FailsInFirstToken-if_parsed text s _ after d p is)
@@ -354,28 +357,27 @@ FailsInPreamble-unique text r s c d (in_test_name arch after is p) (in_test_name
     FailsInTestName-unique after r s c d p
     (subst (λ x. FailsInTestName x s d)
     (sym (IsFirstToken-unique text (arch_keyword arch) after (arch_keyword language) mid is also).1) q)
-FailsInPreamble-unique text r s c d (in_test_name arch after is p) (in_notes language mid name behind also names q cause) =
-    absurd (not-FailsInTestName-if_parsed after r name behind c p
-    (subst (λ x. ParsesTestName x name behind)
+FailsInPreamble-unique text r s c d (in_test_name arch after is p) (in_notes language mid name later also names q cause) =
+    absurd (not-FailsInTestName-if_parsed after r name later c p
+    (subst (λ x. ParsesTestName x name later)
     (sym (IsFirstToken-unique text (arch_keyword arch) after (arch_keyword language) mid is also).1) names))
 FailsInPreamble-unique text r s c d (in_notes arch mid name after is names q cause) (in_keyword p) =
     absurd (not-FailsInFirstToken-if_parsed text s _ mid d p is)
 FailsInPreamble-unique text r s c d (in_notes arch mid name after first names q cause) (no_keyword end is p) =
     absurd (no_first_token-if_only_trivia text _ mid end first)
-FailsInPreamble-unique text r s c d (in_notes arch mid name behind also names q cause) (other_keyword t after is at other p) =
+FailsInPreamble-unique text r s c d (in_notes arch mid name later also names q cause) (other_keyword t after is at other p) =
     absurd (other arch (first_token-is_keyword text t after mid arch is also))
-FailsInPreamble-unique text r s c d (in_notes language mid name behind also names q cause) (in_test_name arch after is p) =
-    absurd (not-FailsInTestName-if_parsed after s name behind d p
-    (subst (λ x. ParsesTestName x name behind)
+FailsInPreamble-unique text r s c d (in_notes language mid name later also names q cause) (in_test_name arch after is p) =
+    absurd (not-FailsInTestName-if_parsed after s name later d p
+    (subst (λ x. ParsesTestName x name later)
     (sym (IsFirstToken-unique text (arch_keyword arch) after (arch_keyword language) mid is also).1) names))
-FailsInPreamble-unique text r s c d (in_notes arch mid name after is names p cause) (in_notes language end word behind also called q because) =
+FailsInPreamble-unique text r s c d (in_notes arch mid name after is names p cause) (in_notes language end word later also called q because) =
     let u = (IsFirstToken-unique text (arch_keyword arch) mid (arch_keyword language) end is also).1 in
-    let v =
-    (ParsesTestName-unique mid name after word behind names (subst (λ x. ParsesTestName x word behind) (sym u) called)).1 in
+    let v = (ParsesTestName-unique mid name after word later names (subst (λ x. ParsesTestName x word later) (sym u) called)).1 in
     let same = FailsInNotes-unique r s after p (subst (FailsInNotes s) (sym v) q) in
     (same, IsNoteCause-unique r c d cause (subst (λ x. IsNoteCause x d) (sym same) because))
 
--- A preamble does not fail.
+-- A text with a preamble does not fail in it.
 pub not-FailsInPreamble-if_parsed : (text r rest name : Bytes) (arch : Arch) (c : TextCause)
     → FailsInPreamble text r c
     → Preamble text arch name rest

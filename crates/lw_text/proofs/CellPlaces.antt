@@ -9,8 +9,8 @@ use Rattle.lw_text.proofs.Common.{placed_cell, placed_row, placed_cells, all_tex
 use Rattle.lw_text.proofs.Common.{cells_texts, remaining, remaining_texts, ParsedCell, AllByRecursion-of_All}
 use Rattle.lw_text.proofs.Common.{AllByRecursion-map, All-append_inv, All-map_inv}
 use Rattle.lw_text.proofs.Cells.{mark_is_bar}
-use Rattle.lw_text.proofs.Lists.{ParsesMany-push, Before, Before-close}
-use Rattle.lw_text.proofs.Texts.{is_text}
+use Rattle.lw_text.proofs.Lists.{ParsesMany-push, AreReadSepBy, ParsesSepBy-close}
+use Rattle.lw_text.proofs.Texts.{bytes_equal}
 use Rattle.lw_text.proofs.api.Places.{texts_placed, grid_placed}
 use Rattle.lw_text.specs.Rows as words
 
@@ -23,9 +23,9 @@ pub Rows-with_spans : {A : Type 0} (n : ℕ) (ts rest : List Token) (rows : List
 Rows-with_spans n ts rest rows r = rw (texts_placed ts, grid_placed rows, texts_placed rest) r
 
 -- Tokens with their positions are those before a suffix, followed by those of the suffix.
-pub with_spans-of_suffix : (whole behind : List Token) (l : IsSuffix whole behind)
-    → with_spans whole ≡ with_spans l.0 ++ with_spans behind
-with_spans-of_suffix whole behind l = ap with_spans l.1 ∙ map-append with_span l.0 behind
+pub with_spans-of_suffix : (whole later : List Token) (l : IsSuffix whole later)
+    → with_spans whole ≡ with_spans l.0 ++ with_spans later
+with_spans-of_suffix whole later l = ap with_spans l.1 ∙ map-append with_span l.0 later
 
 -- ---- one more cell, and one more row
 
@@ -47,7 +47,7 @@ CellsFrom-push before (c ∷ cells) cut front = (cut.0, cut.1, cut.2, cut.3, cut
 
 -- These cells have been read, each followed by `|`, and `here` remains.
 pub record CellsRead {A : Type 0} (start here : List Token) (cells : List (Cell A)) : Type 0 where
-  pub before : Before words.Cell (codes "|") (codes ";") (token_texts start) (cells_texts cells) (token_texts here)
+  pub before : AreReadSepBy words.Cell (codes "|") (codes ";") (token_texts start) (cells_texts cells) (token_texts here)
   pub cut : CellsFrom (with_spans start) (placed_row cells) (with_spans here)
 
 module _ {A : Type 0} {start : List Token} {here after : Cursor} {cells : List (Cell A)}
@@ -89,13 +89,13 @@ module _ {A : Type 0} {start : List Token} {here after : Cursor} {cells : List (
   }
 
   -- If `;` ends the next cell, the cells read with it are a whole row.
-  pub row_complete-CellsRead : bytes_eq mark.text.now (codes ";") ≡ true
+  pub RowCells-CellsRead : bytes_eq mark.text.now (codes ";") ≡ true
       → RowCells (token_texts start) (cells_texts cells_so_far) (remaining_texts after)
       × CellsFrom (with_spans start) (placed_row cells_so_far) (with_spans (remaining after))
-  row_complete-CellsRead e = (
+  RowCells-CellsRead e = (
     rw (map_push cell_texts cells (record { tokens = tokens; end = mark.at }))
-        (Before-close words.Cell _ (codes ";") _ _ (remaining_texts here) _ _ read.before
-        (ParsesCell-by_mark (codes ";") (is_text _ (codes ";") e))),
+        (ParsesSepBy-close words.Cell _ (codes ";") _ _ (remaining_texts here) _ _ read.before
+        (ParsesCell-by_mark (codes ";") (bytes_equal _ (codes ";") e))),
     CellsFrom-next_cell,
   )
 
@@ -115,33 +115,33 @@ abbrev Within : ℕ → List PlacedToken → Type 0
 Within len ts = AllByRecursion (λ t. t.at ≤ len) ts
 
 -- If tokens are within a position, so are the cells read from them, and the tokens after these.
-cells_within : {A : Type 0} (len : ℕ) (ts : List PlacedToken) (cells : List (Cell A)) (rest : List PlacedToken)
+EndsBefore-CellsFrom : {A : Type 0} (len : ℕ) (ts : List PlacedToken) (cells : List (Cell A)) (rest : List PlacedToken)
     → CellsFrom ts (placed_row cells) rest
     → Within len ts
     → AllByRecursion (EndsBefore len) cells × Within len rest
-cells_within len ts [] rest cut all = (tt, subst (Within len) cut all)
-cells_within len ts (cell ∷ cells) rest cut all =
+EndsBefore-CellsFrom len ts [] rest cut all = (tt, subst (Within len) cut all)
+EndsBefore-CellsFrom len ts (cell ∷ cells) rest cut all =
     let parts = All-append_inv _ (with_spans cell.tokens) (cut.0 ∷ cut.1) (subst (Within len) cut.2 all) in
     let end : cell.end ≤ len = subst (λ (n : ℕ). n ≤ len) cut.4 parts.1.0 in
-    let more = cells_within len cut.1 cells rest cut.5 parts.1.1 in
+    let more = EndsBefore-CellsFrom len cut.1 cells rest cut.5 parts.1.1 in
     ((((All-from_recursion _ cell.tokens (All-map_inv _ with_span cell.tokens parts.0)), end), more.0), more.1)
 
 -- If tokens are within a position, so are the rows read from them.
-rows_within : {A : Type 0} (len : ℕ) (ts : List PlacedToken) (rows : List (List (Cell A))) (rest : List PlacedToken)
+EndsBefore-RowsFrom : {A : Type 0} (len : ℕ) (ts : List PlacedToken) (rows : List (List (Cell A))) (rest : List PlacedToken)
     → RowsFrom ts (placed_cells rows) rest
     → Within len ts
     → AllByRecursion (λ row. All (EndsBefore len) row) rows
-rows_within len ts [] rest cut all = tt
-rows_within len ts (row ∷ rows) rest cut all =
-    let here = cells_within len ts row cut.0 cut.1 all in
-    (All-from_recursion (EndsBefore len) row here.0, rows_within len cut.0 rows rest cut.2 here.1)
+EndsBefore-RowsFrom len ts [] rest cut all = tt
+EndsBefore-RowsFrom len ts (row ∷ rows) rest cut all =
+    let here = EndsBefore-CellsFrom len ts row cut.0 cut.1 all in
+    (All-from_recursion (EndsBefore len) row here.0, EndsBefore-RowsFrom len cut.0 rows rest cut.2 here.1)
 
 -- The cells of a test's rows are within the position of its tokens.
-pub HasRows-within : {A : Type 0} (len : ℕ) (arch : Arch) (tokens : List Token) (threads : ℕ) (rows : List (List (Cell A)))
+pub EndsBefore-HasRows : {A : Type 0} (len : ℕ) (arch : Arch) (tokens : List Token) (threads : ℕ) (rows : List (List (Cell A)))
     → HasRows arch (with_spans tokens) threads (placed_cells rows)
     → All (λ t. t.at ≤ len) tokens
     → All (λ row. All (EndsBefore len) row) rows
-HasRows-within len arch tokens threads rows has all =
+EndsBefore-HasRows len arch tokens threads rows has all =
     let each = AllByRecursion-map _ with_span tokens (AllByRecursion-of_All tokens (λ (t : Token). t.at ≤ len) all) in
-    let behind = (All-append_inv _ has.front has.after_header (subst (Within len) has.parts each)).1 in
-    All-from_recursion _ rows (rows_within len has.after_header rows has.after_rows has.cut behind)
+    let later = (All-append_inv _ has.front has.after_header (subst (Within len) has.parts each)).1 in
+    All-from_recursion _ rows (EndsBefore-RowsFrom len has.after_header rows has.after_rows has.cut later)

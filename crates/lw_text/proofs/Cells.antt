@@ -1,14 +1,15 @@
 -- Cells and rows have unique parses. Then when rows have been read up to their end, and when there are none.
 -- A step of the proof that a text has one frame, and the lemmas by which `parse_rows` returns.
-use Rattle.lw_text.proofs.Common.{◌≡◌, ℕ, ◌<◌, ◌≤◌, inl, inr, true, false, [], ◌∷◌, ◌++◌, length, refl, sym}
-use Rattle.lw_text.proofs.Common.{ap, ◌∙◌, subst, arith, length-append, codes, bytes_eq, or_cases}
+use Rattle.lw_text.proofs.Common.{most_rows, ◌≡◌, ℕ, ◌<◌, ◌≤◌, inl, inr, true, false, [], ◌∷◌, ◌++◌, length}
+use Rattle.lw_text.proofs.Common.{refl, sym, ap, ◌∙◌, subst, arith, length-append, codes, bytes_eq, or_cases}
 use Rattle.lw_text.proofs.Common.{ParsesNothing, Bytes, TokenList, Cells, CellGrid, ParsesSepBy}
 use Rattle.lw_text.proofs.Common.{ParsesManyTill, ends_cell, Row, begins_stop, Rows}
 use Rattle.lw_text.specs.Rows.{Cell}
-use Rattle.lw_text.proofs.Texts.{is_text, not-bar_is_semicolon}
+use Rattle.lw_text.proofs.Texts.{bytes_equal, not-bar_is_semicolon}
 use Rattle.lw_text.proofs.api.CellTokens.{EndsNoCell}
-use Rattle.lw_text.proofs.Lists.{ParsesMany-push, Passed, Passed-stop, Passed-peel, ParsesManyTill-unique}
-use Rattle.lw_text.proofs.Lists.{Before, IsDeterministic, Before-fault, IsMark, IsExact, ParsesSepBy-front}
+use Rattle.lw_text.proofs.Lists.{ParsesMany-push, AreReadTill, ParsesManyTill-at_stop, ParsesManyTill-peel}
+use Rattle.lw_text.proofs.Lists.{ParsesManyTill-unique, AreReadSepBy, IsDeterministic}
+use Rattle.lw_text.proofs.Lists.{not-ParsesSepBy-if_rest_is_none, IsMark, IsExact, ParsesSepBy-front}
 use Rattle.lw_text.proofs.Lists.{ParsesSepBy-unique}
 
 -- The tokens up to the first that ends a cell, that token, and the rest.
@@ -54,25 +55,26 @@ Cell-exact ts x y a b r s m n p q =
     (record { parts = q.0; plain = q.1; ends = mark_ends b n })
 
 -- The parse of a row with a cell for each thread is unique.
-pub Row-deterministic : (threads : ℕ) → IsDeterministic (Row threads)
-Row-deterministic threads ts x y r s p q =
-    ParsesSepBy-unique Cell _ (codes ";") Cell-exact not-bar_is_semicolon x y ts r s p.0 q.0
+pub Row-unique : (threads : ℕ) → IsDeterministic (Row threads)
+Row-unique threads ts x y r s p q = ParsesSepBy-unique Cell _ (codes ";") Cell-exact not-bar_is_semicolon x y ts r s p.0 q.0
 
 -- A token that ends a cell and is not `;` is `|`.
 pub mark_is_bar : (m : Bytes) → ends_cell m ≡ true → bytes_eq m (codes ";") ≡ false → m ≡ codes "|"
-mark_is_bar m e n =
-    elim (or_cases (bytes_eq m (codes "|")) (bytes_eq m (codes ";")) e) [ inl h ↦ is_text m (codes "|") h | inr h ↦ absurd cc ]
+mark_is_bar m e n = elim (or_cases (bytes_eq m (codes "|")) (bytes_eq m (codes ";")) e) [
+  | inl h ↦ bytes_equal m (codes "|") h
+  | inr h ↦ absurd cc
+]
 
 -- Tokens without an end of a cell contain no mark.
 no_mark_in_cell : (x : TokenList) (m : Bytes) (l : TokenList) → EndsNoCell (x ++ m ∷ l) → ends_cell m ≡ true → ⊥
 no_mark_in_cell [] m l p e = let h = p.0 in cc
 no_mark_in_cell (t ∷ x) m l p e = no_mark_in_cell x m l p.1 e
 
-module _ (ts here : TokenList) (cells : Cells) (before : Before Cell (codes "|") (codes ";") ts cells here) where
+module _ (ts here : TokenList) (cells : Cells) (before : AreReadSepBy Cell (codes "|") (codes ";") ts cells here) where
   -- If no token that ends a cell follows the cells read, there is no row.
   pub no_cells-if_no_mark : EndsNoCell here → ParsesNothing (ParsesSepBy Cell (codes "|") (codes ";") ts)
   no_cells-if_no_mark plain all rest row =
-      Before-fault Cell _ _ Cell-exact not-bar_is_semicolon _ all ts _ rest before (λ zs l s.
+      not-ParsesSepBy-if_rest_is_none Cell _ _ Cell-exact not-bar_is_semicolon _ all ts _ rest before (λ zs l s.
       let f = ParsesSepBy-front Cell _ _ zs here l s in
       no_mark_in_cell f.0 f.1 f.2 (subst EndsNoCell f.4.0 plain) (mark_ends f.1 f.3)) row
 
@@ -106,17 +108,17 @@ cells_shorter (c ∷ d ∷ cells) ts rest s =
 pub Row-shorter : (threads : ℕ) (cells : Cells) (ts rest : TokenList) → Row threads ts cells rest → length rest < length ts
 Row-shorter threads cells ts rest l = cells_shorter cells ts rest l.0
 
-module _ (threads : ℕ) (ts here : TokenList) (rows : CellGrid) (passed : Passed begins_stop (Row threads) ts rows here) where
+module _ (threads : ℕ) (ts here : TokenList) (rows : CellGrid) (passed : AreReadTill begins_stop (Row threads) ts rows here) where
   -- If the next token ends the rows, the rows read are all, if they are not too many.
-  pub Rows-at_stop : begins_stop here ≡ true → length rows ≤ 64 → Rows threads ts rows here
-  Rows-at_stop stop few = (Passed-stop begins_stop (Row threads) rows ts here passed stop, few)
+  pub Rows-at_stop : begins_stop here ≡ true → length rows ≤ most_rows → Rows threads ts rows here
+  Rows-at_stop stop few = (ParsesManyTill-at_stop begins_stop (Row threads) rows ts here passed stop, few)
 
   -- If the next token does not end the rows, and a row follows, it is one more row read.
-  pub Rows-push : (next : TokenList) (row : Cells)
+  pub AreReadTill-next_row : (next : TokenList) (row : Cells)
       → begins_stop here ≡ false
       → Row threads here row next
-      → Passed begins_stop (Row threads) ts (rows ++ row ∷ []) next
-  Rows-push next row go line = ParsesMany-push _ rows ts here next row passed (go, line)
+      → AreReadTill begins_stop (Row threads) ts (rows ++ row ∷ []) next
+  AreReadTill-next_row next row go line = ParsesMany-push _ rows ts here next row passed (go, line)
 
   -- All rows are those read, followed by the next row and others.
   next_row : begins_stop here ≡ false
@@ -124,7 +126,7 @@ module _ (threads : ℕ) (ts here : TokenList) (rows : CellGrid) (passed : Passe
       → Rows threads ts all rest
       → (row : Cells) × (more : CellGrid) × (mid : TokenList) × (all ≡ rows ++ row ∷ more) × Row threads here row mid
   next_row go all rest r =
-      let peel = Passed-peel begins_stop (Row threads) (Row-deterministic threads) rows all ts here rest passed r.0 in
+      let peel = ParsesManyTill-peel begins_stop (Row threads) (Row-unique threads) rows all ts here rest passed r.0 in
       rows_continue-by_more peel.0 peel.1 peel.2
     where
       -- The rows after those read begin with one more row, since the next token does not end the rows.
@@ -140,7 +142,7 @@ module _ (threads : ℕ) (ts here : TokenList) (rows : CellGrid) (passed : Passe
   no_rows-if_no_row go never all rest r = let k = next_row go all rest r in never k.0 k.2 k.4
 
   -- If the maximum number of rows has been read, and the next token does not end the rows, the tokens have no rows.
-  pub no_rows-if_too_many : begins_stop here ≡ false → length rows ≡ 64 → ParsesNothing (Rows threads ts)
+  pub no_rows-if_too_many : begins_stop here ≡ false → length rows ≡ most_rows → ParsesNothing (Rows threads ts)
   no_rows-if_too_many go full all rest r =
       let k = next_row go all rest r in omega (arith, ap length k.3, length-append rows (k.0 ∷ k.1), r.1)
 
@@ -149,4 +151,4 @@ pub Rows-unique : (threads : ℕ) (ts a b : TokenList) (x y : CellGrid)
     → Rows threads ts x a
     → Rows threads ts y b
     → (x ≡ y) × (a ≡ b)
-Rows-unique threads ts a b x y p q = ParsesManyTill-unique begins_stop _ (Row-deterministic threads) x y ts a b p.0 q.0
+Rows-unique threads ts a b x y p q = ParsesManyTill-unique begins_stop _ (Row-unique threads) x y ts a b p.0 q.0

@@ -1,5 +1,5 @@
 -- The end of a comment is unique, and a loop that counts the open inner comments finds it. The loop of
--- `after_comment` goes by `Progress`. (In bytes, 40 is `(`, 41 is `)` and 42 is `*`.)
+-- `after_comment` goes by `CommentContinuesAt`. (In bytes, 40 is `(`, 41 is `)` and 42 is `*`.)
 use Rattle.lw_text.proofs.Common.{◌≡◌, ℕ, zero, suc, ◌+◌, ◌-◌, ◌<◌, ◌≤◌, true, false, [], ◌∷◌, length, refl}
 use Rattle.lw_text.proofs.Common.{sym, ap, subst, arith, add-one, sub-one, Bytes, IsSuffix, begins_pair}
 use Rattle.lw_text.proofs.Common.{begins_mark, Comment, closed, nested, other}
@@ -54,63 +54,63 @@ Comment-shorter (other m c) = omega (arith, Comment-shorter c)
 begins_no_mark : (text : Bytes) → begins_pair 40 42 text ≡ false → begins_pair 42 41 text ≡ false → begins_mark text ≡ false
 begins_no_mark text p q = rw (p, q)
 
--- The invariant of the loop over a comment's bytes: the comment ends exactly where the rest closes it and `depth` inner ones, and the rest
--- is shorter than the bytes by `depth` at least.
-pub record Progress (bytes : Bytes) (depth : ℕ) (rest : Bytes) : Type 0 where
-  pub given : (end : Bytes) → Closes (suc depth) rest end → Comment bytes end
-  pub only : (end : Bytes) → Comment bytes end → Closes (suc depth) rest end
+-- The invariant of the loop over a comment's bytes: the comment ends exactly where the rest closes it and the `depth` inner comments that
+-- are open, and the rest is shorter than the bytes by `depth` at least. So the count `depth` does not overflow.
+pub record CommentContinuesAt (bytes : Bytes) (depth : ℕ) (rest : Bytes) : Type 0 where
+  pub whole_if_rest : (end : Bytes) → Closes (suc depth) rest end → Comment bytes end
+  pub rest_if_whole : (end : Bytes) → Comment bytes end → Closes (suc depth) rest end
   pub bound : depth + length rest ≤ length bytes
 
 -- After `(*` one more comment is open.
-pub Progress-after_open : {bytes rest after : Bytes} {depth : ℕ}
-    → Progress bytes depth rest
+pub CommentContinuesAt-after_open : {bytes rest after : Bytes} {depth : ℕ}
+    → CommentContinuesAt bytes depth rest
     → rest ≡ 40 ∷ 42 ∷ after
-    → Progress bytes (depth + 1) after
-Progress-after_open {bytes} {rest} {after} {depth} p e = rw add-one (record {
-  given = λ end c. p.given end (let d = c.2 in (d.0, rw e (nested c.1 d.1), d.2));
-  only = λ end c.
-      let d = p.only end c in
+    → CommentContinuesAt bytes (depth + 1) after
+CommentContinuesAt-after_open {bytes} {rest} {after} {depth} p e = rw add-one (record {
+  whole_if_rest = λ end c. p.whole_if_rest end (let d = c.2 in (d.0, rw e (nested c.1 d.1), d.2));
+  rest_if_whole = λ end c.
+      let d = p.rest_if_whole end c in
       let o = Comment-open_inv d.1 after e in
       (o.0, o.1, (d.0, o.2, d.2));
   bound = omega (arith, p.bound, ap length e);
 })
 
 -- After `*)` that closes an inner comment, one fewer is open.
-pub Progress-after_close : {bytes rest after : Bytes} {depth : ℕ}
-    → Progress bytes depth rest
+pub CommentContinuesAt-after_close : {bytes rest after : Bytes} {depth : ℕ}
+    → CommentContinuesAt bytes depth rest
     → rest ≡ 42 ∷ 41 ∷ after
     → (depth ≡ 0 → ⊥)
-    → Progress bytes (depth - 1) after
-Progress-after_close {depth = zero} p e ne = absurd (ne refl)
-Progress-after_close {bytes} {rest} {after} {depth = suc depth} p e ne = rw sub-one (record {
-  given = λ end c. p.given end (after, rw e closed, c);
-  only = λ end c.
-      let d = p.only end c in
+    → CommentContinuesAt bytes (depth - 1) after
+CommentContinuesAt-after_close {depth = zero} p e ne = absurd (ne refl)
+CommentContinuesAt-after_close {bytes} {rest} {after} {depth = suc depth} p e ne = rw sub-one (record {
+  whole_if_rest = λ end c. p.whole_if_rest end (after, rw e closed, c);
+  rest_if_whole = λ end c.
+      let d = p.rest_if_whole end c in
       let o = Comment-close_inv d.1 after e in
       rw (← o) at d.2;
   bound = omega (arith, p.bound, ap length e);
 })
 
 -- After `*)` that closes the outermost comment, the comment has ended.
-pub Comment-of_progress : {bytes rest after : Bytes} {depth : ℕ}
-    → Progress bytes depth rest
+pub Comment-at_close : {bytes rest after : Bytes} {depth : ℕ}
+    → CommentContinuesAt bytes depth rest
     → rest ≡ 42 ∷ 41 ∷ after
     → depth ≡ 0
     → Comment bytes after
-Comment-of_progress {bytes} {rest} {after} {depth} p e z = p.given after (after, rw e closed, rw z refl)
+Comment-at_close {bytes} {rest} {after} {depth} p e z = p.whole_if_rest after (after, rw e closed, rw z refl)
 
 -- Any other byte preserves the number of open comments.
-pub Progress-after_other : {bytes rest next : Bytes} {depth b : ℕ}
-    → Progress bytes depth rest
+pub CommentContinuesAt-after_other : {bytes rest next : Bytes} {depth b : ℕ}
+    → CommentContinuesAt bytes depth rest
     → rest ≡ b ∷ next
     → begins_pair 40 42 rest ≡ false
     → begins_pair 42 41 rest ≡ false
-    → Progress bytes depth next
-Progress-after_other {bytes} {rest} {next} {depth} {b} p e m n =
+    → CommentContinuesAt bytes depth next
+CommentContinuesAt-after_other {bytes} {rest} {next} {depth} {b} p e m n =
     let mark : begins_mark (b ∷ next) ≡ false = subst (λ x. begins_mark x ≡ false) e (begins_no_mark rest m n) in
     record {
-      given = λ end c. p.given end (c.0, rw e (other mark c.1), c.2);
-      only = λ end c. let d = p.only end c in (d.0, Comment-other_inv d.1 b next e mark, d.2);
+      whole_if_rest = λ end c. p.whole_if_rest end (c.0, rw e (other mark c.1), c.2);
+      rest_if_whole = λ end c. let d = p.rest_if_whole end c in (d.0, Comment-other_inv d.1 b next e mark, d.2);
       bound = omega (arith, p.bound, ap length e);
     }
 

@@ -41,9 +41,10 @@ pub use Rattle.lw_base.proofs.Common.{ParsesNothing, Reg_is, TestHead, TokenList
 pub use Rattle.lw_base.proofs.Common.{arch_keyword, assignment, contains_name, first_byte_is, formula_of}
 pub use Rattle.lw_base.proofs.Common.{head_of, insert_name, insert_names, is_binary, is_blank, is_key_byte}
 pub use Rattle.lw_base.proofs.Common.{is_name_byte, is_or, is_reserved, is_space, locations, most_locations}
-pub use Rattle.lw_base.proofs.Common.{most_name_bytes, most_threads, nodes, parenthesized, parenthesized_if}
-pub use Rattle.lw_base.proofs.Common.{position_of_name, proposition_text, quantifier_text, register_name}
-pub use Rattle.lw_base.proofs.Common.{registers, seen_eq, site_text, thread_registers}
+pub use Rattle.lw_base.proofs.Common.{most_name_bytes, most_nodes, most_rows, most_threads, nodes}
+pub use Rattle.lw_base.proofs.Common.{parenthesized, parenthesized_if, position_of_name, proposition_text}
+pub use Rattle.lw_base.proofs.Common.{quantifier_text, register_name, registers, seen_eq, site_text}
+pub use Rattle.lw_base.proofs.Common.{thread_registers}
 pub use Rattle.lw_base.proofs.api.Blanks.{byte_eq-sound, is_blank-passes, list_all-member, name_ascii}
 pub use Rattle.lw_base.proofs.api.Blanks.{name_bytes_ascii, slice_index_or-ascii}
 pub use Rattle.lw_base.proofs.api.Elements.{All-append_inv, All-map_inv, All-mono, AllByRecursion-append}
@@ -68,21 +69,22 @@ pub use Rattle.lw_base.specs.declared.proposition.Prop.{Prop}
 pub use Rattle.lw_text.specs.Causes.{IsParserCause}
 pub use Rattle.lw_text.specs.Combinators.{ParsesMany, ParsesManyTill, ParsesSepBy, ParsesSepEndBy}
 pub use Rattle.lw_text.specs.Conditions.{Always, AtomSyntax, Holds, IsAtom, IsTerminal, Listed, Never}
-pub use Rattle.lw_text.specs.Conditions.{Quantified, Terminals, begins_token, resolved, site_of, sites_in}
+pub use Rattle.lw_text.specs.Conditions.{ParsesQuestion, Quantified, Terminals, begins_token, resolved}
+pub use Rattle.lw_text.specs.Conditions.{site_of, sites_in}
 pub use Rattle.lw_text.specs.Failures.{FailsBefore, FailsInAssignment, FailsInBlock, FailsInBrackets}
-pub use Rattle.lw_text.specs.Failures.{FailsInCondition, FailsInElements, FailsInHeader, FailsInInitializers}
-pub use Rattle.lw_text.specs.Failures.{FailsInList, FailsInName, FailsInProposition, FailsInQuantifier}
+pub use Rattle.lw_text.specs.Failures.{FailsInElements, FailsInHeader, FailsInInitializers, FailsInList}
+pub use Rattle.lw_text.specs.Failures.{FailsInName, FailsInProposition, FailsInQuantifier, FailsInQuestion}
 pub use Rattle.lw_text.specs.Failures.{FailsInRegister, FailsInRow, FailsInRows, FailsInSite, FailsInSites}
 pub use Rattle.lw_text.specs.Failures.{FailsInTerminal, FailsInTest, FailsInValue, HasMissingThread}
 pub use Rattle.lw_text.specs.Failures.{HasRoomForNode, HaveThreads, IfFirst, IsMisfitCause, IsNoNewLocation}
 pub use Rattle.lw_text.specs.Failures.{PropositionPlace, ReadsBlock, ReadsHeader, after_terminal, first_place}
-pub use Rattle.lw_text.specs.Failures.{in_block, in_bracketed_name, in_brackets, in_condition, in_element}
+pub use Rattle.lw_text.specs.Failures.{in_block, in_bracketed_name, in_brackets, in_element}
 pub use Rattle.lw_text.specs.Failures.{in_elements_after, in_header, in_initializers, in_list, in_name}
-pub use Rattle.lw_text.specs.Failures.{in_next_thread, in_proposition, in_quantifier, in_register, in_row}
-pub use Rattle.lw_text.specs.Failures.{in_rows, in_rows_after, in_site, in_sites, in_terminal, in_value}
-pub use Rattle.lw_text.specs.Failures.{incomplete, next_place, no_brace, no_bracket, no_colon, no_end}
-pub use Rattle.lw_text.specs.Failures.{no_equals, no_exists, no_list_bracket, no_mark, no_number}
-pub use Rattle.lw_text.specs.Failures.{no_quantifier, no_register_name, no_such_thread, no_thread}
+pub use Rattle.lw_text.specs.Failures.{in_next_thread, in_proposition, in_quantifier, in_question}
+pub use Rattle.lw_text.specs.Failures.{in_register, in_row, in_rows, in_rows_after, in_site, in_sites}
+pub use Rattle.lw_text.specs.Failures.{in_terminal, in_value, incomplete, next_place, no_brace, no_bracket}
+pub use Rattle.lw_text.specs.Failures.{no_colon, no_end, no_equals, no_exists, no_list_bracket, no_mark}
+pub use Rattle.lw_text.specs.Failures.{no_number, no_quantifier, no_register_name, no_such_thread, no_thread}
 pub use Rattle.lw_text.specs.Failures.{no_thread_mark, no_thread_name, opening_words, ragged, too_many_nodes}
 pub use Rattle.lw_text.specs.Failures.{too_many_rows, too_many_threads, unopened}
 pub use Rattle.lw_text.specs.Frames.{Block, HasFrame, InitializerSyntax, IsInitializer, ParsesNoTest}
@@ -134,15 +136,16 @@ pub use Rattle.lw_text.specs.declared.proposition_reader.PropositionReader.{Prop
 pub use Rattle.lw_text.specs.declared.site.Site.{Site}
 pub use Rattle.lw_text.specs.declared.token.Token.{Token}
 pub use Rattle.lw_text.specs.declared.token_kind.TokenKind.TheVariants.{Symbol}
-pub use Rattle.lw_text.specs.inner.Parsed.{BeginInitializers, BeginsInitializer, Fits, NoCondition}
-pub use Rattle.lw_text.specs.inner.Parsed.{NoProposition, ParsedBlock, ParsedCell, ParsedCondition}
-pub use Rattle.lw_text.specs.inner.Parsed.{ParsedNameList, ParsedProposition, ParsedSite, ParsedTerminal}
+pub use Rattle.lw_text.specs.inner.Parsed.{BeginInitializers, BeginsInitializer, Fits, NoProposition}
+pub use Rattle.lw_text.specs.inner.Parsed.{NoQuestion, ParsedBlock, ParsedCell, ParsedNameList}
+pub use Rattle.lw_text.specs.inner.Parsed.{ParsedProposition, ParsedQuestion, ParsedSite, ParsedTerminal}
 pub use Rattle.lw_text.specs.inner.Parsed.{StopsAt, StreamFails, at_stream_end, at_stream_fault}
 pub use Rattle.lw_text.specs.inner.Parsed.{at_stream_token}
-pub use Rattle.lw_text.specs.inner.ReaderStates.{BeforePart, BehindPart, Pending, ReaderState, after_and}
+pub use Rattle.lw_text.specs.inner.ReaderStates.{AfterPart, BeforePart, GroupState, ReaderState, after_and}
 pub use Rattle.lw_text.specs.inner.ReaderStates.{after_or, ands_of, begins_part, group_of}
-pub use Rattle.lw_text.specs.inner.ReaderStates.{initial_reader_state, negations, next_state, opened, ors_of}
-pub use Rattle.lw_text.specs.inner.ReaderStates.{place_of, reader_state_in, state_of, state_result, with_not}
+pub use Rattle.lw_text.specs.inner.ReaderStates.{initial_reader_state, negations, new_group, next_state}
+pub use Rattle.lw_text.specs.inner.ReaderStates.{ors_of, place_of, reader_state_in, state_of, state_result}
+pub use Rattle.lw_text.specs.inner.ReaderStates.{with_not}
 pub use Rattle.lw_text.specs.inner.Resolved.{HasSyntax, IsIn, TerminalIn, is_allowed, is_listed}
 pub use Rattle.lw_text.specs.inner.Resolved.{named_initializer, named_terminal, resolved_head, seen_of}
 pub use Rattle.lw_text.specs.inner.Resolved.{site_by_name, syntax_of, thread_exists, word_at}

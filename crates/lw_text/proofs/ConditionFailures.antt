@@ -1,20 +1,19 @@
--- A condition fails at one place only, and for one cause; and no tokens fail that are one. A step of the law
+-- A question fails at one place only, and for one cause; and no tokens fail that are one. A step of the law
 -- that a text fails at one place (OneFault).
-use Rattle.lw_text.proofs.Common.{most_locations, cons-head_eq, ◌≡◌, ◌≢◌, ◌⊎◌, ℕ, zero, suc, ◌+◌, ◌≤◌, Option}
-use Rattle.lw_text.proofs.Common.{None, Some, List, [], ◌∷◌, length, map, filter, option_map, Bool, true}
-use Rattle.lw_text.proofs.Common.{false, refl, sym, ap, ◌∙◌, subst, inl, inr, arith, codes, option_and_then}
-use Rattle.lw_text.proofs.Common.{fold_stays, AllByRecursion, Arch, Bytes, NameTable, TokenList, Quant}
-use Rattle.lw_text.proofs.Common.{Formula, ThreadExists, HasRoomFor, with_sites, insert_names-longer}
-use Rattle.lw_text.proofs.Common.{site_names, Listed, Quantified, Terminal, Open, Close, Negation}
-use Rattle.lw_text.proofs.Common.{Conjunction, Disjunction, Atom, AtomSyntax, Always, Never, Holds}
-use Rattle.lw_text.proofs.Common.{IsTerminal, Terminals, Fits, NoCondition, resolved, is_node, sites_in}
-use Rattle.lw_text.proofs.Common.{ReaderState, BeforePart, BehindPart, initial_reader_state, next_state}
+use Rattle.lw_text.proofs.Common.{most_nodes, most_locations, cons-head_eq, ◌≡◌, ◌≢◌, ◌⊎◌, ℕ, zero, suc, ◌+◌}
+use Rattle.lw_text.proofs.Common.{◌≤◌, Option, None, Some, List, [], ◌∷◌, length, map, filter, option_map}
+use Rattle.lw_text.proofs.Common.{Bool, true, false, refl, sym, ap, ◌∙◌, subst, inl, inr, arith, codes}
+use Rattle.lw_text.proofs.Common.{option_and_then, fold_stays, AllByRecursion, Arch, Bytes, NameTable}
+use Rattle.lw_text.proofs.Common.{TokenList, Quant, Formula, ThreadExists, HasRoomFor, with_sites}
+use Rattle.lw_text.proofs.Common.{insert_names-longer, site_names, Listed, Quantified, Terminal, Open, Close}
+use Rattle.lw_text.proofs.Common.{Negation, Conjunction, Disjunction, Atom, AtomSyntax, Always, Never, Holds}
+use Rattle.lw_text.proofs.Common.{IsTerminal, Terminals, Fits, NoQuestion, resolved, is_node, sites_in}
+use Rattle.lw_text.proofs.Common.{ReaderState, BeforePart, AfterPart, initial_reader_state, next_state}
 use Rattle.lw_text.proofs.Common.{state_result, SiteSyntax, IfFirst, FailsInQuantifier, opening_words}
 use Rattle.lw_text.proofs.Common.{FailsInTerminal, PropositionPlace, first_place, next_place, HasRoomForNode}
 use Rattle.lw_text.proofs.Common.{FailsInProposition, incomplete, too_many_nodes, in_terminal, unopened}
-use Rattle.lw_text.proofs.Common.{after_terminal, FailsInCondition, in_list, in_quantifier, in_proposition}
-use Rattle.lw_text.proofs.Common.{place_of, TextCause}
-use Rattle.lw_text.specs.Conditions.{Condition}
+use Rattle.lw_text.proofs.Common.{after_terminal, FailsInQuestion, in_list, in_quantifier, in_proposition}
+use Rattle.lw_text.proofs.Common.{place_of, TextCause, ParsesQuestion}
 use Rattle.lw_text.proofs.api.PropositionNodes.{node_count, node_count-append}
 use Rattle.lw_text.proofs.Failures.{cons-tail_unique}
 use Rattle.lw_text.proofs.FailureUniqueness.{IsSameFailure, FailsUniquely, IfFirst-of_head}
@@ -218,24 +217,24 @@ module _ (arch : Arch) (threads : ℕ) where
   next_place-resolved (BeforePart l os) names Conjunction = refl
   next_place-resolved (BeforePart l os) names Disjunction = refl
   next_place-resolved (BeforePart l os) names (Atom a) = refl
-  next_place-resolved (BehindPart e p []) names Open = refl
-  next_place-resolved (BehindPart e p []) names Close = refl
-  next_place-resolved (BehindPart e p []) names Negation = refl
-  next_place-resolved (BehindPart e p []) names Conjunction = refl
-  next_place-resolved (BehindPart e p []) names Disjunction = refl
-  next_place-resolved (BehindPart e p []) names (Atom a) = refl
-  next_place-resolved (BehindPart e p (o ∷ os)) names Open = refl
-  next_place-resolved (BehindPart e p (o ∷ os)) names Close = refl
-  next_place-resolved (BehindPart e p (o ∷ os)) names Negation = refl
-  next_place-resolved (BehindPart e p (o ∷ os)) names Conjunction = refl
-  next_place-resolved (BehindPart e p (o ∷ os)) names Disjunction = refl
-  next_place-resolved (BehindPart e p (o ∷ os)) names (Atom a) = refl
+  next_place-resolved (AfterPart e p []) names Open = refl
+  next_place-resolved (AfterPart e p []) names Close = refl
+  next_place-resolved (AfterPart e p []) names Negation = refl
+  next_place-resolved (AfterPart e p []) names Conjunction = refl
+  next_place-resolved (AfterPart e p []) names Disjunction = refl
+  next_place-resolved (AfterPart e p []) names (Atom a) = refl
+  next_place-resolved (AfterPart e p (o ∷ os)) names Open = refl
+  next_place-resolved (AfterPart e p (o ∷ os)) names Close = refl
+  next_place-resolved (AfterPart e p (o ∷ os)) names Negation = refl
+  next_place-resolved (AfterPart e p (o ∷ os)) names Conjunction = refl
+  next_place-resolved (AfterPart e p (o ∷ os)) names Disjunction = refl
+  next_place-resolved (AfterPart e p (o ∷ os)) names (Atom a) = refl
 
   -- A state with a result is at a place after a part outside of all parentheses.
   place_at_end-state_result : (state : ReaderState) (p : Formula) → state_result state ≡ Some p → place_of state ≡ (false, 0)
   place_at_end-state_result (BeforePart l os) p e = absurd (cc e)
-  place_at_end-state_result (BehindPart x y []) p e = refl
-  place_at_end-state_result (BehindPart x y (o ∷ os)) p e = absurd (cc e)
+  place_at_end-state_result (AfterPart x y []) p e = refl
+  place_at_end-state_result (AfterPart x y (o ∷ os)) p e = absurd (cc e)
 
   -- Where something is said after a terminal, there is a state after it.
   state_after : (state : ReaderState) (s : Terminal Formula) (ss : List (Terminal Formula)) (p : Formula)
@@ -265,8 +264,8 @@ module _ (arch : Arch) (threads : ℕ) where
 
   -- One more node does not fit after 256.
   is_node-false_at_limit : (nodes : ℕ) (s : Terminal AtomSyntax) (ss : List (Terminal AtomSyntax))
-      → nodes ≡ 256
-      → nodes + node_count (s ∷ ss) ≤ 256
+      → nodes ≡ most_nodes
+      → nodes + node_count (s ∷ ss) ≤ most_nodes
       → is_node s ≡ false
   is_node-false_at_limit nodes s ss full few = next_state-by_cases (is_node s) refl
     where
@@ -292,7 +291,7 @@ module _ (arch : Arch) (threads : ℕ) where
       → place ≡ place_of state
       → Terminals arch threads ts more
       → result_of (state_after_terminals (Some state) (map (resolved (with_sites names (sites_in more))) more)) ≡ Some p
-      → nodes + node_count more ≤ 256
+      → nodes + node_count more ≤ most_nodes
       → HasRoomFor names (sites_in more)
       → ⊥
   not-FailsInProposition-if_parsed rest because place nodes names ts state [] p (incomplete part_open end is) here all said few room =
@@ -355,46 +354,46 @@ module _ (arch : Arch) (threads : ℕ) where
       Some-injective_place e = cc e
 
   module _ (names : NameTable) where
-    -- A condition fails at one place only, and for one cause.
-    pub FailsInCondition-unique : FailsUniquely (FailsInCondition arch threads names)
-    FailsInCondition-unique ts r s d e (in_list p) (in_list q) = FailsInList-unique arch threads names ts r s d e p q
-    FailsInCondition-unique ts r s d e (in_list p) (in_quantifier listed lists there room q) =
+    -- A question fails at one place only, and for one cause.
+    pub FailsInQuestion-unique : FailsUniquely (FailsInQuestion arch threads names)
+    FailsInQuestion-unique ts r s d e (in_list p) (in_list q) = FailsInList-unique arch threads names ts r s d e p q
+    FailsInQuestion-unique ts r s d e (in_list p) (in_quantifier listed lists there room q) =
         absurd (not-FailsInList-if_parsed arch threads names ts r _ d listed p lists there room)
-    FailsInCondition-unique ts r s d e (in_list p) (in_proposition listed quant lists there room asks q) =
+    FailsInQuestion-unique ts r s d e (in_list p) (in_proposition listed quant lists there room asks q) =
         absurd (not-FailsInList-if_parsed arch threads names ts r _ d listed p lists there room)
-    FailsInCondition-unique ts r s d e (in_quantifier listed lists there room p) (in_list q) =
+    FailsInQuestion-unique ts r s d e (in_quantifier listed lists there room p) (in_list q) =
         absurd (not-FailsInList-if_parsed arch threads names ts s _ e listed q lists there room)
-    FailsInCondition-unique ts r s d e (in_quantifier listed {mid = mid} lists there room p) (in_quantifier other {mid = end} also too has q) =
+    FailsInQuestion-unique ts r s d e (in_quantifier listed {mid = mid} lists there room p) (in_quantifier other {mid = end} also too has q) =
         FailsInQuantifier-unique mid r s d e p
         (subst (λ l. FailsInQuantifier l s e) (sym (Listed-unique arch ts listed other mid end lists also).1) q)
-    FailsInCondition-unique ts r s d e (in_quantifier listed {mid = mid} lists there room p) (in_proposition other quant {mid = end} {after = after} also too has asks q) =
+    FailsInQuestion-unique ts r s d e (in_quantifier listed {mid = mid} lists there room p) (in_proposition other quant {mid = end} {after = after} also too has asks q) =
         absurd (not-FailsInQuantifier-if_parsed mid r after d quant p
         (subst (λ l. Quantified l quant after) (sym (Listed-unique arch ts listed other mid end lists also).1) asks))
-    FailsInCondition-unique ts r s d e (in_proposition listed quant lists there room asks p) (in_list q) =
+    FailsInQuestion-unique ts r s d e (in_proposition listed quant lists there room asks p) (in_list q) =
         absurd (not-FailsInList-if_parsed arch threads names ts s _ e listed q lists there room)
-    FailsInCondition-unique ts r s d e (in_proposition other quant {mid = end} {after = after} also too has asks p) (in_quantifier listed {mid = mid} lists there room q) =
+    FailsInQuestion-unique ts r s d e (in_proposition other quant {mid = end} {after = after} also too has asks p) (in_quantifier listed {mid = mid} lists there room q) =
         absurd (not-FailsInQuantifier-if_parsed mid s after e quant q
         (subst (λ l. Quantified l quant after) (sym (Listed-unique arch ts listed other mid end lists also).1) asks))
-    FailsInCondition-unique ts r s d e (in_proposition listed quant {mid = mid} {after = after} lists there room asks p) (in_proposition other another {mid = end} {after = behind} also too has questions q) =
+    FailsInQuestion-unique ts r s d e (in_proposition listed quant {mid = mid} {after = after} lists there room asks p) (in_proposition other another {mid = end} {after = later} also too has questions q) =
         let u = Listed-unique arch ts listed other mid end lists also in
         let v =
-        Quantified-unique mid quant another after behind asks (subst (λ l. Quantified l another behind) (sym u.1) questions) in
+        Quantified-unique mid quant another after later asks (subst (λ l. Quantified l another later) (sym u.1) questions) in
         FailsInProposition-unique r s d e first_place 0 (with_sites names listed) after p
         (subst (λ sites. FailsInProposition arch threads s e first_place 0 (with_sites names sites) after) (sym u.0)
         (subst (FailsInProposition arch threads s e first_place 0 (with_sites names other)) (sym v.1) q))
 
-    -- A condition with room for its locations, whose terminals are a proposition, does not fail.
-    pub not-FailsInCondition-if_parsed : (ts rest : TokenList) (because : TextCause)
-        → FailsInCondition arch threads names ts rest because
-        → NoCondition arch threads ts names
-    not-FailsInCondition-if_parsed ts rest because (in_list fails) listed quant ss p is fits =
+    -- A question with room for its locations, whose terminals are a proposition, does not fail.
+    pub not-FailsInQuestion-if_parsed : (ts rest : TokenList) (because : TextCause)
+        → FailsInQuestion arch threads names ts rest because
+        → NoQuestion arch threads ts names
+    not-FailsInQuestion-if_parsed ts rest because (in_list fails) listed quant ss p is fits =
         not-FailsInList-if_parsed arch threads names ts rest is.after_list because listed fails is.lists is.threads_exist
         (omega (arith, fits.room, insert_names-longer (with_sites names listed) (site_names (sites_in ss))))
-    not-FailsInCondition-if_parsed ts rest because (in_quantifier other {mid = mid} lists there room fails) listed quant ss p is fits =
+    not-FailsInQuestion-if_parsed ts rest because (in_quantifier other {mid = mid} lists there room fails) listed quant ss p is fits =
         not-FailsInQuantifier-if_parsed mid rest is.after_quant because quant fails
         (subst (λ l. Quantified l quant is.after_quant)
         (sym (Listed-unique arch ts other listed mid is.after_list lists is.lists).1) is.quantifies)
-    not-FailsInCondition-if_parsed ts rest because (in_proposition other another {mid = mid} {after = after} lists there room asks fails) listed quant ss p is fits =
+    not-FailsInQuestion-if_parsed ts rest because (in_proposition other another {mid = mid} {after = after} lists there room asks fails) listed quant ss p is fits =
         let u = Listed-unique arch ts other listed mid is.after_list lists is.lists in
         let v =
         Quantified-unique mid another quant after is.after_quant asks

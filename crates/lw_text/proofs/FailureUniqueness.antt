@@ -149,17 +149,21 @@ not-FailsInRegister-if_parsed arch c ts rest l cause q n (no_register_name again
 
 -- ---- Sites.
 
--- Neither `[` nor a number is first.
-abbrev Plain : TokenList → Type 0
-Plain ts = IfFirst (λ t. (t ≢ codes "[") × ((n : ℕ) → IsNumber t n → ⊥)) ts
+-- The first of the tokens, if there is one, is neither `[` nor a number.
+abbrev NeitherBracketNorNumberFirst : TokenList → Type 0
+NeitherBracketNorNumberFirst ts = IfFirst (λ t. (t ≢ codes "[") × ((n : ℕ) → IsNumber t n → ⊥)) ts
 
--- Plain tokens do not begin with `[`.
-no_bracket-if_plain : (ts l : TokenList) → Plain ts → ts ≡ codes "[" ∷ l → ⊥
-no_bracket-if_plain ts l plain e = (IfFirst-of_head _ ts l (codes "[") e plain).0 refl
+-- If the first of the tokens is neither, it is not `[`.
+no_bracket-if_neither_first : (ts l : TokenList) → NeitherBracketNorNumberFirst ts → ts ≡ codes "[" ∷ l → ⊥
+no_bracket-if_neither_first ts l plain e = (IfFirst-of_head _ ts l (codes "[") e plain).0 refl
 
--- Plain tokens do not begin with a number.
-no_number-if_plain : (ts l : TokenList) (p : Bytes) (n : ℕ) → Plain ts → ts ≡ p ∷ l → IsNumber p n → ⊥
-no_number-if_plain ts l p n plain e is = (IfFirst-of_head _ ts l p e plain).1 n is
+-- If the first of the tokens is neither, it is not a number.
+no_number-if_neither_first : (ts l : TokenList) (p : Bytes) (n : ℕ)
+    → NeitherBracketNorNumberFirst ts
+    → ts ≡ p ∷ l
+    → IsNumber p n
+    → ⊥
+no_number-if_neither_first ts l p n plain e is = (IfFirst-of_head _ ts l p e plain).1 n is
 
 -- Tokens do not begin both with `[` and with a number.
 not-bracket_and_number : (ts l m : TokenList) (p : Bytes) (n : ℕ) → ts ≡ codes "[" ∷ l → ts ≡ p ∷ m → IsNumber p n → ⊥
@@ -179,12 +183,12 @@ module _ (arch : Arch) (threads : Option ℕ) (names : NameTable) (c : TextCause
   -- A site fails at one place only, and for one cause.
   pub FailsInSite-unique : FailsUniquely (FailsInSite arch threads names c)
   FailsInSite-unique ts r s d e (in_name plain p) (in_name too q) = FailsInName-unique names c ts r s d e p q
-  FailsInSite-unique ts r s d e (in_name plain p) (in_brackets begins q) = absurd (no_bracket-if_plain ts _ plain begins)
+  FailsInSite-unique ts r s d e (in_name plain p) (in_brackets begins q) = absurd (no_bracket-if_neither_first ts _ plain begins)
   FailsInSite-unique ts r s d e (in_name plain p) (no_thread q n begins at is refused because) =
-      absurd (no_number-if_plain ts _ q n plain begins is)
+      absurd (no_number-if_neither_first ts _ q n plain begins is)
   FailsInSite-unique ts r s d e (in_name plain p) (in_register q n begins is there w) =
-      absurd (no_number-if_plain ts _ q n plain begins is)
-  FailsInSite-unique ts r s d e (in_brackets begins p) (in_name plain q) = absurd (no_bracket-if_plain ts _ plain begins)
+      absurd (no_number-if_neither_first ts _ q n plain begins is)
+  FailsInSite-unique ts r s d e (in_brackets begins p) (in_name plain q) = absurd (no_bracket-if_neither_first ts _ plain begins)
   FailsInSite-unique ts r s d e (in_brackets {inside = inside} begins p) (in_brackets {inside = other} again q) =
       let same : inside ≡ other = cons-tail_unique (sym begins ∙ again) in
       FailsInBrackets-unique names c inside r s d e p (subst (λ l. FailsInBrackets names c l s e) (sym same) q)
@@ -193,7 +197,7 @@ module _ (arch : Arch) (threads : Option ℕ) (names : NameTable) (c : TextCause
   FailsInSite-unique ts r s d e (in_brackets begins p) (in_register q n again is there w) =
       absurd (not-bracket_and_number ts _ _ q n begins again is)
   FailsInSite-unique ts r s d e (no_thread p n begins at is refused because) (in_name plain q) =
-      absurd (no_number-if_plain ts _ p n plain begins is)
+      absurd (no_number-if_neither_first ts _ p n plain begins is)
   FailsInSite-unique ts r s d e (no_thread p n begins at is refused because) (in_brackets again q) =
       absurd (not-bracket_and_number ts _ _ p n again begins is)
   FailsInSite-unique ts r s d e (no_thread p n begins at is refused because) (no_thread q k again too also not therefore) =
@@ -203,7 +207,7 @@ module _ (arch : Arch) (threads : Option ℕ) (names : NameTable) (c : TextCause
       (subst (λ (t : ℕ). ThreadAllowed threads (InThread t 0)) (sym (IsNumber-unique_first ts _ _ p q n k begins again is also))
       (there 0)))
   FailsInSite-unique ts r s d e (in_register p n begins is there v) (in_name plain q) =
-      absurd (no_number-if_plain ts _ p n plain begins is)
+      absurd (no_number-if_neither_first ts _ p n plain begins is)
   FailsInSite-unique ts r s d e (in_register p n begins is there v) (in_brackets again q) =
       absurd (not-bracket_and_number ts _ _ p n again begins is)
   FailsInSite-unique ts r s d e (in_register p n begins is there v) (no_thread q k again too also not therefore) =
@@ -224,7 +228,7 @@ module _ (arch : Arch) (threads : Option ℕ) (names : NameTable) (c : TextCause
   not-FailsInSite-if_parsed ts rest mid cause (InMemory x) (in_name plain p) (is, inl e) there room =
       not-FailsInName-if_parsed names c ts rest mid cause x p e is room
   not-FailsInSite-if_parsed ts rest mid cause (InMemory x) (in_name plain p) (is, inr e) there room =
-      no_bracket-if_plain ts _ plain e
+      no_bracket-if_neither_first ts _ plain e
   not-FailsInSite-if_parsed ts rest mid cause (InMemory x) (in_brackets begins p) (is, inl e) there room =
       bracket_no_name (subst IsName (cons-head_eq _ _ _ _ (sym e ∙ begins)) is.0)
   not-FailsInSite-if_parsed ts rest mid cause (InMemory x) (in_brackets begins p) (is, inr e) there room =
@@ -238,7 +242,7 @@ module _ (arch : Arch) (threads : Option ℕ) (names : NameTable) (c : TextCause
   not-FailsInSite-if_parsed ts rest mid cause (InMemory x) (in_register q n begins number too w) (is, inr e) there room =
       not-bracket_and_number ts _ _ q n e begins number
   not-FailsInSite-if_parsed ts rest mid cause (InThread t r) (in_name plain p) is there room =
-      no_number-if_plain ts _ is.0 t plain is.2 is.3
+      no_number-if_neither_first ts _ is.0 t plain is.2 is.3
   not-FailsInSite-if_parsed ts rest mid cause (InThread t r) (in_brackets begins p) is there room =
       not-bracket_and_number ts _ _ is.0 t begins is.2 is.3
   not-FailsInSite-if_parsed ts rest mid cause (InThread t r) (no_thread q n begins at number refused because) is there room =

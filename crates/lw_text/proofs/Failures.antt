@@ -6,8 +6,8 @@ use Rattle.lw_text.proofs.Common.{IsSuffix, remaining, remaining_texts, token_te
 use Rattle.lw_text.proofs.Common.{Fails, FailsFrom, IfFirst, FailsBefore, Arch, Initializer, ◌++◌, append-nil}
 use Rattle.lw_text.proofs.Common.{append_assoc, slice_get, take, zero, suc, BeginsInitializer}
 use Rattle.lw_text.proofs.Common.{BeginInitializers, TextCause}
-use Rattle.lw_text.proofs.Lists.{IsSuffix-join, Listing}
-use Rattle.lw_text.proofs.Texts.{is_text, not-equal-if_bytes_differ, not-token_is_next}
+use Rattle.lw_text.proofs.Lists.{IsSuffix-join, AreReadSepEndBy}
+use Rattle.lw_text.proofs.Texts.{bytes_equal, not-equal-if_bytes_differ, not-token_is_next}
 
 -- Parsing fails at the next token.
 pub Fails-here : {Way : TokenList → TokenList → TextCause → Type 0} (before : Cursor) (f : Refusal)
@@ -55,7 +55,7 @@ IfFirst-map P Q (t ∷ ts) f p = f t p
 -- Tokens that begin with a text have it first.
 pub IfFirst-begins : (w : Bytes) (ts : TokenList) → begins_token w ts ≡ true → IfFirst (λ t. t ≡ w) ts
 IfFirst-begins w [] e = tt
-IfFirst-begins w (t ∷ ts) e = is_text t w e
+IfFirst-begins w (t ∷ ts) e = bytes_equal t w e
 
 -- Tokens that do not begin with a text have another first.
 pub IfFirst-begins_not : (w : Bytes) (ts : TokenList) → begins_token w ts ≡ false → IfFirst (λ t. t ≢ w) ts
@@ -94,23 +94,24 @@ BeginInitializers-push arch before front (x ∷ es) e all more = (
 )
 
 -- Each of the initializers begins after those before it.
-pub BeginInitializers-at : (arch : Arch) (before : Cursor) (front es : List Initializer) (k : ℕ) (e : Initializer)
+pub BeginsInitializer-at : (arch : Arch) (before : Cursor) (front es : List Initializer) (k : ℕ) (e : Initializer)
     → BeginInitializers arch before front es
     → slice_get es k ≡ Some e
     → BeginsInitializer arch before (front ++ take k es) e
-BeginInitializers-at arch before front [] k e all is = absurd cc
-BeginInitializers-at arch before front (x ∷ es) zero e all is =
+BeginsInitializer-at arch before front [] k e all is = absurd cc
+BeginsInitializer-at arch before front (x ∷ es) zero e all is =
     let same : x ≡ e = cc in
     subst (λ l. BeginsInitializer arch before l e) (sym (append-nil front))
     (subst (BeginsInitializer arch before front) same all.0)
-BeginInitializers-at arch before front (x ∷ es) (suc k) e all is =
+BeginsInitializer-at arch before front (x ∷ es) (suc k) e all is =
     subst (λ l. BeginsInitializer arch before l e) (append_assoc front (x ∷ []) (take k es))
-    (BeginInitializers-at arch before (front ++ x ∷ []) es k e all.1 is)
+    (BeginsInitializer-at arch before (front ++ x ∷ []) es k e all.1 is)
 
 -- Initializers, each with its separator, one after another.
-pub Listing-joined : {X : Type 0} (P : TokenList → X → TokenList → Type 0) (sep close : Bytes) (xs : List X) (ts rest : TokenList)
-    → Listing P sep close ts xs rest
+pub ParsesMany-of_read : {X : Type 0} (P : TokenList → X → TokenList → Type 0) (sep close : Bytes) (xs : List X)
+    (ts rest : TokenList)
+    → AreReadSepEndBy P sep close ts xs rest
     → ParsesMany (λ ts x next. P ts x (sep ∷ next)) ts xs rest
-Listing-joined P sep close [] ts rest read = read
-Listing-joined P sep close (x ∷ xs) ts rest read =
-    (read.0, subst (P ts x) read.1.2 read.1.1, Listing-joined P sep close xs read.0 rest read.2)
+ParsesMany-of_read P sep close [] ts rest read = read
+ParsesMany-of_read P sep close (x ∷ xs) ts rest read =
+    (read.0, subst (P ts x) read.1.2 read.1.1, ParsesMany-of_read P sep close xs read.0 rest read.2)

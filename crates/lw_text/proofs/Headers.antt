@@ -21,39 +21,39 @@ Names-unique k (suc (suc m)) (suc (suc n)) ts r s p q =
 -- The names of threads from `start` are those from `here` after k others: the ones parse exactly if the others do, and then at least one
 -- follows at `here`.
 pub record NamesContinueAt (start : TokenList) (k : ℕ) (here : TokenList) : Type 0 where
-  pub given : (m : ℕ) (rest : TokenList) → Names k (suc m) here rest → Names 0 (k + suc m) start rest
-  pub only : (n : ℕ) (rest : TokenList) → Names 0 n start rest → (m : ℕ) × (n ≡ k + suc m) × Names k (suc m) here rest
+  pub whole_if_rest : (m : ℕ) (rest : TokenList) → Names k (suc m) here rest → Names 0 (k + suc m) start rest
+  pub rest_if_whole : (n : ℕ) (rest : TokenList) → Names 0 n start rest → (m : ℕ) × (n ≡ k + suc m) × Names k (suc m) here rest
 
 -- At the start no name has been read.
 pub NamesContinueAt-none_yet : (start : TokenList) → NamesContinueAt start 0 start
 NamesContinueAt-none_yet start = record {
-  given = λ m rest h. subst (λ x. Names 0 x start rest) (let e : suc m ≡ 0 + suc m = omega arith in e) h;
-  only = λ n rest h. at n rest h;
+  whole_if_rest = λ m rest h. subst (λ x. Names 0 x start rest) (let e : suc m ≡ 0 + suc m = omega arith in e) h;
+  rest_if_whole = λ n rest h. go n rest h;
 }
   where
     -- The names from the first on are not empty, and one more than those after it.
-    at : (n : ℕ) (rest : TokenList) → Names 0 n start rest → (m : ℕ) × (n ≡ 0 + suc m) × Names 0 (suc m) start rest
-    at zero rest h = absurd h
-    at (suc n) rest h = (n, omega arith, h)
+    go : (n : ℕ) (rest : TokenList) → Names 0 n start rest → (m : ℕ) × (n ≡ 0 + suc m) × Names 0 (suc m) start rest
+    go zero rest h = absurd h
+    go (suc n) rest h = (n, omega arith, h)
 
 module _ (start here : TokenList) (k : ℕ) (p : NamesContinueAt start k here) where
   module _ (l : TokenList) (e : here ≡ thread_name k ∷ l) where
     -- If one more name follows, and `|` after it, it is one more name read.
-    pub Names-more : (next : TokenList) → l ≡ codes "|" ∷ next → NamesContinueAt start (k + 1) next
-    Names-more next f = rw add-one (record {
-      given =
+    pub NamesContinueAt-next : (next : TokenList) → l ≡ codes "|" ∷ next → NamesContinueAt start (k + 1) next
+    NamesContinueAt-next next f = rw add-one (record {
+      whole_if_rest =
           λ m rest h.
           subst (λ x. Names 0 x start rest) (let i : k + suc (suc m) ≡ suc k + suc m = omega arith in i)
-          (p.given (suc m) rest (next, e ∙ ap (λ x. thread_name k ∷ x) f, h));
-      only = λ n rest h. let o = p.only n rest h in at n rest o.0 o.1 o.2;
+          (p.whole_if_rest (suc m) rest (next, e ∙ ap (λ x. thread_name k ∷ x) f, h));
+      rest_if_whole = λ n rest h. let o = p.rest_if_whole n rest h in go n rest o.0 o.1 o.2;
     })
       where
-        at : (n : ℕ) (rest : TokenList) (m : ℕ)
+        go : (n : ℕ) (rest : TokenList) (m : ℕ)
             → n ≡ k + suc m
             → Names k (suc m) here rest
             → (j : ℕ) × (n ≡ suc k + suc j) × Names (suc k) (suc j) next rest
-        at n rest zero i q = absurd (not-bar_is_semicolon (let j : codes "|" ≡ codes ";" = cc in j))
-        at n rest (suc m) i q =
+        go n rest zero i q = absurd (not-bar_is_semicolon (let j : codes "|" ≡ codes ";" = cc in j))
+        go n rest (suc m) i q =
             let g = q.1 in
             let j : q.0 ≡ next = cc in
             (m, omega (arith, i), rw j at q.2)

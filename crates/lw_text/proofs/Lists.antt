@@ -49,17 +49,17 @@ ParsesMany-peel {P = P} {W = W} step (x ∷ xs) ys ts here b w =
 
 module _ {T X : Type 0} (P : List T → X → List T → Type 0) (sep close : T) where
   -- These elements have been read, each followed by a separator, and `rest` remains, where another element must follow.
-  abbrev pub Before : List T → List X → List T → Type 0
-  Before ts xs rest = ParsesMany (λ ts x mid. P ts x (sep ∷ mid)) ts xs rest
+  abbrev pub AreReadSepBy : List T → List X → List T → Type 0
+  AreReadSepBy ts xs rest = ParsesMany (λ ts x mid. P ts x (sep ∷ mid)) ts xs rest
 
   -- If a last element and the closing token follow, the list is complete.
-  pub Before-close : (xs : List X) (ts here rest : List T) (x : X)
-      → Before ts xs here
+  pub ParsesSepBy-close : (xs : List X) (ts here rest : List T) (x : X)
+      → AreReadSepBy ts xs here
       → P here x (close ∷ rest)
       → ParsesSepBy P sep close ts (xs ++ x ∷ []) rest
-  Before-close [] ts here rest x b p = subst (λ l. P l x (close ∷ rest)) (sym b) p
-  Before-close (y ∷ []) ts here rest x b p = (b.0, b.1, subst (λ l. P l x (close ∷ rest)) (sym b.2) p)
-  Before-close (y ∷ z ∷ xs) ts here rest x b p = (b.0, b.1, Before-close (z ∷ xs) b.0 here rest x b.2 p)
+  ParsesSepBy-close [] ts here rest x b p = subst (λ l. P l x (close ∷ rest)) (sym b) p
+  ParsesSepBy-close (y ∷ []) ts here rest x b p = (b.0, b.1, subst (λ l. P l x (close ∷ rest)) (sym b.2) p)
+  ParsesSepBy-close (y ∷ z ∷ xs) ts here rest x b p = (b.0, b.1, ParsesSepBy-close (z ∷ xs) b.0 here rest x b.2 p)
 
   -- A separator or the closing token: what follows an element.
   abbrev pub IsMark : T → Type 0
@@ -85,13 +85,13 @@ module _ {T X : Type 0} (P : List T → X → List T → Type 0) (sep close : T)
 
   module _ (exact : IsExact) (apart : sep ≡ close → ⊥) where
     -- The rest of the list, after one of its elements and a separator.
-    ParsesSepBy-behind : (rest ts mid : List T) (x : X) (ys : List X)
+    ParsesSepBy-tail : (rest ts mid : List T) (x : X) (ys : List X)
         → P ts x (sep ∷ mid)
         → ParsesSepBy P sep close ts ys rest
         → (more : List X) × (ys ≡ x ∷ more) × ParsesSepBy P sep close mid more rest
-    ParsesSepBy-behind rest ts mid x [] p s = absurd s
-    ParsesSepBy-behind rest ts mid x (y ∷ []) p s = absurd (apart (exact ts x y sep close mid rest (inl refl) (inr refl) p s).1)
-    ParsesSepBy-behind rest ts mid x (y ∷ v ∷ ys) p s =
+    ParsesSepBy-tail rest ts mid x [] p s = absurd s
+    ParsesSepBy-tail rest ts mid x (y ∷ []) p s = absurd (apart (exact ts x y sep close mid rest (inl refl) (inr refl) p s).1)
+    ParsesSepBy-tail rest ts mid x (y ∷ v ∷ ys) p s =
         let e = exact ts x y sep sep mid s.0 (inl refl) (inl refl) p s.1 in
         (v ∷ ys, cc, subst (λ l. ParsesSepBy P sep close l (v ∷ ys) rest) (sym e.2) s.2)
 
@@ -107,43 +107,46 @@ module _ {T X : Type 0} (P : List T → X → List T → Type 0) (sep close : T)
     ParsesSepBy-unique (x ∷ []) (y ∷ v ∷ ys) ts r s p q =
         absurd (apart (sym (exact ts x y close sep r q.0 (inr refl) (inl refl) p q.1).1))
     ParsesSepBy-unique (x ∷ u ∷ xs) ys ts r s p q =
-        let k = ParsesSepBy-behind s ts p.0 x ys p.1 q in
+        let k = ParsesSepBy-tail s ts p.0 x ys p.1 q in
         let h = ParsesSepBy-unique (u ∷ xs) k.0 p.0 r s p.2 k.2 in
         (ap (λ l. x ∷ l) h.0 ∙ sym k.1, h.1)
 
     -- If the rest is no list, neither is the whole.
-    pub Before-fault : (xs ys : List X) (ts here rest : List T)
-        → Before ts xs here
+    pub not-ParsesSepBy-if_rest_is_none : (xs ys : List X) (ts here rest : List T)
+        → AreReadSepBy ts xs here
         → ParsesNothing (ParsesSepBy P sep close here)
         → ParsesSepBy P sep close ts ys rest
         → ⊥
-    Before-fault xs ys ts here rest b never s =
-        let p = ParsesMany-peel {P = λ ts x mid. P ts x (sep ∷ mid)} (ParsesSepBy-behind rest) xs ys ts here b s in
+    not-ParsesSepBy-if_rest_is_none xs ys ts here rest b never s =
+        let p = ParsesMany-peel {P = λ ts x mid. P ts x (sep ∷ mid)} (ParsesSepBy-tail rest) xs ys ts here b s in
         never p.0 rest p.2
 
 -- ---- up to a stop
 
 module _ {T X : Type 0} (stop : List T → Bool) (P : List T → X → List T → Type 0) where
   -- These elements have been read, none of them at a stop, and `rest` remains.
-  abbrev pub Passed : List T → List X → List T → Type 0
-  Passed ts xs rest = ParsesMany (λ ts x mid. (stop ts ≡ false) × P ts x mid) ts xs rest
+  abbrev pub AreReadTill : List T → List X → List T → Type 0
+  AreReadTill ts xs rest = ParsesMany (λ ts x mid. (stop ts ≡ false) × P ts x mid) ts xs rest
 
   -- At a stop, the elements read are all up to it.
-  pub Passed-stop : (xs : List X) (ts here : List T) → Passed ts xs here → stop here ≡ true → ParsesManyTill stop P ts xs here
-  Passed-stop [] ts here b h = (b, ap stop b ∙ h)
-  Passed-stop (y ∷ xs) ts here b h = (b.1.0, (b.0, b.1.1, Passed-stop xs b.0 here b.2 h))
+  pub ParsesManyTill-at_stop : (xs : List X) (ts here : List T)
+      → AreReadTill ts xs here
+      → stop here ≡ true
+      → ParsesManyTill stop P ts xs here
+  ParsesManyTill-at_stop [] ts here b h = (b, ap stop b ∙ h)
+  ParsesManyTill-at_stop (y ∷ xs) ts here b h = (b.1.0, (b.0, b.1.1, ParsesManyTill-at_stop xs b.0 here b.2 h))
 
   module _ (one : IsDeterministic P) where
     -- The rest of the elements, after one of them.
-    ParsesManyTill-behind : (rest ts mid : List T) (x : X) (ys : List X)
+    ParsesManyTill-tail : (rest ts mid : List T) (x : X) (ys : List X)
         → (stop ts ≡ false) × P ts x mid
         → ParsesManyTill stop P ts ys rest
         → (more : List X) × (ys ≡ x ∷ more) × ParsesManyTill stop P mid more rest
-    ParsesManyTill-behind rest ts mid x [] p s =
+    ParsesManyTill-tail rest ts mid x [] p s =
         let h = s.1 in
         let k = p.0 in
         absurd cc
-    ParsesManyTill-behind rest ts mid x (y ∷ ys) p s =
+    ParsesManyTill-tail rest ts mid x (y ∷ ys) p s =
         let e = one ts x y mid s.1.0 p.1 s.1.1 in (ys, cc, subst (λ l. ParsesManyTill stop P l ys rest) (sym e.1) s.1.2)
 
     -- The parse of a list up to a stop is unique.
@@ -157,54 +160,56 @@ module _ {T X : Type 0} (stop : List T → Bool) (P : List T → X → List T �
         let k = q.0 in
         absurd cc
     ParsesManyTill-unique (x ∷ xs) ys ts r s p q =
-        let k = ParsesManyTill-behind s ts p.1.0 x ys (p.0, p.1.1) q in
+        let k = ParsesManyTill-tail s ts p.1.0 x ys (p.0, p.1.1) q in
         let h = ParsesManyTill-unique xs k.0 p.1.0 r s p.1.2 k.2 in
         (ap (λ l. x ∷ l) h.0 ∙ sym k.1, h.1)
 
     -- All elements up to the stop are those read, followed by the rest.
-    pub Passed-peel : (xs ys : List X) (ts here rest : List T)
-        → Passed ts xs here
+    pub ParsesManyTill-peel : (xs ys : List X) (ts here rest : List T)
+        → AreReadTill ts xs here
         → ParsesManyTill stop P ts ys rest
         → (more : List X) × (ys ≡ xs ++ more) × ParsesManyTill stop P here more rest
-    Passed-peel xs ys ts here rest b s = ParsesMany-peel (ParsesManyTill-behind rest) xs ys ts here b s
+    ParsesManyTill-peel xs ys ts here rest b s = ParsesMany-peel (ParsesManyTill-tail rest) xs ys ts here b s
 
 -- ---- with a separator after each element
 
 module _ {T X : Type 0} (P : List T → X → List T → Type 0) (sep close : T) where
-  -- An element, and the separator after it.
-  abbrev pub Listed : List T → X → List T → Type 0
-  Listed ts x next = (mid : List T) × P ts x mid × (mid ≡ sep ∷ next)
+  -- The tokens begin with an element and the separator after it.
+  abbrev pub ParsesWithSep : List T → X → List T → Type 0
+  ParsesWithSep ts x next = (mid : List T) × P ts x mid × (mid ≡ sep ∷ next)
 
   -- These elements have been read, each followed by a separator, and `rest` remains, where the closing token may follow too.
-  abbrev pub Listing : List T → List X → List T → Type 0
-  Listing ts xs rest = ParsesMany Listed ts xs rest
+  abbrev pub AreReadSepEndBy : List T → List X → List T → Type 0
+  AreReadSepEndBy ts xs rest = ParsesMany ParsesWithSep ts xs rest
 
   -- If the closing token follows, the list is complete: it may end after a separator.
-  pub Listing-end : (xs : List X) (ts here rest : List T)
-      → Listing ts xs here
+  pub ParsesSepEndBy-at_close : (xs : List X) (ts here rest : List T)
+      → AreReadSepEndBy ts xs here
       → here ≡ close ∷ rest
       → ParsesSepEndBy P sep close ts xs rest
-  Listing-end [] ts here rest b e = b ∙ e
-  Listing-end (y ∷ xs) ts here rest b e = (b.1.0, b.1.1, inr (b.0, b.1.2, Listing-end xs b.0 here rest b.2 e))
+  ParsesSepEndBy-at_close [] ts here rest b e = b ∙ e
+  ParsesSepEndBy-at_close (y ∷ xs) ts here rest b e =
+      (b.1.0, b.1.1, inr (b.0, b.1.2, ParsesSepEndBy-at_close xs b.0 here rest b.2 e))
 
   -- If an element and the closing token follow, the list is complete: the last separator may be absent.
-  pub Listing-last : (xs : List X) (ts here mid rest : List T) (x : X)
-      → Listing ts xs here
+  pub ParsesSepEndBy-last : (xs : List X) (ts here mid rest : List T) (x : X)
+      → AreReadSepEndBy ts xs here
       → P here x mid
       → mid ≡ close ∷ rest
       → ParsesSepEndBy P sep close ts (xs ++ x ∷ []) rest
-  Listing-last [] ts here mid rest x b p e = (mid, subst (λ l. P l x mid) (sym b) p, inl (refl, e))
-  Listing-last (y ∷ xs) ts here mid rest x b p e = (b.1.0, b.1.1, inr (b.0, b.1.2, Listing-last xs b.0 here mid rest x b.2 p e))
+  ParsesSepEndBy-last [] ts here mid rest x b p e = (mid, subst (λ l. P l x mid) (sym b) p, inl (refl, e))
+  ParsesSepEndBy-last (y ∷ xs) ts here mid rest x b p e =
+      (b.1.0, b.1.1, inr (b.0, b.1.2, ParsesSepEndBy-last xs b.0 here mid rest x b.2 p e))
 
   module _ (one : IsDeterministic P) (apart : sep ≡ close → ⊥)
       (unlike : (ts r l : List T) (x : X) → ts ≡ close ∷ l → P ts x r → ⊥) where
     -- The rest of the list, after one of its elements and a separator.
-    ParsesSepEndBy-behind : (rest ts next : List T) (x : X) (ys : List X)
-        → Listed ts x next
+    ParsesSepEndBy-tail : (rest ts next : List T) (x : X) (ys : List X)
+        → ParsesWithSep ts x next
         → ParsesSepEndBy P sep close ts ys rest
         → (more : List X) × (ys ≡ x ∷ more) × ParsesSepEndBy P sep close next more rest
-    ParsesSepEndBy-behind rest ts next x [] p s = absurd (unlike ts p.0 rest x s p.1)
-    ParsesSepEndBy-behind rest ts next x (y ∷ ys) p s =
+    ParsesSepEndBy-tail rest ts next x [] p s = absurd (unlike ts p.0 rest x s p.1)
+    ParsesSepEndBy-tail rest ts next x (y ∷ ys) p s =
         let e = one ts x y p.0 s.0 p.1 s.1 in
         elim s.2 [
           | inl f ↦ absurd (let d = f.1 in apart cc)
@@ -233,43 +238,45 @@ module _ {T X : Type 0} (P : List T → X → List T → Type 0) (sep close : T)
             | inr g ↦ absurd (let d = g.1 in apart cc)
           ]
       | inr f ↦
-          let k = ParsesSepEndBy-behind s ts f.0 x (y ∷ ys) (p.0, p.1, f.1) q in
+          let k = ParsesSepEndBy-tail s ts f.0 x (y ∷ ys) (p.0, p.1, f.1) q in
           let h = ParsesSepEndBy-unique xs k.0 f.0 r s f.2 k.2 in
           (ap (λ l. x ∷ l) h.0 ∙ sym k.1, h.1)
     ]
 
     -- The elements of the whole list are those read, followed by the rest.
-    Listing-peel : (xs ys : List X) (ts here rest : List T)
-        → Listing ts xs here
+    ParsesSepEndBy-peel : (xs ys : List X) (ts here rest : List T)
+        → AreReadSepEndBy ts xs here
         → ParsesSepEndBy P sep close ts ys rest
         → (more : List X) × (ys ≡ xs ++ more) × ParsesSepEndBy P sep close here more rest
-    Listing-peel xs ys ts here rest b s = ParsesMany-peel {P = Listed} (ParsesSepEndBy-behind rest) xs ys ts here b s
+    ParsesSepEndBy-peel xs ys ts here rest b s = ParsesMany-peel {P = ParsesWithSep} (ParsesSepEndBy-tail rest) xs ys ts here b s
 
     -- If neither the closing token nor an element follows, there is no list.
-    pub Listing-here : (xs ys : List X) (ts here rest : List T)
-        → Listing ts xs here
+    pub not-ParsesSepEndBy-if_no_element : (xs ys : List X) (ts here rest : List T)
+        → AreReadSepEndBy ts xs here
         → (here ≡ close ∷ rest → ⊥)
         → ((y : X) (more : List X) (mid : List T) → ys ≡ xs ++ y ∷ more → P here y mid → ⊥)
         → ParsesSepEndBy P sep close ts ys rest
         → ⊥
-    Listing-here xs ys ts here rest b no_end never s = let p = Listing-peel xs ys ts here rest b s in at p.0 p.1 p.2
+    not-ParsesSepEndBy-if_no_element xs ys ts here rest b no_end never s =
+        let p = ParsesSepEndBy-peel xs ys ts here rest b s in go p.0 p.1 p.2
       where
         -- By what follows the elements read.
-        at : (more : List X) → ys ≡ xs ++ more → ParsesSepEndBy P sep close here more rest → ⊥
-        at [] e q = no_end q
-        at (y ∷ more) e q = never y more q.0 e q.1
+        go : (more : List X) → ys ≡ xs ++ more → ParsesSepEndBy P sep close here more rest → ⊥
+        go [] e q = no_end q
+        go (y ∷ more) e q = never y more q.0 e q.1
 
     -- If neither a separator nor the closing token follows an element, there is no list.
-    pub Listing-mark : (xs ys : List X) (ts here mid rest : List T) (x : X)
-        → Listing ts xs here
+    pub not-ParsesSepEndBy-if_no_mark : (xs ys : List X) (ts here mid rest : List T) (x : X)
+        → AreReadSepEndBy ts xs here
         → P here x mid
         → ((l : List T) → mid ≡ sep ∷ l → ⊥)
         → ((l : List T) → mid ≡ close ∷ l → ⊥)
         → ParsesSepEndBy P sep close ts ys rest
         → ⊥
-    Listing-mark xs ys ts here mid rest x b p no_sep no_close s = let q = Listing-peel xs ys ts here rest b s in at q.0 q.2
+    not-ParsesSepEndBy-if_no_mark xs ys ts here mid rest x b p no_sep no_close s =
+        let q = ParsesSepEndBy-peel xs ys ts here rest b s in go q.0 q.2
       where
-        at : (more : List X) → ParsesSepEndBy P sep close here more rest → ⊥
-        at [] q = unlike here mid rest x q p
-        at (y ∷ more) q =
+        go : (more : List X) → ParsesSepEndBy P sep close here more rest → ⊥
+        go [] q = unlike here mid rest x q p
+        go (y ∷ more) q =
             let e = (one here x y mid q.0 p q.1).1 in elim q.2 [ inl f ↦ no_close rest (e ∙ f.1) | inr f ↦ no_sep f.0 (e ∙ f.1) ]

@@ -1,15 +1,16 @@
 -- Runs of name bytes and symbols: how a token starts, and that the token at a position is unique. So a lexer
 -- that takes the longest run, or the longer symbol, finds the only token.
-use Rattle.lw_text.proofs.Common.{IsOfKind, Symbol, is_ascii_digit, ◌≡◌, ℕ, ◌<◌, inl, inr, Bool, true, false}
-use Rattle.lw_text.proofs.Common.{not, [], ◌∷◌, ◌++◌, length, take, drop, refl, sym, ap, ◌∙◌, subst, arith}
-use Rattle.lw_text.proofs.Common.{◌==◌, nat_lt, slice_index_or, bytes_eq, ltb-true, eqb-true, AllByRecursion}
-use Rattle.lw_text.proofs.Common.{list_all, bytes_eq-Decides, not-true, false_from_ne_true, Bytes, is_blank}
-use Rattle.lw_text.proofs.Common.{is_name_byte, first_byte_is, list_all-member, byte_eq-sound}
-use Rattle.lw_text.proofs.Common.{is_blank-passes, slice_index_or-ascii, begins_trivia, begins_pair}
-use Rattle.lw_text.proofs.Common.{is_one_byte_symbol, is_two_byte_symbol, two_byte_symbols, one_byte_symbols}
-use Rattle.lw_text.proofs.Common.{IsNumber, IsNameOrNumber, IsNameRun, IsSymbol, IsToken, HoldsOfNothing, ◌≤◌}
-use Rattle.lw_text.proofs.Common.{IsName, if◌then◌else◌, cases_Bool, IsLongestRun, FailsInToken}
-use Rattle.lw_text.proofs.Common.{no_number_run, no_name_run, TextCause, Number, Name}
+use Rattle.lw_text.proofs.Common.{most_name_bytes, IsOfKind, Symbol, is_ascii_digit, ◌≡◌, ℕ, ◌<◌, inl, inr}
+use Rattle.lw_text.proofs.Common.{Bool, true, false, not, [], ◌∷◌, ◌++◌, length, take, drop, refl, sym, ap}
+use Rattle.lw_text.proofs.Common.{◌∙◌, subst, arith, ◌==◌, nat_lt, slice_index_or, bytes_eq, ltb-true}
+use Rattle.lw_text.proofs.Common.{eqb-true, AllByRecursion, list_all, bytes_eq-Decides, not-true}
+use Rattle.lw_text.proofs.Common.{false_from_ne_true, Bytes, is_blank, is_name_byte, first_byte_is}
+use Rattle.lw_text.proofs.Common.{list_all-member, byte_eq-sound, is_blank-passes, slice_index_or-ascii}
+use Rattle.lw_text.proofs.Common.{begins_trivia, begins_pair, is_one_byte_symbol, is_two_byte_symbol}
+use Rattle.lw_text.proofs.Common.{two_byte_symbols, one_byte_symbols, IsNumber, IsNameOrNumber, IsNameRun}
+use Rattle.lw_text.proofs.Common.{IsSymbol, IsToken, HoldsOfNothing, ◌≤◌, IsName, if◌then◌else◌, cases_Bool}
+use Rattle.lw_text.proofs.Common.{IsLongestRun, FailsInToken, no_number_run, no_name_run, TextCause, Number}
+use Rattle.lw_text.proofs.Common.{Name}
 use Rattle.lw_text.proofs.api.Numbers.{number_first}
 use Rattle.lw_text.proofs.api.Spelling.{list_all-AllByRecursion}
 
@@ -43,8 +44,8 @@ IsLongestPrefix-unique p (b ∷ w) (d ∷ v) {text} {r} {s} a c =
     (cc, both.1)
 
 -- All bytes are letters, digits or `_`.
-abbrev pub NameBytes : Bytes → Type 0
-NameBytes w = AllByRecursion (λ b. is_name_byte b ≡ true) w
+abbrev pub AreNameBytes : Bytes → Type 0
+AreNameBytes w = AllByRecursion (λ b. is_name_byte b ≡ true) w
 
 -- A test that all one-byte symbols of the list pass is passed by each byte that is one.
 each_one_byte_symbol : (q : ℕ → Bool) (b : ℕ) → list_all q one_byte_symbols ≡ true → is_one_byte_symbol b ≡ true → q b ≡ true
@@ -230,7 +231,12 @@ digit_starts_no_name is digit never (inl name) =
 digit_starts_no_name is digit never (inr (n, number)) = never n number
 
 -- A run that does not start with a digit is a name if it is short enough.
-pub short_run_is_name : {w r : Bytes} {b : ℕ} → w ≡ b ∷ r → NameBytes w → is_ascii_digit b ≡ false → length w ≤ 32 → IsName w
+pub short_run_is_name : {w r : Bytes} {b : ℕ}
+    → w ≡ b ∷ r
+    → AreNameBytes w
+    → is_ascii_digit b ≡ false
+    → length w ≤ most_name_bytes
+    → IsName w
 short_run_is_name is all other short = (
   record { not_empty = omega (arith, ap length is); are_name_bytes = all; front = ap (first_byte_is is_ascii_digit) is ∙ other },
   short,
@@ -240,7 +246,7 @@ short_run_is_name is all other short = (
 pub not-IsNameOrNumber-if_long : {w r : Bytes} {b : ℕ}
     → w ≡ b ∷ r
     → is_ascii_digit b ≡ false
-    → (length w ≤ 32 → ⊥)
+    → (length w ≤ most_name_bytes → ⊥)
     → IsNameOrNumber w
     → ⊥
 not-IsNameOrNumber-if_long is other long (inl name) = long name.1

@@ -1,5 +1,5 @@
 -- Quoted texts and lines `Key=value` have unique ends, and so have sequences of them, the notes; and a loop
--- finds the end. A step of the proof that a text has one frame; the loop of `after_notes` goes by `Passed`.
+-- finds the end. A step of the proof that a text has one frame; the loop of `after_notes` goes by `NotesContinueAt`.
 -- (In bytes, 10 is a newline, 34 is `"`, 40 is `(`, 42 is `*`, 61 is `=` and 123 is `{`.)
 use Rattle.lw_text.proofs.Common.{◌≡◌, ℕ, ◌<◌, ◌≤◌, inl, inr, Bool, true, false, not, [], ◌∷◌, ◌++◌, length}
 use Rattle.lw_text.proofs.Common.{length-append, append_assoc, refl, sym, ap, ◌∙◌, subst, arith, ◌==◌}
@@ -14,19 +14,19 @@ use Rattle.lw_text.proofs.NameRuns.{IsLongestPrefix-unique, no_trivia-first_byte
 -- ---- quoted texts
 
 -- No byte is c.
-abbrev pub Without : ℕ → Bytes → Type 0
-Without c bytes = AllByRecursion (λ b. not (b == c) ≡ true) bytes
+abbrev pub HasNoByte : ℕ → Bytes → Type 0
+HasNoByte c bytes = AllByRecursion (λ b. not (b == c) ≡ true) bytes
 
--- Bytes that all differ from c satisfy `Without`.
-pub Without-of_all : (c : ℕ) (bytes : Bytes) → AllByRecursion (λ b. (b == c) ≡ false) bytes → Without c bytes
-Without-of_all c bytes all = All-mono (λ b. (b == c) ≡ false) _ (λ b e. ap not e) bytes all
+-- Bytes that all differ from c satisfy `HasNoByte`.
+pub HasNoByte-of_all : (c : ℕ) (bytes : Bytes) → AllByRecursion (λ b. (b == c) ≡ false) bytes → HasNoByte c bytes
+HasNoByte-of_all c bytes all = All-mono (λ b. (b == c) ≡ false) _ (λ b e. ap not e) bytes all
 
--- Bytes that satisfy `Without` all differ from c.
-Without-inv : (c : ℕ) (bytes : Bytes) → Without c bytes → AllByRecursion (λ b. (b == c) ≡ false) bytes
-Without-inv c bytes all = All-mono _ (λ b. (b == c) ≡ false) (λ b e. not-true (b == c) e) bytes all
+-- Bytes that satisfy `HasNoByte` all differ from c.
+HasNoByte-inv : (c : ℕ) (bytes : Bytes) → HasNoByte c bytes → AllByRecursion (λ b. (b == c) ≡ false) bytes
+HasNoByte-inv c bytes all = All-mono _ (λ b. (b == c) ≡ false) (λ b e. not-true (b == c) e) bytes all
 
 -- The parts of a text that starts with a quote: the bytes up to the next quote, and the rest.
-module _ (text inside quoted rest : Bytes) (e : text ≡ 34 ∷ inside) (f : inside ≡ quoted ++ rest) (all : Without 34 quoted)
+module _ (text inside quoted rest : Bytes) (e : text ≡ 34 ∷ inside) (f : inside ≡ quoted ++ rest) (all : HasNoByte 34 quoted)
     (longest : first_byte_is (λ b. not (b == 34)) rest ≡ false) where
   -- The rest starts with the quote that ends the quoted text.
   pub Quoted-rest : (end : Bytes) → Quoted text end → rest ≡ 34 ∷ end
@@ -34,20 +34,20 @@ module _ (text inside quoted rest : Bytes) (e : text ≡ 34 ∷ inside) (f : ins
       let p = q.parts in
       let g : inside ≡ q.inside ++ 34 ∷ end = cc in
       sym (IsLongestPrefix-unique (λ b. not (b == 34)) q.inside quoted
-      (record { parts = g; bytes_pass = Without-of_all 34 q.inside q.plain; longest = refl })
+      (record { parts = g; bytes_pass = HasNoByte-of_all 34 q.inside q.plain; longest = refl })
       (record { parts = f; bytes_pass = all; longest = longest })).1
 
   -- If no quote follows, there is no quoted text.
-  pub Quoted-open : rest ≡ [] → HoldsOfNothing (Quoted text)
-  Quoted-open gone end q = let k = Quoted-rest end q in cc
+  pub no_quoted_text-if_no_quote : rest ≡ [] → HoldsOfNothing (Quoted text)
+  no_quoted_text-if_no_quote gone end q = let k = Quoted-rest end q in cc
 
   -- If a quote follows, there is a quoted text up to it.
-  pub Quoted-made : (b : ℕ) (after : Bytes) → rest ≡ b ∷ after → Quoted text after
-  Quoted-made b after g =
+  pub Quoted-up_to_quote : (b : ℕ) (after : Bytes) → rest ≡ b ∷ after → Quoted text after
+  Quoted-up_to_quote b after g =
       let h : not (b == 34) ≡ false = subst (λ x. first_byte_is (λ c. not (c == 34)) x ≡ false) g longest in
       let i : b ≡ 34 = eqb-true b 34 (not-false (b == 34) h) in
       let j : rest ≡ 34 ∷ after = cc in
-      record { inside = quoted; parts = e ∙ ap (λ x. 34 ∷ x) (f ∙ ap (λ x. quoted ++ x) j); plain = Without-inv 34 quoted all }
+      record { inside = quoted; parts = e ∙ ap (λ x. 34 ∷ x) (f ∙ ap (λ x. quoted ++ x) j); plain = HasNoByte-inv 34 quoted all }
 
 -- A quoted text starts with a quote.
 pub Quoted-front : (text end : Bytes) → Quoted text end → first_byte_is (λ b. b == 34) text ≡ true
@@ -57,18 +57,18 @@ Quoted-front text end q = ap (first_byte_is (λ b. b == 34)) q.parts
 pub Quoted-unique : (text a b : Bytes) → Quoted text a → Quoted text b → a ≡ b
 Quoted-unique text a b p q =
     let k : 34 ∷ b ≡ 34 ∷ a =
-    Quoted-rest text (q.inside ++ 34 ∷ b) q.inside (34 ∷ b) q.parts refl (Without-of_all 34 q.inside q.plain) refl a p in
+    Quoted-rest text (q.inside ++ 34 ∷ b) q.inside (34 ∷ b) q.parts refl (HasNoByte-of_all 34 q.inside q.plain) refl a p in
     cc
 
 -- ---- lines `Key=value`
 
 -- Every byte may be in a key.
-abbrev pub Keys : Bytes → Type 0
-Keys bytes = AllByRecursion (λ b. is_key_byte b ≡ true) bytes
+abbrev pub AreKeyBytes : Bytes → Type 0
+AreKeyBytes bytes = AllByRecursion (λ b. is_key_byte b ≡ true) bytes
 
 -- Every byte is a space or a tab.
-abbrev pub Spaces : Bytes → Type 0
-Spaces bytes = AllByRecursion (λ b. is_space b ≡ true) bytes
+abbrev pub AreSpaces : Bytes → Type 0
+AreSpaces bytes = AllByRecursion (λ b. is_space b ≡ true) bytes
 
 -- A space may not be in a key.
 space_no_key : (b : ℕ) → is_space b ≡ true → is_key_byte b ≡ false
@@ -76,7 +76,7 @@ space_no_key b h =
     not-true (is_key_byte b) (list_all-member (λ x y. x == y) byte_eq-sound (λ x. not (is_key_byte x)) (32 ∷ 9 ∷ []) b refl h)
 
 -- No key continues after the spaces and `=`.
-after_key : (spaces more : Bytes) → Spaces spaces → first_byte_is is_key_byte (spaces ++ 61 ∷ more) ≡ false
+after_key : (spaces more : Bytes) → AreSpaces spaces → first_byte_is is_key_byte (spaces ++ 61 ∷ more) ≡ false
 after_key [] more all = refl
 after_key (b ∷ spaces) more all = space_no_key b all.0
 
@@ -85,8 +85,8 @@ line_parts : (key spaces value rest : Bytes) → key ++ spaces ++ 61 ∷ value +
 line_parts key spaces value rest = append_assoc (key ++ spaces) (61 ∷ value) rest ∙ append_assoc key spaces (61 ∷ (value ++ rest))
 
 -- The parts of a text after its longest key: spaces, and the rest.
-module _ (text key rest spaces left : Bytes) (e : text ≡ key ++ rest) (all : Keys key)
-    (longest : first_byte_is is_key_byte rest ≡ false) (f : rest ≡ spaces ++ left) (spaced : Spaces spaces)
+module _ (text key rest spaces left : Bytes) (e : text ≡ key ++ rest) (all : AreKeyBytes key)
+    (longest : first_byte_is is_key_byte rest ≡ false) (f : rest ≡ spaces ++ left) (spaced : AreSpaces spaces)
     (stop : first_byte_is is_space left ≡ false) where
   -- A line's key is the longest, and `=` and its value follow the spaces.
   pub KeyLine-parts : (end : Bytes) → (p : KeyLine text end) → (p.key ≡ key) × (left ≡ 61 ∷ p.value ++ end)
@@ -110,14 +110,14 @@ module _ (text key rest spaces left : Bytes) (e : text ≡ key ++ rest) (all : K
       cc
 
   -- If `=` follows the key, there is a line `Key=value`, up to the end of the line.
-  pub KeyLine-made : (more value end : Bytes)
+  pub KeyLine-of_parts : (more value end : Bytes)
       → 0 < length key
       → left ≡ 61 ∷ more
       → more ≡ value ++ end
-      → Without 10 value
+      → HasNoByte 10 value
       → first_byte_is (λ b. not (b == 10)) end ≡ false
       → KeyLine text end
-  KeyLine-made more value end some g h one last = record {
+  KeyLine-of_parts more value end some g h one last = record {
     key = key;
     spaces = spaces;
     value = value;
@@ -125,7 +125,7 @@ module _ (text key rest spaces left : Bytes) (e : text ≡ key ++ rest) (all : K
     not_empty = some;
     are_key_bytes = all;
     spaced = spaced;
-    one_line = Without-inv 10 value one;
+    one_line = HasNoByte-inv 10 value one;
     longest = last;
   }
 
@@ -137,11 +137,11 @@ KeyLine-unique text a b p q =
     (q.parts ∙ line_parts q.key _ q.value b) q.are_key_bytes (after_key q.spaces _ q.spaced) refl q.spaced refl a p in
     let ends : p.value ++ a ≡ q.value ++ b = cc in
     (IsLongestPrefix-unique (λ b. not (b == 10)) p.value q.value {text = p.value ++ a}
-    (record { parts = refl; bytes_pass = Without-of_all 10 _ p.one_line; longest = p.longest })
-    (record { parts = ends; bytes_pass = Without-of_all 10 q.value q.one_line; longest = q.longest })).1
+    (record { parts = refl; bytes_pass = HasNoByte-of_all 10 _ p.one_line; longest = p.longest })
+    (record { parts = ends; bytes_pass = HasNoByte-of_all 10 q.value q.one_line; longest = q.longest })).1
 
 -- A text that starts with a key starts with a byte of a key.
-pub key_front : (key more : Bytes) → 0 < length key → Keys key → first_byte_is is_key_byte (key ++ more) ≡ true
+pub key_front : (key more : Bytes) → 0 < length key → AreKeyBytes key → first_byte_is is_key_byte (key ++ more) ≡ true
 key_front [] more some all = absurd (omega (arith, some))
 key_front (b ∷ key) more some all = all.0
 
@@ -277,22 +277,22 @@ Notes-suffix (note {mid = mid} {after = after} g n m) =
 -- ---- what the reader of notes must prove
 
 -- The invariant of the loop over notes: the notes at the start of the bytes end where those at the start of the rest do.
-pub record Passed (bytes rest : Bytes) : Type 0 where
-  pub given : (end : Bytes) → Notes rest end → Notes bytes end
-  pub only : (end : Bytes) → Notes bytes end → Notes rest end
+pub record NotesContinueAt (bytes rest : Bytes) : Type 0 where
+  pub whole_if_rest : (end : Bytes) → Notes rest end → Notes bytes end
+  pub rest_if_whole : (end : Bytes) → Notes bytes end → Notes rest end
   pub bound : length rest ≤ length bytes
 
 -- After trivia and a note, the invariant holds again.
-pub Passed-after_note : {bytes rest start after : Bytes}
-    → Passed bytes rest
+pub NotesContinueAt-after_note : {bytes rest start after : Bytes}
+    → NotesContinueAt bytes rest
     → Trivia rest start
     → Note start after
-    → Passed bytes after
-Passed-after_note {bytes} {rest} {start} {after} p g n =
+    → NotesContinueAt bytes after
+NotesContinueAt-after_note {bytes} {rest} {start} {after} p g n =
     let t = Note-suffix start after n in
     record {
-      given = λ end m. p.given end (note g n m);
-      only = λ end m. Notes-note_inv (p.only end m) g n;
+      whole_if_rest = λ end m. p.whole_if_rest end (note g n m);
+      rest_if_whole = λ end m. Notes-note_inv (p.rest_if_whole end m) g n;
       bound = omega (arith, p.bound, Trivia-shorter g, ap length t.1, length-append t.0 after);
     }
 
@@ -302,12 +302,12 @@ Note-shorter {rest} {start} {after} g n =
     let t = Note-suffix start after n in omega (arith, Trivia-shorter g, ap length t.1, length-append t.0 after, t.2)
 
 -- At `{` the notes have ended.
-pub Notes-of_passed : {bytes rest start : Bytes}
-    → Passed bytes rest
+pub Notes-at_brace : {bytes rest start : Bytes}
+    → NotesContinueAt bytes rest
     → Trivia rest start
     → first_byte_is (λ b. b == 123) start ≡ true
     → Notes bytes start
-Notes-of_passed {start = start} p g h = p.given start (none g h)
+Notes-at_brace {start = start} p g h = p.whole_if_rest start (none g h)
 
 -- Notes start with trivia that no more trivia follows.
 pub Notes-trivia_first : {text rest : Bytes}
@@ -318,20 +318,20 @@ Notes-trivia_first (note {mid = mid} {after = after} t n m) = (mid, t, note_no_t
 
 -- If a comment among the notes is not closed, there is no sequence of notes.
 pub no_notes-if_comment_is_open : {bytes rest : Bytes}
-    → Passed bytes rest
+    → NotesContinueAt bytes rest
     → ((start : Bytes) → begins_trivia start ≡ false → Trivia rest start → ⊥)
     → HoldsOfNothing (Notes bytes)
-no_notes-if_comment_is_open p never end m = let k = Notes-trivia_first (p.only end m) in never k.0 k.2 k.1
+no_notes-if_comment_is_open p never end m = let k = Notes-trivia_first (p.rest_if_whole end m) in never k.0 k.2 k.1
 
 -- If neither `{` nor a note follows the trivia, there is no sequence of notes.
 pub no_notes-if_no_note : {bytes rest start : Bytes}
-    → Passed bytes rest
+    → NotesContinueAt bytes rest
     → Trivia rest start
     → begins_trivia start ≡ false
     → first_byte_is (λ b. b == 123) start ≡ false
     → HoldsOfNothing (Note start)
     → HoldsOfNothing (Notes bytes)
-no_notes-if_no_note {bytes} {rest} {start} p g stop other never end m = no_notes-by_first_start (p.only end m)
+no_notes-if_no_note {bytes} {rest} {start} p g stop other never end m = no_notes-by_first_start (p.rest_if_whole end m)
   where
     -- The rest begins no notes.
     no_notes-by_first_start : {text : Bytes} → Notes rest text → ⊥

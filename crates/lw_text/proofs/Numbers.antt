@@ -1,5 +1,5 @@
 -- The number that digits represent, as a loop computes it digit by digit. The loop of `digits` goes by
--- `Reads`.
+-- `DigitsContinueAt`.
 use Rattle.lw_text.proofs.Common.{◌≡◌, ℕ, ◌+◌, ◌*◌, ◌^◌, ◌<◌, ◌≤◌, [], ◌∷◌, sym, ap, ◌∙◌, subst, arith}
 use Rattle.lw_text.proofs.Common.{mul-le-mul_left, mul_comm, Option, Some, None, IfNone, digit_value, Bytes}
 use Rattle.lw_text.proofs.Common.{Digits}
@@ -15,26 +15,26 @@ Digits-unique base n [] v w d e = sym d ∙ e
 Digits-unique base n (x ∷ ds) v w d e = Digits-unique base (base * n + digit_value x) ds v w d.1 e.1
 
 -- The invariant of the loop over digits: all of them represent what the rest represents after the number n.
-pub record Reads (base : ℕ) (digits : Bytes) (n : ℕ) (rest : Bytes) : Type 0 where
-  pub given : (v : ℕ) → Digits base n rest v → Digits base 0 digits v
-  pub only : (v : ℕ) → Digits base 0 digits v → Digits base n rest v
+pub record DigitsContinueAt (base : ℕ) (digits : Bytes) (n : ℕ) (rest : Bytes) : Type 0 where
+  pub whole_if_rest : (v : ℕ) → Digits base n rest v → Digits base 0 digits v
+  pub rest_if_whole : (v : ℕ) → Digits base 0 digits v → Digits base n rest v
 
-module _ {base : ℕ} {digits : Bytes} {n : ℕ} {rest next : Bytes} {x : ℕ} (r : Reads base digits n rest)
+module _ {base : ℕ} {digits : Bytes} {n : ℕ} {rest next : Bytes} {x : ℕ} (r : DigitsContinueAt base digits n rest)
     (e : rest ≡ x ∷ next) where
   -- The digits from this one on represent the same number.
   Digits-from_value : (v : ℕ) → Digits base 0 digits v → Digits base n (x ∷ next) v
-  Digits-from_value v d = subst (λ l. Digits base n l v) e (r.only v d)
+  Digits-from_value v d = subst (λ l. Digits base n l v) e (r.rest_if_whole v d)
 
   -- If one more digit makes the number `2 ^ 32` or more, the digits represent no smaller number.
-  pub Reads-large : 1 ≤ base → 2 ^ 32 ≤ base * n + digit_value x → (v : ℕ) → v < 2 ^ 32 → Digits base 0 digits v → ⊥
-  Reads-large pos large v lt d =
+  pub not-Digits-if_too_large : 1 ≤ base → 2 ^ 32 ≤ base * n + digit_value x → (v : ℕ) → v < 2 ^ 32 → Digits base 0 digits v → ⊥
+  not-Digits-if_too_large pos large v lt d =
       omega (arith, large, lt, Digits-grow base (base * n + digit_value x) next v pos (Digits-from_value v d).1)
 
   -- One more digit preserves the invariant, with the number extended by it.
-  pub Reads-next : (m : ℕ) → m ≡ base * n + digit_value x → digit_value x < base → Reads base digits m next
-  Reads-next m f small = rw f (record {
-    given = λ v d. r.given v (subst (λ l. Digits base n l v) (sym e) (small, d));
-    only = λ v d. (Digits-from_value v d).1;
+  pub DigitsContinueAt-next : (m : ℕ) → m ≡ base * n + digit_value x → digit_value x < base → DigitsContinueAt base digits m next
+  DigitsContinueAt-next m f small = rw f (record {
+    whole_if_rest = λ v d. r.whole_if_rest v (subst (λ l. Digits base n l v) (sym e) (small, d));
+    rest_if_whole = λ v d. (Digits-from_value v d).1;
   })
 
 -- The number with one more digit, as the code computes it, is the one of `Digits`.

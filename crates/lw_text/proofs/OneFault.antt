@@ -7,10 +7,10 @@ use Rattle.lw_text.proofs.Common.{Trivia, Preamble, HasFrame, TestFrame, texts_o
 use Rattle.lw_text.proofs.Common.{FailsInTest, IsPlacedToken, FailsInFirstToken, HasTokens, FailsInBody}
 use Rattle.lw_text.proofs.Common.{at_token, in_next_token, at_end, FailsAt, in_preamble, in_body, TextCause}
 use Rattle.lw_text.proofs.ByteFailures.{FailsInFirstToken-unique, not-FailsInFirstToken-if_parsed}
-use Rattle.lw_text.proofs.ByteFailures.{FailsInFirstToken-end, FailsInPreamble-unique}
+use Rattle.lw_text.proofs.ByteFailures.{not-FailsInFirstToken-if_only_trivia, FailsInPreamble-unique}
 use Rattle.lw_text.proofs.ByteFailures.{not-FailsInPreamble-if_parsed}
 use Rattle.lw_text.proofs.Preambles.{Preamble-unique}
-use Rattle.lw_text.proofs.StreamFailures.{placed_many}
+use Rattle.lw_text.proofs.StreamFailures.{ParsesMany-PlacedTokens}
 use Rattle.lw_text.proofs.TokenRows.{IsFirstToken-unique, no_first_token-if_only_trivia, placed_tokens_equal}
 use Rattle.lw_text.proofs.WholeFailures.{FailsInTest-unique, not-FailsInTest-if_parsed}
 
@@ -40,11 +40,11 @@ append-equal_ends (x ∷ a) [] c d e n = absurd (omega (arith, ap length e, n, l
 append-equal_ends (x ∷ a) (y ∷ b) c d e n = append-equal_ends a b c d (cc e) n
 
 -- Tokens do not fail both at one of them and at their end.
-token_or_end : (arch : Arch) (ts : TokenList) (t : Bytes) (rest : TokenList) (c d : TextCause)
+not-FailsInTest-at_token_and_end : (arch : Arch) (ts : TokenList) (t : Bytes) (rest : TokenList) (c d : TextCause)
     → FailsInTest arch ts (t ∷ rest) c
     → FailsInTest arch ts [] d
     → ⊥
-token_or_end arch ts t rest c d p q =
+not-FailsInTest-at_token_and_end arch ts t rest c d p q =
     let same = (FailsInTest-unique arch ts (t ∷ rest) [] c d p q).0 in omega (arith, ap length same)
 
 -- The tokens of a whole text, with their end.
@@ -52,15 +52,15 @@ HasTokens-PlacedTokens : (len : ℕ) (text : Bytes) (tokens : List PlacedToken)
     → PlacedTokens len text tokens
     → (end : Bytes) × HasTokens len text tokens end × Trivia end []
 HasTokens-PlacedTokens len text tokens p =
-    let read = placed_many len text tokens p in
+    let read = ParsesMany-PlacedTokens len text tokens p in
     (read.0, (read.1, λ t rest is. no_first_token-if_only_trivia read.0 t rest read.2 is), read.2)
 
 -- Where the next token fails, no token follows.
-fails_tokens : (len : ℕ) (text end rest : Bytes) (tokens : List PlacedToken) (c : TextCause)
+HasTokens-if_next_fails : (len : ℕ) (text end rest : Bytes) (tokens : List PlacedToken) (c : TextCause)
     → ParsesMany (IsPlacedToken len) text tokens end
     → FailsInFirstToken end rest c
     → HasTokens len text tokens end
-fails_tokens len text end rest tokens c read fails =
+HasTokens-if_next_fails len text end rest tokens c read fails =
     (read, λ t after is. not-FailsInFirstToken-if_parsed end rest t after c fails is)
 
 module _ (arch : Arch) (len : ℕ) (text : Bytes) where
@@ -69,15 +69,15 @@ module _ (arch : Arch) (len : ℕ) (text : Bytes) where
       → FailsInBody arch len text m c
       → FailsInBody arch len text n d
       → (m ≡ n) × (c ≡ d)
-  FailsInBody-unique m n c d (at_token tokens behind token before end read parts at fails) (at_token others after other front stop also too place way) =
+  FailsInBody-unique m n c d (at_token tokens later token before end read parts at fails) (at_token others after other front stop also too place way) =
       let same = (HasTokens-unique len text end stop tokens others read also).0 in
       let u =
-      FailsInTest-unique arch (texts_of_tokens tokens) (texts_of_tokens (token ∷ behind)) (texts_of_tokens (other ∷ after)) c d
+      FailsInTest-unique arch (texts_of_tokens tokens) (texts_of_tokens (token ∷ later)) (texts_of_tokens (other ∷ after)) c d
       fails (subst (λ ts. FailsInTest arch (texts_of_tokens ts) (texts_of_tokens (other ∷ after)) d) (sym same) way) in
-      let ends = append-equal_ends before front (token ∷ behind) (other ∷ after) (sym parts ∙ same ∙ too) (omega (
+      let ends = append-equal_ends before front (token ∷ later) (other ∷ after) (sym parts ∙ same ∙ too) (omega (
         arith,
         ap length u.0,
-        length-map (token ∷ behind) (λ (t : PlacedToken). t.text),
+        length-map (token ∷ later) (λ (t : PlacedToken). t.text),
         length-map (other ∷ after) (λ (t : PlacedToken). t.text),
       )) in
       (at ∙ ap first_offset ends ∙ sym place, u.1 (λ e. omega (arith, ap length e)))
@@ -86,48 +86,54 @@ module _ (arch : Arch) (len : ℕ) (text : Bytes) where
       first_offset : List PlacedToken → ℕ
       first_offset [] = 0
       first_offset (t ∷ ts) = t.at
-  FailsInBody-unique m n c d (at_token tokens behind token before end read parts at fails) (in_next_token others stop rest e many next place (inl way)) =
-      let same = (HasTokens-unique len text end stop tokens others read (fails_tokens len text stop rest others d many next)).0 in
-      absurd (token_or_end arch (texts_of_tokens tokens) token.text (texts_of_tokens behind) c e fails
+  FailsInBody-unique m n c d (at_token tokens later token before end read parts at fails) (in_next_token others stop rest e many next place (inl way)) =
+      let same =
+      (HasTokens-unique len text end stop tokens others read (HasTokens-if_next_fails len text stop rest others d many next)).0 in
+      absurd (not-FailsInTest-at_token_and_end arch (texts_of_tokens tokens) token.text (texts_of_tokens later) c e fails
       (subst (λ ts. FailsInTest arch (texts_of_tokens ts) [] e) (sym same) way))
-  FailsInBody-unique m n c d (at_token tokens behind token before end read parts at fails) (in_next_token others stop rest e many next place (inr (s, p, is, whole))) =
-      let same = (HasTokens-unique len text end stop tokens others read (fails_tokens len text stop rest others d many next)).0 in
-      absurd (not-FailsInTest-if_parsed arch (texts_of_tokens others) (texts_of_tokens (token ∷ behind)) c
-      (subst (λ ts. FailsInTest arch (texts_of_tokens ts) (texts_of_tokens (token ∷ behind)) c) same fails) s p is whole)
-  FailsInBody-unique m n c d (at_token tokens behind token before end read parts at fails) (at_end others e whole way place because) =
+  FailsInBody-unique m n c d (at_token tokens later token before end read parts at fails) (in_next_token others stop rest e many next place (inr (s, p, is, whole))) =
+      let same =
+      (HasTokens-unique len text end stop tokens others read (HasTokens-if_next_fails len text stop rest others d many next)).0 in
+      absurd (not-FailsInTest-if_parsed arch (texts_of_tokens others) (texts_of_tokens (token ∷ later)) c
+      (subst (λ ts. FailsInTest arch (texts_of_tokens ts) (texts_of_tokens (token ∷ later)) c) same fails) s p is whole)
+  FailsInBody-unique m n c d (at_token tokens later token before end read parts at fails) (at_end others e whole way place because) =
       let all = HasTokens-PlacedTokens len text others whole in
       let same = (HasTokens-unique len text end all.0 tokens others read all.1).0 in
-      absurd (token_or_end arch (texts_of_tokens tokens) token.text (texts_of_tokens behind) c e fails
+      absurd (not-FailsInTest-at_token_and_end arch (texts_of_tokens tokens) token.text (texts_of_tokens later) c e fails
       (subst (λ ts. FailsInTest arch (texts_of_tokens ts) [] e) (sym same) way))
-  FailsInBody-unique m n c d (in_next_token others stop rest e many next place (inl way)) (at_token tokens behind token before end read parts at fails) =
-      let same = (HasTokens-unique len text end stop tokens others read (fails_tokens len text stop rest others c many next)).0 in
-      absurd (token_or_end arch (texts_of_tokens tokens) token.text (texts_of_tokens behind) d e fails
+  FailsInBody-unique m n c d (in_next_token others stop rest e many next place (inl way)) (at_token tokens later token before end read parts at fails) =
+      let same =
+      (HasTokens-unique len text end stop tokens others read (HasTokens-if_next_fails len text stop rest others c many next)).0 in
+      absurd (not-FailsInTest-at_token_and_end arch (texts_of_tokens tokens) token.text (texts_of_tokens later) d e fails
       (subst (λ ts. FailsInTest arch (texts_of_tokens ts) [] e) (sym same) way))
-  FailsInBody-unique m n c d (in_next_token others stop rest e many next place (inr (s, p, is, whole))) (at_token tokens behind token before end read parts at fails) =
-      let same = (HasTokens-unique len text end stop tokens others read (fails_tokens len text stop rest others c many next)).0 in
-      absurd (not-FailsInTest-if_parsed arch (texts_of_tokens others) (texts_of_tokens (token ∷ behind)) d
-      (subst (λ ts. FailsInTest arch (texts_of_tokens ts) (texts_of_tokens (token ∷ behind)) d) same fails) s p is whole)
+  FailsInBody-unique m n c d (in_next_token others stop rest e many next place (inr (s, p, is, whole))) (at_token tokens later token before end read parts at fails) =
+      let same =
+      (HasTokens-unique len text end stop tokens others read (HasTokens-if_next_fails len text stop rest others c many next)).0 in
+      absurd (not-FailsInTest-if_parsed arch (texts_of_tokens others) (texts_of_tokens (token ∷ later)) d
+      (subst (λ ts. FailsInTest arch (texts_of_tokens ts) (texts_of_tokens (token ∷ later)) d) same fails) s p is whole)
   FailsInBody-unique m n c d (in_next_token tokens end rest e many next place way) (in_next_token others stop left f read also at too) =
       let same =
-      (HasTokens-unique len text end stop tokens others (fails_tokens len text end rest tokens c many next)
-      (fails_tokens len text stop left others d read also)).1 in
+      (HasTokens-unique len text end stop tokens others (HasTokens-if_next_fails len text end rest tokens c many next)
+      (HasTokens-if_next_fails len text stop left others d read also)).1 in
       let u = FailsInFirstToken-unique end rest left c d next (subst (λ x. FailsInFirstToken x left d) (sym same) also) in
       (omega (arith, place, at, ap length u.0), u.1)
   FailsInBody-unique m n c d (in_next_token tokens end rest e many next place way) (at_end others f whole fails at because) =
       let all = HasTokens-PlacedTokens len text others whole in
       let same =
-      (HasTokens-unique len text end all.0 tokens others (fails_tokens len text end rest tokens c many next) all.1).1 in
-      absurd (FailsInFirstToken-end end rest c next (subst (λ x. Trivia x []) (sym same) all.2))
-  FailsInBody-unique m n c d (at_end others e whole way place because) (at_token tokens behind token before end read parts at fails) =
+      (HasTokens-unique len text end all.0 tokens others (HasTokens-if_next_fails len text end rest tokens c many next)
+      all.1).1 in
+      absurd (not-FailsInFirstToken-if_only_trivia end rest c next (subst (λ x. Trivia x []) (sym same) all.2))
+  FailsInBody-unique m n c d (at_end others e whole way place because) (at_token tokens later token before end read parts at fails) =
       let all = HasTokens-PlacedTokens len text others whole in
       let same = (HasTokens-unique len text end all.0 tokens others read all.1).0 in
-      absurd (token_or_end arch (texts_of_tokens tokens) token.text (texts_of_tokens behind) d e fails
+      absurd (not-FailsInTest-at_token_and_end arch (texts_of_tokens tokens) token.text (texts_of_tokens later) d e fails
       (subst (λ ts. FailsInTest arch (texts_of_tokens ts) [] e) (sym same) way))
   FailsInBody-unique m n c d (at_end others f whole fails at because) (in_next_token tokens end rest e many next place way) =
       let all = HasTokens-PlacedTokens len text others whole in
       let same =
-      (HasTokens-unique len text end all.0 tokens others (fails_tokens len text end rest tokens d many next) all.1).1 in
-      absurd (FailsInFirstToken-end end rest d next (subst (λ x. Trivia x []) (sym same) all.2))
+      (HasTokens-unique len text end all.0 tokens others (HasTokens-if_next_fails len text end rest tokens d many next)
+      all.1).1 in
+      absurd (not-FailsInFirstToken-if_only_trivia end rest d next (subst (λ x. Trivia x []) (sym same) all.2))
   FailsInBody-unique m n c d (at_end tokens e whole way place because) (at_end others f also too at cause) =
       (place ∙ sym at, because ∙ sym cause)
 
@@ -146,16 +152,16 @@ FailsAt-unique text m n c d (in_body arch name rest is fails) (in_body language 
     (subst (λ x. FailsInBody language (length text) x n d) (sym u.2) way))
 
 -- The tokens of a text, with and without their places, are the same.
-HasTokens-Tokens : (len : ℕ) (text end : Bytes) (ts : List PlacedToken) (us : TokenList)
+Tokens-of_HasTokens : (len : ℕ) (text end : Bytes) (ts : List PlacedToken) (us : TokenList)
     → HasTokens len text ts end
     → Tokens text us
     → (texts_of_tokens ts ≡ us) × Trivia end []
-HasTokens-Tokens len text end [] [] p q = (refl, subst (λ x. Trivia x []) p.0 q)
-HasTokens-Tokens len text end [] (u ∷ us) p q = absurd (p.1 u q.0 (subst (λ x. IsFirstToken x u q.0) p.0 q.1))
-HasTokens-Tokens len text end (t ∷ ts) [] p q = absurd (no_first_token-if_only_trivia text t.text p.0.0 q p.0.1.0)
-HasTokens-Tokens len text end (t ∷ ts) (u ∷ us) p q =
+Tokens-of_HasTokens len text end [] [] p q = (refl, subst (λ x. Trivia x []) p.0 q)
+Tokens-of_HasTokens len text end [] (u ∷ us) p q = absurd (p.1 u q.0 (subst (λ x. IsFirstToken x u q.0) p.0 q.1))
+Tokens-of_HasTokens len text end (t ∷ ts) [] p q = absurd (no_first_token-if_only_trivia text t.text p.0.0 q p.0.1.0)
+Tokens-of_HasTokens len text end (t ∷ ts) (u ∷ us) p q =
     let e = IsFirstToken-unique text t.text p.0.0 u q.0 p.0.1.0 q.1 in
-    let more = HasTokens-Tokens len p.0.0 end ts us (p.0.2, p.1) (subst (λ x. Tokens x us) (sym e.1) q.2) in
+    let more = Tokens-of_HasTokens len p.0.0 end ts us (p.0.2, p.1) (subst (λ x. Tokens x us) (sym e.1) q.2) in
     (ap (λ x. x ∷ texts_of_tokens ts) e.0 ∙ ap (λ xs. u ∷ xs) more.0, more.1)
 
 -- A text with a frame does not fail.
@@ -169,17 +175,17 @@ not-FailsAt-if_frame text m c frame (in_body arch name rest is fails) has =
   where
     -- The body of a text with a frame does not fail.
     not-FailsInBody-if_whole : FailsInBody has.arch (length text) has.rest m c → ⊥
-    not-FailsInBody-if_whole (at_token tokens behind token before end read parts place way) =
-        let same = (HasTokens-Tokens (length text) has.rest end tokens has.tokens read has.stream).0 in
-        not-FailsInTest-if_parsed has.arch has.tokens (texts_of_tokens (token ∷ behind)) c
-        (subst (λ ts. FailsInTest has.arch ts (texts_of_tokens (token ∷ behind)) c) same way) has.syntax has.condition has.parts
+    not-FailsInBody-if_whole (at_token tokens later token before end read parts place way) =
+        let same = (Tokens-of_HasTokens (length text) has.rest end tokens has.tokens read has.stream).0 in
+        not-FailsInTest-if_parsed has.arch has.tokens (texts_of_tokens (token ∷ later)) c
+        (subst (λ ts. FailsInTest has.arch ts (texts_of_tokens (token ∷ later)) c) same way) has.syntax has.condition has.parts
         has.proposition
     not-FailsInBody-if_whole (in_next_token tokens end rest d many next place way) =
-        FailsInFirstToken-end end rest c next
-        (HasTokens-Tokens (length text) has.rest end tokens has.tokens
-        (fails_tokens (length text) has.rest end rest tokens c many next) has.stream).1
+        not-FailsInFirstToken-if_only_trivia end rest c next
+        (Tokens-of_HasTokens (length text) has.rest end tokens has.tokens
+        (HasTokens-if_next_fails (length text) has.rest end rest tokens c many next) has.stream).1
     not-FailsInBody-if_whole (at_end tokens d whole way place because) =
         let all = HasTokens-PlacedTokens (length text) has.rest tokens whole in
-        let same = (HasTokens-Tokens (length text) has.rest all.0 tokens has.tokens all.1 has.stream).0 in
+        let same = (Tokens-of_HasTokens (length text) has.rest all.0 tokens has.tokens all.1 has.stream).0 in
         not-FailsInTest-if_parsed has.arch has.tokens [] d (subst (λ ts. FailsInTest has.arch ts [] d) same way) has.syntax
         has.condition has.parts has.proposition

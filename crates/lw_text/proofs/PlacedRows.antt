@@ -44,7 +44,7 @@ CellsFrom-unique ts a b (x ∷ xs) (y ∷ ys) p q e =
     let head : texts_of_tokens x.tokens ≡ texts_of_tokens y.tokens = cc in
     let tail : texts_of_cells xs ≡ texts_of_cells ys = cc in
     let s = append-equal_parts x.tokens y.tokens _ (q.0 ∷ q.1) (length_equal-same_texts x.tokens y.tokens head) (sym p.2 ∙ q.2) in
-    let behind : p.0 ∷ p.1 ≡ q.0 ∷ q.1 = s.1 in
+    let later : p.0 ∷ p.1 ≡ q.0 ∷ q.1 = s.1 in
     let mark : p.0 ≡ q.0 = cc in
     let after : p.1 ≡ q.1 = cc in
     let more = CellsFrom-unique p.1 a b xs ys p.5 (subst (λ l. CellsFrom l ys b) (sym after) q.5) tail in
@@ -86,10 +86,10 @@ HasRows-unique arch tokens m n x y p q =
       length-append q.front q.after_header,
       length_equal-same_texts p.after_header q.after_header header.1,
     ) in
-    let behind = (append-equal_parts p.front q.front p.after_header q.after_header fronts whole).1 in
+    let later = (append-equal_parts p.front q.front p.after_header q.after_header fronts whole).1 in
     let says = rw (header.0, header.1) at p.says in
     let rows = Rows-unique n _ _ _ (texts_of_grid x) (texts_of_grid y) says q.says in
-    (header.0, RowsFrom-unique _ _ _ x y (subst (λ l. RowsFrom l x p.after_rows) behind p.cut) q.cut rows.0)
+    (header.0, RowsFrom-unique _ _ _ x y (subst (λ l. RowsFrom l x p.after_rows) later p.cut) q.cut rows.0)
 
 -- The cells of a text, with their positions, are unique.
 pub HasCells-unique : (text : Bytes) (c d : List (List PlacedCell)) → HasCells text c → HasCells text d → c ≡ d
@@ -123,12 +123,12 @@ stream_spans text front rest (t ∷ ts) e p =
     let whole : text ≡ before ++ (t.text ++ p.0) = here.1 in
     let at : length before ≡ t.at =
     omega (arith, p.2, ap length whole, length-append before (t.text ++ p.0), length-append t.text p.0) in
-    let behind : length (before ++ t.text) ≡ t.at + length t.text = omega (arith, at, length-append before t.text) in (
+    let later : length (before ++ t.text) ≡ t.at + length t.text = omega (arith, at, length-append before t.text) in (
       omega (arith, p.2, ap length e, length-append front rest, Trivia-shorter p.1.0, length-append t.text p.0),
       ap (take (length t.text))
           (ap (λ (k : ℕ). drop k text) (sym at) ∙ ap (drop (length before)) whole ∙ drop-append_seam before (t.text ++ p.0))
           ∙ take_at t.text p.0 (length t.text) refl,
-      subst (λ (k : ℕ). Spans text k ts (length text)) behind
+      subst (λ (k : ℕ). Spans text k ts (length text)) later
           (stream_spans text (before ++ t.text) p.0 ts (whole ∙ sym (append_assoc before t.text p.0)) p.3),
     )
 

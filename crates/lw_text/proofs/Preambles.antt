@@ -12,8 +12,8 @@ use Rattle.lw_text.proofs.TokenRows.{IsFirstToken-unique}
 use Rattle.lw_text.proofs.NoteRows.{Notes-unique}
 
 -- No byte is a blank.
-abbrev Plain : Bytes → Type 0
-Plain name = AllByRecursion (λ b. not (is_blank b) ≡ true) name
+abbrev HasNoBlank : Bytes → Type 0
+HasNoBlank name = AllByRecursion (λ b. not (is_blank b) ≡ true) name
 
 -- A visible ASCII character is no blank.
 pub graphic_no_blank : (b : ℕ) → is_ascii_graphic b ≡ true → is_blank b ≡ false
@@ -22,9 +22,9 @@ graphic_no_blank b h =
     (λ e. let k = not-true (is_ascii_graphic b) (is_blank-passes (λ x. not (is_ascii_graphic x)) b refl e) in cc)
 
 -- Visible ASCII characters contain no blank.
-graphic_plain : (name : Bytes) → AllByRecursion (λ b. is_ascii_graphic b ≡ true) name → Plain name
-graphic_plain [] all = tt
-graphic_plain (b ∷ name) all = (ap not (graphic_no_blank b all.0), graphic_plain name all.1)
+HasNoBlank-graphic : (name : Bytes) → AllByRecursion (λ b. is_ascii_graphic b ≡ true) name → HasNoBlank name
+HasNoBlank-graphic [] all = tt
+HasNoBlank-graphic (b ∷ name) all = (ap not (graphic_no_blank b all.0), HasNoBlank-graphic name all.1)
 
 -- A test's name does not start with a blank.
 name_front : (name rest : Bytes) → IsTestName name → first_byte_is is_blank (name ++ rest) ≡ false
@@ -33,7 +33,7 @@ name_front (b ∷ name) rest h = graphic_no_blank b h.are_graphic_bytes.0
 
 -- The parts of a text that starts with blanks, followed by a name.
 module _ (text space after name rest : Bytes) (e : text ≡ space ++ after) (blank : AllByRecursion (λ b. is_blank b ≡ true) space)
-    (stop : first_byte_is is_blank after ≡ false) (f : after ≡ name ++ rest) (plain : Plain name)
+    (stop : first_byte_is is_blank after ≡ false) (f : after ≡ name ++ rest) (plain : HasNoBlank name)
     (longest : first_byte_is (λ b. not (is_blank b)) rest ≡ false) where
   -- A text's parts, its blanks, name and rest, are unique.
   pub ParsesTestName-parts : (n r : Bytes) → (p : ParsesTestName text n r) → (p.blanks ≡ space) × (n ≡ name) × (r ≡ rest)
@@ -44,7 +44,7 @@ module _ (text space after name rest : Bytes) (e : text ≡ space ++ after) (bla
       (record { parts = e; bytes_pass = blank; longest = stop }) in
       let inner =
       IsLongestPrefix-unique (λ b. not (is_blank b)) n name
-      (record { parts = sym outer.1; bytes_pass = graphic_plain n p.is_name.are_graphic_bytes; longest = p.longest })
+      (record { parts = sym outer.1; bytes_pass = HasNoBlank-graphic n p.is_name.are_graphic_bytes; longest = p.longest })
       (record { parts = f; bytes_pass = plain; longest = longest }) in
       (outer.0, inner.0, inner.1)
 
@@ -53,7 +53,7 @@ pub ParsesTestName-unique : (text n r m s : Bytes) → ParsesTestName text n r �
 ParsesTestName-unique text n r m s p q =
     let k =
     ParsesTestName-parts text q.blanks (m ++ s) m s q.parts q.blank (name_front m s q.is_name) refl
-    (graphic_plain m q.is_name.are_graphic_bytes) q.longest n r p in
+    (HasNoBlank-graphic m q.is_name.are_graphic_bytes) q.longest n r p in
     (k.1, k.2)
 
 -- The keyword of a language is unique.

@@ -1,8 +1,8 @@
 -- Reading a proposition terminal by terminal, while the table of names grows. The loop of `parse_proposition`
 -- goes by `TerminalsRead`.
-use Rattle.lw_text.proofs.Common.{most_locations, ◌≡◌, ℕ, ◌+◌, ◌≤◌, inl, inr, Bool, true, false, List, []}
-use Rattle.lw_text.proofs.Common.{◌∷◌, ◌++◌, length, map, get_or, refl, sym, ap, ◌∙◌, subst, arith, codes}
-use Rattle.lw_text.proofs.Common.{not, if◌then◌else◌, ◌||◌, ◌==◌, ◌≢◌, Option, Some, None, is_some}
+use Rattle.lw_text.proofs.Common.{most_nodes, most_locations, ◌≡◌, ℕ, ◌+◌, ◌≤◌, inl, inr, Bool, true, false}
+use Rattle.lw_text.proofs.Common.{List, [], ◌∷◌, ◌++◌, length, map, get_or, refl, sym, ap, ◌∙◌, subst, arith}
+use Rattle.lw_text.proofs.Common.{codes, not, if◌then◌else◌, ◌||◌, ◌==◌, ◌≢◌, Option, Some, None, is_some}
 use Rattle.lw_text.proofs.Common.{option_map, eqb-true, AllByRecursion, eqb-false, not-true, not-false}
 use Rattle.lw_text.proofs.Common.{or_cases, or_parts, false_from_ne_true, map-append, filter_map-append}
 use Rattle.lw_text.proofs.Common.{fold_stays, fold-append, slice_get-get_or, Bytes, NameTable, TokenList}
@@ -12,7 +12,7 @@ use Rattle.lw_text.proofs.Common.{contains_name-of_inserted, contains_name-inser
 use Rattle.lw_text.proofs.Common.{position_of_name-insert_names, IsDuplicateFree-insert_names, Cursor}
 use Rattle.lw_text.proofs.Common.{PropositionReader, ParsesMany, with_sites, HasRoomFor, SiteSyntax, InMemory}
 use Rattle.lw_text.proofs.Common.{IsSite, site_names, Terminal, Open, Close, Negation, Conjunction}
-use Rattle.lw_text.proofs.Common.{Disjunction, Atom, is_node, IsProposition, remaining_texts, Pending}
+use Rattle.lw_text.proofs.Common.{Disjunction, Atom, is_node, IsProposition, remaining_texts, GroupState}
 use Rattle.lw_text.proofs.Common.{begins_part, initial_reader_state, group_of, reader_state_in, state_of}
 use Rattle.lw_text.proofs.Common.{next_state, state_result, terminal_of, AtomSyntax, Holds, IsTerminal}
 use Rattle.lw_text.proofs.Common.{Terminals, begins_token, site_of, sites_in, resolved, named_terminal}
@@ -26,7 +26,7 @@ use Rattle.lw_text.proofs.Lists.{ParsesMany-push}
 use Rattle.lw_text.proofs.PropositionReadings.{state_after_terminals, result_of, result-IsProposition}
 use Rattle.lw_text.proofs.PropositionReadings.{IsProposition-result}
 use Rattle.lw_text.proofs.Readings.{with_sites-append}
-use Rattle.lw_text.proofs.Texts.{is_text}
+use Rattle.lw_text.proofs.Texts.{bytes_equal}
 use Rattle.lw_text.proofs.TerminalLists.{Terminals-peel, Terminals-unique, IsTerminal-unique}
 use Rattle.lw_text.specs.declared.terminal.Terminal.TheVariants as made
 use Rattle.lw_text.specs.declared.terminal.Atom.TheVariants as atoms
@@ -88,11 +88,11 @@ with_sites_in-append names a b =
 pub record TerminalsRead {A : Type 0} (arch : Arch) (threads : ℕ) (first names start here : TokenList) (nodes : ℕ)
     (reader : PropositionReader A) : Type 0 where
   pub terminals : List (Terminal AtomSyntax)
-  pub gone : ParsesMany (IsTerminal arch threads) start terminals here
+  pub parsed : ParsesMany (IsTerminal arch threads) start terminals here
   pub names_are : names ≡ with_sites first (sites_in terminals)
   pub count : nodes ≡ node_count terminals
-  pub within_node_limit : nodes ≤ 256
-  pub leads : state_after_terminals (Some initial_reader_state) (map (resolved names) terminals) ≡ Some (state_of reader)
+  pub within_node_limit : nodes ≤ most_nodes
+  pub state_is : state_after_terminals (Some initial_reader_state) (map (resolved names) terminals) ≡ Some (state_of reader)
 
 -- A reader in its initial state has read no terminal.
 pub TerminalsRead-none : {A : Type 0} (arch : Arch) (threads : ℕ) (names start : TokenList) (reader : PropositionReader A)
@@ -100,19 +100,20 @@ pub TerminalsRead-none : {A : Type 0} (arch : Arch) (threads : ℕ) (names start
     → TerminalsRead arch threads names names start start 0 reader
 TerminalsRead-none arch threads names start reader e = record {
   terminals = [];
-  gone = refl;
+  parsed = refl;
   names_are = refl;
   count = refl;
   within_node_limit = omega arith;
-  leads = ap Some (sym e);
+  state_is = ap Some (sym e);
 }
 
 module _ {A : Type 0} {arch : Arch} {threads : ℕ} {first names start here : TokenList} {nodes : ℕ} {reader : PropositionReader A}
     (read : TerminalsRead arch threads first names start here nodes reader) where
   -- The table after further terminals.
-  table_of : (more : List (Terminal AtomSyntax))
+  with_sites-of_more_terminals : (more : List (Terminal AtomSyntax))
       → with_sites first (sites_in (read.terminals ++ more)) ≡ with_sites names (sites_in more)
-  table_of more = with_sites_in-append first read.terminals more ∙ ap (λ ns. with_sites ns (sites_in more)) (sym read.names_are)
+  with_sites-of_more_terminals more =
+      with_sites_in-append first read.terminals more ∙ ap (λ ns. with_sites ns (sites_in more)) (sym read.names_are)
 
   -- More names do not change the terminals read.
   resolved_read_unchanged : (ns : NameTable)
@@ -127,7 +128,7 @@ module _ {A : Type 0} {arch : Arch} {threads : ℕ} {first names start here : To
       → state_after_terminals (Some initial_reader_state) (map (resolved names) read.terminals ++ ss)
       ≡ state_after_terminals (Some (state_of reader)) ss
   state_after_terminals-of_rest ss =
-      fold-append _ _ (map (resolved names) read.terminals) ss ∙ ap (λ o. state_after_terminals o ss) read.leads
+      fold-append _ _ (map (resolved names) read.terminals) ss ∙ ap (λ o. state_after_terminals o ss) read.state_is
 
   -- The rest of a whole proposition completes it.
   result-of_rest : (more : List (Terminal AtomSyntax)) (p : Formula)
@@ -138,7 +139,7 @@ module _ {A : Type 0} {arch : Arch} {threads : ℕ} {first names start here : To
       let after = with_sites names (sites_in more) in
       let e : map (resolved (with_sites first (sites_in (read.terminals ++ more)))) (read.terminals ++ more)
       ≡ map (resolved names) read.terminals ++ map (resolved after) more =
-      ap (λ ns. map (resolved ns) (read.terminals ++ more)) (table_of more)
+      ap (λ ns. map (resolved ns) (read.terminals ++ more)) (with_sites-of_more_terminals more)
       ∙ map-append (resolved after) read.terminals more
       ∙ ap (λ l. l ++ map (resolved after) more) (resolved_read_unchanged (site_names (sites_in more))) in
       sym (ap result_of
@@ -152,37 +153,37 @@ module _ {A : Type 0} {arch : Arch} {threads : ℕ} {first names start here : To
       → ParsedProposition arch threads start first names p
   ParsedProposition-at_end e p is = record {
     terminals = read.terminals;
-    parsed = subst (ParsesMany (IsTerminal arch threads) start read.terminals) e read.gone;
+    parsed = subst (ParsesMany (IsTerminal arch threads) start read.terminals) e read.parsed;
     names_are = read.names_are;
     few_nodes = omega (arith, read.count, read.within_node_limit);
-    says = IsProposition-result (ap result_of read.leads ∙ is);
+    says = IsProposition-result (ap result_of read.state_is ∙ is);
   }
 
   -- If the tokens end and the state has no result, the tokens are no proposition.
-  pub NoProposition-open : here ≡ [] → state_result (state_of reader) ≡ None → NoProposition arch threads start first
-  NoProposition-open e none all p s fits =
-      let k = Terminals-peel arch threads read.terminals all start here read.gone s in
+  pub NoProposition-if_incomplete : here ≡ [] → state_result (state_of reader) ≡ None → NoProposition arch threads start first
+  NoProposition-if_incomplete e none all p s fits =
+      let k = Terminals-peel arch threads read.terminals all start here read.parsed s in
       let same : [] ≡ k.0 = Terminals-unique arch threads [] k.0 here e k.2 in
       let left = result-of_rest [] p (rw (k.1 ∙ ap (λ l. read.terminals ++ l) (sym same)) at fits).says in
       cc
 
   -- If no terminal follows that is allowed next and has room, the tokens are no proposition.
-  pub NoProposition-no_terminal : (here ≡ [] → ⊥)
+  pub NoProposition-if_no_terminal : (here ≡ [] → ⊥)
       → ((s : Terminal AtomSyntax) (rest : TokenList)
       → IsTerminal arch threads here s rest
       → next_state (state_of reader) (resolved (with_sites names (sites_in (s ∷ []))) s) ≢ None
       → HasRoomFor names (sites_in (s ∷ []))
-      → nodes + node_count (s ∷ []) ≤ 256
+      → nodes + node_count (s ∷ []) ≤ most_nodes
       → ⊥)
       → NoProposition arch threads start first
-  NoProposition-no_terminal some never all p s whole =
-      let k = Terminals-peel arch threads read.terminals all start here read.gone s in
-      at k.0 (subst (λ l. Fits first l p) k.1 whole) k.2
+  NoProposition-if_no_terminal some never all p s whole =
+      let k = Terminals-peel arch threads read.terminals all start here read.parsed s in
+      go k.0 (subst (λ l. Fits first l p) k.1 whole) k.2
     where
       -- By the terminals after those read: whether there are none or a next one, a premise refutes them.
-      at : (more : List (Terminal AtomSyntax)) → Fits first (read.terminals ++ more) p → Terminals arch threads here more → ⊥
-      at [] fits q = some q
-      at (t ∷ back) fits q =
+      go : (more : List (Terminal AtomSyntax)) → Fits first (read.terminals ++ more) p → Terminals arch threads here more → ⊥
+      go [] fits q = some q
+      go (t ∷ back) fits q =
           let now = with_sites names (sites_in (t ∷ [])) in
           let last = with_sites names (sites_in (t ∷ back)) in
           let after : last ≡ with_sites now (sites_in back) = with_sites_in-append names (t ∷ []) back in
@@ -195,11 +196,11 @@ module _ {A : Type 0} {arch : Arch} {threads : ℕ} {first names start here : To
           let room : length now ≤ most_locations = omega (
             arith,
             fits.room,
-            ap length (table_of (t ∷ back)),
+            ap length (with_sites-of_more_terminals (t ∷ back)),
             ap length after,
             insert_names-longer now (site_names (sites_in back)),
           ) in
-          let few : nodes + node_count (t ∷ []) ≤ 256 =
+          let few : nodes + node_count (t ∷ []) ≤ most_nodes =
           omega (
             arith,
             fits.few_nodes,
@@ -226,8 +227,8 @@ node_count-of_one true t e = rw e refl
 node_count-of_one false t e = rw e refl
 
 -- A terminal was read.
-module _ {arch : Arch} {threads : ℕ} {before behind : Cursor} {names after : NameTable} {s : Made}
-    (taken : ParsedTerminal arch threads before behind names after s) where
+module _ {arch : Arch} {threads : ℕ} {before later : Cursor} {names after : NameTable} {s : Made}
+    (taken : ParsedTerminal arch threads before later names after s) where
   -- A terminal that was read, named by the table and resolved by it, is the same terminal.
   resolved-named_terminal : IsDuplicateFree names → resolved after (named_terminal after s) ≡ terminal_of s
   resolved-named_terminal once =
@@ -242,8 +243,8 @@ module _ {arch : Arch} {threads : ℕ} {before behind : Cursor} {names after : N
       → next_state (state_of reader) (terminal_of s) ≡ Some (state_of reader_after)
       → (nodes_after : ℕ)
       → nodes_after ≡ nodes + (if is_node (terminal_of s) then 1 else 0)
-      → nodes_after ≤ 256
-      → TerminalsRead arch threads first after start (remaining_texts behind) nodes_after reader_after
+      → nodes_after ≤ most_nodes
+      → TerminalsRead arch threads first after start (remaining_texts later) nodes_after reader_after
   TerminalsRead-push {start = start} read once step nodes_after counts few =
       let t = named_terminal after s in
       let ns = site_names (sites_in (t ∷ [])) in
@@ -255,8 +256,9 @@ module _ {arch : Arch} {threads : ℕ} {before behind : Cursor} {names after : N
       ∙ ap (λ x. map (resolved names) read.terminals ++ x ∷ []) (resolved-named_terminal (IsDuplicateFree-names read once)) in
       record {
         terminals = read.terminals ++ t ∷ [];
-        gone = ParsesMany-push _ read.terminals start (remaining_texts before) (remaining_texts behind) t read.gone taken.parsed;
-        names_are = taken.names_are ∙ sym (table_of read (t ∷ []));
+        parsed =
+            ParsesMany-push _ read.terminals start (remaining_texts before) (remaining_texts later) t read.parsed taken.parsed;
+        names_are = taken.names_are ∙ sym (with_sites-of_more_terminals read (t ∷ []));
         count = omega (
           arith,
           counts,
@@ -265,45 +267,45 @@ module _ {arch : Arch} {threads : ℕ} {before behind : Cursor} {names after : N
           node_count-of_one (is_node (terminal_of s)) t (node_named after s),
         );
         within_node_limit = few;
-        leads =
+        state_is =
             ap (state_after_terminals (Some initial_reader_state)) made_more
             ∙ state_after_terminals-of_rest read (terminal_of s ∷ [])
             ∙ step;
       }
 
   -- If a proposition fails after the terminal read, it fails before it.
-  pub Fails-after_terminal : {A : Type 0} (reader reader_after : PropositionReader A) {nodes nodes_after : ℕ} {rest : TokenList}
-      {cause : TextCause}
+  pub FailsInProposition-after_terminal : {A : Type 0} (reader reader_after : PropositionReader A) {nodes nodes_after : ℕ}
+      {rest : TokenList} {cause : TextCause}
       → HasRoomForNode nodes (remaining_texts before)
       → next_state (state_of reader) (terminal_of s) ≡ Some (state_of reader_after)
       → nodes_after ≡ nodes + (if is_node (terminal_of s) then 1 else 0)
       → length after ≤ most_locations
-      → FailsInProposition arch threads rest cause (place_of (state_of reader_after)) nodes_after after (remaining_texts behind)
+      → FailsInProposition arch threads rest cause (place_of (state_of reader_after)) nodes_after after (remaining_texts later)
       → FailsInProposition arch threads rest cause (place_of (state_of reader)) nodes names (remaining_texts before)
-  Fails-after_terminal reader reader_after {nodes} {nodes_after} {rest} {cause} room step counts few w =
+  FailsInProposition-after_terminal reader reader_after {nodes} {nodes_after} {rest} {cause} room step counts few w =
       let t = named_terminal after s in
       let one = node_count-of_one (is_node (terminal_of s)) t (node_named after s) in
       let same : nodes_after ≡ nodes + node_count (t ∷ []) = counts ∙ ap (λ (n : ℕ). nodes + n) (sym one) in
-      after_terminal t (remaining_texts behind) _ room taken.parsed
+      after_terminal t (remaining_texts later) _ room taken.parsed
       (subst (λ (table : NameTable). length table ≤ most_locations) taken.names_are few)
       (next_place-state (state_of reader) after s ∙ ap (option_map place_of) step)
       (subst (λ table.
       FailsInProposition arch threads rest cause (place_of (state_of reader_after)) (nodes + node_count (t ∷ [])) table
-      (remaining_texts behind)) taken.names_are
+      (remaining_texts later)) taken.names_are
       (subst
-      (λ (n : ℕ). FailsInProposition arch threads rest cause (place_of (state_of reader_after)) n after (remaining_texts behind))
+      (λ (n : ℕ). FailsInProposition arch threads rest cause (place_of (state_of reader_after)) n after (remaining_texts later))
       same w))
 
   -- If the terminal read is not allowed next, no terminal of the same tokens is.
-  pub terminal_refused : {A : Type 0} (reader : PropositionReader A)
+  pub no_next_state-if_refused : {A : Type 0} (reader : PropositionReader A)
       → IsDuplicateFree names
       → next_state (state_of reader) (terminal_of s) ≡ None
       → (t : Terminal AtomSyntax) (rest : TokenList)
       → IsTerminal arch threads (remaining_texts before) t rest
       → next_state (state_of reader) (resolved (with_sites names (sites_in (t ∷ []))) t) ≡ None
-  terminal_refused reader once step t rest is =
+  no_next_state-if_refused reader once step t rest is =
       let e : t ≡ named_terminal after s =
-      (IsTerminal-unique arch threads (remaining_texts before) t (named_terminal after s) rest (remaining_texts behind) is
+      (IsTerminal-unique arch threads (remaining_texts before) t (named_terminal after s) rest (remaining_texts later) is
       taken.parsed).0 in
       let f : resolved (with_sites names (sites_in (t ∷ []))) t ≡ terminal_of s =
       ap (λ (x : Terminal AtomSyntax). resolved (with_sites names (sites_in (x ∷ []))) x) e
@@ -312,7 +314,7 @@ module _ {arch : Arch} {threads : ℕ} {before behind : Cursor} {names after : N
       ap (next_state (state_of reader)) f ∙ step
 
 -- A terminal that is allowed next starts a part if and only if a part must come next.
-next_begins : (o : Option Formula) (l : Pending) (os : List Pending) (s : Terminal Formula) (b : Bool)
+next_begins : (o : Option Formula) (l : GroupState) (os : List GroupState) (s : Terminal Formula) (b : Bool)
     → is_some o ≡ not b
     → next_state (reader_state_in o l os) s ≢ None
     → begins_part s ≡ b
@@ -351,7 +353,7 @@ no_site_at_apart_token : (arch : Arch) (w : Bytes)
 no_site_at_apart_token arch w apart [] rest site is = refl
 no_site_at_apart_token arch w apart (t ∷ here) rest site is =
     false_from_ne_true (begins_token w (t ∷ here))
-    (λ e. no_site w apart arch (t ∷ here) here rest site (ap (λ x. x ∷ here) (is_text t w e)) is)
+    (λ e. no_site w apart arch (t ∷ here) here rest site (ap (λ x. x ∷ here) (bytes_equal t w e)) is)
 
 -- A terminal is a node, unless it is a parenthesis.
 is_node-not_parenthesis : (arch : Arch) (threads : ℕ) (here rest : TokenList) (s : Terminal AtomSyntax)
@@ -367,32 +369,32 @@ is_node-not_parenthesis arch threads here rest (Atom (Holds site n)) is =
 is_node-not_parenthesis arch threads here rest _ is = sym (ap (λ l. not (begins_parenthesis l)) is)
 
 -- If there is room, the number of nodes with one more terminal is within the limit.
-pub node_count_at_most : {arch : Arch} {threads : ℕ} {before behind : Cursor} {names after : NameTable} {s : Made}
-    → ParsedTerminal arch threads before behind names after s
+pub node_count_at_most : {arch : Arch} {threads : ℕ} {before later : Cursor} {names after : NameTable} {s : Made}
+    → ParsedTerminal arch threads before later names after s
     → (nodes : ℕ)
-    → nodes ≤ 256
-    → (not (nodes == 256) || begins_parenthesis (remaining_texts before)) ≡ true
-    → nodes + (if is_node (terminal_of s) then 1 else 0) ≤ 256
-node_count_at_most {arch} {threads} {before} {behind} {after = after} {s = s} taken nodes few room =
+    → nodes ≤ most_nodes
+    → (not (nodes == most_nodes) || begins_parenthesis (remaining_texts before)) ≡ true
+    → nodes + (if is_node (terminal_of s) then 1 else 0) ≤ most_nodes
+node_count_at_most {arch} {threads} {before} {later} {after = after} {s = s} taken nodes few room =
     rw
     (sym (node_named after s)
-    ∙ is_node-not_parenthesis arch threads (remaining_texts before) (remaining_texts behind) (named_terminal after s)
-    taken.parsed) (at (begins_parenthesis (remaining_texts before)) room)
+    ∙ is_node-not_parenthesis arch threads (remaining_texts before) (remaining_texts later) (named_terminal after s) taken.parsed)
+    (go (begins_parenthesis (remaining_texts before)) room)
   where
-    at : (b : Bool) → (not (nodes == 256) || b) ≡ true → nodes + (if not b then 1 else 0) ≤ 256
-    at true room = omega (arith, few)
-    at false room = elim (or_cases (not (nodes == 256)) false room) [
-      | inl h ↦ omega (arith, few, eqb-false nodes 256 (not-true (nodes == 256) h))
+    go : (b : Bool) → (not (nodes == most_nodes) || b) ≡ true → nodes + (if not b then 1 else 0) ≤ most_nodes
+    go true room = omega (arith, few)
+    go false room = elim (or_cases (not (nodes == most_nodes)) false room) [
+      | inl h ↦ omega (arith, few, eqb-false nodes most_nodes (not-true (nodes == most_nodes) h))
       | inr h ↦ absurd cc
     ]
 
 -- If there is no room for another node, only a parenthesis fits.
 pub no_room_for_node : (arch : Arch) (threads nodes : ℕ) (here rest : TokenList) (s : Terminal AtomSyntax)
-    → (not (nodes == 256) || begins_parenthesis here) ≡ false
+    → (not (nodes == most_nodes) || begins_parenthesis here) ≡ false
     → IsTerminal arch threads here s rest
-    → nodes + node_count (s ∷ []) ≤ 256
+    → nodes + node_count (s ∷ []) ≤ most_nodes
     → ⊥
 no_room_for_node arch threads nodes here rest s none is le =
-    let e = or_parts (not (nodes == 256)) (begins_parenthesis here) none in
+    let e = or_parts (not (nodes == most_nodes)) (begins_parenthesis here) none in
     let one = node_count-of_one true s (is_node-not_parenthesis arch threads here rest s is ∙ ap not e.1) in
-    omega (arith, le, one, eqb-true nodes 256 (not-false (nodes == 256) e.0))
+    omega (arith, le, one, eqb-true nodes most_nodes (not-false (nodes == most_nodes) e.0))

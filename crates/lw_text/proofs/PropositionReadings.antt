@@ -5,9 +5,9 @@ use Rattle.lw_text.proofs.Common.{◌≡◌, ℕ, zero, suc, List, [], ◌∷◌
 use Rattle.lw_text.proofs.Common.{fold, refl, sym, ap, ◌∙◌, subst, append_assoc, append-nil, Formula, Not, Or}
 use Rattle.lw_text.proofs.Common.{Terminal, Open, Close, Negation, Conjunction, Disjunction, Atom, Level}
 use Rattle.lw_text.proofs.Common.{PartLevel, ConjunctionLevel, DisjunctionLevel, Derives, atom, negated}
-use Rattle.lw_text.proofs.Common.{parens, part, and, conjunction, or, IsProposition, Pending, ReaderState}
-use Rattle.lw_text.proofs.Common.{BeforePart, BehindPart, initial_reader_state, negations, after_and}
-use Rattle.lw_text.proofs.Common.{after_or, ands_of, opened, with_not, next_state, state_result}
+use Rattle.lw_text.proofs.Common.{parens, part, and, conjunction, or, IsProposition, GroupState, ReaderState}
+use Rattle.lw_text.proofs.Common.{BeforePart, AfterPart, initial_reader_state, negations, after_and, after_or}
+use Rattle.lw_text.proofs.Common.{ands_of, new_group, with_not, next_state, state_result}
 
 -- The terminals of a proposition, with formulas as atoms.
 abbrev pub Terms : Type 0
@@ -26,59 +26,59 @@ negations-not : (n : ℕ) (p : Formula) → negations n (Not p) ≡ Not (negatio
 negations-not zero p = refl
 negations-not (suc n) p = ap Not (negations-not n p)
 
--- A pending `~` before a part is the negation of the part.
-ands_of-not : (l : Pending) (p : Formula) → ands_of (with_not l) p ≡ ands_of l (Not p)
-ands_of-not l p = ap (after_and l.both) (sym (negations-not l.nots p))
+-- One more `~` before a part has the effect of a negated part.
+ands_of-not : (l : GroupState) (p : Formula) → ands_of (with_not l) p ≡ ands_of l (Not p)
+ands_of-not l p = ap (after_and l.left_of_and) (sym (negations-not l.nots p))
 
 -- ---- each derivation is accepted
 
--- What the reader holds of a group before a row of `/\`: only the formula before `\/`, if there is one.
-abbrev row_begun : Option Formula → Pending
-row_begun e = record { either = e; both = None; nots = 0 }
+-- The state of a group before a conjunction: it has only the left operand of `\/`, if there is one.
+abbrev group_after_or : Option Formula → GroupState
+group_after_or e = record { left_of_or = e; left_of_and = None; nots = 0 }
 
--- From each state before them, the terminals ss of a level reach the state in which p has been read.
-abbrev Derives-level : Level → Terms → Formula → Type 0
-Derives-level PartLevel ss p =
-    (l : Pending) (os : List Pending) (rest : Terms)
+-- From each state in which the level may begin, the terminals ss reach the state after the formula p.
+abbrev ReachesStateAfter : Level → Terms → Formula → Type 0
+ReachesStateAfter PartLevel ss p =
+    (l : GroupState) (os : List GroupState) (rest : Terms)
     → state_after_terminals (Some (BeforePart l os)) (ss ++ rest)
-    ≡ state_after_terminals (Some (BehindPart l.either (ands_of l p) os)) rest
-Derives-level ConjunctionLevel ss p =
-    (e : Option Formula) (os : List Pending) (rest : Terms)
-    → state_after_terminals (Some (BeforePart (row_begun e) os)) (ss ++ rest)
-    ≡ state_after_terminals (Some (BehindPart e p os)) rest
-Derives-level DisjunctionLevel ss p =
-    (os : List Pending) (rest : Terms)
+    ≡ state_after_terminals (Some (AfterPart l.left_of_or (ands_of l p) os)) rest
+ReachesStateAfter ConjunctionLevel ss p =
+    (e : Option Formula) (os : List GroupState) (rest : Terms)
+    → state_after_terminals (Some (BeforePart (group_after_or e) os)) (ss ++ rest)
+    ≡ state_after_terminals (Some (AfterPart e p os)) rest
+ReachesStateAfter DisjunctionLevel ss p =
+    (os : List GroupState) (rest : Terms)
     → (e : Option Formula)
     × (a : Formula)
     × (after_or e a ≡ p)
-    × (state_after_terminals (Some (BeforePart opened os)) (ss ++ rest) ≡ state_after_terminals (Some (BehindPart e a os)) rest)
+    × (state_after_terminals (Some (BeforePart new_group os)) (ss ++ rest) ≡ state_after_terminals (Some (AfterPart e a os)) rest)
 
--- Terminals that derive p at a level satisfy `Derives-level`.
-Derives-level_of_Derives : {k : Level} {ss : Terms} {p : Formula} → Derives k ss p → Derives-level k ss p
-Derives-level_of_Derives atom = λ l os rest. refl
-Derives-level_of_Derives (negated {p = p} d) = λ l os rest.
-    Derives-level_of_Derives d (with_not l) os rest
-    ∙ ap (λ a. state_after_terminals (Some (BehindPart l.either a os)) rest) (ands_of-not l p)
-Derives-level_of_Derives (parens {ss} d) = λ l os rest.
-    let k = Derives-level_of_Derives d (l ∷ os) (Close ∷ rest) in
-    ap (state_after_terminals (Some (BeforePart opened (l ∷ os)))) (append_assoc ss (Close ∷ []) rest)
+-- Terminals that derive p at a level reach the state after p.
+ReachesStateAfter-Derives : {k : Level} {ss : Terms} {p : Formula} → Derives k ss p → ReachesStateAfter k ss p
+ReachesStateAfter-Derives atom = λ l os rest. refl
+ReachesStateAfter-Derives (negated {p = p} d) = λ l os rest.
+    ReachesStateAfter-Derives d (with_not l) os rest
+    ∙ ap (λ a. state_after_terminals (Some (AfterPart l.left_of_or a os)) rest) (ands_of-not l p)
+ReachesStateAfter-Derives (parens {ss} d) = λ l os rest.
+    let k = ReachesStateAfter-Derives d (l ∷ os) (Close ∷ rest) in
+    ap (state_after_terminals (Some (BeforePart new_group (l ∷ os)))) (append_assoc ss (Close ∷ []) rest)
     ∙ k.3
-    ∙ ap (λ a. state_after_terminals (Some (BehindPart l.either (ands_of l a) os)) rest) k.2
-Derives-level_of_Derives (part d) = λ e os rest. Derives-level_of_Derives d (row_begun e) os rest
-Derives-level_of_Derives (and {ss} {ts} {p} d e) = λ f os rest.
-    ap (state_after_terminals (Some (BeforePart (row_begun f) os))) (append_assoc ss (Conjunction ∷ ts) rest)
-    ∙ Derives-level_of_Derives d f os (Conjunction ∷ (ts ++ rest))
-    ∙ Derives-level_of_Derives e (record { either = f; both = Some p; nots = 0 }) os rest
-Derives-level_of_Derives (conjunction {p = p} d) = λ os rest. (None, p, refl, Derives-level_of_Derives d None os rest)
-Derives-level_of_Derives (or {ss} {ts} {p} {q} d e) = λ os rest.
-    let k = Derives-level_of_Derives d os (Disjunction ∷ (ts ++ rest)) in (
+    ∙ ap (λ a. state_after_terminals (Some (AfterPart l.left_of_or (ands_of l a) os)) rest) k.2
+ReachesStateAfter-Derives (part d) = λ e os rest. ReachesStateAfter-Derives d (group_after_or e) os rest
+ReachesStateAfter-Derives (and {ss} {ts} {p} d e) = λ f os rest.
+    ap (state_after_terminals (Some (BeforePart (group_after_or f) os))) (append_assoc ss (Conjunction ∷ ts) rest)
+    ∙ ReachesStateAfter-Derives d f os (Conjunction ∷ (ts ++ rest))
+    ∙ ReachesStateAfter-Derives e (record { left_of_or = f; left_of_and = Some p; nots = 0 }) os rest
+ReachesStateAfter-Derives (conjunction {p = p} d) = λ os rest. (None, p, refl, ReachesStateAfter-Derives d None os rest)
+ReachesStateAfter-Derives (or {ss} {ts} {p} {q} d e) = λ os rest.
+    let k = ReachesStateAfter-Derives d os (Disjunction ∷ (ts ++ rest)) in (
       Some p,
       q,
       refl,
-      ap (state_after_terminals (Some (BeforePart opened os))) (append_assoc ss (Disjunction ∷ ts) rest)
+      ap (state_after_terminals (Some (BeforePart new_group os))) (append_assoc ss (Disjunction ∷ ts) rest)
           ∙ k.3
-          ∙ ap (λ a. state_after_terminals (Some (BeforePart (row_begun (Some a)) os)) (ts ++ rest)) k.2
-          ∙ Derives-level_of_Derives e (Some p) os rest,
+          ∙ ap (λ a. state_after_terminals (Some (BeforePart (group_after_or (Some a)) os)) (ts ++ rest)) k.2
+          ∙ ReachesStateAfter-Derives e (Some p) os rest,
     )
 
 -- After the terminals of a proposition the reader's result is that proposition.
@@ -86,7 +86,7 @@ pub result-IsProposition : {ss : Terms} {p : Formula}
     → IsProposition ss p
     → result_of (state_after_terminals (Some initial_reader_state) ss) ≡ Some p
 result-IsProposition {ss} d =
-    let k = Derives-level_of_Derives d [] [] in
+    let k = ReachesStateAfter-Derives d [] [] in
     ap (λ l. result_of (state_after_terminals (Some initial_reader_state) l)) (sym (append-nil ss))
     ∙ ap result_of k.3
     ∙ ap Some k.2
@@ -100,13 +100,13 @@ IsProposition-unique ss p q d e =
 
 -- ---- what is accepted has a derivation
 
--- The terminals of a group before its last row of `/\`: those of a formula, followed by `\/`; or none.
+-- The terminals of a group before its last conjunction: those of a formula, followed by `\/`; or none.
 abbrev Front : Option Formula → Terms → Type 0
 Front None ts = ts ≡ []
 Front (Some a) ts = (ss : Terms) × (ts ≡ ss ++ Disjunction ∷ []) × Derives DisjunctionLevel ss a
 
--- The terminals ts are those outside a group, its front of formula e, and a row of `/\` of formula p.
-record Row (Outside : Terms → Type 0) (ts : Terms) (e : Option Formula) (p : Formula) : Type 0 where
+-- The terminals ts are those outside a group, its front of formula e, and a conjunction of formula p.
+record EndsInConjunction (Outside : Terms → Type 0) (ts : Terms) (e : Option Formula) (p : Formula) : Type 0 where
   outside : Terms
   front : Terms
   conjuncts : Terms
@@ -116,30 +116,36 @@ record Row (Outside : Terms → Type 0) (ts : Terms) (e : Option Formula) (p : F
   says : Derives ConjunctionLevel conjuncts p
 
 -- The terminals up to the `(` of a group, inside these open groups, the innermost first.
-abbrev Outside : List Pending → Terms → Type 0
+abbrev Outside : List GroupState → Terms → Type 0
 Outside [] ts = ts ≡ []
 Outside (o ∷ os) ts =
     (before : Terms)
     × (ts ≡ before ++ Open ∷ [])
-    × ((ss : Terms) (p : Formula) → Derives PartLevel ss p → Row (Outside os) (before ++ ss) o.either (ands_of o p))
+    × ((ss : Terms) (p : Formula)
+    → Derives PartLevel ss p
+    → EndsInConjunction (Outside os) (before ++ ss) o.left_of_or (ands_of o p))
 
--- The state is right for the terminals: they are such a row; before a part, they are with each part that may follow.
+-- The state is right for the terminals: they end in the conjunction that the state has; before a part, they do with each part that may
+-- follow. Nothing is said if there is no state.
 abbrev IsStateAfter : Option ReaderState → Terms → Type 0
 IsStateAfter None ts = Unit {0}
 IsStateAfter (Some (BeforePart l os)) ts =
-    (ss : Terms) (p : Formula) → Derives PartLevel ss p → Row (Outside os) (ts ++ ss) l.either (ands_of l p)
-IsStateAfter (Some (BehindPart e p os)) ts = Row (Outside os) ts e p
+    (ss : Terms) (p : Formula) → Derives PartLevel ss p → EndsInConjunction (Outside os) (ts ++ ss) l.left_of_or (ands_of l p)
+IsStateAfter (Some (AfterPart e p os)) ts = EndsInConjunction (Outside os) ts e p
 
 -- At the start of a group each part that may follow is the first.
-IsStateAfter-before_first_part : (os : List Pending) (ts : Terms) → Outside os ts → IsStateAfter (Some (BeforePart opened os)) ts
+IsStateAfter-before_first_part : (os : List GroupState) (ts : Terms)
+    → Outside os ts
+    → IsStateAfter (Some (BeforePart new_group os)) ts
 IsStateAfter-before_first_part os ts out = λ ss p d.
     record { outside = ts; front = []; conjuncts = ss; terminals_are = refl; around = out; before = refl; says = part d }
 
--- The terminals of a group derive its formula.
-group_says : {Out : Terms → Type 0} {ts : Terms} {e : Option Formula} {p : Formula} (r : Row Out ts e p)
+-- The terminals of a group, its front and its last conjunction, derive its formula.
+Derives-group : {Out : Terms → Type 0} {ts : Terms} {e : Option Formula} {p : Formula} (r : EndsInConjunction Out ts e p)
     → Derives DisjunctionLevel (r.front ++ r.conjuncts) (after_or e p)
-group_says {e = None} {p = p} r = subst (λ l. Derives DisjunctionLevel (l ++ r.conjuncts) p) (sym r.before) (conjunction r.says)
-group_says {e = Some a} {p = p} r =
+Derives-group {e = None} {p = p} r =
+    subst (λ l. Derives DisjunctionLevel (l ++ r.conjuncts) p) (sym r.before) (conjunction r.says)
+Derives-group {e = Some a} {p = p} r =
     let f = r.before in
     subst (λ l. Derives DisjunctionLevel l (Or a p))
     (sym (ap (λ l. l ++ r.conjuncts) f.1 ∙ append_assoc f.0 (Disjunction ∷ []) r.conjuncts)) (or f.2 r.says)
@@ -151,20 +157,20 @@ IsStateAfter-next_state : (o : Option ReaderState) (s : Terminal Formula) (ts : 
 IsStateAfter-next_state (Some (BeforePart l os)) Open ts h =
     IsStateAfter-before_first_part (l ∷ os) (ts ++ Open ∷ []) (ts, refl, h)
 IsStateAfter-next_state (Some (BeforePart l os)) Negation ts h = λ ss p d.
-    subst (λ x. Row (Outside os) x l.either (ands_of (with_not l) p)) (sym (append_assoc ts (Negation ∷ []) ss))
-    (subst (λ a. Row (Outside os) (ts ++ Negation ∷ ss) l.either a) (sym (ands_of-not l p))
+    subst (λ x. EndsInConjunction (Outside os) x l.left_of_or (ands_of (with_not l) p)) (sym (append_assoc ts (Negation ∷ []) ss))
+    (subst (λ a. EndsInConjunction (Outside os) (ts ++ Negation ∷ ss) l.left_of_or a) (sym (ands_of-not l p))
     (h (Negation ∷ ss) (Not p) (negated d)))
 IsStateAfter-next_state (Some (BeforePart l os)) (Atom p) ts h = h (Atom p ∷ []) p atom
-IsStateAfter-next_state (Some (BehindPart e p (o ∷ os))) Close ts h =
+IsStateAfter-next_state (Some (AfterPart e p (o ∷ os))) Close ts h =
     let k = h.around in
     let inside = h.front ++ h.conjuncts in
     let whole : ts ++ Close ∷ [] ≡ k.0 ++ (Open ∷ (inside ++ Close ∷ [])) =
     ap (λ x. x ++ Close ∷ []) (h.terminals_are ∙ ap (λ x. x ++ inside) k.1)
     ∙ append_assoc (k.0 ++ Open ∷ []) inside (Close ∷ [])
     ∙ append_assoc k.0 (Open ∷ []) (inside ++ Close ∷ []) in
-    subst (λ x. Row (Outside os) x o.either (ands_of o (after_or e p))) (sym whole)
-    (k.2 (Open ∷ (inside ++ Close ∷ [])) (after_or e p) (parens (group_says h)))
-IsStateAfter-next_state (Some (BehindPart e p os)) Conjunction ts h = λ ss q d. record {
+    subst (λ x. EndsInConjunction (Outside os) x o.left_of_or (ands_of o (after_or e p))) (sym whole)
+    (k.2 (Open ∷ (inside ++ Close ∷ [])) (after_or e p) (parens (Derives-group h)))
+IsStateAfter-next_state (Some (AfterPart e p os)) Conjunction ts h = λ ss q d. record {
   outside = h.outside;
   front = h.front;
   conjuncts = h.conjuncts ++ Conjunction ∷ ss;
@@ -177,7 +183,7 @@ IsStateAfter-next_state (Some (BehindPart e p os)) Conjunction ts h = λ ss q d.
   before = h.before;
   says = and h.says d;
 }
-IsStateAfter-next_state (Some (BehindPart e p os)) Disjunction ts h = λ ss q d.
+IsStateAfter-next_state (Some (AfterPart e p os)) Disjunction ts h = λ ss q d.
     let inside = h.front ++ h.conjuncts in
     record {
       outside = h.outside;
@@ -188,7 +194,7 @@ IsStateAfter-next_state (Some (BehindPart e p os)) Disjunction ts h = λ ss q d.
           ∙ ap (λ x. x ++ ss) (append_assoc h.outside inside (Disjunction ∷ []))
           ∙ append_assoc h.outside (inside ++ Disjunction ∷ []) ss;
       around = h.around;
-      before = (inside, refl, group_says h);
+      before = (inside, refl, Derives-group h);
       says = part d;
     }
 IsStateAfter-next_state _ _ ts h = tt
@@ -208,9 +214,9 @@ IsProposition-of_result : (o : Option ReaderState) (ts : Terms) (p : Formula)
     → IsStateAfter o ts
     → result_of o ≡ Some p
     → IsProposition ts p
-IsProposition-of_result (Some (BehindPart e a [])) ts p h is =
+IsProposition-of_result (Some (AfterPart e a [])) ts p h is =
     subst (λ l. IsProposition l p) (sym (h.terminals_are ∙ ap (λ x. x ++ (h.front ++ h.conjuncts)) h.around))
-    (subst (IsProposition (h.front ++ h.conjuncts)) (let k : after_or e a ≡ p = cc in k) (group_says h))
+    (subst (IsProposition (h.front ++ h.conjuncts)) (let k : after_or e a ≡ p = cc in k) (Derives-group h))
 IsProposition-of_result _ ts p h is = absurd cc
 
 -- If the reader's result after some terminals is a formula, they are a proposition of that formula.

@@ -8,8 +8,9 @@ use Rattle.lw_text.proofs.Common.{insert_names-append, insert_names-longer, Pars
 use Rattle.lw_text.proofs.Common.{HasRoomFor, SiteSyntax, site_name, site_names, site_by_name, IsIn}
 use Rattle.lw_text.specs.declared.site.Site.{Site as Made}
 use Rattle.lw_text.proofs.Atoms.{semicolon}
-use Rattle.lw_text.proofs.Lists.{ParsesMany-push, ParsesSepEndBy-unique, Listing, Listing-end, Listing-last}
-use Rattle.lw_text.proofs.Lists.{IsDeterministic, Listing-here, Listing-mark}
+use Rattle.lw_text.proofs.Lists.{ParsesMany-push, ParsesSepEndBy-unique, AreReadSepEndBy}
+use Rattle.lw_text.proofs.Lists.{ParsesSepEndBy-at_close, ParsesSepEndBy-last, IsDeterministic}
+use Rattle.lw_text.proofs.Lists.{not-ParsesSepEndBy-if_no_element, not-ParsesSepEndBy-if_no_mark}
 use Rattle.lw_text.proofs.NameTables.{names_and_sites-insert_names}
 
 -- What holds of all elements of a list and of x holds of all elements of the list with x appended.
@@ -37,8 +38,10 @@ names_up_to names front s back =
       insert_names-longer (with_sites table (s ∷ [])) (site_names back),
     )
 
--- A kind of list: its opening and closing tokens, how an element X in memory parses as a Y, which has a site, and what is required of it.
-pub record Kind (X Y : Type 0) : Type 1 where
+-- A kind of list: its opening and closing tokens; how an element parses, as a Y, and what is required of it (`asks`). In memory the element is
+-- an X: `at` is its syntax, by the names of a table. Each element has a site, `site` in memory and `syntax` of its syntax. The last three
+-- fields say that lists of this kind have unique parses: no element begins with the closing token.
+pub record ListKind (X Y : Type 0) : Type 1 where
   pub opening : TokenList
   pub close : Bytes
   pub parses : TokenList → Y → TokenList → Type 0
@@ -52,34 +55,35 @@ pub record Kind (X Y : Type 0) : Type 1 where
   pub apart : semicolon ≡ close → ⊥
   pub unlike : (ts r l : TokenList) (x : Y) → ts ≡ close ∷ l → parses ts x r → ⊥
 
-module _ {X Y : Type 0} (kind : Kind X Y) where
+module _ {X Y : Type 0} (kind : ListKind X Y) where
   -- The tokens are a whole list of these elements, from its opening to its close, and `rest` remains.
-  abbrev pub Whole : TokenList → List Y → TokenList → Type 0
-  Whole ts ys rest = (l : TokenList) × (ts ≡ kind.opening ++ l) × ParsesSepEndBy kind.parses semicolon kind.close l ys rest
+  abbrev pub ParsesList : TokenList → List Y → TokenList → Type 0
+  ParsesList ts ys rest = (l : TokenList) × (ts ≡ kind.opening ++ l) × ParsesSepEndBy kind.parses semicolon kind.close l ys rest
 
   -- The sites of elements in memory, by the names of a table.
   abbrev pub sites_of : NameTable → List X → List SiteSyntax
   sites_of names xs = map (λ x. site_by_name names (kind.site x)) xs
 
   -- These elements have been read, and `here` remains. The names of their sites were inserted into the table.
-  pub record Read (first names ts here : TokenList) (xs : List X) : Type 0 where
+  pub record AreReadElements (first names ts here : TokenList) (xs : List X) : Type 0 where
     pub start : TokenList
     pub begun : ts ≡ kind.opening ++ start
-    pub listing : Listing kind.parses semicolon kind.close start (map (kind.at names) xs) here
+    pub listing : AreReadSepEndBy kind.parses semicolon kind.close start (map (kind.at names) xs) here
     pub names_are : names ≡ with_sites first (sites_of names xs)
     pub within : AllByRecursion (λ x. IsIn names (kind.site x)) xs
     pub fits : AllByRecursion kind.asks (map (kind.at names) xs)
 
   -- These elements are the whole list, and `rest` remains. The names of their sites were inserted into the table.
-  pub record ReadWhole (first names ts rest : TokenList) (xs : List X) : Type 0 where
-    pub whole : Whole ts (map (kind.at names) xs) rest
+  pub record IsReadList (first names ts rest : TokenList) (xs : List X) : Type 0 where
+    pub whole : ParsesList ts (map (kind.at names) xs) rest
     pub names_are : names ≡ with_sites first (sites_of names xs)
     pub within : All (λ x. IsIn names (kind.site x)) xs
     pub fits : AllByRecursion kind.asks (map (kind.at names) xs)
 
   -- After the opening nothing has been read.
-  pub Read-none : (names ts start : TokenList) → ts ≡ kind.opening ++ start → Read names names ts start []
-  Read-none names ts start e = record { start = start; begun = e; listing = refl; names_are = refl; within = tt; fits = tt }
+  pub AreReadElements-none : (names ts start : TokenList) → ts ≡ kind.opening ++ start → AreReadElements names names ts start []
+  AreReadElements-none names ts start e =
+      record { start = start; begun = e; listing = refl; names_are = refl; within = tt; fits = tt }
 
   -- The syntax of elements' sites is that of their sites in memory, by the names of the table.
   syntax_sites : (names : NameTable) (xs : List X) → map kind.syntax (map (kind.at names) xs) ≡ sites_of names xs
@@ -90,32 +94,33 @@ module _ {X Y : Type 0} (kind : Kind X Y) where
       cc
 
   -- The list after its opening.
-  Whole-after_opening : (ts start : TokenList)
+  ParsesList-after_opening : (ts start : TokenList)
       → ts ≡ kind.opening ++ start
       → (ys : List Y) (rest : TokenList)
-      → Whole ts ys rest
+      → ParsesList ts ys rest
       → ParsesSepEndBy kind.parses semicolon kind.close start ys rest
-  Whole-after_opening ts start e ys rest w = rw (append_cancel_left kind.opening w.0 start (sym w.1 ∙ e)) at w.2
+  ParsesList-after_opening ts start e ys rest w = rw (append_cancel_left kind.opening w.0 start (sym w.1 ∙ e)) at w.2
 
   -- The parse of a list is unique.
-  pub Whole-unique : IsDeterministic Whole
-  Whole-unique ts a b r s p q =
+  pub ParsesList-unique : IsDeterministic ParsesList
+  ParsesList-unique ts a b r s p q =
       ParsesSepEndBy-unique kind.parses semicolon kind.close kind.deterministic kind.apart kind.unlike a b p.0 r s p.2
-      (Whole-after_opening ts p.0 p.1 b s q)
+      (ParsesList-after_opening ts p.0 p.1 b s q)
 
 -- One more element x was read, from `here` to `mid`, and its name inserted into the table.
-pub record More {X Y : Type 0} (kind : Kind X Y) (names after : NameTable) (here mid : TokenList) (x : X) : Type 0 where
+pub record IsReadElement {X Y : Type 0} (kind : ListKind X Y) (names after : NameTable) (here mid : TokenList)
+    (x : X) : Type 0 where
   pub grows : after ≡ with_sites names (site_by_name after (kind.site x) ∷ [])
   pub is_in : IsIn after (kind.site x)
   pub fits : kind.asks (kind.at after x)
   pub parsed : kind.parses here (kind.at after x) mid
 
-module _ {X Y : Type 0} {kind : Kind X Y} {first names ts here : TokenList} {xs : List X}
-    (read : Read kind first names ts here xs) where
+module _ {X Y : Type 0} {kind : ListKind X Y} {first names ts here : TokenList} {xs : List X}
+    (read : AreReadElements kind first names ts here xs) where
   -- If the closing token follows a separator, the elements are the whole list.
-  pub Read-at_close : (rest : TokenList) → here ≡ kind.close ∷ rest → ReadWhole kind first names ts rest xs
-  Read-at_close rest e = record {
-    whole = (read.start, read.begun, Listing-end _ semicolon _ _ read.start here rest read.listing e);
+  pub IsReadList-at_close : (rest : TokenList) → here ≡ kind.close ∷ rest → IsReadList kind first names ts rest xs
+  IsReadList-at_close rest e = record {
+    whole = (read.start, read.begun, ParsesSepEndBy-at_close _ semicolon _ _ read.start here rest read.listing e);
     names_are = read.names_are;
     within = All-from_recursion (λ x. IsIn names (kind.site x)) xs read.within;
     fits = read.fits;
@@ -125,14 +130,14 @@ module _ {X Y : Type 0} {kind : Kind X Y} {first names ts here : TokenList} {xs 
   pub no_list-if_no_element : ((l : TokenList) → here ≡ kind.close ∷ l → ⊥)
       → ((y : Y) (rest : TokenList) → kind.parses here y rest → kind.asks y → HasRoomFor names (kind.syntax y ∷ []) → ⊥)
       → (ys : List Y) (rest : TokenList)
-      → Whole kind ts ys rest
+      → ParsesList kind ts ys rest
       → AllByRecursion kind.asks ys
       → HasRoomFor first (map kind.syntax ys)
       → ⊥
   no_list-if_no_element no_end never ys rest w all few =
       let before = map (kind.at names) xs in
-      Listing-here kind.parses semicolon kind.close kind.deterministic kind.apart kind.unlike before ys read.start here rest
-      read.listing (no_end rest) (λ y more mid e p.
+      not-ParsesSepEndBy-if_no_element kind.parses semicolon kind.close kind.deterministic kind.apart kind.unlike before ys
+      read.start here rest read.listing (no_end rest) (λ y more mid e p.
       let f =
       ap (map kind.syntax) e
       ∙ map-append kind.syntax before (y ∷ more)
@@ -143,20 +148,20 @@ module _ {X Y : Type 0} {kind : Kind X Y} {first names ts here : TokenList} {xs 
         names_up_to first (sites_of kind names xs) (kind.syntax y) (map kind.syntax more),
         ap (λ l. length (with_sites first l)) f,
         ap (λ ns. length (with_sites ns (kind.syntax y ∷ []))) read.names_are,
-      ))) (Whole-after_opening kind ts read.start read.begun ys rest w)
+      ))) (ParsesList-after_opening kind ts read.start read.begun ys rest w)
 
   -- If neither a separator nor the closing token follows an element, there is no list.
   pub no_list-if_no_separator : (x : Y) (mid : TokenList)
       → kind.parses here x mid
       → ((l : TokenList) → mid ≡ semicolon ∷ l → ⊥)
       → ((l : TokenList) → mid ≡ kind.close ∷ l → ⊥)
-      → ParsesNothing (Whole kind ts)
+      → ParsesNothing (ParsesList kind ts)
   no_list-if_no_separator x mid p no_sep no_close ys rest w =
-      Listing-mark kind.parses semicolon kind.close kind.deterministic kind.apart kind.unlike _ ys read.start here mid rest x
-      read.listing p no_sep no_close (Whole-after_opening kind ts read.start read.begun ys rest w)
+      not-ParsesSepEndBy-if_no_mark kind.parses semicolon kind.close kind.deterministic kind.apart kind.unlike _ ys read.start
+      here mid rest x read.listing p no_sep no_close (ParsesList-after_opening kind ts read.start read.begun ys rest w)
 
   -- One more element.
-  module _ {after : NameTable} {x : X} {mid : TokenList} (more : More kind names after here mid x) where
+  module _ {after : NameTable} {x : X} {mid : TokenList} (more : IsReadElement kind names after here mid x) where
     -- The names and sites of the elements read are the same in the new table.
     sites_and_IsIn-unchanged : (map (kind.at after) xs ≡ map (kind.at names) xs)
         × AllByRecursion (λ x. IsIn after (kind.site x)) xs
@@ -187,12 +192,14 @@ module _ {X Y : Type 0} {kind : Kind X Y} {first names ts here : TokenList} {xs 
     asks-push = subst (AllByRecursion kind.asks) (sym at-push) (AllByRecursion-snoc kind.asks _ _ read.fits more.fits)
 
     -- If a separator follows one more element, it is one more element read.
-    pub Read-separator : (next : TokenList) → mid ≡ semicolon ∷ next → Read kind first after ts next (xs ++ x ∷ [])
-    Read-separator next e = record {
+    pub AreReadElements-next : (next : TokenList)
+        → mid ≡ semicolon ∷ next
+        → AreReadElements kind first after ts next (xs ++ x ∷ [])
+    AreReadElements-next next e = record {
       start = read.start;
       begun = read.begun;
       listing =
-          subst (λ l. Listing kind.parses semicolon kind.close read.start l next) (sym at-push)
+          subst (λ l. AreReadSepEndBy kind.parses semicolon kind.close read.start l next) (sym at-push)
           (ParsesMany-push _ _ read.start here next (kind.at after x) read.listing (mid, more.parsed, e));
       names_are = names-push;
       within = IsIn-push;
@@ -200,13 +207,13 @@ module _ {X Y : Type 0} {kind : Kind X Y} {first names ts here : TokenList} {xs 
     }
 
     -- If the closing token follows one more element, the whole list has been read.
-    pub Read-closed : (rest : TokenList) → mid ≡ kind.close ∷ rest → ReadWhole kind first after ts rest (xs ++ x ∷ [])
-    Read-closed rest e = record {
+    pub IsReadList-after_last : (rest : TokenList) → mid ≡ kind.close ∷ rest → IsReadList kind first after ts rest (xs ++ x ∷ [])
+    IsReadList-after_last rest e = record {
       whole = (
         read.start,
         read.begun,
         subst (λ l. ParsesSepEndBy kind.parses semicolon kind.close read.start l rest) (sym at-push)
-            (Listing-last kind.parses semicolon kind.close _ read.start here mid rest _ read.listing more.parsed e),
+            (ParsesSepEndBy-last kind.parses semicolon kind.close _ read.start here mid rest _ read.listing more.parsed e),
       );
       names_are = names-push;
       within = All-from_recursion (λ x. IsIn after (kind.site x)) (xs ++ x ∷ []) IsIn-push;

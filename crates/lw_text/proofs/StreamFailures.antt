@@ -32,7 +32,7 @@ place_within len tokens (t ∷ rest) at all suffix place =
     (subst (AllByRecursion (λ (t : Token). t.at ≤ len)) suffix.1 (recursion_from_All (λ (t : Token). t.at ≤ len) tokens all)))
 
 -- If the parser refuses a suffix of the tokens, the stream fails at its first token, or where the tokens end.
-pub stream_fails : {arch : Arch} {len : ℕ} (tokens : List Token) (fault : Option Fault) (refusal : Refusal) (f : Fault)
+pub StreamFails-of_refusal : {arch : Arch} {len : ℕ} (tokens : List Token) (fault : Option Fault) (refusal : Refusal) (f : Fault)
     (rest : List Token)
     → IsSuffix tokens rest
     → BeginsAt rest refusal.at
@@ -40,19 +40,19 @@ pub stream_fails : {arch : Arch} {len : ℕ} (tokens : List Token) (fault : Opti
     → IfSome refusal.at (λ at. (f.at ≡ at) × (f.cause ≡ refusal.cause))
     → IfNone refusal.at (MatchOption fault ((f.at ≡ len) × (f.cause ≡ Unterminated)) (λ g. (f.at ≡ g.at) × (f.cause ≡ g.cause)))
     → StreamFails arch len (with_spans tokens) fault f.at f.cause
-stream_fails {arch} {len} tokens fault refusal f [] suffix place way some none = at fault (rw place at none)
+StreamFails-of_refusal {arch} {len} tokens fault refusal f [] suffix place way some none = go fault (rw place at none)
   where
     -- The tokens end too early.
     FailsInTest-at_refusal : FailsInTest arch (texts_of_tokens (with_spans tokens)) [] refusal.cause
     FailsInTest-at_refusal = subst (λ ts. FailsInTest arch ts [] refusal.cause) (sym (texts_placed tokens)) way
 
     -- By whether a lexical fault ends them.
-    at : (fault : Option Fault)
+    go : (fault : Option Fault)
         → MatchOption fault ((f.at ≡ len) × (f.cause ≡ Unterminated)) (λ g. (f.at ≡ g.at) × (f.cause ≡ g.cause))
         → StreamFails arch len (with_spans tokens) fault f.at f.cause
-    at None h = at_stream_end refusal.cause refl FailsInTest-at_refusal h.0 h.1
-    at (Some g) h = at_stream_fault g refusal.cause refl h.0 h.1 (inl FailsInTest-at_refusal)
-stream_fails {arch} {len} tokens fault refusal f (t ∷ rest) suffix place way some none =
+    go None h = at_stream_end refusal.cause refl FailsInTest-at_refusal h.0 h.1
+    go (Some g) h = at_stream_fault g refusal.cause refl h.0 h.1 (inl FailsInTest-at_refusal)
+StreamFails-of_refusal {arch} {len} tokens fault refusal f (t ∷ rest) suffix place way some none =
     let is = rw place at some in
     at_stream_token (with_spans suffix.0) (with_spans rest) (with_span t)
     (ap with_spans suffix.1 ∙ map-append with_span suffix.0 (t ∷ rest)) is.0
@@ -62,21 +62,22 @@ stream_fails {arch} {len} tokens fault refusal f (t ∷ rest) suffix place way s
     (subst (λ ts. FailsInTest arch (token_texts tokens) ts refusal.cause) (sym (texts_placed (t ∷ rest))) way)))
 
 -- The tokens of a whole text are tokens of it up to an end, after which there is only trivia.
-pub placed_many : (len : ℕ) (text : Bytes) (tokens : List PlacedToken)
+pub ParsesMany-PlacedTokens : (len : ℕ) (text : Bytes) (tokens : List PlacedToken)
     → PlacedTokens len text tokens
     → (end : Bytes) × ParsesMany (IsPlacedToken len) text tokens end × Trivia end []
-placed_many len text [] p = (text, refl, p)
-placed_many len text (t ∷ tokens) p = let more = placed_many len p.0 tokens p.3 in (more.0, (p.0, (p.1, p.2), more.1), more.2)
+ParsesMany-PlacedTokens len text [] p = (text, refl, p)
+ParsesMany-PlacedTokens len text (t ∷ tokens) p =
+    let more = ParsesMany-PlacedTokens len p.0 tokens p.3 in (more.0, (p.0, (p.1, p.2), more.1), more.2)
 
 -- If the stream of a text's tokens fails, its body does.
-pub body_fails : {arch : Arch} {len : ℕ} {text : Bytes} {tokens : List PlacedToken} {fault : Option Fault} {at : ℕ}
+pub FailsInBody-StreamFails : {arch : Arch} {len : ℕ} {text : Bytes} {tokens : List PlacedToken} {fault : Option Fault} {at : ℕ}
     {cause : TextCause}
     → MatchOption fault (PlacedTokens len text tokens)
     (λ g. HoldsOfNothing (Tokens text) × (g.at ≤ len) × StopsAt len text tokens g.at g.cause)
     → StreamFails arch len tokens fault at cause
     → FailsInBody arch len text at cause
-body_fails {arch} {len} {text} {tokens} {fault} {at} {cause} stream (at_stream_token before behind token parts place way) =
-    let read = HasTokens-by_fault fault stream in at_token tokens behind token before read.0 read.1 parts place way
+FailsInBody-StreamFails {arch} {len} {text} {tokens} {fault} {at} {cause} stream (at_stream_token before after token parts place way) =
+    let read = HasTokens-by_fault fault stream in at_token tokens after token before read.0 read.1 parts place way
   where
     -- Whether or not a fault ends the stream, its tokens are those of the text, up to some end.
     HasTokens-by_fault : (o : Option Fault)
@@ -84,12 +85,12 @@ body_fails {arch} {len} {text} {tokens} {fault} {at} {cause} stream (at_stream_t
         (λ g. HoldsOfNothing (Tokens text) × (g.at ≤ len) × StopsAt len text tokens g.at g.cause)
         → (end : Bytes) × HasTokens len text tokens end
     HasTokens-by_fault None p =
-        let read = placed_many len text tokens p in
+        let read = ParsesMany-PlacedTokens len text tokens p in
         (read.0, (read.1, λ t rest is. no_first_token-if_only_trivia read.0 t rest read.2 is))
     HasTokens-by_fault (Some g) p =
         (p.2.end, (p.2.read, λ t rest is. not-FailsInFirstToken-if_parsed p.2.end p.2.fails.rest t rest g.cause p.2.fails.way is))
-body_fails stream (at_stream_end c none way place cause) = at_end _ c (rw none at stream) way place cause
-body_fails {arch} {len} {text} {tokens} {fault} {at} {cause} stream (at_stream_fault g c is place because way) =
+FailsInBody-StreamFails stream (at_stream_end c none way place cause) = at_end _ c (rw none at stream) way place cause
+FailsInBody-StreamFails {arch} {len} {text} {tokens} {fault} {at} {cause} stream (at_stream_fault g c is place because way) =
     let stops = (rw is at stream).2 in
     in_next_token tokens stops.end stops.fails.rest c stops.read
     (subst (FailsInFirstToken stops.end stops.fails.rest) (sym because) stops.fails.way)

@@ -1,11 +1,11 @@
 -- Tokens fail to be a test at one place only, and for one cause: lists of sites, the header, the rows, the
 -- condition, and the whole. A step of the law that a text fails at one place (OneFault).
-use Rattle.lw_text.proofs.Common.{most_locations, cons-head_eq, ◌≡◌, ◌≢◌, ◌⊎◌, ℕ, zero, suc, ◌+◌, ◌<◌, ◌≤◌}
-use Rattle.lw_text.proofs.Common.{Option, None, Some, List, [], ◌∷◌, length, map, filter, map-id, Bool, true}
-use Rattle.lw_text.proofs.Common.{false, refl, sym, ap, ◌∙◌, subst, inl, inr, arith, codes, bytes_eq}
-use Rattle.lw_text.proofs.Common.{begins_token, begins_stop, AllByRecursion, Arch, Bytes, NameTable}
-use Rattle.lw_text.proofs.Common.{TokenList, Cells, CellGrid, Quant, Exists, NotExists, Forall}
-use Rattle.lw_text.proofs.Common.{InitializerSyntax, IsInitializer, IsSite, SiteSyntax, InThread}
+use Rattle.lw_text.proofs.Common.{most_threads, most_rows, most_locations, cons-head_eq, ◌≡◌, ◌≢◌, ◌⊎◌, ℕ}
+use Rattle.lw_text.proofs.Common.{zero, suc, ◌+◌, ◌<◌, ◌≤◌, Option, None, Some, List, [], ◌∷◌, length, map}
+use Rattle.lw_text.proofs.Common.{filter, map-id, Bool, true, false, refl, sym, ap, ◌∙◌, subst, inl, inr}
+use Rattle.lw_text.proofs.Common.{arith, codes, bytes_eq, begins_token, begins_stop, AllByRecursion, Arch}
+use Rattle.lw_text.proofs.Common.{Bytes, NameTable, TokenList, Cells, CellGrid, Quant, Exists, NotExists}
+use Rattle.lw_text.proofs.Common.{Forall, InitializerSyntax, IsInitializer, IsSite, SiteSyntax, InThread}
 use Rattle.lw_text.proofs.Common.{ThreadExists, ThreadAllowed, HasRoomFor, site_names, with_sites}
 use Rattle.lw_text.proofs.Common.{insert_names-longer, sites_of, Block, Header, Names, Row, RowCells, Rows}
 use Rattle.lw_text.proofs.Common.{Listed, Quantified, thread_name, Terminal, Open, Close, Negation}
@@ -21,7 +21,7 @@ use Rattle.lw_text.proofs.Common.{FailsInQuantifier, no_quantifier, no_exists, T
 use Rattle.lw_text.proofs.Common.{Condition, TooManyThreads}
 use Rattle.lw_text.proofs.Atoms.{IsSite-unique, IsInitializer-unique, IsSite-shorter, brace, bracket}
 use Rattle.lw_text.proofs.Atoms.{semicolon}
-use Rattle.lw_text.proofs.Cells.{Cell-exact, Row-deterministic, Rows-unique}
+use Rattle.lw_text.proofs.Cells.{Cell-exact, Row-unique, Rows-unique}
 use Rattle.lw_text.proofs.Failures.{cons-tail_unique}
 use Rattle.lw_text.proofs.FailureUniqueness.{IsSameFailure, FailsUniquely, IfFirst-of_head}
 use Rattle.lw_text.proofs.FailureUniqueness.{FailsUniquely-at_first_token, FailsBefore-unique}
@@ -185,8 +185,8 @@ module _ (arch : Arch) (threads : ℕ) where
   IsListed ts site mid = IsSite arch ts site mid × ThreadExists threads site
 
   -- The parse of a listed site is unique.
-  IsListed-deterministic : IsDeterministic IsListed
-  IsListed-deterministic ts x y r s p q = IsSite-unique arch ts x y r s p.0 q.0
+  IsListed-unique : IsDeterministic IsListed
+  IsListed-unique ts x y r s p q = IsSite-unique arch ts x y r s p.0 q.0
 
   -- A listed site for which there is room does not fail.
   not-FailsInSite-if_listed : (names : NameTable) (ts rest mid : TokenList) (cause : TextCause) (site : SiteSyntax)
@@ -223,8 +223,8 @@ module _ (arch : Arch) (threads : ℕ) where
         (λ all. all.0 refl))
     FailsInList-unique ts r s d e (in_sites {inside = inside} begins p) (in_sites again q) =
         FailsInElements-unique IsListed (λ site. site) (λ names. FailsInSite arch (Some threads) names Condition) (codes "]")
-        Condition IsListed-deterministic (λ names. FailsInSite-unique arch (Some threads) names Condition)
-        not-FailsInSite-if_listed not-semicolon_is_bracket r s d e names inside p
+        Condition IsListed-unique (λ names. FailsInSite-unique arch (Some threads) names Condition) not-FailsInSite-if_listed
+        not-semicolon_is_bracket r s d e names inside p
         (subst (FailsInSites arch threads s e names) (sym (cons-tail_unique (cons-tail_unique (sym begins ∙ again)))) q)
 
     -- A list on threads that exist, which has room for its locations, does not fail.
@@ -241,7 +241,7 @@ module _ (arch : Arch) (threads : ℕ) where
         not-token_is_next (codes "locations") ts _ is.0 begins
     not-FailsInList-if_parsed ts rest after cause sites (in_sites {inside = inside} begins p) (inl is) all room =
         not-FailsInElements-if_parsed IsListed (λ site. site) (λ names. FailsInSite arch (Some threads) names Condition)
-        (codes "]") Condition IsListed-deterministic (λ names. FailsInSite-unique arch (Some threads) names Condition)
+        (codes "]") Condition IsListed-unique (λ names. FailsInSite-unique arch (Some threads) names Condition)
         not-FailsInSite-if_listed not-semicolon_is_bracket rest cause names inside after sites p
         (subst (λ l. ParsesSepEndBy IsListed (codes ";") (codes "]") l sites after)
         (sym (cons-tail_unique (cons-tail_unique (sym begins ∙ is.1)))) (IsListed-all is.0 after sites is.2 all))
@@ -285,14 +285,15 @@ FailsInHeader-unique r s d e k ts (too_many_threads full is p) (no_thread_name f
 FailsInHeader-unique r s d e k ts (too_many_threads full is p) (no_thread_mark few begins q) = absurd (omega (arith, few, full))
 FailsInHeader-unique r s d e k ts (too_many_threads full is p) (in_next_thread few begins q) = absurd (omega (arith, few, full))
 FailsInHeader-unique r s d e k ts (too_many_threads full is p) (too_many_threads also too q) =
-    FailsUniquely-at_first_token
-    (λ t cause. ((t ≡ thread_name 4) × (cause ≡ TooManyThreads)) ⊎ ((t ≢ thread_name 4) × (cause ≡ Unexpected))) name_cause-unique
-    ts r s d e (is, p) (too, q)
+    FailsUniquely-at_first_token (λ t cause.
+    ((t ≡ thread_name most_threads) × (cause ≡ TooManyThreads)) ⊎ ((t ≢ thread_name most_threads) × (cause ≡ Unexpected)))
+    name_cause-unique ts r s d e (is, p) (too, q)
   where
     -- A fifth name of a thread has one cause, and any other token another.
     name_cause-unique : (t : Bytes) (cause because : TextCause)
-        → ((t ≡ thread_name 4) × (cause ≡ TooManyThreads)) ⊎ ((t ≢ thread_name 4) × (cause ≡ Unexpected))
-        → ((t ≡ thread_name 4) × (because ≡ TooManyThreads)) ⊎ ((t ≢ thread_name 4) × (because ≡ Unexpected))
+        → ((t ≡ thread_name most_threads) × (cause ≡ TooManyThreads)) ⊎ ((t ≢ thread_name most_threads) × (cause ≡ Unexpected))
+        → ((t ≡ thread_name most_threads) × (because ≡ TooManyThreads))
+        ⊎ ((t ≢ thread_name most_threads) × (because ≡ Unexpected))
         → cause ≡ because
     name_cause-unique t cause because (inl x) (inl y) = x.1 ∙ sym y.1
     name_cause-unique t cause because (inl x) (inr y) = absurd (y.0 x.0)
@@ -303,7 +304,7 @@ FailsInHeader-unique r s d e k ts (too_many_threads full is p) (too_many_threads
 pub not-FailsInHeader-if_parsed : (rest : TokenList) (cause : TextCause) (k n : ℕ) (ts after : TokenList)
     → FailsInHeader rest cause k ts
     → Names k n ts after
-    → k + n ≤ 4
+    → k + n ≤ most_threads
     → ⊥
 not-FailsInHeader-if_parsed rest cause k zero ts after fails is few = absurd is
 not-FailsInHeader-if_parsed rest cause k (suc zero) ts after (no_thread_name low p) is few =
@@ -337,8 +338,8 @@ module _ (threads : ℕ) where
   FailsInRow-unique ts r s d e (no_end is never) (no_end also none) = (is ∙ sym also, λ some. absurd (some is))
   FailsInRow-unique ts r s d e (no_end is never) (ragged cells line at other because) = absurd (never cells _ line)
   FailsInRow-unique ts r s d e (ragged cells line at other because) (no_end also none) = absurd (none cells _ line)
-  FailsInRow-unique ts r s d e (ragged cells {after = after} line at other because) (ragged more {after = behind} too also another cause) = (
-    at ∙ ap (λ l. codes ";" ∷ l) (RowCells-unique ts after behind cells more line too).1 ∙ sym also,
+  FailsInRow-unique ts r s d e (ragged cells {after = after} line at other because) (ragged more {after = later} too also another cause) = (
+    at ∙ ap (λ l. codes ";" ∷ l) (RowCells-unique ts after later cells more line too).1 ∙ sym also,
     λ some. because ∙ sym cause,
   )
 
@@ -348,8 +349,8 @@ module _ (threads : ℕ) where
       → Row threads ts cells after
       → ⊥
   not-FailsInRow-if_parsed ts rest after cause cells (no_end is never) row = never cells after row.0
-  not-FailsInRow-if_parsed ts rest after cause cells (ragged more {after = behind} line ends other because) row =
-      other (ap length (RowCells-unique ts behind after more cells line row.0).0 ∙ row.1)
+  not-FailsInRow-if_parsed ts rest after cause cells (ragged more {after = later} line ends other because) row =
+      other (ap length (RowCells-unique ts later after more cells line row.0).0 ∙ row.1)
 
   -- The rows fail at one place only, and for one cause, after each number of them.
   pub FailsInRows-unique : (r s : TokenList) (d e : TextCause) (k : ℕ) (ts : TokenList)
@@ -371,13 +372,13 @@ module _ (threads : ℕ) where
       absurd (not-FailsInRow-if_parsed ts s _ e cells q row)
   FailsInRows-unique r s d e k ts (in_rows_after {next = next} cells few go row p) (in_rows_after {next = other} more also on line q) =
       FailsInRows-unique r s d e (suc k) next p
-      (subst (FailsInRows threads s e (suc k)) (sym (Row-deterministic threads ts cells more next other row line).1) q)
+      (subst (FailsInRows threads s e (suc k)) (sym (Row-unique threads ts cells more next other row line).1) q)
 
   -- Rows of which there are not too many do not fail.
   pub not-FailsInRows-if_parsed : (rest : TokenList) (cause : TextCause) (k : ℕ) (ts after : TokenList) (rows : CellGrid)
       → FailsInRows threads rest cause k ts
       → ParsesManyTill begins_stop (Row threads) ts rows after
-      → k + length rows ≤ 64
+      → k + length rows ≤ most_rows
       → ⊥
   not-FailsInRows-if_parsed rest cause k ts after [] (too_many_rows full go is because) read few =
       let h = read.1 in cc (sym (ap begins_stop read.0) ∙ go)
@@ -390,7 +391,7 @@ module _ (threads : ℕ) where
   not-FailsInRows-if_parsed rest cause k ts after (x ∷ rows) (in_rows_after {next = next} cells low go row p) read few =
       not-FailsInRows-if_parsed rest cause (suc k) next after rows p
       (subst (λ l. ParsesManyTill begins_stop (Row threads) l rows after)
-      (sym (Row-deterministic threads ts cells x next read.1.0 row read.1.1).1) read.1.2) (omega (arith, few))
+      (sym (Row-unique threads ts cells x next read.1.0 row read.1.1).1) read.1.2) (omega (arith, few))
 
 -- ---- The quantifier.
 

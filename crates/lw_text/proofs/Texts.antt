@@ -6,8 +6,8 @@ use Rattle.lw_text.proofs.Common.{codes, bytes_eq, drop_all, length-map, bytes_e
 use Rattle.lw_text.proofs.Common.{Token, token_texts, IsSuffix, begins_token}
 
 -- Texts that `bytes_eq` finds equal are equal.
-pub is_text : (t u : Bytes) → bytes_eq t u ≡ true → t ≡ u
-is_text t u h = (bytes_eq-Decides t u).0 h
+pub bytes_equal : (t u : Bytes) → bytes_eq t u ≡ true → t ≡ u
+bytes_equal t u h = (bytes_eq-Decides t u).0 h
 
 -- Texts that `bytes_eq` finds unequal are unequal.
 pub not-equal-if_bytes_differ : (t u : Bytes) → bytes_eq t u ≡ false → t ≡ u → ⊥
@@ -17,7 +17,7 @@ not-equal-if_bytes_differ t u h e = let k = (bytes_eq-Decides t u).1 e in cc
 pub not-bar_is_semicolon : codes "|" ≡ codes ";" → ⊥
 not-bar_is_semicolon e = not-equal-if_bytes_differ (codes "|") (codes ";") refl e
 
--- A token that is not found to be next is not at the start.
+-- If the test says that the tokens do not begin with this one, they do not.
 pub not-token_is_next : (w : Bytes) (ts l : TokenList) → begins_token w ts ≡ false → ts ≡ w ∷ l → ⊥
 not-token_is_next w ts l h e = not-equal-if_bytes_differ w w (ap (begins_token w) (sym e) ∙ h) refl
 
@@ -36,7 +36,7 @@ pub word_next : (tokens : List Token) (next : ℕ) (w : Bytes)
     × IsSuffix (drop next tokens) (drop (next + 1) tokens)
 word_next [] zero w h = absurd cc
 word_next [] (suc next) w h = absurd cc
-word_next (t ∷ tokens) zero w h = (omega arith, ap (λ x. x ∷ token_texts tokens) (is_text _ w h), (t ∷ [], refl))
+word_next (t ∷ tokens) zero w h = (omega arith, ap (λ x. x ∷ token_texts tokens) (bytes_equal _ w h), (t ∷ [], refl))
 word_next (t ∷ tokens) (suc next) w h =
     let r = word_next tokens next w h in
     let k : suc (next + 1) ≡ suc next + 1 = omega arith in (

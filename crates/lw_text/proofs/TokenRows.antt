@@ -1,5 +1,5 @@
 -- The list of tokens of a text, with their positions, is unique. A step of the proof that a text has one
--- frame; the loop of `TokenStream::read` goes by `Read`.
+-- frame; the loop of `TokenStream::read` goes by `AreFirstTokens`.
 use Rattle.lw_text.proofs.Common.{◌≡◌, ℕ, ◌+◌, ◌<◌, false, List, [], ◌∷◌, ◌++◌, length, refl, sym, ap, ◌∙◌}
 use Rattle.lw_text.proofs.Common.{subst, arith, length-append, HoldsOfNothing, ParsesNothing, Bytes}
 use Rattle.lw_text.proofs.Common.{TokenList, Token, ParsesMany, begins_trivia, Trivia, IsToken, IsFirstToken}
@@ -35,26 +35,27 @@ Tokens-unique (t ∷ ts) (u ∷ us) text p q =
 -- ---- tokens that have been read
 
 -- These tokens have been read, with their positions, and `rest` remains.
-abbrev pub Read : ℕ → Bytes → List PlacedToken → Bytes → Type 0
-Read len text ts rest = ParsesMany (IsPlacedToken len) text ts rest
+abbrev pub AreFirstTokens : ℕ → Bytes → List PlacedToken → Bytes → Type 0
+AreFirstTokens len text ts rest = ParsesMany (IsPlacedToken len) text ts rest
 
 -- If only trivia remains, the tokens read are all of the text.
-pub Read-done : (len : ℕ) (ts : List PlacedToken) (text rest : Bytes)
-    → Read len text ts rest
+pub PlacedTokens-at_end : (len : ℕ) (ts : List PlacedToken) (text rest : Bytes)
+    → AreFirstTokens len text ts rest
     → Trivia rest []
     → PlacedTokens len text ts
-Read-done len [] text rest p g = subst (λ x. Trivia x []) (sym p) g
-Read-done len (u ∷ ts) text rest p g = (p.0, p.1.0, p.1.1, Read-done len ts p.0 rest p.2 g)
+PlacedTokens-at_end len [] text rest p g = subst (λ x. Trivia x []) (sym p) g
+PlacedTokens-at_end len (u ∷ ts) text rest p g = (p.0, p.1.0, p.1.1, PlacedTokens-at_end len ts p.0 rest p.2 g)
 
 -- If the rest is no list of tokens, neither is the text.
-pub Read-fault : (len : ℕ) (ts : List PlacedToken) (text rest : Bytes)
-    → Read len text ts rest
+pub no_tokens-if_rest_has_none : (len : ℕ) (ts : List PlacedToken) (text rest : Bytes)
+    → AreFirstTokens len text ts rest
     → HoldsOfNothing (Tokens rest)
     → HoldsOfNothing (Tokens text)
-Read-fault len [] text rest p never us q = never us (subst (λ x. Tokens x us) p q)
-Read-fault len (t ∷ ts) text rest p never [] q = no_first_token-if_only_trivia text t.text p.0 q p.1.0
-Read-fault len (t ∷ ts) text rest p never (u ∷ us) q =
-    Read-fault _ ts _ _ p.2 never us (subst (λ x. Tokens x us) (sym (IsFirstToken-unique _ _ _ u _ p.1.0 q.1).1) q.2)
+no_tokens-if_rest_has_none len [] text rest p never us q = never us (subst (λ x. Tokens x us) p q)
+no_tokens-if_rest_has_none len (t ∷ ts) text rest p never [] q = no_first_token-if_only_trivia text t.text p.0 q p.1.0
+no_tokens-if_rest_has_none len (t ∷ ts) text rest p never (u ∷ us) q =
+    no_tokens-if_rest_has_none _ ts _ _ p.2 never us
+    (subst (λ x. Tokens x us) (sym (IsFirstToken-unique _ _ _ u _ p.1.0 q.1).1) q.2)
 
 -- ---- what the reader of the next token must prove
 
@@ -75,9 +76,12 @@ pub no_first_token-if_comment_is_open : (text : Bytes)
 no_first_token-if_comment_is_open text never t rest q = never (t ++ rest) (token_no_trivia t rest q.1) q.0
 
 -- A text that is not only trivia and has no first token is no list of tokens.
-pub Tokens-none : (text : Bytes) → (Trivia text [] → ⊥) → ParsesNothing (IsFirstToken text) → HoldsOfNothing (Tokens text)
-Tokens-none text no_end no_token [] q = no_end q
-Tokens-none text no_end no_token (t ∷ ts) q = no_token t q.0 q.1
+pub no_tokens-if_no_first_token : (text : Bytes)
+    → (Trivia text [] → ⊥)
+    → ParsesNothing (IsFirstToken text)
+    → HoldsOfNothing (Tokens text)
+no_tokens-if_no_first_token text no_end no_token [] q = no_end q
+no_tokens-if_no_first_token text no_end no_token (t ∷ ts) q = no_token t q.0 q.1
 
 -- A token with the trivia before it takes at least one byte.
 pub IsFirstToken-shorter : (text t rest : Bytes) → IsFirstToken text t rest → length rest < length text
@@ -86,13 +90,17 @@ IsFirstToken-shorter text t rest f = let n = token_nonempty t rest f.1 in omega 
 -- ---- tokens with and without positions
 
 -- If a text is a list of tokens with their positions, it is the list of the same tokens without them.
-pub Tokens-of : (len : ℕ) (text : Bytes) (ts : List PlacedToken) → PlacedTokens len text ts → Tokens text (texts_of_tokens ts)
-Tokens-of len text [] p = p
-Tokens-of len text (t ∷ ts) p = (p.0, p.1, Tokens-of len p.0 ts p.3)
+pub Tokens-PlacedTokens : (len : ℕ) (text : Bytes) (ts : List PlacedToken)
+    → PlacedTokens len text ts
+    → Tokens text (texts_of_tokens ts)
+Tokens-PlacedTokens len text [] p = p
+Tokens-PlacedTokens len text (t ∷ ts) p = (p.0, p.1, Tokens-PlacedTokens len p.0 ts p.3)
 
 -- If a text is a list of tokens in memory with their positions, it is the list of the same tokens without them.
-pub read_whole : (len : ℕ) (rest : Bytes) (ts : List Token) → PlacedTokens len rest (with_spans ts) → Tokens rest (token_texts ts)
-read_whole len rest ts p = subst (Tokens rest) (texts_placed ts) (Tokens-of len rest (with_spans ts) p)
+pub Tokens-with_spans : (len : ℕ) (rest : Bytes) (ts : List Token)
+    → PlacedTokens len rest (with_spans ts)
+    → Tokens rest (token_texts ts)
+Tokens-with_spans len rest ts p = subst (Tokens rest) (texts_placed ts) (Tokens-PlacedTokens len rest (with_spans ts) p)
 
 -- Tokens with the same position and the same bytes are equal.
 pub placed_tokens_equal : (a b : PlacedToken) → a.at ≡ b.at → a.text ≡ b.text → a ≡ b

@@ -1,5 +1,5 @@
 -- The end of blanks and comments is unique, and a loop finds it. The loop of `after_trivia` goes by
--- `Skipped`. (In bytes, 40 42 is `(*`, which begins a comment.)
+-- `TriviaContinuesAt`. (In bytes, 40 42 is `(*`, which begins a comment.)
 use Rattle.lw_text.proofs.Common.{◌≡◌, ℕ, true, false, ◌||◌, [], ◌∷◌, ◌++◌, ◌≤◌, length, length-append, arith}
 use Rattle.lw_text.proofs.Common.{refl, sym, ap, ◌∙◌, subst, AllByRecursion, HoldsOfNothing, Bytes, is_blank}
 use Rattle.lw_text.proofs.Common.{first_byte_is, begins_pair, begins_trivia, Comment, Trivia, blank, comment}
@@ -62,51 +62,52 @@ Trivia-shorter {rest = rest} g = let s = Trivia-suffix g in omega (arith, ap len
 
 -- The invariant of the loop over trivia: the trivia at the start of the bytes ends where that at the start of the rest does, if no trivia
 -- begins there.
-pub record Skipped (bytes rest : Bytes) : Type 0 where
-  pub given : (end : Bytes) → Trivia rest end → Trivia bytes end
-  pub only : (end : Bytes) → begins_trivia end ≡ false → Trivia bytes end → Trivia rest end
+pub record TriviaContinuesAt (bytes rest : Bytes) : Type 0 where
+  pub whole_if_rest : (end : Bytes) → Trivia rest end → Trivia bytes end
+  pub rest_if_whole : (end : Bytes) → begins_trivia end ≡ false → Trivia bytes end → Trivia rest end
 
 -- After blanks the invariant holds again.
-pub Skipped-blanks : (bs bytes text rest : Bytes)
-    → Skipped bytes text
+pub TriviaContinuesAt-after_blanks : (bs bytes text rest : Bytes)
+    → TriviaContinuesAt bytes text
     → text ≡ bs ++ rest
     → AllByRecursion (λ b. is_blank b ≡ true) bs
-    → Skipped bytes rest
-Skipped-blanks [] bytes text rest s e all = subst (λ x. Skipped bytes x) e s
-Skipped-blanks (b ∷ bs) bytes text rest s e all =
-    let next : Skipped bytes (bs ++ rest) = record {
-      given = λ end g. s.given end (rw e (blank all.0 g));
-      only = λ end stop g. Trivia-blank_inv (s.only end stop g) b (bs ++ rest) e all.0 stop;
+    → TriviaContinuesAt bytes rest
+TriviaContinuesAt-after_blanks [] bytes text rest s e all = subst (λ x. TriviaContinuesAt bytes x) e s
+TriviaContinuesAt-after_blanks (b ∷ bs) bytes text rest s e all =
+    let next : TriviaContinuesAt bytes (bs ++ rest) = record {
+      whole_if_rest = λ end g. s.whole_if_rest end (rw e (blank all.0 g));
+      rest_if_whole = λ end stop g. Trivia-blank_inv (s.rest_if_whole end stop g) b (bs ++ rest) e all.0 stop;
     } in
-    Skipped-blanks bs bytes (bs ++ rest) rest next refl all.1
+    TriviaContinuesAt-after_blanks bs bytes (bs ++ rest) rest next refl all.1
 
 -- At the start nothing has been passed.
-pub Skipped-none : (bytes : Bytes) → Skipped bytes bytes
-Skipped-none bytes = record { given = λ end g. g; only = λ end stop g. g }
+pub TriviaContinuesAt-start : (bytes : Bytes) → TriviaContinuesAt bytes bytes
+TriviaContinuesAt-start bytes = record { whole_if_rest = λ end g. g; rest_if_whole = λ end stop g. g }
 
 -- After a comment the invariant holds again.
-pub Skipped-comment : {bytes rest inner after : Bytes}
-    → Skipped bytes rest
+pub TriviaContinuesAt-after_comment : {bytes rest inner after : Bytes}
+    → TriviaContinuesAt bytes rest
     → rest ≡ 40 ∷ 42 ∷ inner
     → Comment inner after
-    → Skipped bytes after
-Skipped-comment {bytes} {rest} {inner} {after} s e c = record {
-  given = λ end g. s.given end (rw e (comment c g));
-  only = λ end stop g. let o = Trivia-comment_inv (s.only end stop g) _ e stop in rw (Comment-unique o.1 c) at o.2;
+    → TriviaContinuesAt bytes after
+TriviaContinuesAt-after_comment {bytes} {rest} {inner} {after} s e c = record {
+  whole_if_rest = λ end g. s.whole_if_rest end (rw e (comment c g));
+  rest_if_whole =
+      λ end stop g. let o = Trivia-comment_inv (s.rest_if_whole end stop g) _ e stop in rw (Comment-unique o.1 c) at o.2;
 }
 
 -- If a comment is not closed, the bytes have no trivia.
-pub Skipped-open : {bytes rest inner : Bytes}
-    → Skipped bytes rest
+pub not-Trivia-if_comment_is_open : {bytes rest inner : Bytes}
+    → TriviaContinuesAt bytes rest
     → rest ≡ 40 ∷ 42 ∷ inner
     → HoldsOfNothing (Comment inner)
     → (end : Bytes)
     → begins_trivia end ≡ false
     → Trivia bytes end
     → ⊥
-Skipped-open {bytes} {rest} {inner} s e never end stop g =
-    let o = Trivia-comment_inv (s.only end stop g) inner e stop in never o.0 o.1
+not-Trivia-if_comment_is_open {bytes} {rest} {inner} s e never end stop g =
+    let o = Trivia-comment_inv (s.rest_if_whole end stop g) inner e stop in never o.0 o.1
 
 -- What has been passed is trivia.
-pub Skipped-done : {bytes rest : Bytes} → Skipped bytes rest → Trivia bytes rest
-Skipped-done {bytes} {rest} s = s.given rest none
+pub Trivia-TriviaContinuesAt : {bytes rest : Bytes} → TriviaContinuesAt bytes rest → Trivia bytes rest
+Trivia-TriviaContinuesAt {bytes} {rest} s = s.whole_if_rest rest none

@@ -21,12 +21,12 @@ use Rattle.lw_text.proofs.Common.{IsAscending-all_seen, fun_ext, Bytes, TokenLis
 use Rattle.lw_text.proofs.api.ConditionTokens.{site_names-all, sites_in-all}
 use Rattle.lw_text.proofs.api.PropositionNodes.{proposition_nodes, resolved_single, node_count-resolved}
 use Rattle.lw_text.proofs.PropositionCases.{ContainsAllNames, insert_names-contains_all}
-use Rattle.lw_text.proofs.Whole.{header_some, table_parts}
+use Rattle.lw_text.proofs.Whole.{header_has_thread, table_parts}
 use Rattle.lw_text.proofs.NameTables.{words-site_by_name, listed-site_by_name}
 
 -- ---- names
 
--- The site is a location with an allowed name, or one of six registers of a thread.
+-- The site is a location whose name may be one, or one of six registers of a thread.
 abbrev IsValidSite : SiteSyntax → Type 0
 IsValidSite (InMemory x) = IsLocationName x
 IsValidSite (InThread t r) = r < registers
@@ -180,7 +180,7 @@ head_well_formed : (arch : Arch) (ts : List (List ℕ)) (name : List ℕ) (s : T
     → IsProposition (map (resolved (location_table s)) s.terminals) p
     → IsWellFormedHead (head_of_syntax arch name s p)
 head_well_formed arch ts name s p allowed parts whole =
-    let c = parts.condition in
+    let c = parts.question in
     let fit = AreValidTerminals-of_read arch s.threads c.after_quant s.terminals c.says in
     let right =
     AllByRecursion-append IsValidSite (sites_of s.initializers ++ s.listed) (sites_in s.terminals)
@@ -195,7 +195,7 @@ head_well_formed arch ts name s p allowed parts whole =
     let begins = IsWordNumber-initial_word _ s.initializers (block_words arch ts parts.after_block s.initializers parts.block) in
     record {
       name = allowed;
-      has_thread = header_some parts.after_block parts.after_header s.threads parts.header;
+      has_thread = header_has_thread parts.after_block parts.after_header s.threads parts.header;
       bounded = parts.header.1;
       table = record {
         bounded = parts.few_names;

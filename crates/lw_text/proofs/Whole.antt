@@ -12,8 +12,7 @@ use Rattle.lw_text.proofs.Common.{ThreadExists, site_names, Terminal, IsProposit
 use Rattle.lw_text.proofs.Common.{begins_token, sites_in, resolved, InitializerSyntax, sites_of, Block}
 use Rattle.lw_text.proofs.Common.{TestSyntax, location_table, ParsesTest, ParsesNoTest, HasFrame, all_texts}
 use Rattle.lw_text.proofs.Common.{with_spans, remaining_texts, site_by_name, named_initializer, thread_exists}
-use Rattle.lw_text.proofs.Common.{ParsedNameList, NoProposition, NoCondition}
-use Rattle.lw_text.specs.Conditions.{Condition}
+use Rattle.lw_text.proofs.Common.{ParsedNameList, NoProposition, NoQuestion, ParsesQuestion}
 use Rattle.lw_text.proofs.api.Spelling.{list_all-AllByRecursion}
 use Rattle.lw_text.specs.declared.site.Site.{Site as MadeSite}
 use Rattle.lw_text.specs.declared.block.Initializer.{Initializer as MadeInitializer}
@@ -24,7 +23,7 @@ use Rattle.lw_text.proofs.Preambles.{Preamble-unique}
 use Rattle.lw_text.proofs.Readings.{with_sites-append}
 use Rattle.lw_text.proofs.TerminalLists.{Terminals-unique}
 use Rattle.lw_text.proofs.Texts.{not-equal-if_bytes_differ, not-token_is_next}
-use Rattle.lw_text.proofs.TokenRows.{Tokens-unique, read_whole}
+use Rattle.lw_text.proofs.TokenRows.{Tokens-unique, Tokens-with_spans}
 use Rattle.lw_text.proofs.Lists.{IsDeterministic}
 use Rattle.lw_text.specs.declared.site.Site.TheVariants as made
 
@@ -100,21 +99,21 @@ HasRoomFor-initial_block arch ts s p = omega (
   insert_names-longer (with_sites (with_sites [] (sites_of s.initializers)) s.listed) (site_names (sites_in s.terminals)),
 )
 
--- ---- if the condition ends early
+-- ---- if the question ends early
 
--- If no proposition follows the list and the quantifier, there is no condition.
-pub no_condition-if_no_proposition : {arch : Arch} {threads : ℕ} {before behind : Cursor} {first names : NameTable}
+-- If no proposition follows the list and the quantifier, there is no question.
+pub no_question-if_no_proposition : {arch : Arch} {threads : ℕ} {before later : Cursor} {first names : NameTable}
     {made : List MadeSite}
-    → ParsedNameList arch threads before behind first names made
+    → ParsedNameList arch threads before later first names made
     → (quant : Quant) (end : TokenList)
-    → Quantified (remaining_texts behind) quant end
+    → Quantified (remaining_texts later) quant end
     → NoProposition arch threads end names
-    → NoCondition arch threads (remaining_texts before) first
-no_condition-if_no_proposition {arch} {threads} {before} {behind} {first} {names} {made} taken quant end quantifies never all q ss p c fits =
+    → NoQuestion arch threads (remaining_texts before) first
+no_question-if_no_proposition {arch} {threads} {before} {later} {first} {names} {made} taken quant end quantifies never all q ss p c fits =
     let u =
-    Listed-unique arch (remaining_texts before) all (map (site_by_name names) made) c.after_list (remaining_texts behind) c.lists
+    Listed-unique arch (remaining_texts before) all (map (site_by_name names) made) c.after_list (remaining_texts later) c.lists
     taken.parsed in
-    let v = Quantified-unique (remaining_texts behind) q quant c.after_quant end (rw u.1 at c.quantifies) quantifies in
+    let v = Quantified-unique (remaining_texts later) q quant c.after_quant end (rw u.1 at c.quantifies) quantifies in
     never ss p (rw v.1 at c.says) (rw (ap (with_sites first) u.0 ∙ sym taken.names_are) at fits)
 
 -- ---- if the parts end early
@@ -137,11 +136,11 @@ module _ (arch : Arch) (ts a : TokenList) (initializers : List InitializerSyntax
         → (s.initializers ≡ initializers)
         × (s.threads ≡ n)
         × Rows n b s.rows p.after_rows
-        × Condition arch n p.after_rows s.listed s.quant s.terminals
+        × ParsesQuestion arch n p.after_rows s.listed s.quant s.terminals
     ParsesTest-rows_inv s p =
         let e = ParsesTest-header_inv s p in
         let u = Names-unique 0 s.threads n a p.after_header b e.1.0 header.0 in
-        (e.0, u.0, rw (u.0, u.1) at p.rows, rw u.0 at p.condition)
+        (e.0, u.0, rw (u.0, u.1) at p.rows, rw u.0 at p.question)
 
     -- If the thread of an initializer is not one of the header's, the tokens are no test.
     pub no_test-if_thread_is_missing : (names : NameTable) (made : List MadeInitializer)
@@ -162,19 +161,22 @@ module _ (arch : Arch) (ts a : TokenList) (initializers : List InitializerSyntax
 
     module _ (rows : CellGrid) (c : TokenList) (are_rows : Rows n b rows c) (first : TokenList)
         (is_first : first ≡ with_sites [] (sites_of initializers)) where
-      -- If they are a test, its rows are these, and its condition follows.
-      ParsesTest-condition_inv : (s : TestSyntax)
+      -- If the tokens are a test, its rows are these, and its question follows.
+      ParsesTest-question_inv : (s : TestSyntax)
           → ParsesTest arch ts s
-          → (s.initializers ≡ initializers) × (s.threads ≡ n) × (s.rows ≡ rows) × Condition arch n c s.listed s.quant s.terminals
-      ParsesTest-condition_inv s p =
+          → (s.initializers ≡ initializers)
+          × (s.threads ≡ n)
+          × (s.rows ≡ rows)
+          × ParsesQuestion arch n c s.listed s.quant s.terminals
+      ParsesTest-question_inv s p =
           let h = ParsesTest-rows_inv s p in
           let u = Rows-unique n b p.after_rows c s.rows rows h.2 are_rows in
-          (h.0, h.1, u.0, subst (λ l. Condition arch n l s.listed s.quant s.terminals) u.1 h.3)
+          (h.0, h.1, u.0, subst (λ l. ParsesQuestion arch n l s.listed s.quant s.terminals) u.1 h.3)
 
-      -- If no condition follows the rows, the tokens are no test.
-      pub no_test-if_no_condition : NoCondition arch n c first → ParsesNoTest arch ts
-      no_test-if_no_condition never s f p whole =
-          let h = ParsesTest-condition_inv s p in
+      -- If no question follows the rows, the tokens are no test.
+      pub no_test-if_no_question : NoQuestion arch n c first → ParsesNoTest arch ts
+      no_test-if_no_question never s f p whole =
+          let h = ParsesTest-question_inv s p in
           let names = ap (λ es. with_sites [] (sites_of es)) h.0 ∙ sym is_first in
           let all : location_table s ≡ with_sites (with_sites first s.listed) (sites_in s.terminals) =
           table_parts s ∙ ap (λ ns. with_sites (with_sites ns s.listed) (sites_in s.terminals)) names in
@@ -187,12 +189,12 @@ module _ (arch : Arch) (ts a : TokenList) (initializers : List InitializerSyntax
 -- The parse of a test's parts is unique.
 pub ParsesTest-unique : (arch : Arch) (ts : TokenList) (s t : TestSyntax) → ParsesTest arch ts s → ParsesTest arch ts t → s ≡ t
 ParsesTest-unique arch ts s t p q =
-    let h = ParsesTest-condition_inv arch ts _ t.initializers q.block t.threads _ q.header t.rows _ q.rows _ refl s p in
-    let u = Listed-unique arch q.after_rows s.listed t.listed h.3.after_list q.condition.after_list h.3.lists q.condition.lists in
+    let h = ParsesTest-question_inv arch ts _ t.initializers q.block t.threads _ q.header t.rows _ q.rows _ refl s p in
+    let u = Listed-unique arch q.after_rows s.listed t.listed h.3.after_list q.question.after_list h.3.lists q.question.lists in
     let v =
-    Quantified-unique q.condition.after_list s.quant t.quant h.3.after_quant q.condition.after_quant (rw u.1 at h.3.quantifies)
-    q.condition.quantifies in
-    let w = Terminals-unique arch t.threads s.terminals t.terminals _ (rw v.1 at h.3.says) q.condition.says in
+    Quantified-unique q.question.after_list s.quant t.quant h.3.after_quant q.question.after_quant (rw u.1 at h.3.quantifies)
+    q.question.quantifies in
+    let w = Terminals-unique arch t.threads s.terminals t.terminals _ (rw v.1 at h.3.says) q.question.says in
     let made =
     λ (es : List InitializerSyntax) (n : ℕ) (rows : CellGrid) (ls : List SiteSyntax) (quant : Quant) (ss : List (Terminal AtomSyntax)).
     (let x : TestSyntax = record { initializers = es; threads = n; rows = rows; listed = ls; quant = quant; terminals = ss } in
@@ -212,9 +214,9 @@ names_of_initializers names es e = e ∙ ap (λ l. with_sites [] l) (sym (sites_
 -- ---- rows
 
 -- A header names at least one thread.
-pub header_some : (ts rest : TokenList) (n : ℕ) → Header ts n rest → 1 ≤ n
-header_some ts rest zero h = absurd h.0
-header_some ts rest (suc n) h = omega arith
+pub header_has_thread : (ts rest : TokenList) (n : ℕ) → Header ts n rest → 1 ≤ n
+header_has_thread ts rest zero h = absurd h.0
+header_has_thread ts rest (suc n) h = omega arith
 
 -- Each row up to a token that ends the rows has a cell for each thread.
 row_lengths-of_rows : {A : Type 0} (n : ℕ) (rows : List (List (Cell A))) (ts rest : TokenList)
@@ -253,7 +255,8 @@ pub HasNoTest-if_no_tokens_or_no_parse : {F : Type 0} (arch : Arch) (o : Option 
     → HasNoTest arch rest
 HasNoTest-if_no_tokens_or_no_parse arch None Q len rest ts stream never us other s p parts whole =
     never s p
-    (subst (λ x. ParsesTest arch x s) (Tokens-unique us (token_texts ts) rest other (read_whole len rest ts stream)) parts) whole
+    (subst (λ x. ParsesTest arch x s) (Tokens-unique us (token_texts ts) rest other (Tokens-with_spans len rest ts stream)) parts)
+    whole
 HasNoTest-if_no_tokens_or_no_parse arch (Some f) Q len rest ts stream never us other s p parts whole = stream.0 us other
 
 -- If tokens start with none of the three quantifiers, there is none.

@@ -1,4 +1,4 @@
--- The condition of a test, on its tokens: the list of names, the quantifier and the proposition.
+-- The question of a test, on its tokens: the list of names, and the condition, which is a quantifier and a proposition.
 use Rattle.std.specs.Prelude.{◌≡◌, ℕ, ◌⊎◌, Bool, false, Option, Some, None, List, [], ◌∷◌, codes}
 use Rattle.std.specs.List.{filter_map, AllByRecursion}
 use Rattle.std.specs.Str.{bytes_eq}
@@ -78,7 +78,7 @@ begins_token w (t ∷ ts) = bytes_eq t w
 abbrev pub Sites : Arch → TokenList → List SiteSyntax → TokenList → Type 0
 Sites arch ts sites rest = ParsesSepEndBy (IsSite arch) (codes ";") (codes "]") ts sites rest
 
--- `locations [`, sites and `]`, or nothing.
+-- The list of names: `locations [`, sites and `]`. If no `locations` follows, it is empty, and no token is part of it.
 abbrev pub Listed : Arch → TokenList → List SiteSyntax → TokenList → Type 0
 Listed arch ts sites rest =
     ((l : TokenList) × (ts ≡ codes "locations" ∷ codes "[" ∷ l) × Sites arch l sites rest)
@@ -90,8 +90,8 @@ Quantified ts Exists rest = ts ≡ codes "exists" ∷ rest
 Quantified ts NotExists rest = ts ≡ codes "~" ∷ codes "exists" ∷ rest
 Quantified ts Forall rest = ts ≡ codes "forall" ∷ rest
 
--- The condition of a test: the list of names, a quantifier, and a proposition's terminals, with threads below `threads`.
-pub record Condition (arch : Arch) (threads : ℕ) (ts : TokenList) (listed : List SiteSyntax) (quant : Quant) (ss : List (Terminal AtomSyntax)) : Type 0 where
+-- The question of a test, which ends its text: the list of names, a quantifier, and a proposition's terminals, with threads below `threads`.
+pub record ParsesQuestion (arch : Arch) (threads : ℕ) (ts : TokenList) (listed : List SiteSyntax) (quant : Quant) (ss : List (Terminal AtomSyntax)) : Type 0 where
   pub after_list : TokenList
   pub after_quant : TokenList
   pub lists : Listed arch ts listed after_list

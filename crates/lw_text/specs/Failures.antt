@@ -93,7 +93,7 @@ pub data FailsInElements {X : Type 0}
       → HasRoomFor names (site_by x ∷ []) → FailsInElements Parses site_by Way close c rest cause (with_sites names (site_by x ∷ [])) next
       → FailsInElements Parses site_by Way close c rest cause names ts
 
--- Initializers fail.
+-- The initializers of a block fail: one of them, or a mark after one.
 abbrev pub FailsInInitializers : Arch → TokenList → TextCause → NameTable → TokenList → Type 0
 FailsInInitializers arch rest cause names ts =
     FailsInElements (IsInitializer arch) (λ e. e.site) (λ names. FailsInAssignment arch None names Unexpected) (codes "}") Unexpected
@@ -105,7 +105,7 @@ pub data FailsInBlock (arch : Arch) (names : NameTable) (ts rest : TokenList) (c
   in_initializers : {inside : TokenList} → ts ≡ codes "{" ∷ inside → FailsInInitializers arch rest cause names inside
       → FailsInBlock arch names ts rest cause
 
--- The sites of the list of names fail.
+-- The sites of the list of names fail: one of them, or a mark after one.
 abbrev pub FailsInSites : Arch → ℕ → TokenList → TextCause → NameTable → TokenList → Type 0
 FailsInSites arch threads rest cause names ts =
     FailsInElements (λ ts site mid. IsSite arch ts site mid × ThreadExists threads site) (λ site. site)
@@ -210,24 +210,24 @@ pub data FailsInProposition (arch : Arch) (threads : ℕ) (rest : TokenList) (ca
       → FailsInProposition arch threads rest cause next (nodes + length (filter is_node (s ∷ []))) (with_sites names (sites_in (s ∷ []))) mid
       → FailsInProposition arch threads rest cause place nodes names ts
 
--- The condition fails: its list of names, its quantifier or its proposition.
-pub data FailsInCondition (arch : Arch) (threads : ℕ) (names : NameTable) (ts rest : TokenList) (cause : TextCause) : Type 0 where
-  in_list : FailsInList arch threads names ts rest cause → FailsInCondition arch threads names ts rest cause
+-- The question fails: its list of names, its quantifier or its proposition.
+pub data FailsInQuestion (arch : Arch) (threads : ℕ) (names : NameTable) (ts rest : TokenList) (cause : TextCause) : Type 0 where
+  in_list : FailsInList arch threads names ts rest cause → FailsInQuestion arch threads names ts rest cause
   in_quantifier : (listed : List SiteSyntax) {mid : TokenList} → Listed arch ts listed mid → AllByRecursion (ThreadExists threads) listed
       → HasRoomFor names listed → FailsInQuantifier mid rest cause
-      → FailsInCondition arch threads names ts rest cause
+      → FailsInQuestion arch threads names ts rest cause
   in_proposition : (listed : List SiteSyntax) (quant : Quant) {mid after : TokenList} → Listed arch ts listed mid → AllByRecursion (ThreadExists threads) listed
       → HasRoomFor names listed → Quantified mid quant after
       → FailsInProposition arch threads rest cause first_place 0 (with_sites names listed) after
-      → FailsInCondition arch threads names ts rest cause
+      → FailsInQuestion arch threads names ts rest cause
 
 -- ---- The whole.
 
--- The initial block was read, on locations of which there are not too many.
+-- The initial block is these initializers, and a table has room for their locations.
 abbrev pub ReadsBlock : Arch → TokenList → List InitializerSyntax → TokenList → Type 0
 ReadsBlock arch ts es rest = Block arch ts es rest × HasRoomFor [] (sites_of es)
 
--- The block and the header were read.
+-- The tokens begin with a block and a header.
 pub record ReadsHeader (arch : Arch) (ts : TokenList) : Type 0 where
   pub initializers : List InitializerSyntax
   pub after_block : TokenList
@@ -254,7 +254,7 @@ pub record HasMissingThread (arch : Arch) (ts rest : TokenList) (threads : ℕ) 
   pub first : IsInitializer arch rest (record { site = InThread thread register; word = word }) after
   pub missing : threads ≤ thread
 
--- The tokens fail to be a test's: its block; its header; the first initializer whose thread does not exist; its rows; or its condition.
+-- The tokens fail to be a test's: its block; its header; the first initializer whose thread does not exist; its rows; or its question.
 pub data FailsInTest (arch : Arch) (ts rest : TokenList) (cause : TextCause) : Type 0 where
   in_block : FailsInBlock arch [] ts rest cause → FailsInTest arch ts rest cause
   in_header : (es : List InitializerSyntax) (after : TokenList) → ReadsBlock arch ts es after → FailsInHeader rest cause 0 after
@@ -262,6 +262,6 @@ pub data FailsInTest (arch : Arch) (ts rest : TokenList) (cause : TextCause) : T
   no_such_thread : (h : ReadsHeader arch ts) → HasMissingThread arch ts rest h.threads → cause ≡ Name → FailsInTest arch ts rest cause
   in_rows : (h : ReadsHeader arch ts) → HaveThreads h.threads h.initializers → FailsInRows h.threads rest cause 0 h.after_header
       → FailsInTest arch ts rest cause
-  in_condition : (h : ReadsHeader arch ts) (rows : CellGrid) (after : TokenList) → HaveThreads h.threads h.initializers
+  in_question : (h : ReadsHeader arch ts) (rows : CellGrid) (after : TokenList) → HaveThreads h.threads h.initializers
       → Rows h.threads h.after_header rows after
-      → FailsInCondition arch h.threads (with_sites [] (sites_of h.initializers)) after rest cause → FailsInTest arch ts rest cause
+      → FailsInQuestion arch h.threads (with_sites [] (sites_of h.initializers)) after rest cause → FailsInTest arch ts rest cause

@@ -17,7 +17,7 @@ use Rattle.lw_text.specs.Combinators.{ParsesSepEndBy}
 use Rattle.lw_text.specs.Rows.{Header, Rows, columns}
 use Rattle.lw_text.specs.Sites.{SiteSyntax, IsSite, ThreadExists, Value, site_names, seen_in}
 use Rattle.lw_text.specs.Propositions.{Terminal, HasFewNodes, IsProposition}
-use Rattle.lw_text.specs.Conditions.{AtomSyntax, Condition, sites_in, resolved}
+use Rattle.lw_text.specs.Conditions.{AtomSyntax, ParsesQuestion, sites_in, resolved}
 
 -- The syntax of an initializer: a site, and its initial word.
 pub record InitializerSyntax : Type 0 where
@@ -54,7 +54,7 @@ abbrev pub location_table : TestSyntax → NameTable
 location_table s =
     insert_names [] (site_names (map (λ e. e.site) s.initializers ++ s.listed ++ sites_in s.terminals))
 
--- The initial block, the header, the rows and the condition, on existing threads and with registers of the language, and with at most as
+-- The initial block, the header, the rows and the question, on existing threads and with registers of the language, and with at most as
 -- many locations and nodes as a test may have.
 pub record ParsesTest (arch : Arch) (ts : TokenList) (s : TestSyntax) : Type 0 where
   pub after_block : TokenList
@@ -64,7 +64,7 @@ pub record ParsesTest (arch : Arch) (ts : TokenList) (s : TestSyntax) : Type 0 w
   pub header : Header after_block s.threads after_header
   pub threads_exist : AllByRecursion (λ e. ThreadExists s.threads e.site) s.initializers
   pub rows : Rows s.threads after_header s.rows after_rows
-  pub condition : Condition arch s.threads after_rows s.listed s.quant s.terminals
+  pub question : ParsesQuestion arch s.threads after_rows s.listed s.quant s.terminals
   pub few_names : length (location_table s) ≤ most_locations
   pub few_nodes : HasFewNodes s.terminals
 

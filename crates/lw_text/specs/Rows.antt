@@ -26,7 +26,7 @@ Header ts threads rest = Names 0 threads ts rest × (threads ≤ most_threads)
 abbrev pub ends_cell : Bytes → Bool
 ends_cell t = bytes_eq t (codes "|") || bytes_eq t (codes ";")
 
--- Any tokens except `|` and `;`.
+-- The tokens begin with those of a cell: any tokens except `|` and `;`.
 abbrev pub Cell : TokenList → TokenList → TokenList → Type 0
 Cell ts cell rest = (ts ≡ cell ++ rest) × AllByRecursion (λ t. ends_cell t ≡ false) cell
 
@@ -38,7 +38,8 @@ RowCells ts cells rest = ParsesSepBy Cell (codes "|") (codes ";") ts cells rest
 abbrev pub Row : ℕ → TokenList → Cells → TokenList → Type 0
 Row threads ts cells rest = RowCells ts cells rest × (length cells ≡ threads)
 
--- Tests whether a token ends the rows: the list of names or the condition begins with it.
+-- Tests whether a token ends the rows: the list of names or the condition begins with it; or it is `filter`, which herd has before the
+-- condition and which no test here may have.
 abbrev pub is_stop : Bytes → Bool
 is_stop t =
     list_any (λ w. bytes_eq t w) (codes "locations" ∷ codes "exists" ∷ codes "forall"
@@ -49,7 +50,7 @@ abbrev pub begins_stop : TokenList → Bool
 begins_stop [] = false
 begins_stop (t ∷ ts) = is_stop t
 
--- Rows, not too many, up to a token that ends them.
+-- The tokens begin with these rows, not too many, and rest begins with a token that ends rows.
 abbrev pub Rows : ℕ → TokenList → CellGrid → TokenList → Type 0
 Rows threads ts rows rest = ParsesManyTill begins_stop (Row threads) ts rows rest × (length rows ≤ most_rows)
 

@@ -103,9 +103,9 @@ HasTokens len text tokens end = ParsesMany (IsPlacedToken len) text tokens end �
 -- The tokens of a test's body fail, in the rest of a text of this length: at a token; or where the next fails, which the tokens before need or
 -- the end of the text does not allow; or at the end of the text.
 pub data FailsInBody (arch : Arch) (len : ℕ) (text : Bytes) (at : ℕ) (cause : TextCause) : Type 0 where
-  at_token : (tokens behind : List PlacedToken) (token : PlacedToken) (before : List PlacedToken) (end : Bytes)
-      → HasTokens len text tokens end → tokens ≡ before ++ token ∷ behind → at ≡ token.at
-      → FailsInTest arch (texts_of_tokens tokens) (texts_of_tokens (token ∷ behind)) cause → FailsInBody arch len text at cause
+  at_token : (tokens later : List PlacedToken) (token : PlacedToken) (before : List PlacedToken) (end : Bytes)
+      → HasTokens len text tokens end → tokens ≡ before ++ token ∷ later → at ≡ token.at
+      → FailsInTest arch (texts_of_tokens tokens) (texts_of_tokens (token ∷ later)) cause → FailsInBody arch len text at cause
   in_next_token : (tokens : List PlacedToken) (end rest : Bytes) (c : TextCause)
       → ParsesMany (IsPlacedToken len) text tokens end → FailsInFirstToken end rest cause → at + length rest ≡ len
       → FailsInTest arch (texts_of_tokens tokens) [] c

@@ -59,7 +59,7 @@ impl<'t, 'a> Cursor<'t, 'a> {
     }
 }
 
-/// Fails at the first initializer whose thread is not below `threads`.
+/// Fails with the cause `Name` at the first initializer whose site is a register of a thread that is not below `threads`.
 pub(crate) fn check_threads(initializers: &[Initializer], threads: usize) -> Result<(), Refusal>
     ensures ok { OnOk result (list_all (λ e. thread_exists threads e.site) initializers.now ≡ true) }
     ensures err { OnErr result (list_all (λ e. thread_exists threads e.site) initializers.now ≡ false) }

@@ -20,7 +20,7 @@ impl<'t, 'a> Cursor<'t, 'a> {
     ghost use Rattle.lw_text.specs.Views.{remaining, remaining_texts, Fails};
     ghost use Rattle.lw_text.specs.Failures.{FailsInTest};
 
-    /// Parses all tokens of a test after its preamble.
+    /// Parses all tokens of a test after its preamble, its body: the initial block, the header, the rows and the question.
     pub(crate) fn parse_body<A: Allocator + Copy>(
         &mut self,
         alloc: A,
@@ -35,7 +35,7 @@ impl<'t, 'a> Cursor<'t, 'a> {
         let threads = self.parse_header()?;
         check_threads(initializers.as_slice(), threads)?;
         let rows = self.parse_rows(alloc, threads)?;
-        match self.parse_condition(alloc, arch, threads, &mut locs) {
+        match self.parse_question(alloc, arch, threads, &mut locs) {
             Ok((listed, quant, prop)) => {
                 let _len = locs.len();
                 let parts = ParsedHead {
@@ -54,8 +54,8 @@ impl<'t, 'a> Cursor<'t, 'a> {
 }
 
 impl<'a, A: Allocator + Copy> TokenStream<'a, A> {
-    /// Parses these tokens, which are those of a text of length `len`. Fails at the lexical fault that ends them, if
-    /// there is one and parsing reaches it.
+    /// Parses these tokens, which are those of a text of length `len`. If a lexical fault ends them, parsing fails: at the
+    /// token that the parser refuses, or else at this fault.
     pub(crate) fn body(&self, alloc: A, arch: Arch, len: usize) -> Result<ParsedBody<'a, A>, Fault>
         requires places { All (λ t. t.at ≤ len) self.now.tokens }
         requires fault { IfSome self.now.fault (λ f. f.at ≤ len) }

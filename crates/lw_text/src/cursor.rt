@@ -27,7 +27,7 @@ impl<'t, 'a> Cursor<'t, 'a> {
         Cursor { tokens, next: 0 }
     }
 
-    /// Returns the refusal of the next token.
+    /// Returns the refusal of the next token for this cause. At the end it has no offset.
     pub(crate) fn refusal(&self, cause: TextCause) -> Refusal
         requires { IsParserCause cause }
         ensures place { BeginsAt (remaining self.now) result.at }
@@ -77,7 +77,7 @@ impl<'t, 'a> Cursor<'t, 'a> {
         }
     }
 
-    /// Advances past the next token, which must be this text. Otherwise it fails with the cause.
+    /// Advances past the next token if it is this text. Otherwise fails at this token with the cause.
     pub(crate) fn expect(&mut self, text: &str, cause: TextCause) -> Result<(), Refusal>
         requires { IsParserCause cause }
         ensures ok { OnOk result (remaining_texts self.old ≡ text.now ∷ remaining_texts self.new) }
@@ -91,7 +91,7 @@ impl<'t, 'a> Cursor<'t, 'a> {
         Err(self.refusal(cause))
     }
 
-    /// Returns whether this text is next.
+    /// Returns whether the next token is this text.
     pub(crate) fn is_next(&self, text: &str) -> bool
         ensures { result ≡ begins_token text.now (remaining_texts self.now) }
     {
@@ -101,7 +101,7 @@ impl<'t, 'a> Cursor<'t, 'a> {
         }
     }
 
-    /// Advances past this text if it is next, and returns whether it was.
+    /// Advances past the next token if it is this text, and returns whether it was.
     pub(crate) fn accept(&mut self, text: &str) -> bool
         ensures taken { result ≡ true → remaining_texts self.old ≡ text.now ∷ remaining_texts self.new }
         ensures other { result ≡ false → begins_token text.now (remaining_texts self.old) ≡ false }
@@ -115,7 +115,8 @@ impl<'t, 'a> Cursor<'t, 'a> {
         false
     }
 
-    /// Advances past one of two texts, and returns whether it was the first. Otherwise it fails with the cause.
+    /// Advances past the next token if it is one of two texts, and returns whether it was the first. Otherwise fails at this
+    /// token with the cause.
     pub(crate) fn expect_either(
         &mut self,
         first: &str,

@@ -8,11 +8,11 @@ use std::alloc::{AllocError, AllocFailed};
 /// Why a text is rejected.
 #[derive(Clone, Copy, PartialEq, Eq)]
 pub enum TextCause {
-    /// It is not UTF-8 from this offset on.
+    /// The text is not UTF-8 from this offset on.
     NotUtf8,
-    /// It has more than 65,536 bytes.
+    /// The text has more than 65,536 bytes.
     TooLong,
-    /// It ends where more is needed.
+    /// The text ends where more is needed.
     Unterminated,
     /// A byte that begins no token, or a token that fits nothing at its position.
     Unexpected,
@@ -85,7 +85,8 @@ pub struct TextFault {
     pub cause: TextCause,
 }
 
-/// A fault found by the lexer or the parser, with its offset.
+/// A fault found by the lexer or the parser: the offset of its byte in the text, and its cause. If memory ran out, the offset is 0
+/// and means nothing.
 #[derive(Clone, Copy)]
 pub(crate) struct Fault {
     pub(crate) at: usize,
@@ -107,7 +108,7 @@ impl From<AllocError> for Fault {
 }
 
 /// The offset of the token that the parser rejects, and why. If the tokens ended too early, there is no offset, and
-/// the cause means nothing.
+/// the cause means nothing. If memory ran out, there is no offset either, and the cause is `Memory`.
 #[derive(Clone, Copy)]
 pub(crate) struct Refusal {
     pub(crate) at: Option<usize>,

@@ -14,11 +14,11 @@ use crate::frame::Frame;
 use crate::initial::{initial_registers, initial_words};
 use crate::parts::{ParsedBody, ParsedHead};
 use crate::preamble::Preamble;
-use crate::seen::restrict_seen;
+use crate::seen::listed_in_order;
 use lw_base::{Head, Seen, Sequence, Text, Word};
 use std::alloc::{AllocError, Allocator, Global};
 
-/// The parts of a head that are computed, and not moved into it.
+/// The parts of a head that are computed from the parsed parts. The others are moved into it.
 #[derive(Drop)]
 struct OwnParts<A: Allocator = Global> {
     name: Text<A>,
@@ -52,7 +52,8 @@ impl<A: Allocator + Copy> ParsedHead<A> {
         }
     }
 
-    /// Computes the parts of the head that are not moved into it: the name, the initial words, and the listed names.
+    /// Computes the parts of the head that are not moved into it: the name, the initial words, and the registers and locations
+    /// that are listed.
     fn own_parts(&self, alloc: A, name: &str) -> Result<OwnParts<A>, AllocError>
         ensures { IfOk result (λ m. (m.name ≡ name.now)
             × (m.init_regs ≡ map (λ t. map (word_at self.now.initializers) (thread_registers t))
@@ -66,7 +67,7 @@ impl<A: Allocator + Copy> ParsedHead<A> {
         let name = Text::from_str(alloc, name)?;
         let init_regs = initial_registers(alloc, initializers, self.threads)?;
         let init_words = initial_words(alloc, initializers, len)?;
-        match restrict_seen(alloc, self.listed.as_slice(), self.threads, len) {
+        match listed_in_order(alloc, self.listed.as_slice(), self.threads, len) {
             Ok(listed) => Ok(OwnParts {
                 name,
                 init_regs,

@@ -43,7 +43,7 @@ fn words_of_thread(initializers: &[Initializer], cpu: Cpu) -> [Word; 6]
     ]
 }
 
-/// Returns the initial words of `len` locations.
+/// Returns the initial words of the first `len` locations.
 pub(crate) fn initial_words<A: Allocator>(
     alloc: A,
     initializers: &[Initializer],

@@ -17,7 +17,8 @@ use crate::fault::TextCause;
 use crate::token_kind::TokenKind;
 use lw_base::{ByteKind, MAX_NAME_BYTES, Word, ascii_text, is_name_byte, prefix_of_kind};
 
-/// Returns the value of digits in a base, or `None` if it is no word.
+/// Returns the value of digits in a base, 0 if there are none. Returns `None` if a byte is no digit of this base, or the value
+/// is no word.
 fn digits(base: u32, digits: &[u8]) -> Option<Word>
     requires low { 2 ≤ base }
     requires high { base ≤ 16 }
@@ -37,7 +38,7 @@ fn digits(base: u32, digits: &[u8]) -> Option<Word>
     Some(n as Word)
 }
 
-/// Returns the value of a token that is a number, decimal or hexadecimal after `0x`.
+/// Returns the value of a text that is a number, decimal or hexadecimal after `0x`, or `None` if it is none.
 fn number(text: &str) -> Option<Word>
     ensures { MatchOption result (HoldsOfNothing (IsNumber text.now)) (IsNumber text.now) }
 {
@@ -80,7 +81,8 @@ fn begins_long(bytes: &[u8]) -> bool
     }
 }
 
-/// Returns whether the first byte is a symbol, if the text begins with no longer one.
+/// Returns whether the first byte, `first`, is a symbol and not the start of a comment. The caller has tested that the text begins
+/// with no symbol of two bytes.
 fn begins_short(bytes: &[u8], first: u8) -> bool
     ensures { IsTrue result ↔ ((symbols.is_one_byte_symbol first ≡ true)
         × (opens_comment bytes.now ≡ false)) }
@@ -108,7 +110,7 @@ fn kind_of_run(run: &str) -> Option<TokenKind>
     None
 }
 
-/// Returns the cause of a run that is neither a name nor a number.
+/// Returns the cause of a run that is neither a name nor a number and begins with this byte.
 fn fault_of_run(first: u8) -> TextCause
     ensures reader { (result ≢ Memory) × IsParserCause result }
     ensures cause { result ≡ (if is_ascii_digit first then Number else Name) }
@@ -127,7 +129,8 @@ pub(crate) struct Lexeme<'a> {
     pub(crate) rest: &'a [u8],
 }
 
-/// Scans the first token.
+/// Scans the first token of a text. Returns a cause if none begins there; the one of an empty text means nothing, since the lexer
+/// scans none.
 pub(crate) fn token(bytes: &[u8]) -> Result<Lexeme<'_>, TextCause>
     ensures found { IfOk result (λ x. (bytes.now ≡ x.text.now ++ x.rest.now) × IsToken x.text.now x.rest.now
         × IsOfKind x.kind x.text.now) }

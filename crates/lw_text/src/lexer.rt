@@ -7,7 +7,7 @@ use crate::lexeme::{Lexeme, token};
 use crate::token::Token;
 use crate::trivia::after_trivia;
 
-/// A lexer, which scans a text from left to right.
+/// A lexer, which scans a text from left to right: the whole text, and the suffix that is not scanned yet.
 #[derive(Drop)]
 pub(crate) struct Lexer<'a> {
     pub(crate) text: &'a [u8],
@@ -28,7 +28,8 @@ impl<'a> Lexer<'a> {
         Lexer { text, rest: text }
     }
 
-    /// Returns the next token, or `None` if only blanks and comments are left.
+    /// Scans the next token, or returns `None` if only blanks and comments are left. Fails at the end of the text if a comment
+    /// is not closed, and where no token begins.
     pub(crate) fn next(&mut self) -> Result<Option<Token<'a>>, Fault>
         ensures reads { MatchResult result
             (λ o. MatchOption o (Trivia self.old.rest.now []) (λ t. IsFirstToken self.old.rest.now t.text.now self.new.rest.now

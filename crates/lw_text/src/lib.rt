@@ -8,7 +8,7 @@ mod body;
 mod byte_prefix;
 mod cell;
 mod columns;
-mod condition;
+mod question;
 mod cursor;
 mod fault;
 mod frame;

@@ -1,4 +1,4 @@
-//! The list of names before a test's condition, which a report shows.
+//! The list of names before a test's condition. A report shows the registers and locations in it.
 ghost use Rattle.std.specs.Prelude.{◌≢◌, List, MatchResult};
 ghost use Rattle.std.specs.List.{AllByRecursion};
 ghost use Rattle.lw_base.specs.Types.{TokenList};
@@ -17,7 +17,8 @@ impl<'t, 'a> Cursor<'t, 'a> {
     ghost use Rattle.lw_text.specs.Views.{remaining_texts, Fails};
     ghost use Rattle.lw_text.specs.Failures.{FailsInList};
 
-    /// Parses the list of names, if there is one. Inserts the names of its locations into the table.
+    /// Parses the list of names, and returns its sites: none if there is no list. Inserts the names of its locations into
+    /// the table.
     pub(crate) fn parse_listed<A: Allocator + Copy>(
         &mut self,
         alloc: A,

@@ -16,7 +16,7 @@ use crate::lexer::Lexer;
 use crate::trivia::after_trivia;
 use lw_base::{ByteKind, prefix_of_kind};
 
-/// Skips a line `Key=value`.
+/// Skips a line `Key=value`, up to the line's end.
 fn after_key_line(bytes: &[u8]) -> Result<&[u8], &[u8]>
     ensures { MatchResult result (λ rest. KeyLine bytes.now rest.now)
         (λ left. HoldsOfNothing (KeyLine bytes.now) × (length left.now ≤ length bytes.now) × FailsInKeyLine bytes.now left.now) }
@@ -32,7 +32,7 @@ fn after_key_line(bytes: &[u8]) -> Result<&[u8], &[u8]>
     }
 }
 
-/// Skips a note.
+/// Skips a note: a quoted text or a line `Key=value`.
 fn after_note(bytes: &[u8]) -> Result<&[u8], &[u8]>
     ensures { MatchResult result (λ rest. Note bytes.now rest.now)
         (λ left. HoldsOfNothing (Note bytes.now) × (length left.now ≤ length bytes.now) × FailsInNote bytes.now left.now) }

@@ -1,33 +1,35 @@
-//! The open part of a proposition inside one pair of parentheses.
+//! The state of the parser inside one pair of parentheses of a proposition, or outside all. A *part* of a proposition is an operand
+//! of a connective: an atom, a negation, or a group in parentheses.
 ghost use Rattle.std.specs.Prelude.{◌≡◌, option_map, IfOk, OnOk};
 ghost use Rattle.lw_base.specs.Propositions.{formula_of};
-ghost use Rattle.lw_text.specs.inner.ReaderStates.{group_of, opened, with_not, with_and, with_or, ors_of, after_and, negations};
+ghost use Rattle.lw_text.specs.inner.ReaderStates.{group_of, new_group, with_not, with_and, with_or, ors_of, after_and, negations};
 
 use lw_base::Prop;
 use std::alloc::{AllocError, Allocator, Global};
 use std::mem;
 
-/// The left operand of a `\/`, the left operand of a `/\`, and the number of `~` before the part that follows.
+/// What a group has before the part that follows: the left operand of a `\/`, the left operand of a `/\`, each if there is one, and
+/// the number of `~` before the part.
 #[derive(Drop)]
 pub(crate) struct OpenGroup<A: Allocator = Global> {
-    either: Option<Prop<A>>,
-    both: Option<Prop<A>>,
+    left_of_or: Option<Prop<A>>,
+    left_of_and: Option<Prop<A>>,
     nots: usize,
 }
 
 impl<A: Allocator> OpenGroup<A> {
     /// Creates the group that a `(` opens.
     pub(crate) fn new() -> Self
-        ensures { group_of result ≡ opened }
+        ensures { group_of result ≡ new_group }
     {
         OpenGroup {
-            either: None,
-            both: None,
+            left_of_or: None,
+            left_of_and: None,
             nots: 0,
         }
     }
 
-    /// Adds a `~` before the part that follows. Fails only if the count would overflow, before which memory runs out.
+    /// Adds a `~` before the part that follows. Fails only if the count would overflow; memory runs out before that.
     pub(crate) fn negate(&mut self) -> Result<(), AllocError>
         ensures { OnOk result (group_of self.new ≡ with_not (group_of self.old)) }
     {
@@ -40,23 +42,23 @@ impl<A: Allocator> OpenGroup<A> {
 }
 
 impl<A: Allocator + Copy> OpenGroup<A> {
-    /// Adds a part and a `/\`.
+    /// Adds a part and the `/\` after it.
     pub(crate) fn conjoin(&mut self, alloc: A, part: Prop<A>) -> Result<(), AllocError>
         ensures { OnOk result (group_of self.new ≡ with_and (group_of self.old) (formula_of part)) }
     {
-        let conjuncts = conjoined(alloc, self.both.take(), self.nots, part)?;
-        drop(self.both.replace(conjuncts));
+        let conjuncts = conjoined(alloc, self.left_of_and.take(), self.nots, part)?;
+        drop(self.left_of_and.replace(conjuncts));
         self.nots = 0;
         Ok(())
     }
 
-    /// Adds a part and a `\/`.
+    /// Adds a part and the `\/` after it.
     pub(crate) fn disjoin(&mut self, alloc: A, part: Prop<A>) -> Result<(), AllocError>
         ensures { OnOk result (group_of self.new ≡ with_or (group_of self.old) (formula_of part)) }
     {
         let group = mem::replace(self, OpenGroup::new());
         let whole = group.close(alloc, part)?;
-        drop(self.either.replace(whole));
+        drop(self.left_of_or.replace(whole));
         Ok(())
     }
 
@@ -64,9 +66,9 @@ impl<A: Allocator + Copy> OpenGroup<A> {
     pub(crate) fn close(self, alloc: A, part: Prop<A>) -> Result<Prop<A>, AllocError>
         ensures { IfOk result (λ p. formula_of p ≡ ors_of (group_of self) (formula_of part)) }
     {
-        let OpenGroup { either, both, nots } = self;
-        match conjoined(alloc, both, nots, part) {
-            Ok(conjuncts) => match either {
+        let OpenGroup { left_of_or, left_of_and, nots } = self;
+        match conjoined(alloc, left_of_and, nots, part) {
+            Ok(conjuncts) => match left_of_or {
                 None => Ok(conjuncts),
                 Some(before) => {
                     let (left, right) = boxed(alloc, before, conjuncts)?;
@@ -74,14 +76,14 @@ impl<A: Allocator + Copy> OpenGroup<A> {
                 }
             },
             Err(error) => {
-                drop(either);
+                drop(left_of_or);
                 Err(error)
             }
         }
     }
 }
 
-/// Negates the part `nots` times, and joins it to the left operand of a `/\`, if there is one.
+/// Negates the part `nots` times, and joins the result to `before`, the left operand of a `/\`, if there is one.
 fn conjoined<A: Allocator + Copy>(
     alloc: A,
     before: Option<Prop<A>>,

@@ -55,8 +55,8 @@ impl<'t, 'a> Cursor<'t, 'a> {
         }
     }
 
-    /// Parses the next terminal, after `nodes` nodes, and passes it to the reader. Inserts the name of its location
-    /// into the table.
+    /// Parses the next terminal, after `nodes` nodes, passes it to the reader, and returns it. Inserts the name of its
+    /// location into the table. Fails at the terminal if there are too many nodes, or if it is not possible there.
     fn parse_next_terminal<A: Allocator + Copy>(
         &mut self,
         arch: Arch,
@@ -93,7 +93,8 @@ impl<'t, 'a> Cursor<'t, 'a> {
         Ok(terminal)
     }
 
-    /// Returns whether the next terminal may follow `nodes` nodes. Parentheses make no nodes.
+    /// Returns whether the next terminal may follow `nodes` nodes: there is room for one more, or it is a parenthesis, which
+    /// makes no node.
     fn has_room(&self, nodes: usize) -> bool
         ensures { result ≡ (not (nodes == MAX_NODES) ||
             (begins_token (codes "(") (remaining_texts self.now) || begins_token (codes ")") (remaining_texts self.now))) }

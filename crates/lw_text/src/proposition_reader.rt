@@ -12,8 +12,8 @@ use lw_base::Prop;
 use std::alloc::{AllocError, Allocator, Global};
 use std::mem;
 
-/// The state of the parser. A contract sees it as a `ReaderState`, and states by `state_result` which proposition the
-/// terminals so far are.
+/// The state of the parser: the last part, if a connective or a `)` must follow it, the state of the innermost group, and the states of the
+/// groups around it. A contract sees it as a `ReaderState`, and states by `state_result` which proposition the terminals so far are.
 #[derive(Drop)]
 pub(crate) struct PropositionReader<A: Allocator + Copy = Global> {
     alloc: A,
@@ -54,7 +54,7 @@ impl<A: Allocator + Copy> PropositionReader<A> {
         }
     }
 
-    /// Shifts a terminal where a part must begin.
+    /// Shifts a terminal at a place at which a part must begin, and returns whether it is possible there.
     fn before_part(&mut self, terminal: Terminal) -> Result<bool, AllocError>
         requires { self.old.part ≡ None }
         ensures { IfOk result (λ b. next_state (reader_state_in None (group_of self.old.group)
@@ -79,7 +79,7 @@ impl<A: Allocator + Copy> PropositionReader<A> {
         }
     }
 
-    /// Shifts a terminal after a part, which was taken out.
+    /// Shifts a terminal after a part, which `take` has taken out of the state, and returns whether it is possible there.
     fn after_part(&mut self, part: Prop<A>, terminal: Terminal) -> Result<bool, AllocError>
         requires { self.old.part ≡ None }
         ensures { IfOk result (λ b. next_state (reader_state_in (Some (formula_of part)) (group_of self.old.group)
@@ -112,8 +112,8 @@ impl<A: Allocator + Copy> PropositionReader<A> {
         }
     }
 
-    /// Returns the proposition, if the terminals so far are one, and this refusal otherwise. The parser must not be
-    /// used again.
+    /// Returns the proposition, if the terminals so far are one, and the refusal `open` otherwise. The parser must not be used
+    /// again.
     pub(crate) fn finish(&mut self, open: Refusal) -> Result<Prop<A>, Refusal>
         ensures { MatchResult result (λ prop. state_result (state_of self.old) ≡ Some (formula_of prop))
             (λ f. f.cause ≢ Memory → (state_result (state_of self.old) ≡ None) × (f.at ≡ open.at)) }

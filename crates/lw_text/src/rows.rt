@@ -23,7 +23,7 @@ pub(crate) type CellSequence<'a, A> = Sequence<Cell<'a, A>, A>;
 impl<'t, 'a> Cursor<'t, 'a> {
     ghost use Rattle.lw_text.specs.Views.{remaining, remaining_texts, AdvancesTo, Fails};
 
-    /// Parses the header, and returns the number of threads.
+    /// Parses the header, the names of the threads, and returns how many there are.
     pub(crate) fn parse_header(&mut self) -> Result<usize, Refusal>
         ensures { MatchResult result (λ n. Header (remaining_texts self.old) n (remaining_texts self.new) × AdvancesTo self.old self.new)
             (λ f. ParsesNothing (Header (remaining_texts self.old))
@@ -41,7 +41,7 @@ impl<'t, 'a> Cursor<'t, 'a> {
         Err(self.refusal(TextCause::Unexpected))
     }
 
-    /// Parses rows, up to a token that ends them, which is not consumed.
+    /// Parses rows, up to a token that ends them, which stays the next one.
     pub(crate) fn parse_rows<A: Allocator + Copy>(
         &mut self,
         alloc: A,
@@ -74,7 +74,7 @@ impl<'t, 'a> Cursor<'t, 'a> {
         }
     }
 
-    /// Parses a row of `threads` cells, and the `;` after it.
+    /// Parses a row of `threads` cells, with its `;`. A row with another number of cells is refused at its `;`.
     fn parse_row<A: Allocator + Copy>(
         &mut self,
         alloc: A,
@@ -105,7 +105,7 @@ impl<'t, 'a> Cursor<'t, 'a> {
         }
     }
 
-    /// Appends tokens to an empty cell, up to a `|` or `;`, and returns that token.
+    /// Appends tokens to an empty cell, up to a `|` or `;`, and returns this mark. Fails if no mark follows.
     fn parse_cell<A: Allocator>(
         &mut self,
         cell: &mut Sequence<Token<'a>, A>,
@@ -150,7 +150,8 @@ fn ends_cell(token: &Token) -> bool
     matches!(token.text, "|" | ";")
 }
 
-/// Returns whether a token ends the rows: it begins the list of names or the condition.
+/// Returns whether a token ends the rows: it begins the list of names or the condition. So does `filter`, which herd has
+/// before the condition: it is refused there, and not read as an instruction of another row.
 fn is_stop(token: &Token) -> bool
     ensures { result ≡ words.is_stop token.now.text.now }
 {

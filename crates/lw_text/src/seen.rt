@@ -7,8 +7,9 @@ use crate::site::Site;
 use lw_base::{Cpu, Loc, MAX_LOCATIONS, MAX_THREADS, Reg, Seen, Sequence, Word};
 use std::alloc::{AllocError, AllocFailed, Allocator};
 
-/// Returns those of the registers of `threads` threads and of `len` locations that are among the sites.
-pub(crate) fn restrict_seen<A: Allocator>(
+/// Returns those of the registers of `threads` threads and of `len` locations that are among the sites: the registers by
+/// thread and index, then the locations by index, in whatever order the sites are.
+pub(crate) fn listed_in_order<A: Allocator>(
     alloc: A,
     sites: &[Site],
     threads: usize,
@@ -21,14 +22,14 @@ pub(crate) fn restrict_seen<A: Allocator>(
 {
     let mut seen = Sequence::new(alloc);
     for cpu in &Cpu::all()[..threads] {
-        see_registers(&mut seen, sites, *cpu)?;
+        push_listed_registers(&mut seen, sites, *cpu)?;
     }
-    see_locations(&mut seen, sites, len)?;
+    push_listed_locations(&mut seen, sites, len)?;
     Ok(seen)
 }
 
-/// Appends those of a thread's registers that are among the sites.
-fn see_registers<A: Allocator>(
+/// Appends to `seen` those of a thread's registers that are among the sites.
+fn push_listed_registers<A: Allocator>(
     seen: &mut Sequence<Seen, A>,
     sites: &[Site],
     cpu: Cpu,
@@ -37,13 +38,13 @@ fn see_registers<A: Allocator>(
 {
     for reg in &Reg::all() {
         let site = Site::Register(cpu.index() as Word, *reg);
-        see(seen, sites, site, Seen::Register(cpu, *reg))?;
+        push_if_listed(seen, sites, site, Seen::Register(cpu, *reg))?;
     }
     Ok(())
 }
 
-/// Appends those of `len` locations that are among the sites.
-fn see_locations<A: Allocator>(
+/// Appends to `seen` those of the first `len` locations that are among the sites.
+fn push_listed_locations<A: Allocator>(
     seen: &mut Sequence<Seen, A>,
     sites: &[Site],
     len: usize,
@@ -52,13 +53,14 @@ fn see_locations<A: Allocator>(
     ensures { OnOk result (seen.new ≡ seen.old ++ filter (is_listed sites.now) (locations len)) }
 {
     for loc in &Loc::all()[..len] {
-        see(seen, sites, Site::Location(*loc), Seen::Location(*loc))?;
+        push_if_listed(seen, sites, Site::Location(*loc), Seen::Location(*loc))?;
     }
     Ok(())
 }
 
-/// Appends a register or a location if its site is among the sites.
-fn see<A: Allocator>(
+/// Appends `item`, which is the register or location of `site`, to `seen` if its site is among the sites. Appends it once,
+/// even if the sites have it several times.
+fn push_if_listed<A: Allocator>(
     seen: &mut Sequence<Seen, A>,
     sites: &[Site],
     site: Site,

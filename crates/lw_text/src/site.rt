@@ -47,7 +47,7 @@ impl Site {
         }
     }
 
-    /// Returns whether a site's thread is below `threads`. A location has no thread, and passes.
+    /// Returns whether a site's thread is below `threads`. `true` of a location, which has no thread.
     pub(crate) fn thread_exists(&self, threads: usize) -> bool
         ensures { result ≡ resolved.thread_exists threads self.now }
     {
@@ -169,7 +169,7 @@ fn is_thread(number: Word, threads: usize) -> bool
     (number as usize) < threads
 }
 
-/// Returns whether a number is the index of a thread. Any number passes if the number of threads is not known yet.
+/// Returns whether a number is the index of a thread below `threads`. `true` of any number if `threads` is not known yet.
 fn is_allowed(number: Word, threads: Option<usize>) -> bool
     ensures { result ≡ resolved.is_allowed threads number }
 {
@@ -179,8 +179,8 @@ fn is_allowed(number: Word, threads: Option<usize>) -> bool
     }
 }
 
-/// Returns the index of the location with this name, and inserts the name if the table does not have it. A token that
-/// is no name is rejected as a misfit.
+/// Returns the index of the location with this name, and inserts the name if the table does not have it. Fails at the place of
+/// `misfit` if the token is no location's name, for the reason that `no_name` says, or if it is that of a ninth location.
 fn enter<A: Allocator + Copy>(
     name: &str,
     locs: &mut LocNames<A>,
@@ -204,8 +204,8 @@ fn enter<A: Allocator + Copy>(
     }
 }
 
-/// Returns the refusal of a token in place of a location's name. A reserved name has a cause of its own; any other
-/// token is a misfit.
+/// Returns the refusal of a token that is not the name that is expected, of a location or a register. If the token is a name, such as
+/// a reserved one, the cause is `Name`; any other token is refused as `misfit` says.
 fn no_name(text: &str, misfit: Refusal) -> Refusal
     ensures place { result.at ≡ misfit.at }
     ensures cause { IsMisfitCause misfit.cause text.now result.cause }

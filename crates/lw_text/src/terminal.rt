@@ -94,7 +94,7 @@ impl<'t, 'a> Cursor<'t, 'a> {
         }
     }
 
-    /// Parses a terminal that begins a part.
+    /// Parses a terminal that begins a part: `(`, a negation or an atom.
     fn parse_opening<A: Allocator + Copy>(
         &mut self,
         arch: Arch,
@@ -118,7 +118,7 @@ impl<'t, 'a> Cursor<'t, 'a> {
         Ok(Terminal::Atom(atom_at(site, word)))
     }
 
-    /// Parses a keyword or a sign that begins a part, if one is next.
+    /// Parses a keyword or a sign that begins a part. Returns `None`, and does not advance, if none is next.
     fn parse_opening_keyword(&mut self) -> Option<Terminal>
         ensures found { IfSome result (λ s. (arch : Arch) (threads : ℕ) (names : NameTable)
             → ParsedTerminal arch threads self.old self.new names names s) }
@@ -147,7 +147,7 @@ impl<'t, 'a> Cursor<'t, 'a> {
         None
     }
 
-    /// Parses a `)`, a `/\` or a `\/`.
+    /// Parses a terminal that follows a part: a `)`, a `/\` or a `\/`.
     fn parse_joint(&mut self) -> Result<Terminal, Refusal>
         ensures { MatchResult result (λ s. ((arch : Arch) (threads : ℕ) (names : NameTable)
             → ParsedTerminal arch threads self.old self.new names names s) × (begins_part (terminal_of s) ≡ false))

@@ -18,7 +18,7 @@ pub struct Token<'a> {
 }
 
 impl<'a> Token<'a> {
-    /// Returns the value of a token that is a number, decimal or hexadecimal after `0x`.
+    /// Returns the value of a token that is a number, decimal or hexadecimal after `0x`, or `None` if it is none.
     pub fn number(&self) -> Option<Word>
         ensures { MatchOption result (HoldsOfNothing (IsNumber self.now.text.now)) (IsNumber self.now.text.now) }
     {

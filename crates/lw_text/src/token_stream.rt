@@ -53,7 +53,7 @@ impl<'a, A: Allocator> TokenStream<'a, A> {
         }
     }
 
-    /// Scans the rest of a text.
+    /// Scans the rest of a text, up to the first lexical fault, which becomes part of the result. Fails only if memory runs out.
     pub(crate) fn read(alloc: A, mut lexer: Lexer<'a>) -> Result<Self, AllocError>
         ensures { IfOk result (λ r. MatchOption r.fault
             (PlacedTokens (length lexer.entry.text.now) lexer.entry.rest.now (with_spans r.tokens))

@@ -65,11 +65,11 @@ pub use Rattle.lw_litmus.specs.declared.instr.Instr.{Instr}
 pub use Rattle.lw_litmus.specs.declared.instr.Instr.TheVariants.{Add, Cmp, Set, Store}
 pub use Rattle.lw_text.proofs.Common.{AtomSyntax, Block, HasFewNodes, HasFrame, Header, InitializerSyntax}
 pub use Rattle.lw_text.proofs.Common.{IsInitializer, IsProposition, IsSite, Listed, Names, ParsesManyTill}
-pub use Rattle.lw_text.proofs.Common.{ParsesTest, Preamble, Row, RowCells, SiteSyntax, Terminal, TestFrame}
-pub use Rattle.lw_text.proofs.Common.{TestSyntax, ThreadExists, begins_stop, begins_token, blank, column}
-pub use Rattle.lw_text.proofs.Common.{columns, ends_cell, frame_of_syntax, head_of_syntax, initial_word_of}
-pub use Rattle.lw_text.proofs.Common.{listed_in, location_table, resolved, seen_in, site_name, site_names}
-pub use Rattle.lw_text.proofs.Common.{sites_in, thread_name}
+pub use Rattle.lw_text.proofs.Common.{ParsesQuestion, ParsesTest, Preamble, Row, RowCells, SiteSyntax}
+pub use Rattle.lw_text.proofs.Common.{Terminal, TestFrame, TestSyntax, ThreadExists, begins_stop}
+pub use Rattle.lw_text.proofs.Common.{begins_token, blank, column, columns, ends_cell, frame_of_syntax}
+pub use Rattle.lw_text.proofs.Common.{head_of_syntax, initial_word_of, listed_in, location_table, resolved}
+pub use Rattle.lw_text.proofs.Common.{seen_in, site_name, site_names, sites_in, thread_name}
 pub use Rattle.lw_text.proofs.api.CellTokens.{EndsNoCell}
 pub use Rattle.lw_text.proofs.api.ConditionTokens.{IsPrintable, IsSite-site_tokens, ParsesSepEndBy-tokens}
 pub use Rattle.lw_text.proofs.api.ConditionTokens.{Quantified-quantifier_tokens, Terminals-terminal_tokens}
@@ -94,7 +94,6 @@ pub use Rattle.lw_text.proofs.api.Spelling.{Spells-name, Spells-newline, Spells-
 pub use Rattle.lw_text.proofs.api.Spelling.{Spells-run, Spells-space, Spells-whole, blank_ends_name}
 pub use Rattle.lw_text.proofs.api.Spelling.{decimal_is_name_run, decimal_is_number, decimal_is_short}
 pub use Rattle.lw_text.proofs.api.Spelling.{is_name_text, most_number_bytes, name_by_test}
-pub use Rattle.lw_text.specs.Conditions.{Condition}
 pub use Rattle.lw_statements.proofs.Common.{CellSyntax, Column, Filling, Fills, Gives, IsGrammar, IsMade}
 pub use Rattle.lw_statements.proofs.Common.{IsSpelling, Labels, LabelsLeadForward, MaybeStatement, ParsesCell}
 pub use Rattle.lw_statements.proofs.Common.{ParsesStatement, SlotValue, code_in, label_in, labels_of}

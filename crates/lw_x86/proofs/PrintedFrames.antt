@@ -28,7 +28,7 @@ use Rattle.lw_x86.proofs.PrintedHeads.{insert_names-printed_names, initial_regis
 use Rattle.lw_x86.proofs.PrintedHeads.{initial_words-printed, listed_in-named_sites}
 use Rattle.lw_x86.proofs.PrintedLists.{named_sites, listed_tokens, terminals_in, condition_tokens}
 use Rattle.lw_x86.proofs.PrintedLists.{listed_bytes, listed_spelled, condition_bytes, condition_spelled}
-use Rattle.lw_x86.proofs.PrintedLists.{listed_printable, Condition-condition_tokens, rows_stop}
+use Rattle.lw_x86.proofs.PrintedLists.{listed_printable, ParsesQuestion-of_tokens, rows_stop}
 
 -- ---- the threads' cells
 
@@ -196,7 +196,7 @@ module _ (p : X86Test) (well : IsWellFormedProgram p) where
           IsPrintedCell-rows texts_long row_long 0 (height_of p) (omega (arith, height_few))) (rows_stop p.head well.head),
       omega (arith, length-map-range_with_len (row_in p) 0 (height_of p), height_few),
     );
-    condition = Condition-condition_tokens p.head well.head;
+    question = ParsesQuestion-of_tokens p.head well.head;
     few_names = omega (arith, ap length location_table-of_syntax, well.head.table.bounded);
     few_nodes = nodes_bounded;
   }

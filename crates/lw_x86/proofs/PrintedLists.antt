@@ -5,12 +5,12 @@ use Rattle.lw_x86.proofs.Common.{most_nodes, ◌≡◌, ℕ, suc, ◌+◌, ◌*�
 use Rattle.lw_x86.proofs.Common.{◌++◌, map, length, refl, arith, append_assoc, append-nil, codes, flat_map}
 use Rattle.lw_x86.proofs.Common.{AllByRecursion, NameTable, TokenList, X86, Quant, Exists, Seen}
 use Rattle.lw_x86.proofs.Common.{condition_text, TestHead, IsSeenInRange, IsWellFormedHead, SiteSyntax}
-use Rattle.lw_x86.proofs.Common.{IsSite, begins_stop, AtomSyntax, Listed, Condition, begins_token, Terminal}
-use Rattle.lw_x86.proofs.Common.{AllByRecursion-map, All-mono, length_le-ascending_seen, max_seen_count}
-use Rattle.lw_x86.proofs.Common.{Anything, Spells, Spells-nothing, Spells-append, Spells-append_anything}
-use Rattle.lw_x86.proofs.Common.{Spells-mono, Spells-space, Spells-newline, Spells-mark, Spells-name}
-use Rattle.lw_x86.proofs.Common.{name_by_test, enclosed, terminals_of, named_site, site_tokens}
-use Rattle.lw_x86.proofs.Common.{terminal_tokens, quantifier_tokens, named_claim, IsPrintable}
+use Rattle.lw_x86.proofs.Common.{IsSite, begins_stop, AtomSyntax, Listed, ParsesQuestion, begins_token}
+use Rattle.lw_x86.proofs.Common.{Terminal, AllByRecursion-map, All-mono, length_le-ascending_seen}
+use Rattle.lw_x86.proofs.Common.{max_seen_count, Anything, Spells, Spells-nothing, Spells-append}
+use Rattle.lw_x86.proofs.Common.{Spells-append_anything, Spells-mono, Spells-space, Spells-newline}
+use Rattle.lw_x86.proofs.Common.{Spells-mark, Spells-name, name_by_test, enclosed, terminals_of, named_site}
+use Rattle.lw_x86.proofs.Common.{site_tokens, terminal_tokens, quantifier_tokens, named_claim, IsPrintable}
 use Rattle.lw_x86.proofs.Common.{IsSite-site_tokens, site_exists, Terminals-terminal_tokens, named_printable}
 use Rattle.lw_x86.proofs.Common.{condition_is_printable, Quantified-quantifier_tokens, ParsesSepEndBy-tokens}
 use Rattle.lw_x86.proofs.Common.{site_spelled, whole_spelled, quantifier_spelled, element_text, listed_text}
@@ -156,9 +156,9 @@ module _ (head : TestHead) (well : IsWellFormedHead head) where
   quantifier_begins q rest = (refl, refl)
 
   -- The tokens of the list and the condition say the list, the quantifier and the terminals.
-  pub Condition-condition_tokens : Condition X86 head.threads (listed_tokens head.locs head.listed ++ condition_tokens head)
+  pub ParsesQuestion-of_tokens : ParsesQuestion X86 head.threads (listed_tokens head.locs head.listed ++ condition_tokens head)
       (named_sites head.locs head.listed) head.quant (terminals_in head)
-  Condition-condition_tokens = record {
+  ParsesQuestion-of_tokens = record {
     after_list = condition_tokens head;
     after_quant = flat_map (terminal_tokens X86) (terminals_in head);
     lists = Listed-listed_tokens head.listed (condition_tokens head) listed_printable (quantifier_begins head.quant _).0;

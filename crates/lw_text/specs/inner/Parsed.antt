@@ -19,7 +19,7 @@ use Rattle.lw_text.specs.declared.terminal.Terminal.{Terminal}
 use Rattle.lw_text.specs.Sites.{SiteSyntax, InThread, IsSite, ThreadExists, ThreadAllowed, HasRoomFor, with_sites}
 use Rattle.lw_text.specs.Propositions as syntax
 use Rattle.lw_text.specs.Propositions.{HasFewNodes, IsProposition}
-use Rattle.lw_text.specs.Conditions.{AtomSyntax, IsTerminal, Terminals, Listed, Condition, sites_in, resolved}
+use Rattle.lw_text.specs.Conditions.{AtomSyntax, IsTerminal, Terminals, Listed, ParsesQuestion, sites_in, resolved}
 use Rattle.lw_text.specs.Frames.{Block, IsInitializer, TestSyntax, ParsesTest, location_table}
 use Rattle.lw_text.specs.Views.{remaining, remaining_texts, AdvancesTo, BeginsAt, FailsFrom}
 use Rattle.lw_text.specs.Combinators.{ParsesMany}
@@ -59,12 +59,12 @@ pub record BeginsInitializer (arch : Arch) (before : Cursor) (front : List Initi
   pub names : NameTable
   pub inside : TokenList
   pub rest : List Token
-  pub behind : TokenList
+  pub later : TokenList
   pub opens : remaining_texts before ≡ codes "{" ∷ inside
   pub read : ParsesMany (λ ts e next. IsInitializer arch ts e (codes ";" ∷ next)) inside (map (named_initializer names) front) (token_texts rest)
   pub suffix : IsSuffix (remaining before) rest
   pub place : BeginsAt rest e.at
-  pub parsed : (t r : ℕ) → e.site ≡ Register t r → IsInitializer arch (token_texts rest) (record { site = InThread t r; word = e.word }) behind
+  pub parsed : (t r : ℕ) → e.site ≡ Register t r → IsInitializer arch (token_texts rest) (record { site = InThread t r; word = e.word }) later
 
 -- After the initializers in front, each initializer begins at its place.
 abbrev pub BeginInitializers : Arch → Cursor → List Initializer → List Initializer → Type 0
@@ -96,16 +96,16 @@ pub record Fits (names : NameTable) (ss : List (syntax.Terminal AtomSyntax)) (p 
   pub few_nodes : HasFewNodes ss
   pub says : IsProposition (map (resolved (with_sites names (sites_in ss))) ss) p
 
--- The tokens are no proposition, on threads below `threads`, whose names the table has room for.
+-- The tokens are no proposition, on threads below `threads`, for whose names the table has room.
 abbrev pub NoProposition : Arch → ℕ → TokenList → NameTable → Type 0
 NoProposition arch threads ts names =
     (ss : List (syntax.Terminal AtomSyntax)) (p : Formula) → Terminals arch threads ts ss → Fits names ss p → ⊥
 
--- The tokens are no condition, on threads below `threads`, whose names the table has room for.
-abbrev pub NoCondition : Arch → ℕ → TokenList → NameTable → Type 0
-NoCondition arch threads ts names =
+-- The tokens are no question, on threads below `threads`, for whose names the table has room.
+abbrev pub NoQuestion : Arch → ℕ → TokenList → NameTable → Type 0
+NoQuestion arch threads ts names =
     (listed : List SiteSyntax) (quant : Quant) (ss : List (syntax.Terminal AtomSyntax)) (p : Formula)
-    → Condition arch threads ts listed quant ss → Fits (with_sites names listed) ss p → ⊥
+    → ParsesQuestion arch threads ts listed quant ss → Fits (with_sites names listed) ss p → ⊥
 
 -- A proposition was parsed, which ends the text; its locations' names were inserted into the table.
 pub record ParsedProposition {A : Type 0} (arch : Arch) (threads : ℕ) (before : TokenList) (names table : NameTable) (p : Prop A) : Type 0 where
@@ -115,11 +115,11 @@ pub record ParsedProposition {A : Type 0} (arch : Arch) (threads : ℕ) (before 
   pub few_nodes : HasFewNodes terminals
   pub says : IsProposition (map (resolved table) terminals) (formula_of p)
 
--- The list of names with these sites was parsed, and then a condition, which ends the text; the names of both were inserted into the table.
-pub record ParsedCondition {A : Type 0} (arch : Arch) (threads : ℕ) (before : TokenList) (names table : NameTable) (ss : List Site) (quant : Quant) (p : Prop A)
+-- The list of names with these sites was parsed, and then a condition, which ends the text. The names of both were inserted into the table.
+pub record ParsedQuestion {A : Type 0} (arch : Arch) (threads : ℕ) (before : TokenList) (names table : NameTable) (ss : List Site) (quant : Quant) (p : Prop A)
     : Type 0 where
   pub terminals : List (syntax.Terminal AtomSyntax)
-  pub parsed : Condition arch threads before (map (site_by_name table) ss) quant terminals
+  pub parsed : ParsesQuestion arch threads before (map (site_by_name table) ss) quant terminals
   pub names_are : table ≡ with_sites (with_sites names (map (site_by_name table) ss)) (sites_in terminals)
   pub few_nodes : HasFewNodes terminals
   pub says : IsProposition (map (resolved table) terminals) (formula_of p)
@@ -134,8 +134,8 @@ pub record StopsAt (len : ℕ) (text : Bytes) (tokens : List PlacedToken) (at : 
 -- The tokens of a stream, which this fault ends or none, fail to be the body of a test in a text of this length: at one of them; at the end of
 -- the text; or at the fault, since the tokens before it need more, or are a test already.
 pub data StreamFails (arch : Arch) (len : ℕ) (tokens : List PlacedToken) (fault : Option Fault) (at : ℕ) (cause : TextCause) : Type 0 where
-  at_stream_token : (before behind : List PlacedToken) (token : PlacedToken) → tokens ≡ before ++ token ∷ behind → at ≡ token.at
-      → FailsInTest arch (texts_of_tokens tokens) (texts_of_tokens (token ∷ behind)) cause → StreamFails arch len tokens fault at cause
+  at_stream_token : (before later : List PlacedToken) (token : PlacedToken) → tokens ≡ before ++ token ∷ later → at ≡ token.at
+      → FailsInTest arch (texts_of_tokens tokens) (texts_of_tokens (token ∷ later)) cause → StreamFails arch len tokens fault at cause
   at_stream_end : (c : TextCause) → fault ≡ None → FailsInTest arch (texts_of_tokens tokens) [] c → at ≡ len → cause ≡ Unterminated
       → StreamFails arch len tokens fault at cause
   at_stream_fault : (g : Fault) (c : TextCause) → fault ≡ Some g → at ≡ g.at → cause ≡ g.cause

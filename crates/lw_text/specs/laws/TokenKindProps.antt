@@ -21,20 +21,20 @@ Decimal-prop : (w : Bytes) (n : ℕ) → IsProp ((0 < length w) × Digits 10 0 w
 Decimal-prop w n = ×_prop le_prop (Digits-prop 10 0 w n)
 
 -- The text after `0x` is these digits of this number.
-abbrev Behind : Bytes → ℕ → Bytes → Type 0
-Behind w n ds = (w ≡ codes "0x" ++ ds) × (0 < length ds) × Digits 16 0 ds n
+abbrev AreHexadecimalDigits : Bytes → ℕ → Bytes → Type 0
+AreHexadecimalDigits w n ds = (w ≡ codes "0x" ++ ds) × (0 < length ds) × Digits 16 0 ds n
 
--- `Behind` is a proposition.
-Behind-prop : (w : Bytes) (n : ℕ) (ds : Bytes) → IsProp (Behind w n ds)
-Behind-prop w n ds = hlevel (props, Digits-prop)
+-- `AreHexadecimalDigits` is a proposition.
+AreHexadecimalDigits-prop : (w : Bytes) (n : ℕ) (ds : Bytes) → IsProp (AreHexadecimalDigits w n ds)
+AreHexadecimalDigits-prop w n ds = hlevel (props, Digits-prop)
 
 -- That hexadecimal digits are a number is a proposition.
 Hexadecimal-prop : (w : Bytes) (n : ℕ)
     → IsProp ((ds : Bytes) × (w ≡ codes "0x" ++ ds) × (0 < length ds) × Digits 16 0 ds n)
 Hexadecimal-prop w n p q =
     let same : p.0 ≡ q.0 = ap (λ l. drop 2 l) (sym p.1 ∙ q.1) in
-    subst (λ ds. (b : Behind w n ds) → p ≡ (ds, b.0, b.1, b.2)) same
-    (λ b. ap (λ c. (p.0, c.0, c.1, c.2)) (Behind-prop w n p.0 (p.1, p.2, p.3) b)) (q.1, q.2, q.3)
+    subst (λ ds. (b : AreHexadecimalDigits w n ds) → p ≡ (ds, b.0, b.1, b.2)) same
+    (λ b. ap (λ c. (p.0, c.0, c.1, c.2)) (AreHexadecimalDigits-prop w n p.0 (p.1, p.2, p.3) b)) (q.1, q.2, q.3)
 
 -- Decimal digits do not begin with `0x`.
 pub no_both : (w ds : Bytes) (n : ℕ) → Digits 10 0 w n → w ≡ codes "0x" ++ ds → ⊥

@@ -1,9 +1,9 @@
 -- `after_key_line` promises the rest after a line `Key=value`, or that there is none, and where it fails. It
 -- fails without a key (`no_key_line-if_key_is_empty`) or without a `=` after it (`no_key_line-if_no_equals`); otherwise the line goes to its end
--- (`KeyLine-made`).
+-- (`KeyLine-of_parts`).
 use Rattle.lw_text.proofs.Common.{◌≡◌, ◌++◌, ◌∙◌, refl, sym, first_byte_is, is_key_byte, ℕ, ap, length}
 use Rattle.lw_text.proofs.Common.{length-append, arith, nat_tests, no_equals_sign}
-use Rattle.lw_text.proofs.NoteRows.{no_key_line-if_key_is_empty, no_key_line-if_no_equals, KeyLine-made}
+use Rattle.lw_text.proofs.NoteRows.{no_key_line-if_key_is_empty, no_key_line-if_no_equals, KeyLine-of_parts}
 use Rattle.lw_text.proofs.Preambles.{append-empty_front}
 use Rattle.lw_text.specs.TextFailures.{no_key as no_key_byte}
 use Rattle.lw_text.proofs.notes.after_key_line.Goals as goal
@@ -22,7 +22,7 @@ returns-in-Some c =
     let k = c.prefix_of_kind.ensures in
     let s = c.prefix_of_kind-2.ensures in
     let u = c.prefix_of_kind-in-Some.ensures in
-    KeyLine-made c.args.bytes.now _ _ _ _ k.parts k.bytes_pass k.longest s.parts s.bytes_pass s.longest _ _ _
+    KeyLine-of_parts c.args.bytes.now _ _ _ _ k.parts k.bytes_pass k.longest s.parts s.bytes_pass s.longest _ _ _
     (grind (arith, nat_tests)) c.in-Some.ensures u.parts u.bytes_pass u.longest
 
 pub returns-in-None : goal.returns-in-None

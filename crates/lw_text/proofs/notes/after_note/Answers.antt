@@ -4,8 +4,8 @@
 use Rattle.lw_text.proofs.Common.{ℕ, inl, inr, ap, length, length-append, arith, ◌==◌, MatchResult-weaker}
 use Rattle.lw_text.proofs.Common.{first_byte_is, ◌≡◌, ◌++◌, ◌∙◌, false, sym, subst, AllByRecursion, All-mono}
 use Rattle.lw_text.proofs.Common.{append-nil, not-true, in_key_line, open_quote}
-use Rattle.lw_text.proofs.NoteRows.{no_note-if_neither_kind, no_note-if_quote_is_unclosed, Quoted-made}
-use Rattle.lw_text.proofs.NoteRows.{Quoted-open}
+use Rattle.lw_text.proofs.NoteRows.{no_note-if_neither_kind, no_note-if_quote_is_unclosed, Quoted-up_to_quote}
+use Rattle.lw_text.proofs.NoteRows.{no_quoted_text-if_no_quote}
 use Rattle.lw_text.proofs.notes.after_note.Goals as goal
 
 pub returns-in_default : goal.returns-in_default
@@ -16,13 +16,13 @@ returns-in_default c =
 pub returns-in-Some-split : goal.returns-in-Some-split
 returns-in-Some-split c =
     let u = c.prefix_of_kind.ensures in
-    inl (Quoted-made _ _ _ _ c.in-Some.ensures u.parts u.bytes_pass u.longest _ _ c.in-Some-split.ensures)
+    inl (Quoted-up_to_quote _ _ _ _ c.in-Some.ensures u.parts u.bytes_pass u.longest _ _ c.in-Some-split.ensures)
 
 pub returns-in-None : goal.returns-in-None
 returns-in-None c =
     let u = c.prefix_of_kind.ensures in (
       no_note-if_quote_is_unclosed c.args.bytes.now (ap (first_byte_is (λ b. b == 34)) c.in-Some.ensures)
-          (Quoted-open c.args.bytes.now c.in-Some.inside.now _ _ c.in-Some.ensures u.parts u.bytes_pass u.longest
+          (no_quoted_text-if_no_quote c.args.bytes.now c.in-Some.inside.now _ _ c.in-Some.ensures u.parts u.bytes_pass u.longest
           c.in-None.ensures),
       omega (arith, ap length c.in-Some.ensures, ap length u.parts, length-append {A = ℕ}),
       open_quote c.in-Some.inside.now c.in-Some.ensures

@@ -4,4 +4,4 @@ use Rattle.lw_text.proofs.open_group.conjoined.Given as goal
 
 abbrev pub invariant-loop-taken : goal.invariant-loop-taken
 invariant-loop-taken g l =
-    record { before : l.before ≡ l.fn.before; behind : formula_of l.prop ≡ negations l.taken (formula_of l.fn.part) }
+    record { before : l.before ≡ l.fn.before; negated : formula_of l.prop ≡ negations l.taken (formula_of l.fn.part) }

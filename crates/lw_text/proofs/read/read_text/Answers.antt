@@ -1,6 +1,6 @@
 -- `read_text` promises the frame of a short UTF-8 text, or that it has none and where it fails. Each exit with a fault gives three things, in
 -- this order: the text has no frame; the place is within the text; the text fails there, for this cause (`in_preamble`, or
--- `in_body` with `body_fails`). At `in_err-stream` and at `in_err-finish` memory ran out, and there is nothing more to show (`MatchResult-out_of_memory`).
+-- `in_body` with `FailsInBody-StreamFails`). At `in_err-stream` and at `in_err-finish` memory ran out, and there is nothing more to show (`MatchResult-out_of_memory`).
 -- If the tokens end early or are no test, the text has no frame by `no_frame-if_no_test` and `HasNoTest-if_no_tokens_or_no_parse`. In
 -- each answer `whole` says that the lexer's text is the argument. The head computed in memory is the head that the text says
 -- (`resolved_head-head_of_syntax`).
@@ -10,9 +10,9 @@ use Rattle.lw_text.proofs.Common.{MatchOption-at_none, token_texts, PlacedTokens
 use Rattle.lw_text.proofs.Common.{formula_of, head_of_syntax, syntax_of, cell_texts, all_texts, with_spans}
 use Rattle.lw_text.proofs.Common.{placed_cells, CellGrid, TestFrame, TestHead, HoldsOfNothing, Tokens}
 use Rattle.lw_text.proofs.Common.{FailsInPreamble, in_preamble, in_body, FailsFrom, StopsAt}
-use Rattle.lw_text.proofs.StreamFailures.{body_fails}
-use Rattle.lw_text.proofs.TokenRows.{read_whole}
-use Rattle.lw_text.proofs.CellPlaces.{HasRows-within}
+use Rattle.lw_text.proofs.StreamFailures.{FailsInBody-StreamFails}
+use Rattle.lw_text.proofs.TokenRows.{Tokens-with_spans}
+use Rattle.lw_text.proofs.CellPlaces.{EndsBefore-HasRows}
 use Rattle.lw_text.proofs.RowColumns.{map-columns}
 use Rattle.lw_text.proofs.WellFormedHeads.{resolved_head-head_of_syntax, body_proposition}
 use Rattle.lw_text.proofs.Whole.{no_frame-if_no_test, HasNoTest-if_no_tokens_or_no_parse}
@@ -84,7 +84,7 @@ returns-in_err-body g c =
           (HasNoTest-if_no_tokens_or_no_parse arch stream.fault _ _ rest stream.tokens
           (MatchOption-first_two _ _ _ _ stream.fault c.in_ok-stream.ensures.0) (c.in_err-body.ensures.0 ne)),
       c.in_err-body.ensures.1,
-      λ ne. in_body arch name rest preamble (body_fails tokens_or_stop (c.in_err-body.ensures.2 ne)),
+      λ ne. in_body arch name rest preamble (FailsInBody-StreamFails tokens_or_stop (c.in_err-body.ensures.2 ne)),
     )
 
 pub finish-requires-clause-within : goal.finish-requires-clause-within
@@ -92,7 +92,7 @@ finish-requires-clause-within g c =
     let body = c.in_ok-body.body in
     let len = length c.args.text.now in
     let within = rw (c.in_ok-preamble.ensures.same ∙ c.new-lexer.ensures.text) at c.in_ok-stream.ensures.1 in
-    HasRows-within len _ c.in_ok-stream.stream.tokens body.parts.threads body.rows c.in_ok-body.ensures.2 within
+    EndsBefore-HasRows len _ c.in_ok-stream.stream.tokens body.parts.threads body.rows c.in_ok-body.ensures.2 within
 
 -- A frame is its head and its cells.
 TestFrame-eq : (f : TestFrame) {h : TestHead} {a : CellGrid} → f.head ≡ h → f.cells ≡ a → f ≡ record { head = h; cells = a }
@@ -126,7 +126,7 @@ returns g c =
         syntax = syntax_of body says.terminals;
         condition = formula_of body.parts.prop;
         preamble = preamble;
-        stream = read_whole (length c.args.text.now) rest all.tokens stream;
+        stream = Tokens-with_spans (length c.args.text.now) rest all.tokens stream;
         parts = says.parts;
         proposition = body_proposition arch (token_texts all.tokens) body says;
         made = TestFrame-eq _ head cells;

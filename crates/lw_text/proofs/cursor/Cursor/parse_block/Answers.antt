@@ -1,7 +1,7 @@
 -- `parse_block` promises the block's initializers, or that the tokens are no block with room for its locations,
 -- and where they fail. It is the reading of a list between `{` and `}` with `;` between: one lemma of `Readings`
 -- for each exit. An element that has no room, no site or no value makes the whole list impossible
--- (`initializers_fault`). Each exit with a fault shows two things, in this order: that there is no such reading,
+-- (`no_block-if_no_initializer`). Each exit with a fault shows two things, in this order: that there is no such reading,
 -- and where it fails (`Fails-later`).
 use Rattle.lw_text.proofs.Common.{most_locations, ℕ, ◌≡◌, ◌<◌, ◌≤◌, length, NameTable, ParsesMany, sym, []}
 use Rattle.lw_text.proofs.Common.{None, refl, subst, ap, arith, remaining_texts, remaining, IsSuffix, IsSite}
@@ -12,10 +12,10 @@ use Rattle.lw_text.proofs.Common.{TextCause, BeginsInitializer}
 use Rattle.lw_text.proofs.Faults.{Err-clause_known, MatchResult-Memory_error, IsParserCause-Unexpected}
 use Rattle.lw_text.proofs.Lists.{IsSuffix-join, tail-shorter}
 use Rattle.lw_text.proofs.Atoms.{brace, semicolon, IsSite-shorter, Value-shorter, no_initializer-if_no_value}
-use Rattle.lw_text.proofs.SiteLists.{initializer_kind, initializers_fault}
-use Rattle.lw_text.proofs.Failures.{Fails-later, BeginInitializers-push, Listing-joined}
-use Rattle.lw_text.proofs.Readings.{Read-none, Read-at_close, Read-separator, Read-closed}
-use Rattle.lw_text.proofs.Readings.{no_list-if_no_separator, More}
+use Rattle.lw_text.proofs.SiteLists.{initializer_kind, no_block-if_no_initializer}
+use Rattle.lw_text.proofs.Failures.{Fails-later, BeginInitializers-push, ParsesMany-of_read}
+use Rattle.lw_text.proofs.Readings.{AreReadElements-none, IsReadList-at_close, AreReadElements-next}
+use Rattle.lw_text.proofs.Readings.{IsReadList-after_last, no_list-if_no_separator, IsReadElement}
 use Rattle.lw_text.proofs.cursor.Cursor.parse_block.Given.{Over}
 use Rattle.lw_text.proofs.cursor.Cursor.parse_block.Goals.{After-parse_site, In_ok-word, In_ok-expect_either}
 use Rattle.lw_text.proofs.cursor.Cursor.parse_block.Goals as goal
@@ -28,7 +28,9 @@ returns-in_err-expect g c = Err-clause_known _ _ _ c.from_residual.ensures.1 (λ
 
 pub initializers-init : goal.initializers-init
 initializers-init g c = rw c.new-initializers.ensures (record {
-  read = Read-none (initializer_kind c.args.arch) c.args.locs.now (remaining_texts c.args.self.now) _ c.in_ok-expect.ensures.ok;
+  read =
+      AreReadElements-none (initializer_kind c.args.arch) c.args.locs.now (remaining_texts c.args.self.now) _
+      c.in_ok-expect.ensures.ok;
   advances = c.in_ok-expect.ensures.advances;
   places = tt;
   bounded = c.len-known.ensures.table.bounded;
@@ -37,7 +39,7 @@ initializers-init g c = rw c.new-initializers.ensures (record {
 
 pub returns-then-accept : goal.returns-then-accept
 returns-then-accept g c =
-    let whole = Read-at_close c.initializers.invariant.read _ (c.accept.ensures.taken c.if-accept.true) in
+    let whole = IsReadList-at_close c.initializers.invariant.read _ (c.accept.ensures.taken c.if-accept.true) in
     record {
       parsed = whole.whole;
       names_are = whole.names_are;
@@ -53,11 +55,11 @@ remaining_texts-if_no_brace : (g : Over) (c : After-parse_site g)
 remaining_texts-if_no_brace g c = ap remaining_texts (c.accept.ensures.kept c.if-accept.false)
 
 -- An initializer was read.
-More-initializer_read : (g : Over) (c : In_ok-word g)
-    → More (initializer_kind c.args.arch) c.initializers.locs c.parse_site.new.locs (remaining_texts c.initializers.self)
+IsReadElement-initializer_read : (g : Over) (c : In_ok-word g)
+    → IsReadElement (initializer_kind c.args.arch) c.initializers.locs c.parse_site.new.locs (remaining_texts c.initializers.self)
     (remaining_texts c.parse_value.new.self)
     (record { at = c.place-at.result; site = c.in_ok-site.site; word = c.in_ok-word.word })
-More-initializer_read g c = record {
+IsReadElement-initializer_read g c = record {
   grows = c.in_ok-site.ensures.names_are;
   is_in = c.in_ok-site.ensures.within;
   fits = tt;
@@ -100,13 +102,13 @@ BeginsInitializer-at_place g c =
       names = c.initializers.locs;
       inside = read.start;
       rest = remaining c.accept.new.self;
-      behind = remaining_texts c.parse_value.new.self;
+      later = remaining_texts c.parse_value.new.self;
       opens = read.begun;
       read =
           subst
           (ParsesMany (λ ts e next. IsInitializer c.args.arch ts e (codes ";" ∷ next)) read.start
           (map (named_initializer c.initializers.locs) c.initializers.initializers)) (sym same)
-          (Listing-joined (IsInitializer c.args.arch) semicolon brace _ read.start _ read.listing);
+          (ParsesMany-of_read (IsInitializer c.args.arch) semicolon brace _ read.start _ read.listing);
       suffix = IsSuffix-join c.initializers.invariant.advances c.accept.ensures.advances;
       place = c.place-at.ensures;
       parsed = λ t r e. (
@@ -124,7 +126,7 @@ returns-in_err-site g c =
     let same = remaining_texts-if_no_brace g d in
     Err-clause_known _ _ _ c.from_residual-in_err-site.ensures.1 (λ ne.
     let lost = c.in_err-site.ensures ne in (
-      initializers_fault c.args.arch c.initializers.invariant.read (c.accept.ensures.other c.if-accept.false)
+      no_block-if_no_initializer c.args.arch c.initializers.invariant.read (c.accept.ensures.other c.if-accept.false)
           (λ e back initializer some. (rw same at lost.0) e.site initializer.0 initializer.1 tt some),
       Fails-later (IsSuffix-before_initializer g d) (λ rest cause w. FailsInBlock-initializer g d rest cause (in_site w)) lost.1,
     ))
@@ -134,7 +136,7 @@ returns-in_err-word g c =
     let d = (goal.at.returns-in_err-word g c).After-parse_site in
     let same = remaining_texts-if_no_brace g d in
     Err-clause_known _ _ _ c.from_residual-in_err-word.ensures.1 (λ ne. (
-      initializers_fault c.args.arch c.initializers.invariant.read (c.accept.ensures.other c.if-accept.false)
+      no_block-if_no_initializer c.args.arch c.initializers.invariant.read (c.accept.ensures.other c.if-accept.false)
           (λ e back initializer some.
           no_initializer-if_no_value c.args.arch _ _ _ (rw same at c.in_ok-site.ensures.parsed) c.in_err-word.ensures.0 e back
           initializer),
@@ -148,7 +150,7 @@ returns-in_err-word g c =
 pub returns-in_err-expect_either : goal.returns-in_err-expect_either
 returns-in_err-expect_either g c =
     let d = goal.at.returns-in_err-expect_either g c in
-    let initializer = More-initializer_read g d.In_ok-word in
+    let initializer = IsReadElement-initializer_read g d.In_ok-word in
     Err-clause_known _ _ _ c.from_residual-in_err-expect_either.ensures.1 (λ ne. (
       λ es rest block few.
           no_list-if_no_separator c.initializers.invariant.read _ _ initializer.parsed c.in_err-expect_either.ensures.1
@@ -167,8 +169,8 @@ returns-then-branch g c =
     let d = goal.at.returns-then-branch g c in
     let mark = rw c.if-branch.true at c.in_ok-expect_either.ensures.0 in
     let whole =
-    Read-closed c.initializers.invariant.read (More-initializer_read g d.In_ok-word) (remaining_texts c.expect_either.new.self)
-    mark in
+    IsReadList-after_last c.initializers.invariant.read (IsReadElement-initializer_read g d.In_ok-word)
+    (remaining_texts c.expect_either.new.self) mark in
     rw c.in_ok-push.ensures.ok (record {
       parsed = whole.whole;
       names_are = whole.names_are;
@@ -197,7 +199,7 @@ initializers-preserved g c =
     let mark = rw c.if-branch.false at c.in_ok-expect_either.ensures.0 in
     rw c.in_ok-push.ensures.ok (record {
       read =
-          Read-separator c.initializers.invariant.read (More-initializer_read g d.In_ok-word)
+          AreReadElements-next c.initializers.invariant.read (IsReadElement-initializer_read g d.In_ok-word)
           (remaining_texts c.expect_either.new.self) mark;
       advances = IsSuffix-after_initializer g d.In_ok-expect_either;
       places = BeginInitializers-push _ _ [] _ _ c.initializers.invariant.places (BeginsInitializer-at_place g d.In_ok-word);
@@ -208,11 +210,11 @@ initializers-preserved g c =
           (subst (λ mid.
           IsInitializer c.args.arch (remaining_texts c.initializers.self) (named_initializer c.parse_site.new.locs
           (record { at = c.place-at.result; site = c.in_ok-site.site; word = c.in_ok-word.word })) mid) mark
-          (More-initializer_read g d.In_ok-word).parsed)
-          (subst (λ (table : NameTable). length table ≤ most_locations) (More-initializer_read g d.In_ok-word).grows
+          (IsReadElement-initializer_read g d.In_ok-word).parsed)
+          (subst (λ (table : NameTable). length table ≤ most_locations) (IsReadElement-initializer_read g d.In_ok-word).grows
           c.in_ok-site.ensures.bounded)
           (subst (λ names. FailsInInitializers c.args.arch rest cause names (remaining_texts c.expect_either.new.self))
-          (More-initializer_read g d.In_ok-word).grows w));
+          (IsReadElement-initializer_read g d.In_ok-word).grows w));
     })
 
 pub returns-in_err-push : goal.returns-in_err-push

@@ -1,5 +1,5 @@
 -- `parse_header` promises the number of threads that the header names, or that there is no header, and where it
--- fails. Each round reads one name and a `|` (`Names-more`). After four of them a fifth name is a fault of its
+-- fails. Each round reads one name and a `|` (`NamesContinueAt-next`). After four of them a fifth name is a fault of its
 -- own. Each exit with a fault shows two things, in this order: that there is no such reading, and where it fails
 -- (`Fails-later`).
 use Rattle.lw_text.proofs.Common.{◌∷◌, ◌∙◌, ap, add-one, arith, codes, inl, inr, rules, subst, sym}
@@ -8,14 +8,14 @@ use Rattle.lw_text.proofs.Common.{FailsInHeader, in_next_thread, no_thread_name,
 use Rattle.lw_text.proofs.Common.{too_many_threads}
 use Rattle.lw_text.proofs.Faults.{Err-clause_known}
 use Rattle.lw_text.proofs.Failures.{Fails-here, Fails-later, IfFirst-map, IfFirst-begins, IfFirst-begins_not}
-use Rattle.lw_text.proofs.Headers.{Names-more, NamesContinueAt-none_yet}
+use Rattle.lw_text.proofs.Headers.{NamesContinueAt-next, NamesContinueAt-none_yet}
 use Rattle.lw_text.proofs.Lists.{IsSuffix-join}
 use Rattle.lw_text.proofs.cursor.Cursor.parse_header.Goals as goal
 
 pub loop-thread-preserved : goal.loop-thread-preserved
 loop-thread-preserved c = record {
   names =
-      Names-more (remaining_texts c.args.self.now) _ c.loop-thread.thread c.loop-thread.invariant.names
+      NamesContinueAt-next (remaining_texts c.args.self.now) _ c.loop-thread.thread c.loop-thread.invariant.names
       (remaining_texts c.expect.new.self)
       (c.in_ok-expect.ensures.ok ∙ ap (λ x. x ∷ remaining_texts c.expect.new.self) c.thread_name.ensures)
       (remaining_texts c.expect_either.new.self) (rw c.if-branch.false at c.in_ok-expect_either.ensures.0);
@@ -34,7 +34,7 @@ loop-thread-preserved c = record {
 pub returns-then-branch : goal.returns-then-branch
 returns-then-branch c = (
   (
-    c.loop-thread.invariant.names.given 0 (remaining_texts c.expect_either.new.self)
+    c.loop-thread.invariant.names.whole_if_rest 0 (remaining_texts c.expect_either.new.self)
         (c.in_ok-expect.ensures.ok
         ∙ ap (λ x. x ∷ remaining_texts c.expect.new.self) c.thread_name.ensures
         ∙ ap (λ l. thread_name c.loop-thread.thread ∷ l) (rw c.if-branch.true at c.in_ok-expect_either.ensures.0)),

@@ -10,9 +10,10 @@ use Rattle.lw_text.proofs.Failures.{Fails-later}
 use Rattle.lw_text.proofs.Lists.{IsSuffix-join, tail-unique, tail-shorter}
 use Rattle.lw_text.proofs.Atoms.{IsSite-shorter, bracket}
 use Rattle.lw_text.proofs.Faults.{Err-clause_known, MatchResult-Memory_error}
-use Rattle.lw_text.proofs.SiteLists.{site_kind, Whole-Listed, HasRoomFor-map_same}
-use Rattle.lw_text.proofs.Readings.{Read-none, Read-at_close, Read-separator, Read-closed}
-use Rattle.lw_text.proofs.Readings.{no_list-if_no_element, no_list-if_no_separator, More}
+use Rattle.lw_text.proofs.SiteLists.{site_kind, ParsesList-Listed, HasRoomFor-map_same}
+use Rattle.lw_text.proofs.Readings.{AreReadElements-none, IsReadList-at_close, AreReadElements-next}
+use Rattle.lw_text.proofs.Readings.{IsReadList-after_last, no_list-if_no_element, no_list-if_no_separator}
+use Rattle.lw_text.proofs.Readings.{IsReadElement}
 use Rattle.lw_text.proofs.Texts.{not-token_is_next}
 use Rattle.lw_text.proofs.cursor.Cursor.parse_listed.Given.{Over}
 use Rattle.lw_text.proofs.cursor.Cursor.parse_listed.Goals.{After-parse_site, In_ok-parse_site}
@@ -38,7 +39,7 @@ returns-in_err-expect g c =
     let word = c.accept.ensures.taken c.if-not-accept.false in
     Err-clause_known _ _ _ c.from_residual.ensures.1 (λ _. (
       λ ss rest listed there few.
-          let whole = Whole-Listed c.args.arch c.args.threads (remaining_texts c.args.self.now) _ word ss rest listed in
+          let whole = ParsesList-Listed c.args.arch c.args.threads (remaining_texts c.args.self.now) _ word ss rest listed in
           c.in_err-expect.ensures.err whole.0 (tail-unique _ word whole.1),
       Fails-later c.accept.ensures.advances (λ rest cause w. no_list_bracket word w) c.in_err-expect.ensures.fails,
     ))
@@ -47,7 +48,7 @@ pub sites-init : goal.sites-init
 sites-init g c =
     let begins = c.accept.ensures.taken c.if-not-accept.false ∙ ap (λ l. codes "locations" ∷ l) c.in_ok-expect.ensures.ok in
     rw c.new-sites.ensures (record {
-      read = Read-none _ c.args.locs.now (remaining_texts c.args.self.now) (remaining_texts c.expect.new.self) begins;
+      read = AreReadElements-none _ c.args.locs.now (remaining_texts c.args.self.now) (remaining_texts c.expect.new.self) begins;
       bounded = c.len-known.ensures.table.bounded;
       advances = IsSuffix-join c.accept.ensures.advances c.in_ok-expect.ensures.advances;
       fails = λ rest cause w. in_sites begins w;
@@ -55,7 +56,7 @@ sites-init g c =
 
 pub returns-then-accept : goal.returns-then-accept
 returns-then-accept g c =
-    let whole = Read-at_close c.sites.invariant.read _ (c.accept-in-sites.ensures.taken c.if-accept.true) in
+    let whole = IsReadList-at_close c.sites.invariant.read _ (c.accept-in-sites.ensures.taken c.if-accept.true) in
     record {
       parsed = inl whole.whole;
       threads_exist = whole.fits;
@@ -71,10 +72,10 @@ remaining_texts-if_no_bracket : (g : Over) (c : After-parse_site g)
 remaining_texts-if_no_bracket g c = ap remaining_texts (c.accept-in-sites.ensures.kept c.if-accept.false)
 
 -- A site was read.
-More-site_read : (g : Over) (c : In_ok-parse_site g)
-    → More (site_kind c.args.arch c.args.threads) c.sites.locs c.parse_site.new.locs (remaining_texts c.sites.self)
+IsReadElement-site_read : (g : Over) (c : In_ok-parse_site g)
+    → IsReadElement (site_kind c.args.arch c.args.threads) c.sites.locs c.parse_site.new.locs (remaining_texts c.sites.self)
     (remaining_texts c.parse_site.new.self) c.in_ok-parse_site.field-0
-More-site_read g c = record {
+IsReadElement-site_read g c = record {
   grows = c.in_ok-parse_site.ensures.names_are;
   is_in = c.in_ok-parse_site.ensures.within;
   fits = c.in_ok-parse_site.ensures.threads_exist;
@@ -98,7 +99,7 @@ returns-in_err-parse_site g c =
           no_list-if_no_element c.sites.invariant.read
           (λ l. not-token_is_next bracket (remaining_texts c.sites.self) l (c.accept-in-sites.ensures.other c.if-accept.false))
           (rw same at lost.0) all rest
-          (Whole-Listed _ c.args.threads (remaining_texts c.args.self.now) (codes "[" ∷ c.sites.invariant.read.start)
+          (ParsesList-Listed _ c.args.threads (remaining_texts c.args.self.now) (codes "[" ∷ c.sites.invariant.read.start)
           c.sites.invariant.read.begun all rest listed) there (HasRoomFor-map_same c.args.locs.now all few),
       Fails-later (IsSuffix-before_site g d) (λ rest cause w.
           c.sites.invariant.fails rest cause
@@ -109,12 +110,12 @@ returns-in_err-parse_site g c =
 pub returns-in_err-expect_either : goal.returns-in_err-expect_either
 returns-in_err-expect_either g c =
     let d = goal.at.returns-in_err-expect_either g c in
-    let site = More-site_read g d.In_ok-parse_site in
+    let site = IsReadElement-site_read g d.In_ok-parse_site in
     Err-clause_known _ _ _ c.from_residual-in_err-expect_either.ensures.1 (λ ne. (
       λ all rest listed there few.
           no_list-if_no_separator c.sites.invariant.read _ _ site.parsed c.in_err-expect_either.ensures.1
           c.in_err-expect_either.ensures.0 all rest
-          (Whole-Listed c.args.arch c.args.threads (remaining_texts c.args.self.now) _ c.sites.invariant.read.begun all rest
+          (ParsesList-Listed c.args.arch c.args.threads (remaining_texts c.args.self.now) _ c.sites.invariant.read.begun all rest
           listed),
       Fails-later (IsSuffix-join (IsSuffix-before_site g d.After-parse_site) c.in_ok-parse_site.ensures.advances) (λ rest cause w.
           c.sites.invariant.fails rest cause
@@ -126,9 +127,9 @@ returns-in_err-expect_either g c =
 pub returns-then-branch : goal.returns-then-branch
 returns-then-branch g c =
     let d = goal.at.returns-then-branch g c in
-    let site = More-site_read g d.In_ok-parse_site in
+    let site = IsReadElement-site_read g d.In_ok-parse_site in
     let mark = rw c.if-branch.true at c.in_ok-expect_either.ensures.0 in
-    let whole = Read-closed c.sites.invariant.read site (remaining_texts c.expect_either.new.self) mark in
+    let whole = IsReadList-after_last c.sites.invariant.read site (remaining_texts c.expect_either.new.self) mark in
     rw c.in_ok-push.ensures.ok (record {
       parsed = inl whole.whole;
       threads_exist = whole.fits;
@@ -149,10 +150,10 @@ sites-smaller g c =
 pub sites-preserved : goal.sites-preserved
 sites-preserved g c =
     let d = goal.at.sites-preserved g c in
-    let site = More-site_read g d.In_ok-parse_site in
+    let site = IsReadElement-site_read g d.In_ok-parse_site in
     let mark = rw c.if-branch.false at c.in_ok-expect_either.ensures.0 in
     rw c.in_ok-push.ensures.ok (record {
-      read = Read-separator c.sites.invariant.read site (remaining_texts c.expect_either.new.self) mark;
+      read = AreReadElements-next c.sites.invariant.read site (remaining_texts c.expect_either.new.self) mark;
       advances =
           IsSuffix-join (IsSuffix-before_site g d.After-parse_site)
           (IsSuffix-join c.in_ok-parse_site.ensures.advances c.in_ok-expect_either.ensures.1);

@@ -1,14 +1,15 @@
--- At each round the sites up to the cursor have been read (`Read`), and at most eight locations are named. If
+-- At each round the sites up to the cursor have been read (`AreReadElements`), and at most eight locations are named. If
 -- the rest fails as the rest of a list, the whole fails as a list. The remaining tokens decrease.
 use Rattle.lw_text.proofs.Common.{most_locations, ◌≤◌, length, IsSuffix, TokenList, remaining}
 use Rattle.lw_text.proofs.Common.{remaining_texts, FailsInSites, FailsInList, TextCause}
 use Rattle.lw_text.proofs.SiteLists.{site_kind}
-use Rattle.lw_text.proofs.Readings.{Read}
+use Rattle.lw_text.proofs.Readings.{AreReadElements}
 use Rattle.lw_text.proofs.cursor.Cursor.parse_listed.Given as goal
 
 abbrev pub invariant-sites : goal.invariant-sites
 invariant-sites g l = record {
-  read : Read (site_kind l.arch l.threads) l.fn.locs l.locs (remaining_texts l.fn.self) (remaining_texts l.self) l.sites;
+  read :
+      AreReadElements (site_kind l.arch l.threads) l.fn.locs l.locs (remaining_texts l.fn.self) (remaining_texts l.self) l.sites;
   bounded : length l.locs ≤ most_locations;
   advances : IsSuffix (remaining l.fn.self) (remaining l.self);
   fails :

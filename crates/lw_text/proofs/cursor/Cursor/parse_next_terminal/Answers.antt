@@ -8,7 +8,8 @@ use Rattle.lw_text.proofs.Common.{unopened, too_many_nodes, in_terminal}
 use Rattle.lw_text.proofs.Failures.{Fails-here, Fails-later}
 use Rattle.lw_text.proofs.PropositionPlaces.{closes_nothing, wants_part-place}
 use Rattle.lw_text.proofs.PropositionPlaces.{node_limit_reached-no_parenthesis, HasRoomForNode-by_test}
-use Rattle.lw_text.proofs.PropositionCases.{terminal_refused, no_room_for_node, begins_part-if_allowed}
+use Rattle.lw_text.proofs.PropositionCases.{no_next_state-if_refused, no_room_for_node}
+use Rattle.lw_text.proofs.PropositionCases.{begins_part-if_allowed}
 use Rattle.lw_text.proofs.Faults.{MatchResult-Memory_error, Err-clause_known}
 use Rattle.lw_text.proofs.cursor.Cursor.parse_next_terminal.Goals as goal
 
@@ -17,7 +18,7 @@ returns-then-not-branch g c =
     let refused = rw c.if-not-branch.true at c.in_ok-take.ensures in
     λ ne. (
       λ s rest is left few fits.
-          left (terminal_refused c.in_ok-terminal.ensures.0 c.args.reader.now c.requires.once refused s rest is),
+          left (no_next_state-if_refused c.in_ok-terminal.ensures.0 c.args.reader.now c.requires.once refused s rest is),
       Fails-here c.args.self.now _ c.refusal-misfit.ensures.place
           (let closes =
           closes_nothing (state_of c.args.reader.now) c.in_ok-terminal.terminal refused

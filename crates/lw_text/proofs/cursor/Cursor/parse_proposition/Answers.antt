@@ -1,19 +1,20 @@
 -- `parse_proposition` promises the proposition that all remaining tokens are, or that they are none, and where
 -- they fail. Each round adds a terminal (`TerminalsRead-push`). At the end the state has a result or is incomplete
--- (`ParsedProposition-at_end`, `NoProposition-open`). If no terminal fits, the tokens are no proposition, whatever
--- follows (`NoProposition-no_terminal`). Each exit with a fault shows two things, in this order: that there is no
+-- (`ParsedProposition-at_end`, `NoProposition-if_incomplete`). If no terminal fits, the tokens are no proposition, whatever
+-- follows (`NoProposition-if_no_terminal`). Each exit with a fault shows two things, in this order: that there is no
 -- such reading, and where it fails (`Fails-later`).
-use Rattle.lw_text.proofs.Common.{ℕ, ◌+◌, ◌≤◌, ◌∙◌, [], append-nil, drop_all, refl, sym, ap, subst, arith}
-use Rattle.lw_text.proofs.Common.{MatchResult-weaker, IsParserCause, remaining, remaining_texts, state_of}
-use Rattle.lw_text.proofs.Common.{FailsInProposition, incomplete, BeginsAt, place_of, Unterminated}
+use Rattle.lw_text.proofs.Common.{most_nodes, ℕ, ◌+◌, ◌≤◌, ◌∙◌, [], append-nil, drop_all, refl, sym, ap}
+use Rattle.lw_text.proofs.Common.{subst, arith, MatchResult-weaker, IsParserCause, remaining, remaining_texts}
+use Rattle.lw_text.proofs.Common.{state_of, FailsInProposition, incomplete, BeginsAt, place_of, Unterminated}
 use Rattle.lw_text.proofs.Lists.{IsSuffix-join}
 use Rattle.lw_text.proofs.Failures.{Fails-later}
 use Rattle.lw_text.proofs.PropositionPlaces.{incomplete_place, HasRoomForNode-by_test}
 use Rattle.lw_text.proofs.Texts.{no_tokens-if_past_last, tokens_remain-before_last}
 use Rattle.lw_text.proofs.TerminalLists.{IsTerminal-shorter}
-use Rattle.lw_text.proofs.PropositionCases.{TerminalsRead-none, ParsedProposition-at_end, NoProposition-open}
-use Rattle.lw_text.proofs.PropositionCases.{NoProposition-no_terminal, TerminalsRead-push}
-use Rattle.lw_text.proofs.PropositionCases.{IsDuplicateFree-names, node_count_at_most, Fails-after_terminal}
+use Rattle.lw_text.proofs.PropositionCases.{TerminalsRead-none, ParsedProposition-at_end}
+use Rattle.lw_text.proofs.PropositionCases.{NoProposition-if_incomplete, NoProposition-if_no_terminal}
+use Rattle.lw_text.proofs.PropositionCases.{TerminalsRead-push, IsDuplicateFree-names, node_count_at_most}
+use Rattle.lw_text.proofs.PropositionCases.{FailsInProposition-after_terminal}
 use Rattle.lw_text.proofs.cursor.Cursor.parse_proposition.Goals as goal
 
 -- A reader of tokens may report that they end too early.
@@ -31,7 +32,7 @@ returns-then-self g c =
     (λ f lost ne.
     let none = lost ne in
     let nothing = drop_all c.terminals.self.next c.terminals.self.tokens.now (omega (arith, c.if-self.true)) in (
-      NoProposition-open read gone none.0,
+      NoProposition-if_incomplete read gone none.0,
       record {
         rest = [];
         suffix =
@@ -48,7 +49,7 @@ parse_next_terminal-requires-clause-once g c = IsDuplicateFree-names c.terminals
 pub returns-in-Err : goal.returns-in-Err
 returns-in-Err g c = λ ne.
     let lost = c.in-Err.ensures ne in (
-      NoProposition-no_terminal c.terminals.invariant.read
+      NoProposition-if_no_terminal c.terminals.invariant.read
           (tokens_remain-before_last c.terminals.self.tokens.now c.terminals.self.next c.terminals.self.within c.if-self.false)
           lost.0,
       Fails-later c.terminals.invariant.advances (λ rest cause w. c.terminals.invariant.fails rest cause w) lost.1,
@@ -72,11 +73,11 @@ terminals-preserved g c =
     record {
       read =
           TerminalsRead-push c.in-Ok.ensures.0 c.terminals.invariant.read c.requires.once c.in-Ok.ensures.1 _ counts
-          (subst (λ (n : ℕ). n ≤ 256) (sym counts) room);
+          (subst (λ (n : ℕ). n ≤ most_nodes) (sym counts) room);
       advances = IsSuffix-join c.terminals.invariant.advances c.in-Ok.ensures.0.advances;
       fails = λ rest cause w.
           c.terminals.invariant.fails rest cause
-          (Fails-after_terminal c.in-Ok.ensures.0 c.terminals.reader c.parse_next_terminal.new.reader
+          (FailsInProposition-after_terminal c.in-Ok.ensures.0 c.terminals.reader c.parse_next_terminal.new.reader
           (HasRoomForNode-by_test _ _ c.in-Ok.ensures.3) c.in-Ok.ensures.1 counts c.in-Ok.ensures.2 w);
     }
 

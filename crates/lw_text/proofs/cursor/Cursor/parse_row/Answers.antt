@@ -1,14 +1,14 @@
 -- `parse_row` promises the cells of a row, or that there is no row of this many cells, and where it fails.
--- Each round reads a cell and its mark (`CellsRead-push`); a `;` closes the row (`row_complete-CellsRead`). A row with
+-- Each round reads a cell and its mark (`CellsRead-push`); a `;` closes the row (`RowCells-CellsRead`). A row with
 -- another number of cells is none (`no_row-if_count_differs`).
 use Rattle.lw_text.proofs.Common.{◌≡◌, [], ◌∷◌, ◌∙◌, append-nil, refl, ap, sym, length, arith, length-append}
 use Rattle.lw_text.proofs.Common.{length-map, RowCells, cell_texts, cells_texts, remaining, remaining_texts}
 use Rattle.lw_text.proofs.Common.{no_end, ragged}
 use Rattle.lw_text.proofs.Lists.{IsSuffix-join}
-use Rattle.lw_text.proofs.Texts.{is_text}
+use Rattle.lw_text.proofs.Texts.{bytes_equal}
 use Rattle.lw_text.proofs.Faults.{Err-clause_known, MatchResult-Memory_error}
 use Rattle.lw_text.proofs.Cells.{no_cells-if_no_mark, no_row-if_count_differs}
-use Rattle.lw_text.proofs.CellPlaces.{CellsRead-push, row_complete-CellsRead}
+use Rattle.lw_text.proofs.CellPlaces.{CellsRead-push, RowCells-CellsRead}
 use Rattle.lw_text.proofs.cursor.Cursor.parse_row.Goals as goal
 
 pub returns-in_err-mark : goal.returns-in_err-mark
@@ -28,7 +28,7 @@ returns-in_err-mark g c = Err-clause_known _ _ _ c.from_residual.ensures.1 (λ n
 
 pub returns-then-eq : goal.returns-then-eq
 returns-then-eq g c =
-    let closed = row_complete-CellsRead c.cells.invariant.read c.in_ok-mark.ensures (sym c.eq.ensures ∙ c.if-eq.true) in
+    let closed = RowCells-CellsRead c.cells.invariant.read c.in_ok-mark.ensures (sym c.eq.ensures ∙ c.if-eq.true) in
     let line : RowCells (remaining_texts c.args.self.now) (cells_texts c.push.new.self) (remaining_texts c.parse_cell.new.self) =
     rw c.in_ok-push.ensures.ok closed.0 in
     let other : length (cells_texts c.push.new.self) ≡ c.args.threads → ⊥ =
@@ -41,14 +41,14 @@ returns-then-eq g c =
         suffix = IsSuffix-join c.cells.invariant.advances (c.parse_cell.new.cell, c.in_ok-mark.ensures.parts);
         place = refl;
         way =
-            ragged _ line (ap (λ x. x ∷ remaining_texts c.parse_cell.new.self) (is_text _ _ (sym c.eq.ensures ∙ c.if-eq.true)))
-            other refl;
+            ragged _ line
+            (ap (λ x. x ∷ remaining_texts c.parse_cell.new.self) (bytes_equal _ _ (sym c.eq.ensures ∙ c.if-eq.true))) other refl;
       },
     )
 
 pub returns-then-len-threads : goal.returns-then-len-threads
 returns-then-len-threads g c =
-    let closed = row_complete-CellsRead c.cells.invariant.read c.in_ok-mark.ensures (sym c.eq.ensures ∙ c.if-eq.true) in (
+    let closed = RowCells-CellsRead c.cells.invariant.read c.in_ok-mark.ensures (sym c.eq.ensures ∙ c.if-eq.true) in (
       (
         rw c.in_ok-push.ensures.ok closed.0,
         omega (arith, c.if-len-threads.true, c.len.ensures, length-map c.push.new.self cell_texts),

@@ -1,14 +1,15 @@
 -- `parse_rows` promises all rows up to a token that ends them, or that there are none, and where they fail. Each
--- round reads a row (`Rows-push`), unless the next token ends the rows (`Rows-at_stop`), 64 have been read
+-- round reads a row (`AreReadTill-next_row`), unless the next token ends the rows (`Rows-at_stop`), 64 have been read
 -- (`no_rows-if_too_many`) or no row follows (`no_rows-if_no_row`). Each exit with a fault shows two things, in
 -- this order: that there is no such reading, and where it fails (`Fails-later`).
-use Rattle.lw_text.proofs.Common.{◌≡◌, ◌<◌, ◌∷◌, [], ◌∙◌, refl, subst, ap, sym, length, arith, length-append}
-use Rattle.lw_text.proofs.Common.{map_push, length-map, cells_texts, remaining_texts, FailsInRows}
-use Rattle.lw_text.proofs.Common.{too_many_rows, in_row, in_rows_after}
+use Rattle.lw_text.proofs.Common.{most_rows, ◌≡◌, ◌<◌, ◌∷◌, [], ◌∙◌, refl, subst, ap, sym, length, arith}
+use Rattle.lw_text.proofs.Common.{length-append, map_push, length-map, cells_texts, remaining_texts}
+use Rattle.lw_text.proofs.Common.{FailsInRows, too_many_rows, in_row, in_rows_after}
 use Rattle.lw_text.proofs.Lists.{IsSuffix-join}
 use Rattle.lw_text.proofs.Failures.{Fails-here, Fails-later}
 use Rattle.lw_text.proofs.Faults.{Err-clause_known, MatchResult-Memory_error}
-use Rattle.lw_text.proofs.Cells.{Row-shorter, Rows-at_stop, Rows-push, no_rows-if_no_row, no_rows-if_too_many}
+use Rattle.lw_text.proofs.Cells.{Row-shorter, Rows-at_stop, AreReadTill-next_row, no_rows-if_no_row}
+use Rattle.lw_text.proofs.Cells.{no_rows-if_too_many}
 use Rattle.lw_text.proofs.CellPlaces.{RowsFrom-push}
 use Rattle.lw_text.proofs.cursor.Cursor.parse_rows.Goals as goal
 
@@ -22,7 +23,7 @@ returns-then-at_stop g c = (
 
 pub returns-then-len-eq-MAX_ROWS : goal.returns-then-len-eq-MAX_ROWS
 returns-then-len-eq-MAX_ROWS g c =
-    let full : length c.rows.rows ≡ 64 = omega (arith, c.if-len-eq-MAX_ROWS.true, c.len.ensures) in
+    let full : length c.rows.rows ≡ most_rows = omega (arith, c.if-len-eq-MAX_ROWS.true, c.len.ensures) in
     let more = sym c.at_stop.ensures ∙ c.if-at_stop.false in
     λ _. (
       no_rows-if_too_many c.args.threads _ _ _ c.rows.invariant.passed more
@@ -36,7 +37,8 @@ pub returns-in_err-parse_row : goal.returns-in_err-parse_row
 returns-in_err-parse_row g c = Err-clause_known _ _ _ c.from_residual.ensures.1 (λ ne.
     let lost = c.in_err-parse_row.ensures ne in
     let more = sym c.at_stop.ensures ∙ c.if-at_stop.false in
-    let few : length c.rows.rows < 64 = omega (arith, c.if-len-eq-MAX_ROWS.false, c.len.ensures, c.rows.invariant.bounded) in (
+    let few : length c.rows.rows < most_rows =
+    omega (arith, c.if-len-eq-MAX_ROWS.false, c.len.ensures, c.rows.invariant.bounded) in (
       no_rows-if_no_row c.args.threads _ _ _ c.rows.invariant.passed more lost.0,
       Fails-later c.rows.invariant.advances (λ rest cause w. c.rows.invariant.fails rest cause (in_row few more w)) lost.1,
     ))
@@ -48,7 +50,7 @@ pub rows-preserved : goal.rows-preserved
 rows-preserved g c = record {
   passed =
       rw (c.in_ok-push.ensures.ok, map_push cells_texts c.rows.rows)
-      (Rows-push c.args.threads _ _ _ c.rows.invariant.passed _ _ (sym c.at_stop.ensures ∙ c.if-at_stop.false)
+      (AreReadTill-next_row c.args.threads _ _ _ c.rows.invariant.passed _ _ (sym c.at_stop.ensures ∙ c.if-at_stop.false)
       c.in_ok-parse_row.ensures.0);
   cut = rw c.in_ok-push.ensures.ok (RowsFrom-push _ _ _ c.rows.rows _ c.rows.invariant.cut c.in_ok-parse_row.ensures.1);
   bounded = omega (

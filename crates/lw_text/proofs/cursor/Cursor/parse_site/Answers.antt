@@ -7,7 +7,7 @@ use Rattle.lw_text.proofs.Common.{MatchResult-weaker, remaining, remaining_texts
 use Rattle.lw_text.proofs.Common.{in_brackets, no_thread, in_register, BeginsAt}
 use Rattle.lw_text.proofs.Atoms.{no_site-if_empty}
 use Rattle.lw_text.proofs.Lists.{IsSuffix-join}
-use Rattle.lw_text.proofs.Texts.{is_text, not-equal-if_bytes_differ}
+use Rattle.lw_text.proofs.Texts.{bytes_equal, not-equal-if_bytes_differ}
 use Rattle.lw_text.proofs.Sites.{location_site_parsed, allowed_thread, not-ThreadAllowed-if_above_threads}
 use Rattle.lw_text.proofs.Sites.{no_site-if_no_location_in_brackets, thread_refused, no_site-if_no_register}
 use Rattle.lw_text.proofs.Sites.{no_site-if_no_location}
@@ -40,7 +40,7 @@ returns-in_err-first g c =
 pub returns-in_err-inside : goal.returns-in_err-inside
 returns-in_err-inside g c = Err-clause_known _ _ _ c.from_residual-in_err-inside.ensures.1 (λ ne.
     let lost = c.in_err-inside.ensures ne in
-    let bracket = is_text _ _ (sym c.eq.ensures ∙ c.if-eq.true) in (
+    let bracket = bytes_equal _ _ (sym c.eq.ensures ∙ c.if-eq.true) in (
       λ s rest p there few.
           no_site-if_no_location_in_brackets c.args.arch c.args.locs.now c.in_ok-first.ensures.ok bracket lost.0 s rest p few,
       Fails-later (c.in_ok-first.first ∷ [], c.in_ok-first.ensures.token)
@@ -53,7 +53,7 @@ returns-then-eq g c =
     let inside = c.in_ok-inside.ensures in
     location_site_parsed inside.2 (IsSuffix-join (c.in_ok-first.first ∷ [], c.in_ok-first.ensures.token) inside.3)
     (inr (c.in_ok-first.ensures.ok
-    ∙ ap (λ y. y ∷ remaining_texts c.take.new.self) (is_text _ _ (sym c.eq.ensures ∙ c.if-eq.true))
+    ∙ ap (λ y. y ∷ remaining_texts c.take.new.self) (bytes_equal _ _ (sym c.eq.ensures ∙ c.if-eq.true))
     ∙ ap (λ l. codes "[" ∷ l) inside.1))
 
 pub returns-then-not-is_allowed : goal.returns-then-not-is_allowed

@@ -9,9 +9,9 @@ initial_registers-requires g c = c.args.self.now.bounded
 pub initial_words-requires : goal.initial_words-requires
 initial_words-requires g c = subst (λ (n : ℕ). n ≤ most_locations) (sym c.len-len.ensures.len) c.len-len.ensures.table.bounded
 
-pub restrict_seen-requires-clause-threads : goal.restrict_seen-requires-clause-threads
-restrict_seen-requires-clause-threads g c = c.args.self.now.bounded
+pub listed_in_order-requires-clause-threads : goal.listed_in_order-requires-clause-threads
+listed_in_order-requires-clause-threads g c = c.args.self.now.bounded
 
-pub restrict_seen-requires-clause-len : goal.restrict_seen-requires-clause-len
-restrict_seen-requires-clause-len g c =
+pub listed_in_order-requires-clause-len : goal.listed_in_order-requires-clause-len
+listed_in_order-requires-clause-len g c =
     subst (λ (n : ℕ). n ≤ most_locations) (sym c.len-len.ensures.len) c.len-len.ensures.table.bounded

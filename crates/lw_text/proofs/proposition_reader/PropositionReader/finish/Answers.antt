@@ -2,12 +2,12 @@
 -- group is open and a part has been read; then the group is closed with it.
 use Rattle.lw_text.proofs.Common.{◌≡◌, ◌≢◌, List, [], ◌∷◌, Option, Some, None, length, map, reverse, refl, ap}
 use Rattle.lw_text.proofs.Common.{sym, ◌∙◌, arith, eqb-true, eqb-false, nil_from_length, length-reverse}
-use Rattle.lw_text.proofs.Common.{length-map, Formula, formula_of, Pending, group_of, ors_of, reader_state_in}
-use Rattle.lw_text.proofs.Common.{state_result}
+use Rattle.lw_text.proofs.Common.{length-map, Formula, formula_of, GroupState, group_of, ors_of}
+use Rattle.lw_text.proofs.Common.{reader_state_in, state_result}
 use Rattle.lw_text.proofs.proposition_reader.PropositionReader.finish.Goals as goal
 
 -- While a group is open, the terminals are no whole proposition.
-no_result-if_group_open : (o : Option Formula) (l : Pending) (os : List Pending)
+no_result-if_group_open : (o : Option Formula) (l : GroupState) (os : List GroupState)
     → os ≢ []
     → state_result (reader_state_in o l os) ≡ None
 no_result-if_group_open None l os ne = refl

@@ -1,11 +1,11 @@
 -- `body` promises the parsed body if no lexical fault ends the tokens, or where the stream fails. A refusal
 -- has the offset of a token (`place_within`); if the tokens end too early, the place is that of the lexical
--- fault or the text's end (`stream_fails`).
+-- fault or the text's end (`StreamFails-of_refusal`).
 use Rattle.lw_text.proofs.Common.{◌≡◌, ◌≢◌, ◌∙◌, IsSuffix, Memory, Unexpected, formula_of, inr, refl}
 use Rattle.lw_text.proofs.Common.{syntax_of, ap, rules, subst, sym, ParsesTest, ParsesNoTest, token_texts}
 use Rattle.lw_text.proofs.Common.{FailsInTest, at_stream_fault}
 use Rattle.lw_text.proofs.Numbers.{IfNone-of_fact}
-use Rattle.lw_text.proofs.StreamFailures.{place_within, stream_fails}
+use Rattle.lw_text.proofs.StreamFailures.{place_within, StreamFails-of_refusal}
 use Rattle.lw_text.proofs.api.Places.{texts_placed}
 use Rattle.lw_text.proofs.token_stream.TokenStream.body.Goals as goal
 
@@ -27,7 +27,7 @@ returns-in-Err g c =
       λ ne.
           let known : c.in-Err.refusal.cause ≢ Memory = λ memory. ne (c.fault_of.ensures.memory memory) in
           let fails = (c.in-Err.ensures known).1 in
-          stream_fails c.args.self.now.tokens c.args.self.now.fault c.in-Err.refusal c.fault_of.result fails.rest
+          StreamFails-of_refusal c.args.self.now.tokens c.args.self.now.fault c.in-Err.refusal c.fault_of.result fails.rest
           (subst (λ ts. IsSuffix ts fails.rest) read fails.suffix) fails.place
           (subst (λ ts. FailsInTest c.args.arch (token_texts ts) (token_texts fails.rest) c.in-Err.refusal.cause) read fails.way)
           (c.fault_of.ensures.token known) (c.fault_of.ensures.end known),

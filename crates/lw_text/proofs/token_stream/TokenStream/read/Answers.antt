@@ -1,10 +1,11 @@
 -- `read` promises all tokens of a text with their offsets, up to the first lexical fault. Each round reads
--- one token; the end of the text (`Read-done`) or a fault (`Read-fault`) ends the list.
+-- one token; the end of the text (`PlacedTokens-at_end`) or a fault (`no_tokens-if_rest_has_none`) ends the list.
 use Rattle.lw_text.proofs.Common.{◌≤◌, ◌∙◌, ap, length, arith, map_push, All-from_recursion, Token, with_span}
 use Rattle.lw_text.proofs.Common.{with_spans, IsPlacedToken}
 use Rattle.lw_text.proofs.Lists.{ParsesMany-push}
 use Rattle.lw_text.proofs.Readings.{AllByRecursion-snoc}
-use Rattle.lw_text.proofs.TokenRows.{Read-done, Read-fault, Tokens-none, IsFirstToken-shorter}
+use Rattle.lw_text.proofs.TokenRows.{PlacedTokens-at_end, no_tokens-if_rest_has_none}
+use Rattle.lw_text.proofs.TokenRows.{no_tokens-if_no_first_token, IsFirstToken-shorter}
 use Rattle.lw_text.proofs.Failures.{FailsFrom-later}
 use Rattle.lw_text.proofs.token_stream.TokenStream.read.Goals as goal
 
@@ -32,7 +33,7 @@ pub returns-in-Ok-None : goal.returns-in-Ok-None
 returns-in-Ok-None g c =
     let f = rw c.in-Ok-None.field-0-is at c.in-Ok-None.ensures.reads in
     let len = length c.args.lexer.text.now in (
-      Read-done len _ c.args.lexer.rest.now c.tokens.lexer.rest.now c.tokens.invariant.row f,
+      PlacedTokens-at_end len _ c.args.lexer.rest.now c.tokens.lexer.rest.now c.tokens.invariant.row f,
       All-from_recursion (λ (t : Token). t.at ≤ len) c.tokens.tokens c.tokens.invariant.within,
     )
 
@@ -40,8 +41,8 @@ pub returns-in-Err : goal.returns-in-Err
 returns-in-Err g c =
     let len = length c.args.lexer.text.now in (
       (
-        Read-fault len (with_spans c.tokens.tokens) c.args.lexer.rest.now c.tokens.lexer.rest.now c.tokens.invariant.row
-            (Tokens-none _ c.in-Err.ensures.reads.0 c.in-Err.ensures.reads.1),
+        no_tokens-if_rest_has_none len (with_spans c.tokens.tokens) c.args.lexer.rest.now c.tokens.lexer.rest.now
+            c.tokens.invariant.row (no_tokens-if_no_first_token _ c.in-Err.ensures.reads.0 c.in-Err.ensures.reads.1),
         omega (arith, c.in-Err.ensures.reads.2, ap length c.tokens.invariant.same),
         record {
           end = c.tokens.lexer.rest.now;

@@ -1,13 +1,13 @@
--- At each round the tokens up to the lexer's rest have been read, with their offsets (`Read`), which are
+-- At each round the tokens up to the lexer's rest have been read, with their offsets (`AreFirstTokens`), which are
 -- within the text. The rest becomes shorter.
 use Rattle.lw_text.proofs.Common.{◌≡◌, ◌≤◌, length, AllByRecursion, with_spans}
-use Rattle.lw_text.proofs.TokenRows.{Read}
+use Rattle.lw_text.proofs.TokenRows.{AreFirstTokens}
 use Rattle.lw_text.proofs.token_stream.TokenStream.read.Given as goal
 
 abbrev pub invariant-tokens : goal.invariant-tokens
 invariant-tokens g l = record {
   same : l.lexer.text.now ≡ l.fn.lexer.text.now;
-  row : Read (length l.fn.lexer.text.now) l.fn.lexer.rest.now (with_spans l.tokens) l.lexer.rest.now;
+  row : AreFirstTokens (length l.fn.lexer.text.now) l.fn.lexer.rest.now (with_spans l.tokens) l.lexer.rest.now;
   within : AllByRecursion (λ t. t.at ≤ length l.fn.lexer.text.now) l.tokens;
 }
 

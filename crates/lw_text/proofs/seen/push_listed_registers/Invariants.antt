@@ -1,6 +1,6 @@
 -- At each round `seen` has, after what it had at the start, the thread's listed registers before the index.
 use Rattle.lw_text.proofs.Common.{◌≡◌, ◌++◌, map, filter, range_with_len, Register, is_listed}
-use Rattle.lw_text.proofs.seen.see_registers.Given as goal
+use Rattle.lw_text.proofs.seen.push_listed_registers.Given as goal
 
 abbrev pub invariant-loop-reg : goal.invariant-loop-reg
 invariant-loop-reg g l =

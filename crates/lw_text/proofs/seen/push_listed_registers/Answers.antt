@@ -1,9 +1,9 @@
--- `see_registers` promises that a thread's listed registers are appended. Each round adds one register, if it
+-- `push_listed_registers` promises that a thread's listed registers are appended. Each round adds one register, if it
 -- is listed (`filtered_seen-push`).
 use Rattle.lw_text.proofs.Common.{◌≡◌, ap, get_or, get_or-range_with_len, is_listed, zero-add, ◌∙◌, registers}
 use Rattle.lw_text.proofs.Common.{Register}
 use Rattle.lw_text.proofs.Starts.{filtered_seen-push}
-use Rattle.lw_text.proofs.seen.see_registers.Goals as goal
+use Rattle.lw_text.proofs.seen.push_listed_registers.Goals as goal
 
 pub loop-reg-preserved : goal.loop-reg-preserved
 loop-reg-preserved g c =
@@ -13,5 +13,6 @@ loop-reg-preserved g c =
     ∙ ap (λ l. get_or l i c.reg-item.result) c.all.ensures
     ∙ get_or-range_with_len 0 registers i _ c.loop-reg-test.true
     ∙ zero-add i in
-    filtered_seen-push (is_listed c.args.sites.now) c.args.seen.now c.loop-reg.seen c.see.new.seen (λ r. Register c.args.cpu r) i
-    c.loop-reg.invariant (rw (c.index.ensures.value, ← c.reg-item.is, at) at c.in_ok-see.ensures)
+    filtered_seen-push (is_listed c.args.sites.now) c.args.seen.now c.loop-reg.seen c.push_if_listed.new.seen
+    (λ r. Register c.args.cpu r) i c.loop-reg.invariant
+    (rw (c.index.ensures.value, ← c.reg-item.is, at) at c.in_ok-push_if_listed.ensures)

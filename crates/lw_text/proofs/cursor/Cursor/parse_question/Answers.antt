@@ -1,18 +1,18 @@
--- `parse_condition` promises list, quantifier and proposition, or that the tokens are no condition, and where they
--- fail. Success puts the parts together (`ParsedCondition-of_parts`). If a part fails there is no other way to
+-- `parse_question` promises list, quantifier and proposition, or that the tokens are no question, and where they
+-- fail. Success puts the parts together (`ParsedQuestion-of_parts`). If a part fails there is no other way to
 -- read what precedes it: a list of names is unique (`Listed-unique`). Each exit with a fault shows two things, in
 -- this order: that there is no such reading, and where it fails (`Fails-later`).
 use Rattle.lw_text.proofs.Common.{most_locations, ◌≤◌, length, NameTable, [], map, refl, sym, subst, arith}
 use Rattle.lw_text.proofs.Common.{IsDuplicateFree, IsDuplicateFree-insert_names, insert_names-longer}
 use Rattle.lw_text.proofs.Common.{site_names, with_sites, sites_in, site_by_name, remaining_texts}
 use Rattle.lw_text.proofs.Common.{FailsInProposition, first_place, in_list, in_quantifier, in_proposition}
-use Rattle.lw_text.proofs.Bodies.{ParsedCondition-of_parts}
+use Rattle.lw_text.proofs.Bodies.{ParsedQuestion-of_parts}
 use Rattle.lw_text.proofs.SiteLists.{Listed-unique}
-use Rattle.lw_text.proofs.Whole.{no_condition-if_no_proposition}
+use Rattle.lw_text.proofs.Whole.{no_question-if_no_proposition}
 use Rattle.lw_text.proofs.Lists.{IsSuffix-join}
 use Rattle.lw_text.proofs.Failures.{Fails-later}
 use Rattle.lw_text.proofs.Faults.{Err-clause_known}
-use Rattle.lw_text.proofs.cursor.Cursor.parse_condition.Goals as goal
+use Rattle.lw_text.proofs.cursor.Cursor.parse_question.Goals as goal
 
 pub returns-in_err-listed : goal.returns-in_err-listed
 returns-in_err-listed g c = Err-clause_known _ _ _ c.from_residual.ensures.1 (λ ne.
@@ -45,7 +45,7 @@ parse_proposition-requires-clause-once g c =
 pub returns-in-Err : goal.returns-in-Err
 returns-in-Err g c = λ ne.
     let lost = c.in-Err.ensures ne in (
-      no_condition-if_no_proposition c.in_ok-listed.ensures _ _ c.in_ok-quant.ensures.0 lost.0,
+      no_question-if_no_proposition c.in_ok-listed.ensures _ _ c.in_ok-quant.ensures.0 lost.0,
       Fails-later (IsSuffix-join c.in_ok-listed.ensures.advances c.in_ok-quant.ensures.1) (λ rest cause w.
           in_proposition _ _ c.in_ok-listed.ensures.parsed c.in_ok-listed.ensures.threads_exist
           (subst (λ (table : NameTable). length table ≤ most_locations) c.in_ok-listed.ensures.names_are
@@ -56,4 +56,4 @@ returns-in-Err g c = λ ne.
     )
 
 pub returns-in-Ok : goal.returns-in-Ok
-returns-in-Ok g c = ParsedCondition-of_parts c.in_ok-listed.ensures _ _ c.in_ok-quant.ensures.0 c.in-Ok.ensures
+returns-in-Ok g c = ParsedQuestion-of_parts c.in_ok-listed.ensures _ _ c.in_ok-quant.ensures.0 c.in-Ok.ensures

@@ -1,9 +1,9 @@
--- `see` promises that the item is appended if its site is listed, and that nothing changes otherwise. The
+-- `push_if_listed` promises that the item is appended if its site is listed, and that nothing changes otherwise. The
 -- loop's end says that no site is the wanted one; the early exit finds it.
 use Rattle.lw_text.proofs.Common.{◌≡◌, ℕ, Bool, true, false, List, length, ◌+◌, ◌<◌, append-nil, get_or}
 use Rattle.lw_text.proofs.Common.{is_listed, list_any, list_any_at, list_any_more, seen_of, sym, take}
 use Rattle.lw_text.proofs.Common.{take_all, ◌∙◌}
-use Rattle.lw_text.proofs.seen.see.Goals as goal
+use Rattle.lw_text.proofs.seen.push_if_listed.Goals as goal
 
 -- No element up to the next index passes the test.
 list_any-take_next : {X : Type 0} (p : X → Bool) (xs : List X) (i : ℕ) (x : X)

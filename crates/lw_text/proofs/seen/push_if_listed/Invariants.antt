@@ -1,6 +1,6 @@
 -- At each round `seen` is unchanged, and no site before the index is the wanted one.
 use Rattle.lw_text.proofs.Common.{◌≡◌, false, take, seen_of, is_listed}
-use Rattle.lw_text.proofs.seen.see.Given as goal
+use Rattle.lw_text.proofs.seen.push_if_listed.Given as goal
 
 abbrev pub invariant-loop-listed : goal.invariant-loop-listed
 invariant-loop-listed g l =

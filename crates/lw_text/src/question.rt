@@ -1,4 +1,4 @@
-//! The condition of a test: the list of names, the quantifier and the proposition.
+//! The question of a test, its end: the list of names, and the condition, which is a quantifier and a proposition.
 ghost use Rattle.std.specs.Prelude.{◌≡◌, ◌≢◌, ◌+◌, ◌≤◌, List, MatchResult};
 ghost use Rattle.lw_base.specs.NoParse.{ParsesNothing};
 ghost use Rattle.lw_base.specs.Formula.{Formula};
@@ -7,8 +7,8 @@ ghost use Rattle.lw_base.specs.declared.head.Quant.{Quant as QuantSyntax};
 ghost use Rattle.lw_text.specs.Propositions.{Terminal as TerminalSyntax};
 ghost use Rattle.lw_text.specs.Sites.{with_sites, SiteSyntax};
 ghost use Rattle.lw_text.specs.declared.fault.TextCause.TheVariants.{Memory};
-ghost use Rattle.lw_text.specs.Conditions.{AtomSyntax, Condition, Quantified};
-ghost use Rattle.lw_text.specs.inner.Parsed.{ParsedCondition, NoCondition};
+ghost use Rattle.lw_text.specs.Conditions.{AtomSyntax, ParsesQuestion, Quantified};
+ghost use Rattle.lw_text.specs.inner.Parsed.{ParsedQuestion, NoQuestion};
 
 use crate::cursor::Cursor;
 use crate::fault::{Refusal, TextCause};
@@ -18,11 +18,11 @@ use std::alloc::Allocator;
 
 impl<'t, 'a> Cursor<'t, 'a> {
     ghost use Rattle.lw_text.specs.Views.{remaining_texts, AdvancesTo, Fails};
-    ghost use Rattle.lw_text.specs.Failures.{FailsInCondition, FailsInQuantifier};
+    ghost use Rattle.lw_text.specs.Failures.{FailsInQuestion, FailsInQuantifier};
 
-    /// Parses the list of names, the quantifier and the proposition, which ends the text. Inserts the names of their
-    /// locations into the table.
-    pub(crate) fn parse_condition<A: Allocator + Copy>(
+    /// Parses the list of names, the quantifier and the proposition, which ends the text. Inserts the names of the
+    /// locations in the list and the proposition into the table.
+    pub(crate) fn parse_question<A: Allocator + Copy>(
         &mut self,
         alloc: A,
         arch: Arch,
@@ -32,9 +32,9 @@ impl<'t, 'a> Cursor<'t, 'a> {
         requires threads { threads ≤ MAX_THREADS }
         requires once { IsDuplicateFree locs.old }
         ensures { MatchResult result
-            (λ x. ParsedCondition arch threads (remaining_texts self.old) locs.old locs.new x.0 x.1 x.2)
-            (λ f. f.cause ≢ Memory → NoCondition arch threads (remaining_texts self.old) locs.old
-            × Fails self.old (FailsInCondition arch threads locs.old) f) }
+            (λ x. ParsedQuestion arch threads (remaining_texts self.old) locs.old locs.new x.0 x.1 x.2)
+            (λ f. f.cause ≢ Memory → NoQuestion arch threads (remaining_texts self.old) locs.old
+            × Fails self.old (FailsInQuestion arch threads locs.old) f) }
     {
         let listed = self.parse_listed(alloc, arch, threads, locs)?;
         let quant = self.parse_quantifier()?;
@@ -44,7 +44,7 @@ impl<'t, 'a> Cursor<'t, 'a> {
         }
     }
 
-    /// Parses the quantifier.
+    /// Parses the quantifier: `exists`, `~exists` or `forall`.
     fn parse_quantifier(&mut self) -> Result<Quant, Refusal>
         ensures { MatchResult result (λ q. Quantified (remaining_texts self.old) q (remaining_texts self.new) × AdvancesTo self.old self.new)
             (λ f. ParsesNothing (Quantified (remaining_texts self.old)) × Fails self.old FailsInQuantifier f) }
