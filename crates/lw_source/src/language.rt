@@ -54,7 +54,7 @@ impl StatementReader for SourceLanguage {
 
     ghost spelling = { source_spelling };
 
-    ghost made = { statement_of_operands };
+    ghost statement_of = { statement_of_operands };
 
     /// Returns the source language.
     fn arch() -> Arch {

@@ -7,12 +7,13 @@ use Rattle.lw_statements.proofs.Common.{name_in, IsLocationName, IsRegisterName,
 use Rattle.lw_statements.proofs.Common.{TokenList, name_by_test, decimal_is_number, Operands, Slot, Keyword}
 use Rattle.lw_statements.proofs.Common.{Register, Location, Value, Number, Label, BeginsStatement, CanBegin}
 use Rattle.lw_statements.proofs.Common.{IsLocationAfter, IsBeforeRegister, Spelling, SlotValue, Filling}
-use Rattle.lw_statements.proofs.Common.{Gives, Fills, grammar_of, CanStand, BeginsWith, IsSlotAfter}
+use Rattle.lw_statements.proofs.Common.{Gives, Fills, grammar_of, CanFill, BeginsWith, IsSlotAfter}
 use Rattle.lw_statements.proofs.Common.{HasSlotAfter, IsLocationSlot, IsRegisterSlot, are_clear_forms}
 use Rattle.lw_statements.proofs.Common.{is_operand_slot, is_word_slot, is_register_free, tokens_differ}
-use Rattle.lw_statements.proofs.Common.{names_register, names_none, names_one, IsSpelling}
+use Rattle.lw_statements.proofs.Common.{names_register, has_no_location_slot, has_at_most_one_location_slot}
+use Rattle.lw_statements.proofs.Common.{IsSpelling}
 use Rattle.lw_statements.proofs.api.Forms.{list_all-get}
-use Rattle.lw_statements.proofs.Slots.{not-given_to_differing_slots, location_slot, no_register-if_keyword}
+use Rattle.lw_statements.proofs.Slots.{not-Gives-differing_slots, location_slot, no_register-if_keyword}
 use Rattle.lw_statements.proofs.Slots.{not-register_and_location, register_no_number}
 use Rattle.lw_base.specs.declared.operand.Operand.TheVariants as operand
 
@@ -27,7 +28,7 @@ module _ {W Form Stmt : Type 0} (spelling : Spelling W Form Stmt) where
   slot_accepts_some Label = (codes "x", codes "x", (refl, (name_by_test (codes "x") refl, refl)))
 
   -- For any slots there are tokens that fill them.
-  slots_accept_some : (slots : List (Slot W)) → (ts : TokenList) × CanStand spelling ts slots
+  slots_accept_some : (slots : List (Slot W)) → (ts : TokenList) × CanFill spelling ts slots
   slots_accept_some [] = ([], (tt, tt))
   slots_accept_some (slot ∷ slots) =
       let s = slot_accepts_some slot in
@@ -42,11 +43,11 @@ module _ {W Form Stmt : Type 0} (spelling : Spelling W Form Stmt) where
       → BeginsWith spelling (spelling.slots_of form) t
       → CanBegin (grammar_of spelling) t
   CanBegin-of_form form t there (slot, rest, cut, here) =
-      let behind = slots_accept_some rest in
-      let whole : (f : Filling (spelling.slots_of form)) × Fills spelling (t ∷ behind.0) _ f =
-      subst (λ (slots : List (Slot W)). (f : Filling slots) × Fills spelling (t ∷ behind.0) slots f) (sym cut)
-      ((here.0.0, behind.1.0), (here.1.0, behind.1.1)) in
-      (behind.0, record { form = form; filling = whole.0 }, (there, whole.1))
+      let later = slots_accept_some rest in
+      let whole : (f : Filling (spelling.slots_of form)) × Fills spelling (t ∷ later.0) _ f =
+      subst (λ (slots : List (Slot W)). (f : Filling slots) × Fills spelling (t ∷ later.0) slots f) (sym cut)
+      ((here.0.0, later.1.0), (here.1.0, later.1.1)) in
+      (later.0, record { form = form; filling = whole.0 }, (there, whole.1))
 
   -- Tokens that fill slots start with one that the first slot accepts.
   pub BeginsWith-Fills : (t : Bytes) (rest : TokenList) (slots : List (Slot W)) (f : Filling slots)
@@ -58,42 +59,42 @@ module _ {W Form Stmt : Type 0} (spelling : Spelling W Form Stmt) where
   -- ---- a token after others
 
   -- Tokens and a further one, accepted by the slot after theirs, begin tokens that fill the slots.
-  pub CanStand-after : (slots : List (Slot W)) (slot : Slot W) (ts : TokenList) (t : Bytes)
+  pub CanFill-after : (slots : List (Slot W)) (slot : Slot W) (ts : TokenList) (t : Bytes)
       → IsSlotAfter spelling ts slots slot
-      → CanStand spelling (t ∷ []) (slot ∷ [])
-      → (rest : TokenList) × CanStand spelling ((ts ++ t ∷ []) ++ rest) slots
-  CanStand-after [] slot ts t h here = absurd h
-  CanStand-after (s ∷ slots) slot [] t h here =
+      → CanFill spelling (t ∷ []) (slot ∷ [])
+      → (rest : TokenList) × CanFill spelling ((ts ++ t ∷ []) ++ rest) slots
+  CanFill-after [] slot ts t h here = absurd h
+  CanFill-after (s ∷ slots) slot [] t h here =
       let r = slots_accept_some slots in
-      let at = subst (λ (u : Slot W). CanStand spelling (t ∷ []) (u ∷ [])) (sym h) here in
+      let at = subst (λ (u : Slot W). CanFill spelling (t ∷ []) (u ∷ [])) (sym h) here in
       (r.0, ((at.0.0, r.1.0), (at.1.0, r.1.1)))
-  CanStand-after (s ∷ slots) slot (u ∷ ts) t h here =
-      let r = CanStand-after slots slot ts t h.1 here in (r.0, ((h.0.0.0, r.1.0), (h.0.1.0, r.1.1)))
+  CanFill-after (s ∷ slots) slot (u ∷ ts) t h here =
+      let r = CanFill-after slots slot ts t h.1 here in (r.0, ((h.0.0.0, r.1.0), (h.0.1.0, r.1.1)))
 
   -- Tokens up to a slot, and a token that this slot accepts, begin a statement of the slots' form.
   pub BeginsStatement-after : (form : Form) (slot : Slot W) (ts : TokenList) (t : Bytes)
       → Contains spelling.forms form
       → IsSlotAfter spelling ts (spelling.slots_of form) slot
-      → CanStand spelling (t ∷ []) (slot ∷ [])
+      → CanFill spelling (t ∷ []) (slot ∷ [])
       → BeginsStatement (grammar_of spelling) (ts ++ t ∷ [])
   BeginsStatement-after form slot ts t there after here =
-      let r = CanStand-after (spelling.slots_of form) slot ts t after here in
+      let r = CanFill-after (spelling.slots_of form) slot ts t after here in
       (r.0, record { form = form; filling = r.1.0 }, (there, r.1.1))
 
   -- Of tokens that fill slots, each is accepted by the slot after those of the tokens before it.
   slot_of : (slots : List (Slot W)) (ts rest : TokenList) (t : Bytes) (f : Filling slots)
       → Fills spelling (ts ++ t ∷ rest) slots f
-      → (slot : Slot W) × IsSlotAfter spelling ts slots slot × CanStand spelling (t ∷ []) (slot ∷ [])
+      → (slot : Slot W) × IsSlotAfter spelling ts slots slot × CanFill spelling (t ∷ []) (slot ∷ [])
   slot_of [] [] rest t f h = absurd h
   slot_of [] (u ∷ ts) rest t f h = absurd h
   slot_of (s ∷ slots) [] rest t f h = (s, refl, ((f.0, tt), (h.0, tt)))
   slot_of (s ∷ slots) (u ∷ ts) rest t f h = let r = slot_of slots ts rest t f.1 h.1 in (r.0, (((f.0, tt), (h.0, tt)), r.1), r.2)
 
   -- If a statement begins with tokens and a further one, some form has a slot for that after those of the others.
-  pub after_beginning : (ts : TokenList) (t : Bytes)
+  pub HasSlotAfter-if_begins : (ts : TokenList) (t : Bytes)
       → BeginsStatement (grammar_of spelling) (ts ++ t ∷ [])
-      → HasSlotAfter spelling (λ slot. CanStand spelling (t ∷ []) (slot ∷ [])) ts
-  after_beginning ts t (rest, s, says) =
+      → HasSlotAfter spelling (λ slot. CanFill spelling (t ∷ []) (slot ∷ [])) ts
+  HasSlotAfter-if_begins ts t (rest, s, says) =
       let r =
       slot_of (spelling.slots_of s.form) ts rest t s.filling
       (subst (λ (us : TokenList). Fills spelling us (spelling.slots_of s.form) s.filling) (append_assoc ts (t ∷ []) rest)
@@ -118,13 +119,13 @@ module _ {W Form Stmt : Type 0} (spelling : Spelling W Form Stmt) where
         | inr none ↦ none
       ]
   is_word_slot-false_after (t ∷ ts) (s ∷ first) (u ∷ second) a b clear x y o =
-      let behind = (and_parts _ (tokens_differ spelling s u || are_clear_forms spelling first second) clear).1 in
+      let later = (and_parts _ (tokens_differ spelling s u || are_clear_forms spelling first second) clear).1 in
       elim (cases_Bool (tokens_differ spelling s u)) [
-        | inl differ ↦ absurd (not-given_to_differing_slots spelling t s u x.0.0.0 y.0.0.0 differ x.0.1.0 y.0.1.0)
+        | inl differ ↦ absurd (not-Gives-differing_slots spelling t s u x.0.0.0 y.0.0.0 differ x.0.1.0 y.0.1.0)
         | inr same ↦
             is_word_slot-false_after ts first second a b
             (let h : (false || are_clear_forms spelling first second) ≡ true =
-            subst (λ (z : Bool). (z || are_clear_forms spelling first second) ≡ true) same behind in
+            subst (λ (z : Bool). (z || are_clear_forms spelling first second) ≡ true) same later in
             h) x.1 y.1 o
       ]
 
@@ -145,16 +146,16 @@ module _ {W Form Stmt : Type 0} (spelling : Spelling W Form Stmt) where
     only_location : (other : Form) (b : Slot W) (x : Bytes)
         → Contains spelling.forms other
         → IsSlotAfter spelling ts (spelling.slots_of other) b
-        → CanStand spelling (x ∷ []) (b ∷ [])
+        → CanFill spelling (x ∷ []) (b ∷ [])
         → IsLocationName x
         → b ≡ Location
-    only_location other b x here behind stand loc =
+    only_location other b x here later stand loc =
         location_slot spelling x b stand.0.0
-        (is_word_slot-false_after ts _ _ slot b (are_clear_forms-of_other other here) after behind operand) stand.1.0 loc
+        (is_word_slot-false_after ts _ _ slot b (are_clear_forms-of_other other here) after later operand) stand.1.0 loc
 
   -- No slot is a location's after one, in the slots of a form.
   no_location_slot-after : (ts : TokenList) (slots : List (Slot W))
-      → names_none spelling slots ≡ true
+      → has_no_location_slot spelling slots ≡ true
       → IsSlotAfter spelling ts slots Location
       → ⊥
   no_location_slot-after ts [] e h = absurd h
@@ -165,7 +166,7 @@ module _ {W Form Stmt : Type 0} (spelling : Spelling W Form Stmt) where
 
   -- The token in the slot of a location is the name of the statement's location.
   pub location_name-in_slot : (ts rest : TokenList) (x : Bytes) (slots : List (Slot W)) (f : Filling slots)
-      → names_one spelling slots ≡ true
+      → has_at_most_one_location_slot spelling slots ≡ true
       → IsSlotAfter spelling ts slots Location
       → Fills spelling (ts ++ x ∷ rest) slots f
       → name_in slots f ≡ Some x
@@ -176,14 +177,14 @@ module _ {W Form Stmt : Type 0} (spelling : Spelling W Form Stmt) where
   location_name-in_slot (t ∷ ts) rest x (slot ∷ slots) f e h fills = location_name-in_slot ts rest x slots f.1 e h.1 fills.1
 
   -- After tokens that the slots before a form's location accept, a location is that of each statement.
-  pub location_after : (made : Form → Operands → Option Stmt)
+  pub IsLocationAfter-of_slots : (made : Form → Operands → Option Stmt)
       → IsSpelling spelling made
       → (form : Form) (ts : TokenList) (x : Bytes)
       → Contains spelling.forms form
       → IsSlotAfter spelling ts (spelling.slots_of form) Location
       → IsLocationName x
       → IsLocationAfter (grammar_of spelling) ts x
-  location_after made lawful form ts x there after loc = record {
+  IsLocationAfter-of_slots made lawful form ts x there after loc = record {
     begins = BeginsStatement-after form Location ts x there after ((x, tt), ((refl, loc), tt));
     only = λ rest s says.
         let r = slot_of (spelling.slots_of s.form) ts rest x s.filling says.1 in
@@ -194,44 +195,47 @@ module _ {W Form Stmt : Type 0} (spelling : Spelling W Form Stmt) where
   }
 
   -- No keyword among the slots is a register's name.
-  free_after : (ts : TokenList) (slots : List (Slot W)) (w : W)
+  no_register_name-keyword : (ts : TokenList) (slots : List (Slot W)) (w : W)
       → is_register_free spelling slots ≡ true
       → IsSlotAfter spelling ts slots (Keyword w)
       → not (names_register spelling (spelling.text_of w)) ≡ true
-  free_after ts [] w e h = absurd h
-  free_after [] (Keyword v ∷ slots) w e h =
+  no_register_name-keyword ts [] w e h = absurd h
+  no_register_name-keyword [] (Keyword v ∷ slots) w e h =
       subst (λ (u : W). not (names_register spelling (spelling.text_of u)) ≡ true) (let same : v ≡ w = cc in same)
       (and_parts _ (is_register_free spelling slots) e).0
-  free_after [] (slot ∷ slots) w e h = absurd cc
-  free_after (t ∷ ts) (Keyword v ∷ slots) w e h = free_after ts slots w (and_parts _ (is_register_free spelling slots) e).1 h.1
-  free_after (t ∷ ts) (slot ∷ slots) w e h = free_after ts slots w e h.1
+  no_register_name-keyword [] (slot ∷ slots) w e h = absurd cc
+  no_register_name-keyword (t ∷ ts) (Keyword v ∷ slots) w e h =
+      no_register_name-keyword ts slots w (and_parts _ (is_register_free spelling slots) e).1 h.1
+  no_register_name-keyword (t ∷ ts) (slot ∷ slots) w e h = no_register_name-keyword ts slots w e h.1
 
   -- A slot that accepts a register's name, and is no such keyword, is that of a register.
-  register_slot : (slot : Slot W) (g : SlotValue slot) (q : Bytes) (r : ℕ)
+  IsRegisterSlot-of_name : (slot : Slot W) (g : SlotValue slot) (q : Bytes) (r : ℕ)
       → ((w : W) → slot ≡ Keyword w → not (names_register spelling (spelling.text_of w)) ≡ true)
       → IsRegisterName spelling.language.arch q r
       → Gives spelling q slot g
       → IsRegisterSlot slot
-  register_slot (Keyword w) g q r free reg h = absurd (no_register-if_keyword spelling q w r (free w refl) h reg)
-  register_slot Register g q r free reg h = inl refl
-  register_slot Location x q r free reg h = absurd (not-register_and_location _ q r reg (subst IsLocationName (sym h.0) h.1))
-  register_slot Value g q r free reg h = inr refl
-  register_slot Number n q r free reg h = absurd (register_no_number _ q r n reg h)
-  register_slot Label x q r free reg h = absurd (not-register_and_location _ q r reg (subst IsLocationName (sym h.0) h.1))
+  IsRegisterSlot-of_name (Keyword w) g q r free reg h = absurd (no_register-if_keyword spelling q w r (free w refl) h reg)
+  IsRegisterSlot-of_name Register g q r free reg h = inl refl
+  IsRegisterSlot-of_name Location x q r free reg h =
+      absurd (not-register_and_location _ q r reg (subst IsLocationName (sym h.0) h.1))
+  IsRegisterSlot-of_name Value g q r free reg h = inr refl
+  IsRegisterSlot-of_name Number n q r free reg h = absurd (register_no_number _ q r n reg h)
+  IsRegisterSlot-of_name Label x q r free reg h =
+      absurd (not-register_and_location _ q r reg (subst IsLocationName (sym h.0) h.1))
 
   module _ (made : Form → Operands → Option Stmt) (lawful : IsSpelling spelling made) (ts : TokenList) where
     -- If a register may follow the tokens, some form has one there.
-    pub register_after : IsBeforeRegister (grammar_of spelling) ts → HasSlotAfter spelling IsRegisterSlot ts
-    register_after b =
-        let h = after_beginning ts b.name b.begins in
+    pub HasSlotAfter-before_register : IsBeforeRegister (grammar_of spelling) ts → HasSlotAfter spelling IsRegisterSlot ts
+    HasSlotAfter-before_register b =
+        let h = HasSlotAfter-if_begins ts b.name b.begins in
         let free = list_all-get _ spelling.forms h.1.0 h.0 lawful.words h.1.1 h.1.2 in (
           h.0,
           h.1,
           (
             h.2.0,
             h.2.1,
-            register_slot h.2.0 h.2.2.0.0 b.name b.register (λ w is.
-                free_after ts (spelling.slots_of h.0) w free
+            IsRegisterSlot-of_name h.2.0 h.2.2.0.0 b.name b.register (λ w is.
+                no_register_name-keyword ts (spelling.slots_of h.0) w free
                 (subst (λ (s : Slot W). IsSlotAfter spelling ts (spelling.slots_of h.0) s) is h.2.1)) b.named h.2.2.1.0,
           ),
         )
@@ -248,27 +252,27 @@ module _ {W Form Stmt : Type 0} (spelling : Spelling W Form Stmt) where
         (subst (λ (u : Slot W). IsSlotAfter spelling ts (spelling.slots_of form) u) is after) ((x, tt), ((refl, loc), tt)))
 
     -- A slot that takes a register accepts the name of the first register.
-    CanStand-register : (slot : Slot W)
+    CanFill-register : (slot : Slot W)
         → IsRegisterSlot slot
-        → CanStand spelling (register_name spelling.language.arch 0 ∷ []) (slot ∷ []) × (is_operand_slot slot ≡ true)
-    CanStand-register Register h = (((0, tt), ((omega arith, refl), tt)), refl)
-    CanStand-register Value h = (((operand.Register 0, tt), ((omega arith, refl), tt)), refl)
-    CanStand-register slot (inl e) = absurd cc
-    CanStand-register slot (inr e) = absurd cc
+        → CanFill spelling (register_name spelling.language.arch 0 ∷ []) (slot ∷ []) × (is_operand_slot slot ≡ true)
+    CanFill-register Register h = (((0, tt), ((omega arith, refl), tt)), refl)
+    CanFill-register Value h = (((operand.Register 0, tt), ((omega arith, refl), tt)), refl)
+    CanFill-register slot (inl e) = absurd cc
+    CanFill-register slot (inr e) = absurd cc
 
     -- If some form has a register after the tokens, and none a location, a register may follow and no location.
-    pub before_register : HasSlotAfter spelling IsRegisterSlot ts
+    pub IsBeforeRegister-of_slots : HasSlotAfter spelling IsRegisterSlot ts
         → (HasSlotAfter spelling IsLocationSlot ts → ⊥)
         → IsBeforeRegister (grammar_of spelling) ts
-    before_register (form, there, (slot, after, is)) none =
-        let s = CanStand-register slot is in
+    IsBeforeRegister-of_slots (form, there, (slot, after, is)) none =
+        let s = CanFill-register slot is in
         record {
           name = register_name spelling.language.arch 0;
           register = 0;
           named = (omega arith, refl);
           begins = BeginsStatement-after form slot ts _ there after s.0;
           no_location = λ x loc b.
-              let h = after_beginning ts x b in
+              let h = HasSlotAfter-if_begins ts x b in
               let is = only_location made lawful ts form there slot after s.1 h.0 h.2.0 x h.1 h.2.1 h.2.2 loc in
               none (h.0, h.1, (h.2.0, h.2.1, is));
         }

@@ -103,13 +103,13 @@ FaultClaim-weakened f g h t = record {
 }
 
 -- A fault because memory ran out rejects whatever was to be read, since its cause claims nothing of a position.
-pub refusal-Memory : {unfit : Type 0} {told : ℕ → CellCause → Type 0} {lies : ℕ → Type 0} (f : CellFault)
-    → ((at : ℕ) → told at Memory)
+pub Refused-Memory : {unfit : Type 0} {claim : ℕ → CellCause → Type 0} {all_within : ℕ → Type 0} (f : CellFault)
+    → ((at : ℕ) → claim at Memory)
     → f.cause ≡ Memory
     → f.at ≡ 0
-    → Refused unfit told lies f
-refusal-Memory {unfit} {told} {lies} f tells memory first = record {
+    → Refused unfit claim all_within f
+Refused-Memory {unfit} {claim} {all_within} f tells memory first = record {
   none = λ known. absurd (known memory);
-  cause = subst (told f.at) (sym memory) (tells f.at);
+  cause = subst (claim f.at) (sym memory) (tells f.at);
   place = λ len within. omega (arith, first);
 }

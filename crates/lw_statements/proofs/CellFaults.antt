@@ -103,14 +103,14 @@ module _ {Syntax Stmt : Type 0} (grammar : Grammar Syntax Stmt) where
   -- The number of statements above a cell, the labels above it, the table there, and its tokens.
   module _ (count : ℕ) (known : List Bytes) (table : NameTable) (ts : TokenList) where
     -- The thread has room for one more statement.
-    abbrev pub HasFree : Type 0
-    HasFree = count ≡ grammar.language.most → ⊥
+    abbrev pub HasRoomForStatement : Type 0
+    HasRoomForStatement = count ≡ grammar.language.most → ⊥
 
     -- What is read of the cell: labels and `mid`, which can be continued; `rest` follows.
     pub record IsFront (labels : List Bytes) (mid rest : TokenList) : Type 0 where
       pub says : Labels ts labels (mid ++ rest)
       pub without_duplicates : IsDuplicateFree (known ++ labels)
-      pub begun : (mid ≡ [] → ⊥) → HasFree × BeginsFitting grammar table mid
+      pub begun : (mid ≡ [] → ⊥) → HasRoomForStatement × BeginsFitting grammar table mid
       pub phase : (BeginsWithLabel (mid ++ rest) → ⊥) ⊎ (mid ≡ [])
 
     -- The token in the place of a label is none, or a second one, for this cause.
@@ -159,7 +159,7 @@ module _ {Syntax Stmt : Type 0} (grammar : Grammar Syntax Stmt) where
     -- With a bad token no statement that fits begins.
     bad_token : (mid : TokenList) (t : Bytes) (c : CellCause)
         → IsBadToken mid t c
-        → HasFree
+        → HasRoomForStatement
         → BeginsFitting grammar table (mid ++ t ∷ [])
         → ⊥
     bad_token mid t c (inl (none, m)) free b = none (b.rest, b.syntax, b.says)

@@ -7,14 +7,14 @@ use Rattle.lw_statements.proofs.Common.{CellFault, Cell, EndsBefore, cell_texts,
 use Rattle.lw_statements.proofs.Common.{DraftColumn, Phrase, Grammar, IsGrammar, CellSyntax, MaybeStatement}
 use Rattle.lw_statements.proofs.Common.{ParsesCell, statements, labels_of, names_in, AllEndBefore, LabelMap}
 use Rattle.lw_statements.proofs.Common.{draft_cell, ColumnDrafted, LabelsTaken, LabelsRefused, MaybeRefused}
-use Rattle.lw_statements.proofs.Common.{ColumnFits, ColumnRefused, bare}
-use Rattle.lw_statements.proofs.Causes.{refusal-Memory}
+use Rattle.lw_statements.proofs.Common.{ColumnFits, ColumnRefused, cell_without_labels}
+use Rattle.lw_statements.proofs.Causes.{Refused-Memory}
 use Rattle.lw_statements.proofs.Drafts.{draft_cell-insert_names, HasExactlyLabels-drafted}
 use Rattle.lw_statements.proofs.Elements.{All-middle}
 use Rattle.lw_statements.proofs.FaultPlaces.{ColumnFaultIsTrue-labels, ColumnFaultIsTrue-statement}
 use Rattle.lw_statements.proofs.FrontLabels.{Labels-whole, Labels-unique}
 use Rattle.lw_statements.proofs.Leads.{labels_of-append, count-append}
-use Rattle.lw_statements.proofs.OneReading.{cell_unique, no_label-if_statement}
+use Rattle.lw_statements.proofs.OneReading.{ParsesCell-unique, no_label-if_statement}
 use Rattle.lw_statements.proofs.ResolvedNames.{names_in-append}
 use Rattle.lw_statements.proofs.TablesRead.{syntaxes_above_read, room_for_read_names}
 use Rattle.lw_statements.proofs.api.Zips.{Cut, AllZip-split}
@@ -26,11 +26,11 @@ IsDuplicateFree-front (x ∷ xs) ys h = ((λ there. h.0 (Contains-append_left xs
 
 module _ {Syntax Stmt : Type 0} (grammar : Grammar Syntax Stmt) where
   -- A fault because memory ran out rejects the cells of a thread.
-  pub column_out_of_memory : {A : Type 0} (names : NameTable) (cells : List (Cell A)) (f : CellFault)
+  pub ColumnRefused-out_of_memory : {A : Type 0} (names : NameTable) (cells : List (Cell A)) (f : CellFault)
       → f.cause ≡ Memory
       → f.at ≡ 0
       → ColumnRefused grammar names cells f
-  column_out_of_memory names cells f = refusal-Memory f (λ at table front rest threads says grown. tt)
+  ColumnRefused-out_of_memory names cells f = Refused-Memory f (λ at table front rest threads says grown. tt)
 
   module _ (lawful : IsGrammar grammar) {D : Type 0} (draft_of : ℕ → Syntax → D) where
     -- A cell, after those that were read and before the others.
@@ -47,18 +47,18 @@ module _ {Syntax Stmt : Type 0} (grammar : Grammar Syntax Stmt) where
         syntaxes_above_equal =
             syntaxes_above_read (names_in grammar) (draft_cell grammar draft_of) (names_in-append grammar)
             (draft_cell-insert_names grammar draft_of) (ParsesCell grammar) (cells_texts front) before mid column.cells
-            drafted.read (cell_texts cell) (cell_unique grammar lawful) (cells_texts rest) t cut
+            drafted.read (cell_texts cell) (ParsesCell-unique grammar lawful) (cells_texts rest) t cut
 
         -- The names of the cell have room in the table.
         names_fit : length (insert_names mid (names_in grammar (cut.here ∷ []))) ≤ most_locations
         names_fit =
             let room =
             room_for_read_names _ _ (names_in-append grammar) (draft_cell-insert_names grammar draft_of) _ _ before mid
-            column.cells drafted.read (cell_texts cell) (cell_unique grammar lawful) _ t cut in
+            column.cells drafted.read (cell_texts cell) (ParsesCell-unique grammar lawful) _ t cut in
             omega (arith, room, fits.1)
 
         -- The cell's statement has room in the thread.
-        count_fits : column.count + length (statements (bare cut.here.stmt ∷ [])) ≤ grammar.language.most
+        count_fits : column.count + length (statements (cell_without_labels cut.here.stmt ∷ [])) ≤ grammar.language.most
         count_fits = omega (
           arith,
           fits.0.bounded,
@@ -80,10 +80,10 @@ module _ {Syntax Stmt : Type 0} (grammar : Grammar Syntax Stmt) where
             IsDuplicateFree-front _ (labels_of cut.below) (subst IsDuplicateFree whole fits.0.without_duplicates)
 
       -- If this cell's labels are rejected, so are the thread's cells.
-      pub labels_refused : (f : CellFault)
+      pub ColumnRefused-LabelsRefused : (f : CellFault)
           → LabelsRefused cell.tokens column.labels f
           → ColumnRefused grammar before (front ++ cell ∷ rest) f
-      labels_refused f r = record {
+      ColumnRefused-LabelsRefused f r = record {
         none = λ known t fits.
             let y = cut t fits in
             r.none known y.here.labels (record {
@@ -102,7 +102,7 @@ module _ {Syntax Stmt : Type 0} (grammar : Grammar Syntax Stmt) where
       }
 
       -- If what follows this cell's labels is rejected, so are the thread's cells.
-      pub statement_refused : (f : CellFault) (next : ℕ) (after : LabelMap)
+      pub ColumnRefused-MaybeRefused : (f : CellFault) (next : ℕ) (after : LabelMap)
           → LabelsTaken cell.tokens column.count column.labels next after
           → (phrase : Phrase)
           → phrase.tokens.now ≡ drop next cell.tokens
@@ -110,14 +110,14 @@ module _ {Syntax Stmt : Type 0} (grammar : Grammar Syntax Stmt) where
           → ((len : ℕ) → EndsBefore len cell → AllEndBefore len phrase)
           → MaybeRefused grammar column.count mid phrase f
           → ColumnRefused grammar before (front ++ cell ∷ rest) f
-      statement_refused f next after taken phrase behind ends lies r = record {
+      ColumnRefused-MaybeRefused f next after taken phrase later ends lies r = record {
         none = λ known t fits.
             let y = cut t fits in
             let stops = no_label-if_statement grammar lawful y.says.0 y.here.stmt y.says.2 in
             let one =
             Labels-unique (cell_texts cell) y.says.0 _ y.here.labels taken.read.names y.says.1
             (Labels-whole cell.tokens next taken.read.names taken.read.says) stops taken.stops in
-            let rest_is : y.says.0 ≡ token_texts phrase.tokens.now = one.1 ∙ ap token_texts (sym behind) in
+            let rest_is : y.says.0 ≡ token_texts phrase.tokens.now = one.1 ∙ ap token_texts (sym later) in
             r.none known y.here.stmt (record {
               says = subst (λ u. MaybeStatement grammar u y.here.stmt) rest_is y.says.2;
               bounded = count_fits t fits;
@@ -127,6 +127,6 @@ module _ {Syntax Stmt : Type 0} (grammar : Grammar Syntax Stmt) where
             ColumnFaultIsTrue-statement grammar front rest cell _ drafted.read.says drafted.bounded before mid drafted.read.names
             drafted.room f.at f.cause drafted.without_duplicates column.labels
             (HasExactlyLabels-drafted grammar draft_of front before mid column drafted) after next (rw drafted.counted at taken)
-            (rw (drafted.counted, behind, ends) at r.cause);
+            (rw (drafted.counted, later, ends) at r.cause);
         place = λ len within. r.place len (lies len (All-middle (EndsBefore len) front rest cell within));
       }

@@ -67,15 +67,16 @@ pub use Rattle.lw_text.proofs.api.Places.{cells_placed, grid_placed, texts_place
 pub use Rattle.lw_text.proofs.api.Spelling.{decimal_is_number, name_by_test}
 pub use Rattle.lw_text.specs.declared.cell.Cell.{Cell}
 pub use Rattle.lw_text.specs.declared.token.Token.{Token}
-pub use Rattle.lw_statements.specs.Bindings.{AreFront, BeginsWith, CanStand, HasNext, HasSlotAfter, IsDrafted}
-pub use Rattle.lw_statements.specs.Bindings.{IsFirstRejected, IsLocationSlot, IsLongestFront, IsMade}
-pub use Rattle.lw_statements.specs.Bindings.{IsNameAmong, IsNotDrafted, IsOverflowSlot, IsReach}
-pub use Rattle.lw_statements.specs.Bindings.{IsRegisterSlot, IsSlotAfter, IsSpelling, all_apart}
-pub use Rattle.lw_statements.specs.Bindings.{are_clear_forms, are_disjoint_forms, bind_slot, bindings_of}
-pub use Rattle.lw_statements.specs.Bindings.{draft_of, draft_on, is_label_last, is_no_colon, is_no_location}
+pub use Rattle.lw_statements.specs.Bindings.{AcceptAtMost, BeginsWith, CanFill, HasNext, HasSlotAfter}
+pub use Rattle.lw_statements.specs.Bindings.{IsAcceptedLength, IsDrafted, IsFirstRejected, IsLocationSlot}
+pub use Rattle.lw_statements.specs.Bindings.{IsLongestAccepted, IsMade, IsNameAmong, IsNotDrafted}
+pub use Rattle.lw_statements.specs.Bindings.{IsOverflowSlot, IsRegisterSlot, IsSlotAfter, IsSpelling}
+pub use Rattle.lw_statements.specs.Bindings.{all_apart, are_clear_forms, are_disjoint_forms, bind_slot}
+pub use Rattle.lw_statements.specs.Bindings.{bindings_of, draft_of, draft_on, has_at_most_one_location_slot}
+pub use Rattle.lw_statements.specs.Bindings.{has_no_location_slot, is_label_last, is_no_colon, is_no_location}
 pub use Rattle.lw_statements.specs.Bindings.{is_operand_slot, is_register_free, is_statement, is_word_slot}
-pub use Rattle.lw_statements.specs.Bindings.{names_none, names_one, names_register, no_bindings, numbers_in}
-pub use Rattle.lw_statements.specs.Bindings.{registers_in, tokens_differ, with_target}
+pub use Rattle.lw_statements.specs.Bindings.{names_register, no_bindings, numbers_in, registers_in}
+pub use Rattle.lw_statements.specs.Bindings.{tokens_differ, with_target}
 pub use Rattle.lw_statements.specs.Cells.{CellSyntax, Column, FrameHasTest, Labels, LabelsLeadForward}
 pub use Rattle.lw_statements.specs.Cells.{MaybeStatement, ParsesCell, code_in, labels_of, location_index}
 pub use Rattle.lw_statements.specs.Cells.{names_in, names_of, resolve_test, resolved_statement}
@@ -100,16 +101,17 @@ pub use Rattle.lw_statements.specs.declared.slot.Slot.{Slot}
 pub use Rattle.lw_statements.specs.declared.slot.Slot.TheVariants.{Keyword, Label, Location, Number, Register}
 pub use Rattle.lw_statements.specs.declared.slot.Slot.TheVariants.{Value}
 pub use Rattle.lw_statements.specs.declared.statement_parser.SlotBindings.{SlotBindings}
-pub use Rattle.lw_statements.specs.inner.Drafts.{ColumnDrafted, IsFresh, LabelMap, MapsLabelsAs, ReadOn}
-pub use Rattle.lw_statements.specs.inner.Drafts.{draft_cell, draft_in, label_target, target_by}
+pub use Rattle.lw_statements.specs.inner.Drafts.{ColumnDrafted, IsFresh, LabelMap, MapsLabelsAs}
+pub use Rattle.lw_statements.specs.inner.Drafts.{ReadWithTable, draft_cell, draft_in, label_target, target_by}
 pub use Rattle.lw_statements.specs.inner.Reading.{AllForward, BeginsStatementAt, ColumnFaultIsTrue}
 pub use Rattle.lw_statements.specs.inner.Reading.{ColumnFits, ColumnRead, ColumnRefused, ColumnsRead}
 pub use Rattle.lw_statements.specs.inner.Reading.{ColumnsRefused, EndsEarlyIn, Fits, FitsBelow}
-pub use Rattle.lw_statements.specs.inner.Reading.{HasDuplicateLabelAt, HasExactlyLabels, HasMisfitIn}
-pub use Rattle.lw_statements.specs.inner.Reading.{HasNoLabelAt, HasOverflowIn, IsAtLabel, IsCellResolved}
-pub use Rattle.lw_statements.specs.inner.Reading.{IsResolvable, IsResolved, IsUnresolved, JumpCause}
-pub use Rattle.lw_statements.specs.inner.Reading.{LabelsFit, LabelsRead, LabelsRefused, LabelsTaken}
-pub use Rattle.lw_statements.specs.inner.Reading.{LedForward, MaybeRead, MaybeRefused}
+pub use Rattle.lw_statements.specs.inner.Reading.{HasDuplicateLabelAt, HasExactlyLabels, HasForwardTarget}
+pub use Rattle.lw_statements.specs.inner.Reading.{HasMisfitIn, HasNoLabelAt, HasOverflowIn, IsAtLabel}
+pub use Rattle.lw_statements.specs.inner.Reading.{IsCellResolved, IsJumpCause, IsResolvable, IsResolved}
+pub use Rattle.lw_statements.specs.inner.Reading.{IsUnresolved, LabelsFit, LabelsRead, LabelsRefused}
+pub use Rattle.lw_statements.specs.inner.Reading.{LabelsTaken, MaybeRead, MaybeRefused}
 pub use Rattle.lw_statements.specs.inner.Reading.{OptionalStatementFaultIsTrue, StatementFaultIsTrue}
-pub use Rattle.lw_statements.specs.inner.Reading.{StatementRead, StatementRefused, WrongIn, bare, named_by}
+pub use Rattle.lw_statements.specs.inner.Reading.{StatementRead, StatementRefused, WrongIn}
+pub use Rattle.lw_statements.specs.inner.Reading.{cell_without_labels, named_by}
 pub use Rattle.lw_statements.specs.inner.Tokens.{AllEndBefore, FaultClaim, NameRead, Refused}

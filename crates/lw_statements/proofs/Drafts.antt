@@ -9,8 +9,8 @@ use Rattle.lw_statements.proofs.Common.{cells_texts, DraftColumn, DraftCell, Phr
 use Rattle.lw_statements.proofs.Common.{CellSyntax, ParsesCell, statements, labels_of, names_in, draft_in}
 use Rattle.lw_statements.proofs.Common.{draft_cell, IsFresh, ColumnDrafted, Fits, FitsBelow}
 use Rattle.lw_statements.proofs.Common.{OptionalStatementFaultIsTrue, HasExactlyLabels, LabelsTaken}
-use Rattle.lw_statements.proofs.Common.{StatementRead, MaybeRead, bare, StatementRefused, MaybeRefused}
-use Rattle.lw_statements.proofs.Common.{HasMisfitIn, EndsEarlyIn, WrongIn, Form}
+use Rattle.lw_statements.proofs.Common.{StatementRead, MaybeRead, cell_without_labels, StatementRefused}
+use Rattle.lw_statements.proofs.Common.{MaybeRefused, HasMisfitIn, EndsEarlyIn, WrongIn, Form}
 use Rattle.lw_statements.proofs.Causes.{FaultClaim-weakened, FaultClaim-TooMany, FaultClaim-wrong}
 use Rattle.lw_statements.proofs.Elements.{All-get}
 use Rattle.lw_statements.proofs.FrontLabels.{get_text, Labels-whole}
@@ -84,11 +84,11 @@ module _ {Syntax Stmt D : Type 0} (grammar : Grammar Syntax Stmt) (draft_of : �
         ⊎ ((m : HasMisfitIn grammar tokens names e.at e.cause) × (m.place ≡ 0))
 
     -- If the thread has the maximum number of statements and tokens follow the labels, the first of them is rejected.
-    pub surplus_refused : above ≡ grammar.language.most
+    pub MaybeRefused-surplus : above ≡ grammar.language.most
         → IsSurplusFault f
         → f.at ≡ t.at
         → MaybeRefused grammar above names phrase f
-    surplus_refused full told place = record {
+    MaybeRefused-surplus full told place = record {
       none = λ known. no_statement_fits full;
       cause = go told;
       place = λ len lies. omega (arith, place, All-get (λ (u : Token). u.at ≤ len) tokens 0 t (sym first) lies.0);
@@ -125,7 +125,7 @@ module _ {Syntax Stmt D : Type 0} (grammar : Grammar Syntax Stmt) (draft_of : �
   -- The draft of what follows the labels has as many statements as the syntax: one or none.
   pub statement_count-of_draft : (o : Option Syntax) (stmt : Option D) (f : Syntax → D)
       → stmt ≡ option_map f o
-      → option_len stmt ≡ length (statements (bare o ∷ []))
+      → option_len stmt ≡ length (statements (cell_without_labels o ∷ []))
   statement_count-of_draft None stmt f e = ap option_len e
   statement_count-of_draft (Some s) stmt f e = ap option_len e
 
@@ -138,7 +138,7 @@ module _ {Syntax Stmt D : Type 0} (grammar : Grammar Syntax Stmt) (draft_of : �
       (go syntax.stmt all)
     where
       go : (o : Option Syntax)
-          → AreIn names (names_in grammar (bare o ∷ []))
+          → AreIn names (names_in grammar (cell_without_labels o ∷ []))
           → option_map (draft_in grammar draft_of (insert_names names ns)) o ≡ option_map (draft_in grammar draft_of names) o
       go None all = refl
       go (Some s) all = ap (λ (x : ℕ). Some (draft_of x s)) (location_index-insert_names names ns (grammar.name_of s) all)
@@ -152,7 +152,7 @@ module _ {Syntax Stmt D : Type 0} (grammar : Grammar Syntax Stmt) (draft_of : �
     read = record { syntax = []; says = tt; names = refl; made = fresh.cells };
     bounded = omega arith;
     without_duplicates = tt;
-    leads = fresh.labels;
+    labels_are = fresh.labels;
     counted = fresh.count;
     room = few;
   }
@@ -165,7 +165,7 @@ module _ {Syntax Stmt D : Type 0} (grammar : Grammar Syntax Stmt) (draft_of : �
 
     -- The column's map has exactly the labels of these cells.
     pub HasExactlyLabels-drafted : HasExactlyLabels column.labels (labels_of drafted.read.syntax)
-    HasExactlyLabels-drafted n = ap is_some (drafted.leads n) ∙ is_some-label_target drafted.read.syntax 0 n
+    HasExactlyLabels-drafted n = ap is_some (drafted.labels_are n) ∙ is_some-label_target drafted.read.syntax 0 n
 
     -- If the labels of the next cell and what follows them are read, then the column with its draft is the result of reading the cells up
     -- to it.
@@ -205,7 +205,8 @@ module _ {Syntax Stmt D : Type 0} (grammar : Grammar Syntax Stmt) (draft_of : �
             at_most_room column.count grammar.language.most stmt column_count_at_most maybe.room,
           );
           without_duplicates = rw (labels_of-append old (syntax ∷ []), append-nil ls.names) each;
-          leads = λ n. rw (ls.made n, label_target-one_more_cell syntax n old each, drafted.counted, drafted.leads n) refl;
+          labels_are =
+              λ n. rw (ls.made n, label_target-one_more_cell syntax n old each, drafted.counted, drafted.labels_are n) refl;
           counted = omega (arith, counted, count, held, drafted.counted);
           room = room;
         }

@@ -3,12 +3,12 @@ use Rattle.lw_statements.proofs.Common.{◌≡◌, ◌⊎◌, inl, inr, Result, 
 use Rattle.lw_statements.proofs.Common.{MatchResult-at_ok, MatchResult-at_err, Memory, CellFault}
 
 -- If memory ran out, a clause for both cases holds if its error case holds of every such fault.
-pub out_of_memory : {T : Type 0} (P : T → Type 0) (Q : CellFault → Type 0) (r : Result T CellFault)
+pub MatchResult-out_of_memory : {T : Type 0} (P : T → Type 0) (Q : CellFault → Type 0) (r : Result T CellFault)
     → IsErrAnd r (λ f. (f.at ≡ 0) × (f.cause ≡ Memory))
     → ((f : CellFault) → f.cause ≡ Memory → f.at ≡ 0 → Q f)
     → MatchResult r P Q
-out_of_memory P Q (Ok x) h refused = absurd h
-out_of_memory P Q (Err f) h refused = refused f h.1 h.0
+MatchResult-out_of_memory P Q (Ok x) h refused = absurd h
+MatchResult-out_of_memory P Q (Err f) h refused = refused f h.1 h.0
 
 -- If `next` is `first` with a further fact R, or fails because memory ran out, then `next` satisfies the clause of `first`, with that fact.
 pub MatchResult-propagated : {T : Type 0} (P : T → Type 0) (Q : CellFault → Type 0) (R : Type 0) (first next : Result T CellFault)

@@ -62,30 +62,30 @@ module _ {Syntax Stmt : Type 0} (grammar : Grammar Syntax Stmt) (names : NameTab
   FaultClaim-by_cause Memory t = tt
 
 -- The position of a cell in its thread between the others.
-abbrev pub cell_standing : {A : Type 0} (others behind : List (List PlacedCell)) (cells above below : List (Cell A))
+abbrev pub position_of_cell : {A : Type 0} (others later : List (List PlacedCell)) (cells above below : List (Cell A))
     (cell : Cell A)
     → cells ≡ above ++ cell ∷ below
-    → CellPosition (others ++ placed_row cells ∷ behind)
-cell_standing others behind cells above below cell whole = record {
+    → CellPosition (others ++ placed_row cells ∷ later)
+position_of_cell others later cells above below cell whole = record {
   before = others;
   above = placed_row above;
   cell = placed_cell cell;
   below = placed_row below;
-  behind = behind;
+  after = later;
   in_columns =
-      ap (λ (c : List PlacedCell). others ++ c ∷ behind) (ap placed_row whole ∙ map-append placed_cell above (cell ∷ below));
+      ap (λ (c : List PlacedCell). others ++ c ∷ later) (ap placed_row whole ∙ map-append placed_cell above (cell ∷ below));
 }
 
 -- The token t of a cell, as a token of the columns, in its thread between the others.
-abbrev pub TokenPosition-in_cell : {A : Type 0} (others behind : List (List PlacedCell)) (cells above below : List (Cell A))
+abbrev pub TokenPosition-in_cell : {A : Type 0} (others later : List (List PlacedCell)) (cells above below : List (Cell A))
     (cell : Cell A)
     → cells ≡ above ++ cell ∷ below
     → (at : ℕ) (front back : List Token) (t : Token)
     → cell.tokens ≡ front ++ t ∷ back
     → t.at ≡ at
-    → TokenPosition (others ++ placed_row cells ∷ behind) at
-TokenPosition-in_cell {A} others behind cells above below cell whole at front back t in_cell begins = record {
-  place = cell_standing others behind cells above below cell whole;
+    → TokenPosition (others ++ placed_row cells ∷ later) at
+TokenPosition-in_cell {A} others later cells above below cell whole at front back t in_cell begins = record {
+  place = position_of_cell others later cells above below cell whole;
   front = with_spans front;
   token = with_span t;
   back = with_spans back;
@@ -100,7 +100,7 @@ module _ {Syntax Stmt A : Type 0} (grammar : Grammar Syntax Stmt) (front rest : 
     (table : mid ≡ insert_names before (names_in grammar syntaxes)) (room : length mid ≤ most_locations) (at : ℕ)
     (cause : CellCause) where
   -- The threads before it, which were read.
-  module _ (names : NameTable) (others behind : List (List PlacedCell)) (threads : List (List (CellSyntax Syntax)))
+  module _ (names : NameTable) (others later : List (List PlacedCell)) (threads : List (List (CellSyntax Syntax)))
       (others_say : AllZip (Column grammar) (texts_of_grid others) threads)
       (grown : before ≡ insert_names names (names_of grammar threads)) where
     -- The table after the cells above is the one that the reader has.
@@ -111,8 +111,8 @@ module _ {Syntax Stmt A : Type 0} (grammar : Grammar Syntax Stmt) (front rest : 
         ∙ sym table
 
     -- The position of the cell.
-    abbrev cell_position : CellPosition (others ++ placed_row (front ++ cell ∷ rest) ∷ behind)
-    cell_position = cell_standing others behind (front ++ cell ∷ rest) front rest cell refl
+    abbrev cell_position : CellPosition (others ++ placed_row (front ++ cell ∷ rest) ∷ later)
+    cell_position = position_of_cell others later (front ++ cell ∷ rest) front rest cell refl
 
     -- What precedes is read, with the labels and tokens before the place.
     abbrev IsReadTo-labels_and_tokens : (labels : List Bytes) (ts more : TokenList)
@@ -139,21 +139,21 @@ module _ {Syntax Stmt A : Type 0} (grammar : Grammar Syntax Stmt) (front rest : 
     pub ColumnFaultIsTrue-labels :
         FaultClaim (HasNoLabelAt cell.tokens labels at) ⊥ (HasDuplicateLabelAt cell.tokens labels at) ⊥ ⊥ cause
         → ColumnFaultIsTrue grammar (placed_row (front ++ cell ∷ rest)) before at cause
-    ColumnFaultIsTrue-labels told names others behind threads others_say grown =
+    ColumnFaultIsTrue-labels told names others later threads others_say grown =
         FaultClaim-by_cause grammar names _ at cause
         (FaultClaim-weakened IsWrongAt-of_cause IsSecondLabel-duplicate (λ none. absurd none) told)
       where
         -- The position of a label's token.
-        label_position : IsAtLabel cell.tokens labels at → TokenPosition (others ++ placed_row (front ++ cell ∷ rest) ∷ behind) at
+        label_position : IsAtLabel cell.tokens labels at → TokenPosition (others ++ placed_row (front ++ cell ∷ rest) ∷ later) at
         label_position c =
-            TokenPosition-in_cell others behind (front ++ cell ∷ rest) front rest cell refl at (take c.place cell.tokens)
+            TokenPosition-in_cell others later (front ++ cell ∷ rest) front rest cell refl at (take c.place cell.tokens)
             (drop (suc c.place) cell.tokens) c.token (take_drop-at _ _ _ c.token_at) c.begins
 
         -- What precedes this token is read.
         IsReadTo-token : (c : IsAtLabel cell.tokens labels at)
             → IsReadTo grammar names (label_position c).place (texts_of_tokens (label_position c).front) []
         IsReadTo-token c =
-            IsReadTo-labels_and_tokens names others behind threads others_say grown c.names
+            IsReadTo-labels_and_tokens names others later threads others_say grown c.names
             (texts_of_tokens (with_spans (take c.place cell.tokens))) [] (rw (texts_placed (take c.place cell.tokens)) c.says)
             (c.without_duplicates (labels_of syntaxes) knows once)
 
@@ -170,13 +170,13 @@ module _ {Syntax Stmt A : Type 0} (grammar : Grammar Syntax Stmt) (front rest : 
         -- A token before a `:` that is no name is wrong there.
         IsWrongAt-of_cause : (e : CellCause)
             → HasNoLabelAt cell.tokens labels at e
-            → IsWrongAt grammar names (others ++ placed_row (front ++ cell ∷ rest) ∷ behind) at e
+            → IsWrongAt grammar names (others ++ placed_row (front ++ cell ∷ rest) ∷ later) at e
         IsWrongAt-of_cause e (c, none, meant) =
             inl (label_position c, inl (record { read = IsReadTo-token c; colon = colon_after_label c; none = none }, meant))
 
         -- A label that the thread has already is a second one.
         IsSecondLabel-duplicate : HasDuplicateLabelAt cell.tokens labels at
-            → (p : TokenPosition (others ++ placed_row (front ++ cell ∷ rest) ∷ behind) at) × IsSecondLabel grammar names p
+            → (p : TokenPosition (others ++ placed_row (front ++ cell ∷ rest) ∷ later) at) × IsSecondLabel grammar names p
         IsSecondLabel-duplicate (c, there) = (
           label_position c,
           record { read = IsReadTo-token c; colon = colon_after_label c; label_is_taken = there (labels_of syntaxes) knows },
@@ -187,7 +187,7 @@ module _ {Syntax Stmt A : Type 0} (grammar : Grammar Syntax Stmt) (front rest : 
         → LabelsTaken cell.tokens (length (statements syntaxes)) labels next after
         → OptionalStatementFaultIsTrue grammar (length (statements syntaxes)) (drop next cell.tokens) cell.end mid at cause
         → ColumnFaultIsTrue grammar (placed_row (front ++ cell ∷ rest)) before at cause
-    ColumnFaultIsTrue-statement after next taken told names others behind threads others_say grown =
+    ColumnFaultIsTrue-statement after next taken told names others later threads others_say grown =
         FaultClaim-by_cause grammar names _ at cause
         (FaultClaim-weakened IsWrongAt-of_cause (λ none. absurd none) IsSurplus_or_IsNinth told)
       where
@@ -199,9 +199,9 @@ module _ {Syntax Stmt A : Type 0} (grammar : Grammar Syntax Stmt) (front rest : 
         token_position : (k : ℕ) (t : Token)
             → slice_get (drop next cell.tokens) k ≡ Some t
             → t.at ≡ at
-            → TokenPosition (others ++ placed_row (front ++ cell ∷ rest) ∷ behind) at
+            → TokenPosition (others ++ placed_row (front ++ cell ∷ rest) ∷ later) at
         token_position k t is begins =
-            TokenPosition-in_cell others behind (front ++ cell ∷ rest) front rest cell refl at
+            TokenPosition-in_cell others later (front ++ cell ∷ rest) front rest cell refl at
             (take next cell.tokens ++ take k (drop next cell.tokens)) (drop (suc k) (drop next cell.tokens)) t
             (sym (take-append-drop next cell.tokens)
             ∙ ap (λ ts. take next cell.tokens ++ ts) (take_drop-at (drop next cell.tokens) k t is)
@@ -247,7 +247,7 @@ module _ {Syntax Stmt A : Type 0} (grammar : Grammar Syntax Stmt) (front rest : 
             → IsReadTo grammar names (token_position k t is begins).place (texts_of_tokens (token_position k t is begins).front)
             (token_texts (take k (drop next cell.tokens)))
         IsReadTo-token k t is begins =
-            IsReadTo-labels_and_tokens names others behind threads others_say grown taken.read.names _
+            IsReadTo-labels_and_tokens names others later threads others_say grown taken.read.names _
             (token_texts (take k (drop next cell.tokens))) (Labels-tokens_before k) labels_are_duplicate_free
 
         -- If tokens precede it, it is not the first.
@@ -269,7 +269,7 @@ module _ {Syntax Stmt A : Type 0} (grammar : Grammar Syntax Stmt) (front rest : 
             → BeginsFitting grammar (table_after grammar names threads syntaxes) ts
         BeginsFitting-table_after ts =
             subst (λ (ns : NameTable). BeginsFitting grammar ns ts)
-            (sym (table_after_syntaxes names others behind threads others_say grown))
+            (sym (table_after_syntaxes names others later threads others_say grown))
 
         -- A token after the labels that fits no statement is a misfit at its position in the test.
         IsMisfit-at_token : (e : CellCause) (m : HasMisfitIn grammar (drop next cell.tokens) mid at e)
@@ -293,16 +293,16 @@ module _ {Syntax Stmt A : Type 0} (grammar : Grammar Syntax Stmt) (front rest : 
             × (length (statements syntaxes) ≡ grammar.language.most → ⊥)
             × (token_texts (drop next cell.tokens) ≡ [] → ⊥)
             × EndsEarlyIn grammar (drop next cell.tokens) cell.end mid at)
-            → IsWrongAt grammar names (others ++ placed_row (front ++ cell ∷ rest) ∷ behind) at e
+            → IsWrongAt grammar names (others ++ placed_row (front ++ cell ∷ rest) ∷ later) at e
         IsWrongAt-of_cause e (inl (m, at_first)) =
             inl (token_position m.place m.token m.token_at m.begins, inr (IsMisfit-at_token e m at_first, m.meant))
         IsWrongAt-of_cause e (inr (is, room_there, some, early)) = inr (
           is,
-          cell_position names others behind threads others_say grown,
+          cell_position names others later threads others_say grown,
           record {
             mid = token_texts (drop next cell.tokens);
             read =
-                IsReadTo-labels_and_tokens names others behind threads others_say grown taken.read.names
+                IsReadTo-labels_and_tokens names others later threads others_say grown taken.read.names
                 (texts_of_tokens (with_spans cell.tokens)) (token_texts (drop next cell.tokens))
                 (rw (texts_placed cell.tokens) (Labels-whole cell.tokens next taken.read.names taken.read.says))
                 labels_are_duplicate_free;
@@ -318,7 +318,7 @@ module _ {Syntax Stmt A : Type 0} (grammar : Grammar Syntax Stmt) (front rest : 
         IsSurplus_or_IsNinth : ((length (statements syntaxes) ≡ grammar.language.most)
             × BeginsStatementAt grammar (drop next cell.tokens) at)
             ⊎ ((length (statements syntaxes) ≡ grammar.language.most → ⊥) × HasOverflowIn grammar (drop next cell.tokens) mid at)
-            → (p : TokenPosition (others ++ placed_row (front ++ cell ∷ rest) ∷ behind) at)
+            → (p : TokenPosition (others ++ placed_row (front ++ cell ∷ rest) ∷ later) at)
             × (IsSurplus grammar names p ⊎ IsNinth grammar names p)
         IsSurplus_or_IsNinth (inl (full, (t, is, begins, can))) = (
           token_position 0 t is begins,
@@ -341,9 +341,9 @@ module _ {Syntax Stmt A : Type 0} (grammar : Grammar Syntax Stmt) (front rest : 
               begins = BeginsFitting-table_after _ (c.begun (front_not_empty-index_nonzero c.place some));
             };
             is_location = c.location;
-            full = ap length (table_after_syntaxes names others behind threads others_say grown) ∙ c.overflow.2;
+            full = ap length (table_after_syntaxes names others later threads others_say grown) ∙ c.overflow.2;
             new = λ there.
                 c.overflow.3 (subst (λ (ns : NameTable). Contains ns c.token.text.now)
-                (table_after_syntaxes names others behind threads others_say grown) there);
+                (table_after_syntaxes names others later threads others_say grown) there);
           }),
         )

@@ -4,7 +4,7 @@ use Rattle.lw_statements.proofs.Common.{◌≡◌, ℕ, inl, inr, ◌⊎◌, Som
 use Rattle.lw_statements.proofs.Common.{Token, Phrase, CanBegin, Spelling, grammar_of, draft_of}
 use Rattle.lw_statements.proofs.Common.{IsFirstRejected}
 use Rattle.lw_statements.proofs.Drafts.{IsSurplusFault}
-use Rattle.lw_statements.proofs.Fronts.{misfit_first}
+use Rattle.lw_statements.proofs.Fronts.{HasMisfitIn-first_token}
 
 -- What `maybe_statement` reports of the first token is true: the token begins a statement beyond the limit, or no
 -- statement begins with it, and then the token itself is the fault.
@@ -15,4 +15,4 @@ pub fault_at_first_token : {W Form Stmt : Type 0} (spelling : Spelling W Form St
     → IsSurplusFault (grammar_of spelling) (draft_of spelling) phrase t first names above f f × (f.at ≡ t.at)
 fault_at_first_token spelling phrase t first names above f (inl h) = (inl h, h.1)
 fault_at_first_token spelling phrase t first names above f (inr (cannot, r)) =
-    let m = misfit_first spelling phrase.tokens.now phrase.end names t first cannot f r in (inr (m.0, m.1), m.2)
+    let m = HasMisfitIn-first_token spelling phrase.tokens.now phrase.end names t first cannot f r in (inr (m.0, m.1), m.2)

@@ -70,12 +70,12 @@ pub IsDuplicateFree-not_in_both : (ns ms : List Bytes) (n : Bytes)
     → Contains ms n
     → ⊥
 IsDuplicateFree-not_in_both [] ms n once h there = let k : h.0 < 0 = h.1 in omega arith
-IsDuplicateFree-not_in_both (m ∷ ns) ms n once h there = at h.0 h.1 h.2 (IsDuplicateFree-not_in_both ns ms n once.1)
+IsDuplicateFree-not_in_both (m ∷ ns) ms n once h there = go h.0 h.1 h.2 (IsDuplicateFree-not_in_both ns ms n once.1)
   where
     -- By the index at which the name is in the first list.
-    at : (k : ℕ) → k < length (m ∷ ns) → slice_index_or (m ∷ ns) k n ≡ n → (Contains ns n → Contains ms n → ⊥) → ⊥
-    at zero lt e further = once.0 (subst (λ (x : Bytes). Contains (ns ++ ms) x) (sym e) (Contains-append_right ns ms n there))
-    at (suc k) lt e further = further (k, omega (arith, lt), e) there
+    go : (k : ℕ) → k < length (m ∷ ns) → slice_index_or (m ∷ ns) k n ≡ n → (Contains ns n → Contains ms n → ⊥) → ⊥
+    go zero lt e further = once.0 (subst (λ (x : Bytes). Contains (ns ++ ms) x) (sym e) (Contains-append_right ns ms n there))
+    go (suc k) lt e further = further (k, omega (arith, lt), e) there
 
 -- ---- labels and what follows them
 
@@ -144,20 +144,20 @@ Labels-unique ts m n ls ks h k p q = let cut = Labels-cut ts m n ls ks h k q in 
     go (l ∷ more) same here = absurd (p (ap (λ (t : TokenList). slice_get t 1) here.1))
 
 -- What follows the labels is the rest of the tokens, since each label has two.
-pub labels_rest : (ts : TokenList) (ls rest : TokenList)
+pub drop-labels : (ts : TokenList) (ls rest : TokenList)
     → Labels ts ls rest
     → (2 * length ls ≤ length ts) × (drop (2 * length ls) ts ≡ rest)
-labels_rest ts [] rest h = (omega arith, h)
-labels_rest ts (l ∷ ls) rest h =
-    let go = labels_rest h.0 ls rest h.3 in
+drop-labels ts [] rest h = (omega arith, h)
+drop-labels ts (l ∷ ls) rest h =
+    let go = drop-labels h.0 ls rest h.3 in
     let two : 2 * length (l ∷ ls) ≡ suc (suc (2 * length ls)) = omega arith in
     (omega (arith, go.0, ap length h.1, two), rw (two, h.1) go.1)
 
 -- ---- reading them
 
 -- Before anything is read of a cell, none of its tokens is read as a label.
-pub labels_start : (tokens : List Token) (to : ℕ) (labels : LabelMap) → LabelsRead tokens to labels 0 labels
-labels_start tokens to labels = record {
+pub LabelsRead-none : (tokens : List Token) (to : ℕ) (labels : LabelMap) → LabelsRead tokens to labels 0 labels
+LabelsRead-none tokens to labels = record {
   names = [];
   within = omega arith;
   two_each = refl;

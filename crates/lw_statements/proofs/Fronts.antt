@@ -10,18 +10,19 @@ use Rattle.lw_statements.proofs.Common.{contains_name, contains_name-Contains, c
 use Rattle.lw_statements.proofs.Common.{codes, IsLocationName, IsNameTable, name_by_test, Bytes, NameTable}
 use Rattle.lw_statements.proofs.Common.{TokenList, Token, token_texts, Slot, Keyword, Register, Location}
 use Rattle.lw_statements.proofs.Common.{Value, Number, Label, Spelling, Filling, Fills, name_in, grammar_of}
-use Rattle.lw_statements.proofs.Common.{ParsesStatement, CanStand, HasNext, IsSlotAfter, IsReach, AreFront}
-use Rattle.lw_statements.proofs.Common.{IsLongestFront, IsOverflowSlot, BeginsStatement, BeginsFitting}
-use Rattle.lw_statements.proofs.Common.{true≢false, slice_get-map, cases_Bool, same_Some, ltb, ltb-true}
-use Rattle.lw_statements.proofs.Common.{ltb-false, max, All, take_all, CellFault, IsMisfitCause}
+use Rattle.lw_statements.proofs.Common.{ParsesStatement, CanFill, HasNext, IsSlotAfter, IsAcceptedLength}
+use Rattle.lw_statements.proofs.Common.{AcceptAtMost, IsLongestAccepted, IsOverflowSlot, BeginsStatement}
+use Rattle.lw_statements.proofs.Common.{BeginsFitting, true≢false, slice_get-map, cases_Bool, same_Some, ltb}
+use Rattle.lw_statements.proofs.Common.{ltb-true, ltb-false, max, All, take_all, CellFault, IsMisfitCause}
 use Rattle.lw_statements.proofs.Common.{IsMeantAsRegister, IsFirstRejected, StatementFaultIsTrue, HasMisfitIn}
-use Rattle.lw_statements.proofs.Common.{CanBegin, eqb, eqb-true, append_assoc, names_one, eqb-false}
-use Rattle.lw_statements.proofs.Beginnings.{after_beginning, BeginsStatement-after, CanStand-after}
+use Rattle.lw_statements.proofs.Common.{CanBegin, eqb, eqb-true, append_assoc, has_at_most_one_location_slot}
+use Rattle.lw_statements.proofs.Common.{eqb-false}
+use Rattle.lw_statements.proofs.Beginnings.{HasSlotAfter-if_begins, BeginsStatement-after, CanFill-after}
 use Rattle.lw_statements.proofs.Beginnings.{location_name-in_slot, slot_accepts_some}
 use Rattle.lw_statements.proofs.Causes.{FaultClaim-Form, FaultClaim-wrong}
 use Rattle.lw_statements.proofs.Elements.{All-get, option_map-Some_inv}
 use Rattle.lw_statements.proofs.FrontLabels.{get_text}
-use Rattle.lw_statements.proofs.SlotTokens.{IsReach-at_most}
+use Rattle.lw_statements.proofs.SlotTokens.{IsAcceptedLength-at_most}
 use Rattle.lw_base.specs.declared.fault.CellCause.TheVariants as cause
 
 -- If there is no token at an index, all tokens are before it.
@@ -56,7 +57,7 @@ module _ {W Form Stmt : Type 0} (spelling : Spelling W Form Stmt) where
 
   -- With a token and a slot that accepts it before them, the same slot follows.
   pub slot_further : (rest : List (Slot W)) (slot : Slot W) (ts : TokenList) (t : Bytes) (o : Option (Slot W))
-      → CanStand spelling (t ∷ []) (slot ∷ [])
+      → CanFill spelling (t ∷ []) (slot ∷ [])
       → MatchOption o ((next : Slot W) → IsSlotAfter spelling ts rest next → ⊥) (IsSlotAfter spelling ts rest)
       → MatchOption o ((next : Slot W) → IsSlotAfter spelling (t ∷ ts) (slot ∷ rest) next → ⊥)
       (IsSlotAfter spelling (t ∷ ts) (slot ∷ rest))
@@ -64,21 +65,23 @@ module _ {W Form Stmt : Type 0} (spelling : Spelling W Form Stmt) where
   slot_further rest slot ts t (Some next) stands h = (stands, h)
 
   -- The slot that follows is unique.
-  pub slot_unique : (slots : List (Slot W)) (ts : TokenList) (a b : Slot W)
+  pub IsSlotAfter-unique : (slots : List (Slot W)) (ts : TokenList) (a b : Slot W)
       → IsSlotAfter spelling ts slots a
       → IsSlotAfter spelling ts slots b
       → a ≡ b
-  slot_unique [] ts a b h k = absurd h
-  slot_unique (slot ∷ slots) [] a b h k = sym h ∙ k
-  slot_unique (slot ∷ slots) (t ∷ ts) a b h k = slot_unique slots ts a b h.1 k.1
+  IsSlotAfter-unique [] ts a b h k = absurd h
+  IsSlotAfter-unique (slot ∷ slots) [] a b h k = sym h ∙ k
+  IsSlotAfter-unique (slot ∷ slots) (t ∷ ts) a b h k = IsSlotAfter-unique slots ts a b h.1 k.1
 
   -- If the slot that follows is of a kind, such a slot follows, and otherwise none.
   pub HasNext-of_kind : (IsSo : Slot W → Type 0) (slots : List (Slot W)) (ts : TokenList) (slot : Slot W) (b : Bool)
       → IsSlotAfter spelling ts slots slot
       → IsTrue b ↔ IsSo slot
       → IsTrue b ↔ HasNext spelling IsSo ts slots
-  HasNext-of_kind IsSo slots ts slot b after is =
-      (λ yes. (slot, after, is.0 yes), λ (other, there, so). is.1 (subst IsSo (slot_unique slots ts other slot there after) so))
+  HasNext-of_kind IsSo slots ts slot b after is = (
+    λ yes. (slot, after, is.0 yes),
+    λ (other, there, so). is.1 (subst IsSo (IsSlotAfter-unique slots ts other slot there after) so),
+  )
 
   -- In the form no such slot follows those that accept the tokens.
   abbrev pub HasNone : (Slot W → Type 0) → TokenList → Form → Type 0
@@ -87,40 +90,40 @@ module _ {W Form Stmt : Type 0} (spelling : Spelling W Form Stmt) where
   -- ---- how far tokens match
 
   -- If a token is accepted by the slot after those of the tokens before it, tokens match further than these.
-  reach_past : (slots : List (Slot W)) (ts back : TokenList) (t : Bytes) (slot : Slot W) (n : ℕ)
+  length-before_accepted : (slots : List (Slot W)) (ts back : TokenList) (t : Bytes) (slot : Slot W) (n : ℕ)
       → IsSlotAfter spelling ts slots slot
-      → CanStand spelling (t ∷ []) (slot ∷ [])
-      → IsReach spelling (ts ++ t ∷ back) slots n
+      → CanFill spelling (t ∷ []) (slot ∷ [])
+      → IsAcceptedLength spelling (ts ++ t ∷ back) slots n
       → length ts < n
-  reach_past [] ts back t slot n after here h = absurd after
-  reach_past (s ∷ slots) [] back t slot zero after here h =
-      absurd (h (subst (λ (u : Slot W). CanStand spelling (t ∷ []) (u ∷ [])) (sym after) here))
-  reach_past (s ∷ slots) [] back t slot (suc n) after here h = omega arith
-  reach_past (s ∷ slots) (u ∷ ts) back t slot zero after here h = absurd (h after.0)
-  reach_past (s ∷ slots) (u ∷ ts) back t slot (suc n) after here h =
-      let r = reach_past slots ts back t slot n after.1 here h.1 in omega (arith, r)
+  length-before_accepted [] ts back t slot n after here h = absurd after
+  length-before_accepted (s ∷ slots) [] back t slot zero after here h =
+      absurd (h (subst (λ (u : Slot W). CanFill spelling (t ∷ []) (u ∷ [])) (sym after) here))
+  length-before_accepted (s ∷ slots) [] back t slot (suc n) after here h = omega arith
+  length-before_accepted (s ∷ slots) (u ∷ ts) back t slot zero after here h = absurd (h after.0)
+  length-before_accepted (s ∷ slots) (u ∷ ts) back t slot (suc n) after here h =
+      let r = length-before_accepted slots ts back t slot n after.1 here h.1 in omega (arith, r)
 
   -- After the most tokens that any form accepts, no statement goes on with the next one.
   pub no_statement_continues : (ts : TokenList) (k : ℕ) (t : Bytes)
-      → AreFront spelling ts k
+      → AcceptAtMost spelling ts k
       → slice_get ts k ≡ Some t
       → BeginsStatement (grammar_of spelling) (take k ts ++ t ∷ [])
       → ⊥
   no_statement_continues ts k t front is b =
-      let h = after_beginning spelling (take k ts) t b in
+      let h = HasSlotAfter-if_begins spelling (take k ts) t b in
       let n = front h.0 h.1 in
       let past =
-      reach_past (spelling.slots_of h.0) (take k ts) (drop (suc k) ts) t h.2.0 n.0 h.2.1 h.2.2
-      (subst (λ (us : TokenList). IsReach spelling us (spelling.slots_of h.0) n.0) (take_drop-at ts k t is) n.1) in
+      length-before_accepted (spelling.slots_of h.0) (take k ts) (drop (suc k) ts) t h.2.0 n.0 h.2.1 h.2.2
+      (subst (λ (us : TokenList). IsAcceptedLength spelling us (spelling.slots_of h.0) n.0) (take_drop-at ts k t is) n.1) in
       omega (arith, past, n.2, length-take k ts, slice_get_within ts k t is)
 
   -- The slot at the end of those that tokens match, if it is one, follows them.
   pub IsSlotAfter-get : (slots : List (Slot W)) (ts : TokenList) (n k : ℕ) (slot : Slot W)
-      → IsReach spelling ts slots n
+      → IsAcceptedLength spelling ts slots n
       → k < n
       → slice_get slots k ≡ Some slot
       → IsSlotAfter spelling (take k ts) slots slot
-      × ((t : Bytes) → slice_get ts k ≡ Some t → CanStand spelling (t ∷ []) (slot ∷ []))
+      × ((t : Bytes) → slice_get ts k ≡ Some t → CanFill spelling (t ∷ []) (slot ∷ []))
   IsSlotAfter-get [] ts n k slot h less e = absurd cc
   IsSlotAfter-get (s ∷ slots) [] n k slot h less e = absurd (omega (arith, h, less))
   IsSlotAfter-get (s ∷ slots) (u ∷ ts) zero k slot h less e = absurd (omega (arith, less))
@@ -128,18 +131,18 @@ module _ {W Form Stmt : Type 0} (spelling : Spelling W Form Stmt) where
       let same : s ≡ slot = cc in (
         same,
         λ t is.
-            subst (λ (b : Slot W). CanStand spelling (t ∷ []) (b ∷ [])) same
-            (subst (λ (a : Bytes). CanStand spelling (a ∷ []) (s ∷ [])) (let one : u ≡ t = cc in one) h.0),
+            subst (λ (b : Slot W). CanFill spelling (t ∷ []) (b ∷ [])) same
+            (subst (λ (a : Bytes). CanFill spelling (a ∷ []) (s ∷ [])) (let one : u ≡ t = cc in one) h.0),
       )
   IsSlotAfter-get (s ∷ slots) (u ∷ ts) (suc n) (suc k) slot h less e =
       let r = IsSlotAfter-get slots ts n k slot h.1 (omega (arith, less)) e in ((h.0, r.0), r.1)
 
   -- After tokens that the slots before a location's accept, that slot follows.
-  pub after_cut : (front back slots : List (Slot W)) (ts : TokenList)
+  pub IsSlotAfter-before_location : (front back slots : List (Slot W)) (ts : TokenList)
       → slots ≡ front ++ Location ∷ back
-      → CanStand spelling ts front
+      → CanFill spelling ts front
       → IsSlotAfter spelling ts slots Location
-  after_cut front back slots ts cut stands =
+  IsSlotAfter-before_location front back slots ts cut stands =
       subst (λ (ss : List (Slot W)). IsSlotAfter spelling ts ss Location) (sym cut) (go front ts stands.0 stands.1)
     where
       go : (front : List (Slot W)) (ts : TokenList) (f : Filling front)
@@ -203,63 +206,68 @@ module _ {W Form Stmt : Type 0} (spelling : Spelling W Form Stmt) where
         → slice_get ts k ≡ Some x
         → length (insert_name names x) ≤ most_locations
 
-    -- What holds from the second token on.
+    -- If all locations among the first n tokens fit, so do those from the second token on.
     AllFit-tail : (t : Bytes) (ts : TokenList) (slot : Slot W) (slots : List (Slot W)) (n : ℕ)
         → AllFit (t ∷ ts) (slot ∷ slots) (suc n)
         → AllFit ts slots n
     AllFit-tail t ts slot slots n fit k x less at is = fit (suc k) x (omega (arith, less)) at is
 
     -- The first n tokens begin tokens that fill the slots, and the location among them fits the table.
-    abbrev Fitting : List (Slot W) → TokenList → ℕ → Type 0
-    Fitting slots ts n =
+    abbrev BeginsFilling : List (Slot W) → TokenList → ℕ → Type 0
+    BeginsFilling slots ts n =
         (rest : TokenList) × (f : Filling slots) × Fills spelling (take n ts ++ rest) slots f × IsFitting names (name_in slots f)
 
     -- Tokens that match slots so far, of which each location fits the table, begin tokens that fill the slots and fit the table.
-    fitting_front : (slots : List (Slot W)) (ts : TokenList) (n : ℕ)
-        → IsReach spelling ts slots n
+    BeginsFilling-of_accepted : (slots : List (Slot W)) (ts : TokenList) (n : ℕ)
+        → IsAcceptedLength spelling ts slots n
         → AllFit ts slots n
-        → Fitting slots ts n
-    fitting_front [] ts n h fit = subst (Fitting [] ts) (sym h) (fitting_rest [])
-    fitting_front (slot ∷ slots) [] n h fit = subst (Fitting (slot ∷ slots) []) (sym h) (fitting_rest (slot ∷ slots))
-    fitting_front (slot ∷ slots) (t ∷ ts) zero h fit = fitting_rest (slot ∷ slots)
-    fitting_front (Location ∷ slots) (t ∷ ts) (suc n) h fit =
-        let r = fitting_front slots ts n h.1 (AllFit-tail t ts Location slots n fit) in (
+        → BeginsFilling slots ts n
+    BeginsFilling-of_accepted [] ts n h fit = subst (BeginsFilling [] ts) (sym h) (fitting_rest [])
+    BeginsFilling-of_accepted (slot ∷ slots) [] n h fit =
+        subst (BeginsFilling (slot ∷ slots) []) (sym h) (fitting_rest (slot ∷ slots))
+    BeginsFilling-of_accepted (slot ∷ slots) (t ∷ ts) zero h fit = fitting_rest (slot ∷ slots)
+    BeginsFilling-of_accepted (Location ∷ slots) (t ∷ ts) (suc n) h fit =
+        let r = BeginsFilling-of_accepted slots ts n h.1 (AllFit-tail t ts Location slots n fit) in (
           r.0,
           (h.0.0.0, r.1),
           (h.0.1.0, r.2),
           subst (λ (x : Bytes). IsFitting names (Some x)) h.0.1.0.0 (fit 0 t (omega arith) refl refl),
         )
-    fitting_front (Keyword w ∷ slots) (t ∷ ts) (suc n) h fit =
-        let r = fitting_front slots ts n h.1 (AllFit-tail t ts (Keyword w) slots n fit) in
+    BeginsFilling-of_accepted (Keyword w ∷ slots) (t ∷ ts) (suc n) h fit =
+        let r = BeginsFilling-of_accepted slots ts n h.1 (AllFit-tail t ts (Keyword w) slots n fit) in
         (r.0, (h.0.0.0, r.1), (h.0.1.0, r.2), r.3)
-    fitting_front (Register ∷ slots) (t ∷ ts) (suc n) h fit =
-        let r = fitting_front slots ts n h.1 (AllFit-tail t ts Register slots n fit) in (r.0, (h.0.0.0, r.1), (h.0.1.0, r.2), r.3)
-    fitting_front (Value ∷ slots) (t ∷ ts) (suc n) h fit =
-        let r = fitting_front slots ts n h.1 (AllFit-tail t ts Value slots n fit) in (r.0, (h.0.0.0, r.1), (h.0.1.0, r.2), r.3)
-    fitting_front (Number ∷ slots) (t ∷ ts) (suc n) h fit =
-        let r = fitting_front slots ts n h.1 (AllFit-tail t ts Number slots n fit) in (r.0, (h.0.0.0, r.1), (h.0.1.0, r.2), r.3)
-    fitting_front (Label ∷ slots) (t ∷ ts) (suc n) h fit =
-        let r = fitting_front slots ts n h.1 (AllFit-tail t ts Label slots n fit) in (r.0, (h.0.0.0, r.1), (h.0.1.0, r.2), r.3)
+    BeginsFilling-of_accepted (Register ∷ slots) (t ∷ ts) (suc n) h fit =
+        let r = BeginsFilling-of_accepted slots ts n h.1 (AllFit-tail t ts Register slots n fit) in
+        (r.0, (h.0.0.0, r.1), (h.0.1.0, r.2), r.3)
+    BeginsFilling-of_accepted (Value ∷ slots) (t ∷ ts) (suc n) h fit =
+        let r = BeginsFilling-of_accepted slots ts n h.1 (AllFit-tail t ts Value slots n fit) in
+        (r.0, (h.0.0.0, r.1), (h.0.1.0, r.2), r.3)
+    BeginsFilling-of_accepted (Number ∷ slots) (t ∷ ts) (suc n) h fit =
+        let r = BeginsFilling-of_accepted slots ts n h.1 (AllFit-tail t ts Number slots n fit) in
+        (r.0, (h.0.0.0, r.1), (h.0.1.0, r.2), r.3)
+    BeginsFilling-of_accepted (Label ∷ slots) (t ∷ ts) (suc n) h fit =
+        let r = BeginsFilling-of_accepted slots ts n h.1 (AllFit-tail t ts Label slots n fit) in
+        (r.0, (h.0.0.0, r.1), (h.0.1.0, r.2), r.3)
 
     -- The longest front of the tokens in a form, if each token in it fits the table, begins a statement that fits.
-    pub begins_fitting : (form : Form) (ts : TokenList) (n : ℕ)
+    pub BeginsFitting-of_accepted : (form : Form) (ts : TokenList) (n : ℕ)
         → Contains spelling.forms form
-        → IsReach spelling ts (spelling.slots_of form) n
+        → IsAcceptedLength spelling ts (spelling.slots_of form) n
         → AllFit ts (spelling.slots_of form) n
         → BeginsFitting (grammar_of spelling) names (take n ts)
-    begins_fitting form ts n there h fit =
-        let r = fitting_front (spelling.slots_of form) ts n h fit in
+    BeginsFitting-of_accepted form ts n there h fit =
+        let r = BeginsFilling-of_accepted (spelling.slots_of form) ts n h fit in
         record { rest = r.0; syntax = record { form = form; filling = r.1 }; says = (there, r.2); room = r.3 }
 
     -- Tokens before a location's slot begin tokens that fill the slots and fit the table.
-    pub fitting_before : (form : Form) (ts : TokenList)
+    pub BeginsFitting-before_location : (form : Form) (ts : TokenList)
         → Contains spelling.forms form
-        → names_one spelling (spelling.slots_of form) ≡ true
+        → has_at_most_one_location_slot spelling (spelling.slots_of form) ≡ true
         → IsSlotAfter spelling ts (spelling.slots_of form) Location
         → BeginsFitting (grammar_of spelling) names ts
-    fitting_before form ts there one after =
+    BeginsFitting-before_location form ts there one after =
         let x = fitting_name names table in
-        let r = CanStand-after spelling (spelling.slots_of form) Location ts x.0 after ((x.0, tt), ((refl, x.1), tt)) in
+        let r = CanFill-after spelling (spelling.slots_of form) Location ts x.0 after ((x.0, tt), ((refl, x.1), tt)) in
         let fills : Fills spelling (ts ++ x.0 ∷ r.0) (spelling.slots_of form) r.1.0 =
         subst (λ (us : TokenList). Fills spelling us (spelling.slots_of form) r.1.0) (append_assoc ts (x.0 ∷ []) r.0) r.1.1 in
         let named = location_name-in_slot spelling ts r.0 x.0 (spelling.slots_of form) r.1.0 one after fills in
@@ -292,12 +300,13 @@ module _ {W Form Stmt : Type 0} (spelling : Spelling W Form Stmt) where
 
   -- Some form accepts this number of tokens, if it is not 0.
   abbrev pub IsReached : TokenList → ℕ → Type 0
-  IsReached ts k = (k ≡ 0) ⊎ ((form : Form) × Contains spelling.forms form × IsReach spelling ts (spelling.slots_of form) k)
+  IsReached ts k =
+      (k ≡ 0) ⊎ ((form : Form) × Contains spelling.forms form × IsAcceptedLength spelling ts (spelling.slots_of form) k)
 
   -- Of two numbers that forms accept, the greater is one.
   pub longer_reached : (ts : TokenList) (longest n k : ℕ) (form : Form)
       → Contains spelling.forms form
-      → IsReach spelling ts (spelling.slots_of form) n
+      → IsAcceptedLength spelling ts (spelling.slots_of form) n
       → IsReached ts longest
       → k ≡ max longest n
       → IsReached ts k
@@ -305,7 +314,7 @@ module _ {W Form Stmt : Type 0} (spelling : Spelling W Form Stmt) where
     | inl e ↦
         let less = ltb-true longest n e in
         let same : n ≡ k = omega (arith, is, less) in
-        inr (form, there, subst (IsReach spelling ts (spelling.slots_of form)) same reach)
+        inr (form, there, subst (IsAcceptedLength spelling ts (spelling.slots_of form)) same reach)
     | inr e ↦
         let most = ltb-false longest n e in
         let same : longest ≡ k = omega (arith, is, most) in
@@ -318,29 +327,29 @@ module _ {W Form Stmt : Type 0} (spelling : Spelling W Form Stmt) where
   abbrev pub HasRoom : List Token → NameTable → Form → Type 0
   HasRoom tokens names form =
       (n : ℕ)
-      × IsReach spelling (token_texts tokens) (spelling.slots_of form) n
+      × IsAcceptedLength spelling (token_texts tokens) (spelling.slots_of form) n
       × ((k : ℕ) → IsOverflowSlot (spelling.slots_of form) tokens n names k → ⊥)
 
   -- If tokens match at least one slot, the first slot accepts the first token.
-  reach_first : (slots : List (Slot W)) (ts : TokenList) (n : ℕ) (t : Bytes)
-      → IsReach spelling ts slots n
+  first_slot-accepts : (slots : List (Slot W)) (ts : TokenList) (n : ℕ) (t : Bytes)
+      → IsAcceptedLength spelling ts slots n
       → slice_get ts 0 ≡ Some t
       → (n ≡ 0 → ⊥)
-      → (slot : Slot W) × IsSlotAfter spelling [] slots slot × CanStand spelling (t ∷ []) (slot ∷ [])
-  reach_first [] ts n t h is some = absurd (some h)
-  reach_first (slot ∷ slots) [] n t h is some = absurd (some h)
-  reach_first (slot ∷ slots) (u ∷ ts) zero t h is some = absurd (some refl)
-  reach_first (slot ∷ slots) (u ∷ ts) (suc n) t h is some =
-      (slot, refl, subst (λ (a : Bytes). CanStand spelling (a ∷ []) (slot ∷ [])) (let same : u ≡ t = cc in same) h.0)
+      → (slot : Slot W) × IsSlotAfter spelling [] slots slot × CanFill spelling (t ∷ []) (slot ∷ [])
+  first_slot-accepts [] ts n t h is some = absurd (some h)
+  first_slot-accepts (slot ∷ slots) [] n t h is some = absurd (some h)
+  first_slot-accepts (slot ∷ slots) (u ∷ ts) zero t h is some = absurd (some refl)
+  first_slot-accepts (slot ∷ slots) (u ∷ ts) (suc n) t h is some =
+      (slot, refl, subst (λ (a : Bytes). CanFill spelling (a ∷ []) (slot ∷ [])) (let same : u ≡ t = cc in same) h.0)
 
   -- If no statement begins with the first token, the fault is there.
-  pub misfit_first : (tokens : List Token) (end : ℕ) (names : NameTable) (t : Token)
+  pub HasMisfitIn-first_token : (tokens : List Token) (end : ℕ) (names : NameTable) (t : Token)
       → Some t ≡ slice_get tokens 0
       → (CanBegin (grammar_of spelling) t.text.now → ⊥)
       → (f : CellFault)
       → IsFirstRejected spelling tokens end f
       → (m : HasMisfitIn (grammar_of spelling) tokens names f.at f.cause) × (m.place ≡ 0) × (f.at ≡ t.at)
-  misfit_first tokens end names t first cannot f r =
+  HasMisfitIn-first_token tokens end names t first cannot f r =
       let is = rw (front_is_zero r.longest.reached, ← first) at r.fault_is in (
         record {
           place = 0;
@@ -362,8 +371,8 @@ module _ {W Form Stmt : Type 0} (spelling : Spelling W Form Stmt) where
         | inl e ↦ eqb-true r.front 0 e
         | inr e ↦
             let s =
-            reach_first (spelling.slots_of form) (token_texts tokens) r.front t.text.now reach (get_text tokens 0 t (sym first))
-            (eqb-false r.front 0 e) in
+            first_slot-accepts (spelling.slots_of form) (token_texts tokens) r.front t.text.now reach
+            (get_text tokens 0 t (sym first)) (eqb-false r.front 0 e) in
             absurd (cannot (BeginsStatement-after spelling form s.0 [] t.text.now there s.1 s.2))
       ]
 
@@ -389,7 +398,7 @@ module _ {W Form Stmt : Type 0} (spelling : Spelling W Form Stmt) where
       (room : (form : Form) → Contains spelling.forms form → HasRoom tokens names form) where
     -- The longest prefix that matches a form begins a statement with room.
     BeginsFitting-longest_front : (k : ℕ)
-        → IsLongestFront spelling (token_texts tokens) k
+        → IsLongestAccepted spelling (token_texts tokens) k
         → (k ≡ 0 → ⊥)
         → BeginsFitting (grammar_of spelling) names (token_texts (take k tokens))
     BeginsFitting-longest_front k longest some = go longest.reached
@@ -399,20 +408,21 @@ module _ {W Form Stmt : Type 0} (spelling : Spelling W Form Stmt) where
         go (inr (form, there, reach)) =
             let (n, also, none) = room form there in
             let same : n ≡ k =
-            (let less = IsReach-at_most spelling _ _ n k also reach in
-            let more = IsReach-at_most spelling _ _ k n reach also in
+            (let less = IsAcceptedLength-at_most spelling _ _ n k also reach in
+            let more = IsAcceptedLength-at_most spelling _ _ k n reach also in
             omega (arith, less, more)) in
             let free = subst (λ (m : ℕ). (j : ℕ) → IsOverflowSlot (spelling.slots_of form) tokens m names j → ⊥) same none in
             subst (BeginsFitting (grammar_of spelling) names) (take-map (λ (t : Token). t.text.now) k tokens)
-            (begins_fitting names table form (token_texts tokens) k there reach
+            (BeginsFitting-of_accepted names table form (token_texts tokens) k there reach
             (AllFit-no_overflow names table tokens (spelling.slots_of form) k free))
 
     -- A fault at the first token that fits no statement, or at the end of the tokens, is a true one.
-    pub statement_wrong : ((s : ParsesStatement spelling) → (grammar_of spelling).says (token_texts tokens) s → ⊥)
+    pub StatementFaultIsTrue-of_first_rejected :
+        ((s : ParsesStatement spelling) → (grammar_of spelling).says (token_texts tokens) s → ⊥)
         → (f : CellFault)
         → IsFirstRejected spelling tokens end f
         → StatementFaultIsTrue (grammar_of spelling) tokens end names f.at f.cause
-    statement_wrong none f r = go (slice_get tokens r.front) refl r.fault_is
+    StatementFaultIsTrue-of_first_rejected none f r = go (slice_get tokens r.front) refl r.fault_is
       where
         go : (o : Option Token)
             → slice_get tokens r.front ≡ o

@@ -7,7 +7,7 @@ use Rattle.lw_statements.proofs.Common.{Label, Spelling, Filling, Fills, ParsesS
 use Rattle.lw_statements.proofs.Common.{label_in, bindings_of, draft_of, with_target, is_label_last}
 use Rattle.lw_statements.proofs.Common.{IsSpelling, CellSyntax, labels_of, target_in, location_index}
 use Rattle.lw_statements.proofs.Common.{resolved_target, resolved_statement, LabelsLeadForward, LabelMap}
-use Rattle.lw_statements.proofs.Common.{MapsLabelsAs, draft_in, target_by, LedForward, IsResolvable}
+use Rattle.lw_statements.proofs.Common.{MapsLabelsAs, draft_in, target_by, HasForwardTarget, IsResolvable}
 use Rattle.lw_statements.proofs.Common.{IsResolved, take_drop-at, drop-past_end}
 use Rattle.lw_statements.proofs.FrontLabels.{get_text}
 use Rattle.lw_statements.proofs.Leads.{label_target-is_label}
@@ -79,19 +79,19 @@ module _ {W Form Stmt : Type 0} (spelling : Spelling W Form Stmt) where
         )
 
     -- The target of the label, if there is one.
-    target_is_forward : (labels : LabelMap) (number : ℕ) (to : Option ℕ)
-        → LedForward labels number tokens draft.label to
+    target_is_forward : (labels : LabelMap) (own_index : ℕ) (to : Option ℕ)
+        → HasForwardTarget labels own_index tokens draft.label to
         → (at : ℕ)
         × (to ≡ option_map (λ l. at) ((grammar_of spelling).label_of s))
-        × ForSome ((grammar_of spelling).label_of s) (λ l. (target_by labels l ≡ Some at) × (number < at))
-    target_is_forward labels number to = go draft.label refl
+        × ForSome ((grammar_of spelling).label_of s) (λ l. (target_by labels l ≡ Some at) × (own_index < at))
+    target_is_forward labels own_index to = go draft.label refl
       where
         go : (o : Option ℕ)
             → draft.label ≡ o
-            → LedForward labels number tokens o to
+            → HasForwardTarget labels own_index tokens o to
             → (at : ℕ)
             × (to ≡ option_map (λ l. at) ((grammar_of spelling).label_of s))
-            × ForSome ((grammar_of spelling).label_of s) (λ l. (target_by labels l ≡ Some at) × (number < at))
+            × ForSome ((grammar_of spelling).label_of s) (λ l. (target_by labels l ≡ Some at) × (own_index < at))
         go None is led =
             let none = no_label_in 0 (spelling.slots_of s.form) s.filling is in
             (0, led ∙ ap (option_map (λ (l : Bytes). 0)) (sym none), λ l e. absurd cc)
@@ -100,8 +100,8 @@ module _ {W Form Stmt : Type 0} (spelling : Spelling W Form Stmt) where
               n,
               e ∙ ap (option_map (λ (l : Bytes). n)) (sym some),
               λ l here.
-                  subst (λ (m : Bytes). (target_by labels m ≡ Some n) × (number < n)) (same_Some t.text.now l (sym some ∙ here))
-                  (by, less),
+                  subst (λ (m : Bytes). (target_by labels m ≡ Some n) × (own_index < n))
+                  (same_Some t.text.now l (sym some ∙ here)) (by, less),
             )
 
     -- The statement made from the draft with such a target.
@@ -111,13 +111,14 @@ module _ {W Form Stmt : Type 0} (spelling : Spelling W Form Stmt) where
         ≡ Some (spelling.statement (location_index names ((grammar_of spelling).name_of s)) at s.form s.filling)
     made-with_target at to is =
         ap (λ (t : Option ℕ). made draft.form (with_target t draft.operands)) is
-        ∙ (lawful.making (location_index names ((grammar_of spelling).name_of s)) at s.form s.filling).statement_is
+        ∙ (lawful.makes_statements (location_index names ((grammar_of spelling).name_of s)) at s.form s.filling).statement_is
 
     -- The statement can be made of the draft, whatever its target is.
     pub is_resolvable : IsResolvable made tokens draft
     is_resolvable = record {
       labelled = label_index_in_range draft.label refl;
-      makes = λ labels number to led. (let t = target_is_forward labels number to led in rw (made-with_target t.0 to t.1) refl);
+      makes =
+          λ labels own_index to led. (let t = target_is_forward labels own_index to led in rw (made-with_target t.0 to t.1) refl);
     }
       where
         -- The label's index is one of a token.
@@ -130,14 +131,14 @@ module _ {W Form Stmt : Type 0} (spelling : Spelling W Form Stmt) where
             omega (arith, l.3, l.5, length-map tokens (λ (t : Token). t.text.now))
 
     -- The statement made is the resolved one.
-    pub IsResolved-of_draft : (syntaxes : List (CellSyntax (ParsesStatement spelling))) (labels : LabelMap) (number : ℕ)
+    pub IsResolved-of_draft : (syntaxes : List (CellSyntax (ParsesStatement spelling))) (labels : LabelMap) (own_index : ℕ)
         (stmt : Stmt)
         → MapsLabelsAs labels syntaxes
-        → IsResolved made labels number tokens draft stmt
+        → IsResolved made labels own_index tokens draft stmt
         → (stmt ≡ resolved_statement (grammar_of spelling) names syntaxes s)
-        × LabelsLeadForward (grammar_of spelling) syntaxes number s
-    IsResolved-of_draft syntaxes labels number stmt leads r =
-        let t = target_is_forward labels number r.to r.leads_forward in
+        × LabelsLeadForward (grammar_of spelling) syntaxes own_index s
+    IsResolved-of_draft syntaxes labels own_index stmt leads r =
+        let t = target_is_forward labels own_index r.to r.leads_forward in
         let there : ForSome ((grammar_of spelling).label_of s)
         (λ l. Contains (labels_of syntaxes) l × (t.0 ≡ target_in syntaxes l)) =
         λ l e. label_target-is_label syntaxes l t.0 (sym (leads l) ∙ (t.2 l e).0) in (

@@ -11,16 +11,16 @@ use Rattle.lw_statements.proofs.Common.{Memory, most_locations, IsDuplicateFree,
 use Rattle.lw_statements.proofs.Common.{insert_names-append, insert_names-longer, Bytes, NameTable, TokenList}
 use Rattle.lw_statements.proofs.Common.{CellGrid, Cells, PlacedCell, texts_of_tokens, Grammar, IsGrammar}
 use Rattle.lw_statements.proofs.Common.{CellSyntax, MaybeStatement, ParsesCell, Column, Labels, statements}
-use Rattle.lw_statements.proofs.Common.{labels_of, target_in, names_in, names_of, LabelsLeadForward, bare}
-use Rattle.lw_statements.proofs.Common.{CellPosition, TokenPosition, IsReadTo, IsBegun, IsWrong, EndsEarly}
-use Rattle.lw_statements.proofs.Common.{IsSecondLabel, IsSurplus, IsNinth, IsJumpLabel, CellCauseIsTrue}
-use Rattle.lw_statements.proofs.Common.{BeginsFitting, BeginsWithLabel, table_after, all_syntaxes}
-use Rattle.lw_statements.proofs.Common.{texts_of_cells, texts_of_grid, PlacedToken}
+use Rattle.lw_statements.proofs.Common.{labels_of, target_in, names_in, names_of, LabelsLeadForward}
+use Rattle.lw_statements.proofs.Common.{cell_without_labels, CellPosition, TokenPosition, IsReadTo, IsBegun}
+use Rattle.lw_statements.proofs.Common.{IsWrong, EndsEarly, IsSecondLabel, IsSurplus, IsNinth, IsJumpLabel}
+use Rattle.lw_statements.proofs.Common.{CellCauseIsTrue, BeginsFitting, BeginsWithLabel, table_after}
+use Rattle.lw_statements.proofs.Common.{all_syntaxes, texts_of_cells, texts_of_grid, PlacedToken}
 use Rattle.lw_statements.proofs.CellFaults.{IsFront, IsStuck, split_order, labels_length, not-longer-IsStuck}
 use Rattle.lw_statements.proofs.CellFaults.{IsStuck-unique, not-IsStuck-if_whole_cell}
 use Rattle.lw_statements.proofs.CellsRefused.{IsDuplicateFree-front}
 use Rattle.lw_statements.proofs.Leads.{statements-append, count-append, labels_of-append}
-use Rattle.lw_statements.proofs.OneReading.{cell_unique, column_unique, no_label-if_statement}
+use Rattle.lw_statements.proofs.OneReading.{ParsesCell-unique, Column-unique, no_label-if_statement}
 use Rattle.lw_statements.proofs.ResolvedNames.{names_in-append}
 use Rattle.lw_statements.proofs.api.Zips.{AllZip-split, AllZip-unique}
 use Rattle.lw_base.specs.declared.fault.CellCause.TheVariants as cause
@@ -113,14 +113,14 @@ module _ {Syntax Stmt : Type 0} (grammar : Grammar Syntax Stmt) (lawful : IsGram
 
   module _ (names : NameTable) (columns : List (List PlacedCell)) (at : ℕ) (c : CellCause) where
     -- A token at which the reading is stuck is a fault of its cell.
-    token_faulty : (p : TokenPosition columns at) (mid : TokenList)
+    CellFaulty-of_token : (p : TokenPosition columns at) (mid : TokenList)
         (r : IsReadTo grammar names p.place (texts_of_tokens p.front) mid)
         → ((mid ≡ [] → ⊥) → IsBegun grammar r)
         → (BeginsWithLabel (mid ++ p.token.text ∷ texts_of_tokens p.back) → ⊥) ⊎ (mid ≡ [])
         → IsStuck grammar (length (statements r.syntaxes)) (labels_of r.syntaxes) (table_after grammar names r.threads r.syntaxes)
         (texts_of_tokens p.place.cell.tokens) r.labels mid (p.token.text ∷ texts_of_tokens p.back) c
         → CellFaulty names columns at c
-    token_faulty p mid r begun phase stuck = record {
+    CellFaulty-of_token p mid r begun phase stuck = record {
       place = p.place;
       threads = r.threads;
       syntaxes = r.syntaxes;
@@ -157,40 +157,43 @@ module _ {Syntax Stmt : Type 0} (grammar : Grammar Syntax Stmt) (lawful : IsGram
     }
 
     -- The cell of a token that fits no statement is faulty at this token.
-    wrong_faulty : (p : TokenPosition columns at) → IsWrong grammar names p c → CellFaulty names columns at c
-    wrong_faulty p (inl (n, m)) =
+    CellFaulty-of_wrong_token : (p : TokenPosition columns at) → IsWrong grammar names p c → CellFaulty names columns at c
+    CellFaulty-of_wrong_token p (inl (n, m)) =
         let b = cons-get_zero (texts_of_tokens p.back) (codes ":") n.colon in
-        token_faulty p [] n.read (λ some. absurd (some refl)) (inr refl)
+        CellFaulty-of_token p [] n.read (λ some. absurd (some refl)) (inr refl)
         (inl (refl, p.token.text, b.0, ap (λ (ts : TokenList). p.token.text ∷ ts) b.1, inl (n.none, m)))
-    wrong_faulty p (inr (n, m)) =
-        token_faulty p n.mid n.read n.begun (inl n.no_label)
+    CellFaulty-of_wrong_token p (inr (n, m)) =
+        CellFaulty-of_token p n.mid n.read n.begun (inl n.no_label)
         (inr (n.no_label, inl (p.token.text, texts_of_tokens p.back, refl, inl (n.none, m))))
 
     -- The cell of a label that the thread has already is faulty at this label.
-    second_faulty : c ≡ LabelTwice
+    CellFaulty-of_second_label : c ≡ LabelTwice
         → (p : TokenPosition columns at)
         → IsSecondLabel grammar names p
         → CellFaulty names columns at c
-    second_faulty e p n =
+    CellFaulty-of_second_label e p n =
         let b = cons-get_zero (texts_of_tokens p.back) (codes ":") n.colon in
-        token_faulty p [] n.read (λ some. absurd (some refl)) (inr refl)
+        CellFaulty-of_token p [] n.read (λ some. absurd (some refl)) (inr refl)
         (inl (refl, p.token.text, b.0, ap (λ (ts : TokenList). p.token.text ∷ ts) b.1, inr (e, n.label_is_taken)))
 
     -- The cell of a statement or a location that is one too many is faulty at its token.
-    many_faulty : c ≡ TooMany
+    CellFaulty-of_surplus : c ≡ TooMany
         → (p : TokenPosition columns at)
         → IsSurplus grammar names p ⊎ IsNinth grammar names p
         → CellFaulty names columns at c
-    many_faulty e p (inl n) =
-        token_faulty p [] n.read (λ some. absurd (some refl)) (inl n.no_label)
+    CellFaulty-of_surplus e p (inl n) =
+        CellFaulty-of_token p [] n.read (λ some. absurd (some refl)) (inl n.no_label)
         (inr (n.no_label, inl (p.token.text, texts_of_tokens p.back, refl, inr (e, inl (refl, n.begins, n.full)))))
-    many_faulty e p (inr n) =
-        token_faulty p n.mid n.read n.begun (inl n.no_label)
+    CellFaulty-of_surplus e p (inr n) =
+        CellFaulty-of_token p n.mid n.read n.begun (inl n.no_label)
         (inr (n.no_label, inl (p.token.text, texts_of_tokens p.back, refl, inr (e, inr (n.is_location, n.full, n.new)))))
 
     -- A cell whose statement is not complete is faulty at its end.
-    early_faulty : c ≡ cause.Form → (q : CellPosition columns) → EndsEarly grammar names q at → CellFaulty names columns at c
-    early_faulty e q n = record {
+    CellFaulty-of_early_end : c ≡ cause.Form
+        → (q : CellPosition columns)
+        → EndsEarly grammar names q at
+        → CellFaulty names columns at c
+    CellFaulty-of_early_end e q n = record {
       place = q;
       threads = n.read.threads;
       syntaxes = n.read.syntaxes;
@@ -306,7 +309,8 @@ module _ {Syntax Stmt : Type 0} (grammar : Grammar Syntax Stmt) (lawful : IsGram
         begins_statement-MaybeStatement : (o : Option Syntax)
             → MaybeStatement grammar parse.0 o
             → length (statements (syntaxes ++ record { labels = syntax.labels; stmt = o } ∷ [])) ≤ grammar.language.most
-            → length (insert_names (table_after grammar names threads syntaxes) (names_in grammar (bare o ∷ []))) ≤ most_locations
+            → length (insert_names (table_after grammar names threads syntaxes) (names_in grammar (cell_without_labels o ∷ [])))
+            ≤ most_locations
             → (parse.0 ≡ [] → ⊥)
             → (length (statements syntaxes) ≡ grammar.language.most → ⊥)
             × BeginsFitting grammar (table_after grammar names threads syntaxes) parse.0
@@ -328,14 +332,14 @@ module _ {Syntax Stmt : Type 0} (grammar : Grammar Syntax Stmt) (lawful : IsGram
       → AllZip (Column grammar) columns s
       → AllZip (Column grammar) columns t
       → s ≡ t
-  threads_content-unique columns s t = AllZip-unique (Column grammar) (column_unique grammar lawful) columns s t
+  threads_content-unique columns s t = AllZip-unique (Column grammar) (Column-unique grammar lawful) columns s t
 
   -- Cells have at most one syntax.
   cells_content-unique : (cells : Cells) (s t : List (CellSyntax Syntax))
       → AllZip (ParsesCell grammar) cells s
       → AllZip (ParsesCell grammar) cells t
       → s ≡ t
-  cells_content-unique cells s t = AllZip-unique (ParsesCell grammar) (cell_unique grammar lawful) cells s t
+  cells_content-unique cells s t = AllZip-unique (ParsesCell grammar) (ParsesCell-unique grammar lawful) cells s t
 
   module _ (names : NameTable) (columns : List (List PlacedCell)) where
     -- The cells down to that of a fault, and those below, are not read.
@@ -587,7 +591,7 @@ module _ {Syntax Stmt : Type 0} (grammar : Grammar Syntax Stmt) (lawful : IsGram
         (subst (λ (cs : Cells). AllZip (ParsesCell grammar) cs (all_syntaxes i.above i.syntax i.below))
         (map-append texts i.token.place.above (i.token.place.cell ∷ i.token.place.below)) i.label.read.says) in
         let here : cut.here ≡ i.syntax =
-        cell_unique grammar lawful (texts i.token.place.cell) cut.here i.syntax cut.says
+        ParsesCell-unique grammar lawful (texts i.token.place.cell) cut.here i.syntax cut.says
         (ParsesCell-same_syntaxes i.above mine.above i.syntax mine.here i.below mine.below
         (cells_content-unique (texts_of_cells i.token.place.above) i.above mine.above i.label.above_says mine.above_says)
         mine.whole (texts i.token.place.cell) mine.says) in
@@ -687,15 +691,15 @@ module _ {Syntax Stmt : Type 0} (grammar : Grammar Syntax Stmt) (lawful : IsGram
     place_of at c (inr j) = j.token.place
 
     -- What a cause claims is such a fault, unless memory ran out.
-    fault_of : (at : ℕ) (c : CellCause) → (c ≡ Memory → ⊥) → CellCauseIsTrue grammar names columns at c → Fault at c
-    fault_of at cause.Form known (inl (p, w)) = inl (wrong_faulty names columns at cause.Form p w)
-    fault_of at cause.Form known (inr (q, e)) = inl (early_faulty names columns at cause.Form refl q e)
-    fault_of at cause.Register known (p, w) = inl (wrong_faulty names columns at cause.Register p w)
-    fault_of at LabelTwice known (p, w) = inl (second_faulty names columns at LabelTwice refl p w)
-    fault_of at TooMany known (p, w) = inl (many_faulty names columns at TooMany refl p w)
-    fault_of at LabelMissing known (p, (above, syntax, below, label, none)) =
+    Fault-of_cause : (at : ℕ) (c : CellCause) → (c ≡ Memory → ⊥) → CellCauseIsTrue grammar names columns at c → Fault at c
+    Fault-of_cause at cause.Form known (inl (p, w)) = inl (CellFaulty-of_wrong_token names columns at cause.Form p w)
+    Fault-of_cause at cause.Form known (inr (q, e)) = inl (CellFaulty-of_early_end names columns at cause.Form refl q e)
+    Fault-of_cause at cause.Register known (p, w) = inl (CellFaulty-of_wrong_token names columns at cause.Register p w)
+    Fault-of_cause at LabelTwice known (p, w) = inl (CellFaulty-of_second_label names columns at LabelTwice refl p w)
+    Fault-of_cause at TooMany known (p, w) = inl (CellFaulty-of_surplus names columns at TooMany refl p w)
+    Fault-of_cause at LabelMissing known (p, (above, syntax, below, label, none)) =
         inr (record { token = p; above = above; syntax = syntax; below = below; label = label; because = inl (refl, none) })
-    fault_of at Backward known (p, (above, syntax, below, label, there, less)) =
+    Fault-of_cause at Backward known (p, (above, syntax, below, label, there, less)) =
         inr (record {
           token = p;
           above = above;
@@ -704,7 +708,7 @@ module _ {Syntax Stmt : Type 0} (grammar : Grammar Syntax Stmt) (lawful : IsGram
           label = label;
           because = inr (refl, there, less);
         })
-    fault_of at Memory known h = absurd (known refl)
+    Fault-of_cause at Memory known h = absurd (known refl)
 
     -- What is read before a fault: threads, and cells of its own, with room in the table.
     before_of : (at : ℕ) (c : CellCause) (v : Fault at c)
@@ -742,7 +746,7 @@ module _ {Syntax Stmt : Type 0} (grammar : Grammar Syntax Stmt) (lawful : IsGram
         → CellCauseIsTrue grammar names columns at c
         → CellCauseIsTrue grammar names columns other d
         → (at ≡ other) × (c ≡ d)
-    true_fault-unique at other c d known also h k = go (fault_of at c known h) (fault_of other d also k)
+    true_fault-unique at other c d known also h k = go (Fault-of_cause at c known h) (Fault-of_cause other d also k)
       where
         -- Two faults of one thread are the same.
         fault_in_thread-unique : (v : Fault at c) (w : Fault other d)
@@ -759,9 +763,9 @@ module _ {Syntax Stmt : Type 0} (grammar : Grammar Syntax Stmt) (lawful : IsGram
         go v w =
             elim (split_order (place_of at c v).before (place_of other d w).before
             ((place_of at c v).above ++ (place_of at c v).cell ∷ (place_of at c v).below)
-            ((place_of other d w).above ++ (place_of other d w).cell ∷ (place_of other d w).below) (place_of at c v).behind
-            (place_of other d w).behind (sym (place_of at c v).in_columns ∙ (place_of other d w).in_columns)) [
-              | inl (before, thread, behind) ↦ fault_in_thread-unique v w before thread
+            ((place_of other d w).above ++ (place_of other d w).cell ∷ (place_of other d w).below) (place_of at c v).after
+            (place_of other d w).after (sym (place_of at c v).in_columns ∙ (place_of other d w).in_columns)) [
+              | inl (before, thread, after) ↦ fault_in_thread-unique v w before thread
               | inr (inl (more, e)) ↦ absurd (thread_before at other c d v w more e)
               | inr (inr (more, e)) ↦ absurd (thread_before other at d c w v more e)
             ]
@@ -774,8 +778,8 @@ module _ {Syntax Stmt : Type 0} (grammar : Grammar Syntax Stmt) (lawful : IsGram
         → CellCauseIsTrue grammar names columns at c
         → ⊥
     no_true_fault-if_test at c threads says few known h =
-        let v = fault_of at c known h in
-        thread_unread (place_of at c v) (unread_of at c v) (place_of at c v).behind threads []
+        let v = Fault-of_cause at c known h in
+        thread_unread (place_of at c v) (unread_of at c v) (place_of at c v).after threads []
         (subst (λ (cs : List (List PlacedCell)). AllZip (Column grammar) (texts_of_grid cs) threads) (place_of at c v).in_columns
         says)
         (subst (λ (ns : NameTable). length (insert_names names ns) ≤ most_locations) (sym (append-nil (names_of grammar threads)))

@@ -13,19 +13,26 @@ module _ {Syntax Stmt : Type 0} (grammar : Grammar Syntax Stmt) (lawful : IsGram
   no_label-if_statement ts (Some s) h at = lawful.no_label ts s h at
 
   -- What follows a cell's labels is read in one way.
-  maybe_unique : (ts : TokenList) (o p : Option Syntax) → MaybeStatement grammar ts o → MaybeStatement grammar ts p → o ≡ p
-  maybe_unique ts None None h k = refl
-  maybe_unique ts None (Some s) h k = absurd (lawful.some ts s k h)
-  maybe_unique ts (Some s) None h k = absurd (lawful.some ts s h k)
-  maybe_unique ts (Some s) (Some t) h k = ap Some (lawful.deterministic ts s t h k)
+  MaybeStatement-unique : (ts : TokenList) (o p : Option Syntax)
+      → MaybeStatement grammar ts o
+      → MaybeStatement grammar ts p
+      → o ≡ p
+  MaybeStatement-unique ts None None h k = refl
+  MaybeStatement-unique ts None (Some s) h k = absurd (lawful.some ts s k h)
+  MaybeStatement-unique ts (Some s) None h k = absurd (lawful.some ts s h k)
+  MaybeStatement-unique ts (Some s) (Some t) h k = ap Some (lawful.deterministic ts s t h k)
 
   -- A cell has at most one parse.
-  pub cell_unique : (cell : TokenList) (x y : CellSyntax Syntax) → ParsesCell grammar cell x → ParsesCell grammar cell y → x ≡ y
-  cell_unique cell x y h k =
+  pub ParsesCell-unique : (cell : TokenList) (x y : CellSyntax Syntax)
+      → ParsesCell grammar cell x
+      → ParsesCell grammar cell y
+      → x ≡ y
+  ParsesCell-unique cell x y h k =
       let ls =
       Labels-unique cell h.0 k.0 x.labels y.labels h.1 k.1 (no_label-if_statement h.0 x.stmt h.2)
       (no_label-if_statement k.0 y.stmt k.2) in
-      let s = maybe_unique h.0 x.stmt y.stmt h.2 (subst (λ (t : TokenList). MaybeStatement grammar t y.stmt) (sym ls.1) k.2) in
+      let s =
+      MaybeStatement-unique h.0 x.stmt y.stmt h.2 (subst (λ (t : TokenList). MaybeStatement grammar t y.stmt) (sym ls.1) k.2) in
       cell_syntax_equal x.labels y.labels x.stmt y.stmt ls.0 s
     where
       -- Cells with the same labels and the same statement are the same.
@@ -36,5 +43,5 @@ module _ {Syntax Stmt : Type 0} (grammar : Grammar Syntax Stmt) (lawful : IsGram
       cell_syntax_equal a b o p e f = rw (e, f) refl
 
   -- The cells of a thread have at most one parse.
-  pub column_unique : (cells : Cells) (s t : List (CellSyntax Syntax)) → Column grammar cells s → Column grammar cells t → s ≡ t
-  column_unique cells s t h k = AllZip-unique (ParsesCell grammar) cell_unique cells s t h.says k.says
+  pub Column-unique : (cells : Cells) (s t : List (CellSyntax Syntax)) → Column grammar cells s → Column grammar cells t → s ≡ t
+  Column-unique cells s t h k = AllZip-unique (ParsesCell grammar) ParsesCell-unique cells s t h.says k.says

@@ -12,20 +12,20 @@ use Rattle.lw_statements.proofs.Common.{cells_placed, DraftColumn, Draft, DraftC
 use Rattle.lw_statements.proofs.Common.{CellSyntax, MaybeStatement, ParsesCell, statements, labels_of}
 use Rattle.lw_statements.proofs.Common.{target_in, resolved_statement, LabelsLeadForward, TokenPosition}
 use Rattle.lw_statements.proofs.Common.{IsJumpLabel, IsBackward, draft_in, draft_cell, target_by}
-use Rattle.lw_statements.proofs.Common.{ColumnDrafted, JumpCause, IsResolvable, IsCellResolved, IsUnresolved}
-use Rattle.lw_statements.proofs.Common.{AllForward, ColumnRead, ColumnFaultIsTrue, ColumnRefused, IsResolved}
-use Rattle.lw_statements.proofs.Common.{draft_of, IsSpelling, Spelling, ParsesStatement, grammar_of, AreRead}
-use Rattle.lw_statements.proofs.Common.{table_after, names_in, names_of, insert_names, insert_names-append}
-use Rattle.lw_statements.proofs.Common.{placed_cell, all_syntaxes}
-use Rattle.lw_statements.proofs.CellsRefused.{column_out_of_memory}
+use Rattle.lw_statements.proofs.Common.{ColumnDrafted, IsJumpCause, IsResolvable, IsCellResolved}
+use Rattle.lw_statements.proofs.Common.{IsUnresolved, AllForward, ColumnRead, ColumnFaultIsTrue}
+use Rattle.lw_statements.proofs.Common.{ColumnRefused, IsResolved, draft_of, IsSpelling, Spelling}
+use Rattle.lw_statements.proofs.Common.{ParsesStatement, grammar_of, AreRead, table_after, names_in, names_of}
+use Rattle.lw_statements.proofs.Common.{insert_names, insert_names-append, placed_cell, all_syntaxes}
+use Rattle.lw_statements.proofs.CellsRefused.{ColumnRefused-out_of_memory}
 use Rattle.lw_statements.proofs.Elements.{All-middle, take-item-drop, get-in_range, option_map-Some_inv}
 use Rattle.lw_statements.proofs.Elements.{take_further}
 use Rattle.lw_statements.proofs.FaultPlaces.{TokenPosition-in_cell, FaultClaim-by_cause}
-use Rattle.lw_statements.proofs.FrontLabels.{labels_rest}
+use Rattle.lw_statements.proofs.FrontLabels.{drop-labels}
 use Rattle.lw_statements.proofs.JumpsResolved.{label_last, is_resolvable, IsResolved-of_draft}
 use Rattle.lw_statements.proofs.Leads.{statements-append, label_target-is_label, label_target-no_label}
-use Rattle.lw_statements.proofs.OneReading.{cell_unique}
-use Rattle.lw_statements.proofs.api.Forms.{is_grammar}
+use Rattle.lw_statements.proofs.OneReading.{ParsesCell-unique}
+use Rattle.lw_statements.proofs.api.Forms.{IsGrammar-of_spelling}
 use Rattle.lw_statements.proofs.api.Zips.{Cut, AllZip-unique, AllZip-snoc, AllZip-length, AllZip-split}
 
 module _ {W Form Stmt : Type 0} (spelling : Spelling W Form Stmt) where
@@ -38,18 +38,18 @@ module _ {W Form Stmt : Type 0} (spelling : Spelling W Form Stmt) where
   drafting = draft_of spelling
 
   -- The syntax of a cell.
-  abbrev CellSaid : Type 0
-  CellSaid = CellSyntax (ParsesStatement spelling)
+  abbrev CellContent : Type 0
+  CellContent = CellSyntax (ParsesStatement spelling)
 
   -- The tokens of a cell say its syntax.
-  abbrev Says : TokenList → CellSaid → Type 0
+  abbrev Says : TokenList → CellContent → Type 0
   Says = ParsesCell grammar
 
   -- The statements of the cells in `front` are resolved to this code, and their jumps lead forward. `syntaxes` are those of all cells of the
   -- thread, in which labels are looked up.
-  pub record Resolved {A : Type 0} (names : NameTable) (syntaxes : List CellSaid) (front : List (Cell A))
+  pub record Resolved {A : Type 0} (names : NameTable) (syntaxes : List CellContent) (front : List (Cell A))
       (code : List Stmt) : Type 0 where
-    pub above : List CellSaid
+    pub above : List CellContent
     pub says : AllZip Says (cells_texts front) above
     pub made : code ≡ map (resolved_statement grammar names syntaxes) (statements above)
     pub ahead : (k : ℕ) (s : ParsesStatement spelling)
@@ -57,14 +57,14 @@ module _ {W Form Stmt : Type 0} (spelling : Spelling W Form Stmt) where
         → LabelsLeadForward grammar syntaxes k s
 
   -- No cells have no statements, which are resolved.
-  pub Resolved-none : {A : Type 0} (names : NameTable) (syntaxes : List CellSaid) → Resolved {A = A} names syntaxes [] []
+  pub Resolved-none : {A : Type 0} (names : NameTable) (syntaxes : List CellContent) → Resolved {A = A} names syntaxes [] []
   Resolved-none names syntaxes = record { above = []; says = tt; made = refl; ahead = λ k s e. absurd cc }
 
   module _ (made : Form → Operands → Option Stmt) (lawful : IsSpelling spelling made) {A : Type 0} (cells : List (Cell A))
       (before after : NameTable) (column : DraftColumn (Draft Form) A)
       (drafted : ColumnDrafted grammar drafting cells before column after) where
     -- The syntaxes of the thread's cells.
-    abbrev syntaxes : List CellSaid
+    abbrev syntaxes : List CellContent
     syntaxes = drafted.read.syntax
 
     -- The statement with its jump resolved by them.
@@ -72,8 +72,8 @@ module _ {W Form Stmt : Type 0} (spelling : Spelling W Form Stmt) where
     resolve = resolved_statement grammar after syntaxes
 
     -- A cell says one syntax.
-    Says-unique : (cell : TokenList) (x y : CellSaid) → Says cell x → Says cell y → x ≡ y
-    Says-unique = cell_unique grammar (is_grammar spelling made lawful)
+    Says-unique : (cell : TokenList) (x y : CellContent) → Says cell x → Says cell y → x ≡ y
+    Says-unique = ParsesCell-unique grammar (IsGrammar-of_spelling spelling made lawful)
 
     -- The column has a draft for each cell.
     pub as_many_rows : length column.cells ≡ length cells
@@ -84,10 +84,10 @@ module _ {W Form Stmt : Type 0} (spelling : Spelling W Form Stmt) where
         ∙ length-map cells cell_texts
 
     -- If the statements of all cells are resolved, the thread's cells are read.
-    pub column_found : (code : List Stmt)
+    pub ColumnRead-Resolved : (code : List Stmt)
         → Resolved after syntaxes cells code
         → ColumnRead grammar (cells_texts cells) before code after
-    column_found code r =
+    ColumnRead-Resolved code r =
         let same = AllZip-unique Says Says-unique (cells_texts cells) r.above syntaxes r.says drafted.read.says in
         record {
           syntax = syntaxes;
@@ -96,13 +96,13 @@ module _ {W Form Stmt : Type 0} (spelling : Spelling W Form Stmt) where
             bounded = drafted.bounded;
             without_duplicates = drafted.without_duplicates;
             forward =
-                subst (λ (ys : List CellSaid).
+                subst (λ (ys : List CellContent).
                 (k : ℕ) (s : ParsesStatement spelling)
                 → slice_get (statements ys) k ≡ Some s
                 → LabelsLeadForward grammar syntaxes k s) same r.ahead;
           };
           names = drafted.read.names;
-          made = r.made ∙ ap (λ (ys : List CellSaid). map resolve (statements ys)) same;
+          made = r.made ∙ ap (λ (ys : List CellContent). map resolve (statements ys)) same;
         }
 
     -- A cell and its draft, after those whose statements are resolved.
@@ -144,7 +144,7 @@ module _ {W Form Stmt : Type 0} (spelling : Spelling W Form Stmt) where
           ∙ ap (λ (ds : List (DraftCell (Draft Form))). slice_get ds row) drafted.read.made
           ∙ slice_get-map draft syntaxes row
           ∙ ap (option_map draft)
-          (ap (λ (ys : List CellSaid). slice_get ys row) cut_at_cell.whole
+          (ap (λ (ys : List CellContent). slice_get ys row) cut_at_cell.whole
           ∙ get-append_middle cut_at_cell.above cut_at_cell.here cut_at_cell.below row long))
 
       -- The tokens of the statement, after the labels.
@@ -155,7 +155,7 @@ module _ {W Form Stmt : Type 0} (spelling : Spelling W Form Stmt) where
       MaybeStatement-tail : (d.start ≤ length cell.tokens) × MaybeStatement grammar (token_texts tail) cut_at_cell.here.stmt
       MaybeStatement-tail =
           let start : d.start ≡ 2 * length cut_at_cell.here.labels = ap (λ (c : DraftCell (Draft Form)). c.start) is_draft in
-          let r = labels_rest (token_texts cell.tokens) cut_at_cell.here.labels cut_at_cell.says.0 cut_at_cell.says.1 in (
+          let r = drop-labels (token_texts cell.tokens) cut_at_cell.here.labels cut_at_cell.says.0 cut_at_cell.says.1 in (
             omega (arith, start, r.0, length-map cell.tokens (λ (t : Token). t.text.now)),
             subst (λ (ts : TokenList). MaybeStatement grammar ts cut_at_cell.here.stmt)
                 (sym r.1
@@ -192,10 +192,10 @@ module _ {W Form Stmt : Type 0} (spelling : Spelling W Form Stmt) where
         code_length = ap length r.made ∙ length-map (statements r.above) resolve
 
         -- If this cell is resolved, the statements of the cells up to it are resolved.
-        pub resolved_further : (more : List Stmt)
+        pub Resolved-next_row : (more : List Stmt)
             → IsCellResolved made column.labels cell d code more
             → Resolved after syntaxes (take (row + 1) cells) more
-        resolved_further more here =
+        Resolved-next_row more here =
             let done = go cut_at_cell.here.stmt MaybeStatement-tail.1 (rw draft_is-draft_in at here) in
             let both = statements-append r.above (cut_at_cell.here ∷ []) in
             record {
@@ -218,8 +218,8 @@ module _ {W Form Stmt : Type 0} (spelling : Spelling W Form Stmt) where
             go None says e = rw append-nil (e ∙ r.made, r.ahead)
             go (Some s) says (stmt, resolved, e) =
                 let q =
-                IsResolved-of_draft spelling made lawful after tail s says syntaxes column.labels (length code) stmt drafted.leads
-                resolved in (
+                IsResolved-of_draft spelling made lawful after tail s says syntaxes column.labels (length code) stmt
+                drafted.labels_are resolved in (
                   e
                       ∙ ap (λ (ss : List Stmt). ss ++ stmt ∷ []) r.made
                       ∙ ap (λ (x : Stmt). map resolve (statements r.above) ++ x ∷ []) q.0
@@ -239,30 +239,30 @@ module _ {W Form Stmt : Type 0} (spelling : Spelling W Form Stmt) where
         module _ (s : ParsesStatement spelling) (jump : cut_at_cell.here.stmt ≡ Some s) (token : Token)
             (label : grammar.label_of s ≡ Some token.text.now) (before_label : List Token)
             (last : cell.tokens ≡ before_label ++ token ∷ []) (f : CellFault) (begins : token.at ≡ f.at)
-            (because : JumpCause column.labels (length code) token.text.now f.cause) where
+            (because : IsJumpCause column.labels (length code) token.text.now f.cause) where
           -- The text of the label.
           abbrev word : Bytes
           word = token.text.now
 
           -- If the map does not have the label, no cell has.
           not-label-if_no_target : target_by column.labels word ≡ None → Contains (labels_of syntaxes) word → ⊥
-          not-label-if_no_target none = label_target-no_label syntaxes word (sym (drafted.leads word) ∙ none)
+          not-label-if_no_target none = label_target-no_label syntaxes word (sym (drafted.labels_are word) ∙ none)
 
           -- If it has, its target is that of the rule of cells.
           label-target_by : (to : ℕ)
               → target_by column.labels word ≡ Some to
               → Contains (labels_of syntaxes) word × (to ≡ target_in syntaxes word)
-          label-target_by to by = label_target-is_label syntaxes word to (sym (drafted.leads word) ∙ by)
+          label-target_by to by = label_target-is_label syntaxes word to (sym (drafted.labels_are word) ∙ by)
 
           -- A jump whose label is missing, or is not after the jump, does not lead forward.
-          not-LabelsLeadForward-JumpCause : (cause : CellCause)
-              → JumpCause column.labels (length code) word cause
+          not-LabelsLeadForward-IsJumpCause : (cause : CellCause)
+              → IsJumpCause column.labels (length code) word cause
               → LabelsLeadForward grammar syntaxes (length code) s
               → ⊥
-          not-LabelsLeadForward-JumpCause LabelMissing none ahead = not-label-if_no_target none (ahead word label).0
-          not-LabelsLeadForward-JumpCause Backward (to, by, less) ahead =
+          not-LabelsLeadForward-IsJumpCause LabelMissing none ahead = not-label-if_no_target none (ahead word label).0
+          not-LabelsLeadForward-IsJumpCause Backward (to, by, less) ahead =
               omega (arith, less, (label-target_by to by).1, (ahead word label).1)
-          not-LabelsLeadForward-JumpCause cause none ahead = none
+          not-LabelsLeadForward-IsJumpCause cause none ahead = none
 
           -- Not all jumps of the thread lead forward, since this one does not.
           not-AllForward : AllForward grammar syntaxes → ⊥
@@ -272,16 +272,16 @@ module _ {W Form Stmt : Type 0} (spelling : Spelling W Form Stmt) where
               ∙ statements-append cut_at_cell.above (cut_at_cell.here ∷ cut_at_cell.below)
               ∙ ap (λ (o : Option (ParsesStatement spelling)).
               statements cut_at_cell.above ++ cons_option o (statements cut_at_cell.below)) jump
-              ∙ ap (λ (ys : List CellSaid). statements ys ++ s ∷ statements cut_at_cell.below) syntaxes_above_equal in
-              not-LabelsLeadForward-JumpCause f.cause because
+              ∙ ap (λ (ys : List CellContent). statements ys ++ s ∷ statements cut_at_cell.below) syntaxes_above_equal in
+              not-LabelsLeadForward-IsJumpCause f.cause because
               (all (length code) s
               (ap (λ (ss : List (ParsesStatement spelling)). slice_get ss (length code)) parts
               ∙ get-append_middle (statements r.above) s (statements cut_at_cell.below) (length code) code_length))
 
           -- The fault reported of the jump is true.
           ColumnFaultIsTrue-jump : ColumnFaultIsTrue grammar (placed_row cells) before f.at f.cause
-          ColumnFaultIsTrue-jump names others others_behind threads others_say grown =
-              FaultClaim-by_cause grammar names (others ++ placed_row cells ∷ others_behind) f.at f.cause (record {
+          ColumnFaultIsTrue-jump names others others_after threads others_say grown =
+              FaultClaim-by_cause grammar names (others ++ placed_row cells ∷ others_after) f.at f.cause (record {
                 form = λ e. absurd (rw e at because);
                 register = λ e. absurd (rw e at because);
                 missing = λ e. (
@@ -300,9 +300,9 @@ module _ {W Form Stmt : Type 0} (spelling : Spelling W Form Stmt) where
               })
             where
               -- The position of the label's token.
-              jump_token_position : TokenPosition (others ++ placed_row cells ∷ others_behind) f.at
+              jump_token_position : TokenPosition (others ++ placed_row cells ∷ others_after) f.at
               jump_token_position =
-                  TokenPosition-in_cell others others_behind cells front rest cell cells_split f.at before_label [] token last
+                  TokenPosition-in_cell others others_after cells front rest cell cells_split f.at before_label [] token last
                   begins
 
               -- The syntaxes above, here and below are all.
@@ -335,16 +335,16 @@ module _ {W Form Stmt : Type 0} (spelling : Spelling W Form Stmt) where
               IsJumpLabel-of_token = record {
                 threads = threads;
                 read =
-                    subst (λ (ys : List CellSaid).
+                    subst (λ (ys : List CellContent).
                     AreRead grammar names others (placed_row front ++ placed_cell cell ∷ placed_row rest) threads ys [])
                     (sym syntaxes_joined) AreRead-all_cells;
                 above_says = rw (cells_placed front) cut_at_cell.above_says;
                 ahead =
-                    subst (λ (ys : List CellSaid).
+                    subst (λ (ys : List CellContent).
                     (k : ℕ) (t : ParsesStatement spelling)
                     → slice_get (statements cut_at_cell.above) k ≡ Some t
                     → LabelsLeadForward grammar ys k t) (sym syntaxes_joined)
-                    (subst (λ (ys : List CellSaid).
+                    (subst (λ (ys : List CellContent).
                     (k : ℕ) (t : ParsesStatement spelling)
                     → slice_get (statements ys) k ≡ Some t
                     → LabelsLeadForward grammar syntaxes k t) (sym syntaxes_above_equal) r.ahead);
@@ -354,16 +354,15 @@ module _ {W Form Stmt : Type 0} (spelling : Spelling W Form Stmt) where
 
               -- A label that leads back or to the jump itself is a backward jump.
               IsBackward-of_jump : (to : ℕ) × (target_by column.labels word ≡ Some to) × (to ≤ length code)
-                  → (p : TokenPosition (others ++ placed_row cells ∷ others_behind) f.at) × IsBackward grammar names p
+                  → (p : TokenPosition (others ++ placed_row cells ∷ others_after) f.at) × IsBackward grammar names p
               IsBackward-of_jump (to, by, less) =
                   let l = label-target_by to by in
-                  let at : target_in syntaxes word ≤ length (statements cut_at_cell.above) =
-                  omega (
+                  let at : target_in syntaxes word ≤ length (statements cut_at_cell.above) = omega (
                     arith,
                     l.1,
                     less,
                     code_length,
-                    ap (λ (ys : List CellSaid). length (statements ys)) syntaxes_above_equal,
+                    ap (λ (ys : List CellContent). length (statements ys)) syntaxes_above_equal,
                   ) in (
                     jump_token_position,
                     (
@@ -372,14 +371,14 @@ module _ {W Form Stmt : Type 0} (spelling : Spelling W Form Stmt) where
                       cut_at_cell.below,
                       IsJumpLabel-of_token,
                       rw cut_at_cell.whole at l.0,
-                      subst (λ (ys : List CellSaid). target_in ys word ≤ length (statements cut_at_cell.above)) cut_at_cell.whole
-                          at,
+                      subst (λ (ys : List CellContent). target_in ys word ≤ length (statements cut_at_cell.above))
+                          cut_at_cell.whole at,
                     ),
                   )
 
           -- A thread with such a jump has no code, and the fault reported of it is true and lies in the text.
-          jump_refused : ColumnRefused grammar before cells f
-          jump_refused = record {
+          ColumnRefused-JumpRefused : ColumnRefused grammar before cells f
+          ColumnRefused-JumpRefused = record {
             none = λ known t (column_says, few).
                 not-AllForward (subst (AllForward grammar)
                 (AllZip-unique Says Says-unique (cells_texts cells) t syntaxes column_says.says drafted.read.says)
@@ -396,18 +395,18 @@ module _ {W Form Stmt : Type 0} (spelling : Spelling W Form Stmt) where
           }
 
         -- If a cell's jump is rejected, so is the thread.
-        pub row_refused : (f : CellFault)
+        pub ColumnRefused-unresolved_cell : (f : CellFault)
             → IsUnresolved column.labels (length code) cell d f
             → ColumnRefused grammar before cells f
-        row_refused f (inl (memory, first)) = column_out_of_memory grammar before cells f memory first
-        row_refused f (inr (draft, there, lost)) =
+        ColumnRefused-unresolved_cell f (inl (memory, first)) = ColumnRefused-out_of_memory grammar before cells f memory first
+        ColumnRefused-unresolved_cell f (inr (draft, there, lost)) =
             let m =
             option_map-Some_inv (draft_in grammar drafting after) cut_at_cell.here.stmt draft (sym there ∙ draft_is-draft_in) in
             let label =
             label_last spelling made lawful after tail m.0 (rw m.1 at MaybeStatement-tail.1) lost.index lost.token
             (ap (λ (x : Draft Form). x.label) (sym m.2) ∙ lost.labelled) lost.token_at in
             let front_part = take d.start cell.tokens ++ take lost.index tail in
-            jump_refused m.0 m.1 lost.token label.0 front_part
+            ColumnRefused-JumpRefused m.0 m.1 lost.token label.0 front_part
             (sym (take-append-drop d.start cell.tokens)
             ∙ ap (λ (ts : List Token). take d.start cell.tokens ++ ts) label.1
             ∙ sym (append_assoc (take d.start cell.tokens) (take lost.index tail) (lost.token ∷ []))) f lost.begins lost.because

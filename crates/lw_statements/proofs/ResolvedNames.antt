@@ -46,8 +46,8 @@ module _ {Syntax Stmt : Type 0} (grammar : Grammar Syntax Stmt) where
 
   module _ (lawful : IsGrammar grammar) where
     -- Each of the statements is said by some tokens.
-    abbrev pub AllSaid : List Syntax → Type 0
-    AllSaid ss = AllByRecursion (λ (s : Syntax). (ts : TokenList) × grammar.says ts s) ss
+    abbrev pub HaveTokens : List Syntax → Type 0
+    HaveTokens ss = AllByRecursion (λ (s : Syntax). (ts : TokenList) × grammar.says ts s) ss
 
     -- The syntax of some cells, and a table that has its names.
     module _ (names : NameTable) (syntaxes : List (CellSyntax Syntax)) where
@@ -62,7 +62,7 @@ module _ {Syntax Stmt : Type 0} (grammar : Grammar Syntax Stmt) where
 
       -- Resolved statements are well-formed.
       IsWellFormedStatement-all_resolved : (ss : List Syntax)
-          → AllSaid ss
+          → HaveTokens ss
           → AreIn names (filter_map grammar.name_of ss)
           → AllByRecursion (IsWellFormedStatement grammar.language (length names))
           (map (resolved_statement grammar names syntaxes) ss)
@@ -92,7 +92,7 @@ module _ {Syntax Stmt : Type 0} (grammar : Grammar Syntax Stmt) where
           let f : target_in syntaxes l ≡ to = cc in (omega (arith, f, ahead l refl), omega (arith, f, target_within syntaxes l))
 
       -- A resolved thread is well-formed.
-      pub IsWellFormedThread-code_in : AllSaid (statements syntaxes)
+      pub IsWellFormedThread-code_in : HaveTokens (statements syntaxes)
           → AreIn names (names_in grammar syntaxes)
           → length (statements syntaxes) ≤ grammar.language.most
           → AllForward grammar syntaxes

@@ -7,8 +7,8 @@ use Rattle.lw_statements.proofs.Common.{is_some, bytes_eq, eqb-true, All, take_a
 use Rattle.lw_statements.proofs.Common.{All-contains, All-more, Bytes, TokenList, Arch, Operand}
 use Rattle.lw_statements.proofs.Common.{IsLocationName, IsRegisterName, lowercase_if_x86, IsNumber, Token}
 use Rattle.lw_statements.proofs.Common.{token_texts, Slot, Keyword, SlotBindings, IsOperand, Spelling}
-use Rattle.lw_statements.proofs.Common.{SlotValue, Filling, Gives, Fills, BeginsWith, CanStand, no_bindings}
-use Rattle.lw_statements.proofs.Common.{bind_slot, bindings_of, IsReach}
+use Rattle.lw_statements.proofs.Common.{SlotValue, Filling, Gives, Fills, BeginsWith, CanFill, no_bindings}
+use Rattle.lw_statements.proofs.Common.{bind_slot, bindings_of, IsAcceptedLength}
 use Rattle.lw_base.specs.declared.operand.Operand.TheVariants as operand
 
 -- A token that is neither a register nor a number is no operand.
@@ -57,7 +57,7 @@ module _ {W Form Stmt : Type 0} (spelling : Spelling W Form Stmt) where
       → (f : Filling rest) × Fills spelling ts rest f × (found ≡ bindings_of (k + 1) rest f)
       → IsAdded slot t k found b all
       → AreTaken (t ∷ ts) k (slot ∷ rest) b all
-  AreTaken-cons rest slot ts t k found all false behind h = λ g s. h g.0 s.0
+  AreTaken-cons rest slot ts t k found all false after h = λ g s. h g.0 s.0
   AreTaken-cons rest slot ts t k found all true (f, fills, is) (g, gives, made) =
       ((g, f), (gives, fills), made ∙ ap (bind_slot k slot g) is)
 
@@ -110,55 +110,57 @@ module _ {W Form Stmt : Type 0} (spelling : Spelling W Form Stmt) where
       not-Fills-other_count slots tokens (λ e. differ (ap suc e)) f.1 h.1
 
   -- A slot accepts a token if and only if something is found of it there.
-  pub can_stand_alone : (t : Bytes) (slot : Slot W) (k : ℕ) (found : SlotBindings) (result : Option SlotBindings)
+  pub is_some-iff_CanFill : (t : Bytes) (slot : Slot W) (k : ℕ) (found : SlotBindings) (result : Option SlotBindings)
       → IsTaken slot t k found result
-      → IsTrue (is_some result) ↔ CanStand spelling (t ∷ []) (slot ∷ [])
-  can_stand_alone t slot k found None h = (λ e. absurd cc, λ s. absurd (h s.0.0 s.1.0))
-  can_stand_alone t slot k found (Some all) h = (λ e. ((h.0, tt), (h.1, tt)), λ s. refl)
+      → IsTrue (is_some result) ↔ CanFill spelling (t ∷ []) (slot ∷ [])
+  is_some-iff_CanFill t slot k found None h = (λ e. absurd cc, λ s. absurd (h s.0.0 s.1.0))
+  is_some-iff_CanFill t slot k found (Some all) h = (λ e. ((h.0, tt), (h.1, tt)), λ s. refl)
 
   -- ---- how far tokens match a statement
 
   -- If there are no slots, none is reached.
-  pub IsReach-no_slots : (slots : List (Slot W)) (ts : TokenList) → length slots ≡ 0 → IsReach spelling ts slots 0
-  IsReach-no_slots [] ts a = refl
-  IsReach-no_slots (slot ∷ slots) ts a = absurd (omega (arith, a))
+  pub IsAcceptedLength-no_slots : (slots : List (Slot W)) (ts : TokenList)
+      → length slots ≡ 0
+      → IsAcceptedLength spelling ts slots 0
+  IsAcceptedLength-no_slots [] ts a = refl
+  IsAcceptedLength-no_slots (slot ∷ slots) ts a = absurd (omega (arith, a))
 
   -- If there are no tokens, no slot is reached.
-  pub IsReach-no_tokens : (slots : List (Slot W)) (tokens : List Token)
+  pub IsAcceptedLength-no_tokens : (slots : List (Slot W)) (tokens : List Token)
       → length tokens ≡ 0
-      → IsReach spelling (token_texts tokens) slots 0
-  IsReach-no_tokens [] tokens b = refl
-  IsReach-no_tokens (slot ∷ slots) [] b = refl
-  IsReach-no_tokens (slot ∷ slots) (t ∷ tokens) b = absurd (omega (arith, b))
+      → IsAcceptedLength spelling (token_texts tokens) slots 0
+  IsAcceptedLength-no_tokens [] tokens b = refl
+  IsAcceptedLength-no_tokens (slot ∷ slots) [] b = refl
+  IsAcceptedLength-no_tokens (slot ∷ slots) (t ∷ tokens) b = absurd (omega (arith, b))
 
   -- With a token before them that the first slot accepts, tokens reach one slot further.
-  pub IsReach-cons : (rest : List (Slot W)) (slot : Slot W) (ts : TokenList) (t : Bytes) (k : ℕ)
-      → CanStand spelling (t ∷ []) (slot ∷ [])
-      → IsReach spelling ts rest k
-      → IsReach spelling (t ∷ ts) (slot ∷ rest) (1 + k)
-  IsReach-cons rest slot ts t k stands h = let e : 1 + k ≡ suc k = omega arith in rw e (stands, h)
+  pub IsAcceptedLength-cons : (rest : List (Slot W)) (slot : Slot W) (ts : TokenList) (t : Bytes) (k : ℕ)
+      → CanFill spelling (t ∷ []) (slot ∷ [])
+      → IsAcceptedLength spelling ts rest k
+      → IsAcceptedLength spelling (t ∷ ts) (slot ∷ rest) (1 + k)
+  IsAcceptedLength-cons rest slot ts t k stands h = let e : 1 + k ≡ suc k = omega arith in rw e (stands, h)
 
   -- Tokens reach at most as many slots as there are slots and tokens.
-  pub IsReach-in_range : (slots : List (Slot W)) (ts : TokenList) (n : ℕ)
-      → IsReach spelling ts slots n
+  pub IsAcceptedLength-in_range : (slots : List (Slot W)) (ts : TokenList) (n : ℕ)
+      → IsAcceptedLength spelling ts slots n
       → (n ≤ length slots) × (n ≤ length ts)
-  IsReach-in_range [] ts n h = (omega (arith, h), omega (arith, h))
-  IsReach-in_range (slot ∷ slots) [] n h = (omega (arith, h), omega (arith, h))
-  IsReach-in_range (slot ∷ slots) (t ∷ ts) zero h = (omega arith, omega arith)
-  IsReach-in_range (slot ∷ slots) (t ∷ ts) (suc n) h =
-      let r = IsReach-in_range slots ts n h.1 in (omega (arith, r.0), omega (arith, r.1))
+  IsAcceptedLength-in_range [] ts n h = (omega (arith, h), omega (arith, h))
+  IsAcceptedLength-in_range (slot ∷ slots) [] n h = (omega (arith, h), omega (arith, h))
+  IsAcceptedLength-in_range (slot ∷ slots) (t ∷ ts) zero h = (omega arith, omega arith)
+  IsAcceptedLength-in_range (slot ∷ slots) (t ∷ ts) (suc n) h =
+      let r = IsAcceptedLength-in_range slots ts n h.1 in (omega (arith, r.0), omega (arith, r.1))
 
   -- The number of slots that tokens reach is unique: of two such numbers neither is greater.
-  pub IsReach-at_most : (ts : TokenList) (slots : List (Slot W)) (m n : ℕ)
-      → IsReach spelling ts slots m
-      → IsReach spelling ts slots n
+  pub IsAcceptedLength-at_most : (ts : TokenList) (slots : List (Slot W)) (m n : ℕ)
+      → IsAcceptedLength spelling ts slots m
+      → IsAcceptedLength spelling ts slots n
       → m ≤ n
-  IsReach-at_most ts [] m n h k = omega (arith, h)
-  IsReach-at_most [] (slot ∷ slots) m n h k = omega (arith, h)
-  IsReach-at_most (t ∷ ts) (slot ∷ slots) zero n h k = omega arith
-  IsReach-at_most (t ∷ ts) (slot ∷ slots) (suc m) zero h k = absurd (k h.0)
-  IsReach-at_most (t ∷ ts) (slot ∷ slots) (suc m) (suc n) h k =
-      let less = IsReach-at_most ts slots m n h.1 k.1 in omega (arith, less)
+  IsAcceptedLength-at_most ts [] m n h k = omega (arith, h)
+  IsAcceptedLength-at_most [] (slot ∷ slots) m n h k = omega (arith, h)
+  IsAcceptedLength-at_most (t ∷ ts) (slot ∷ slots) zero n h k = omega arith
+  IsAcceptedLength-at_most (t ∷ ts) (slot ∷ slots) (suc m) zero h k = absurd (k h.0)
+  IsAcceptedLength-at_most (t ∷ ts) (slot ∷ slots) (suc m) (suc n) h k =
+      let less = IsAcceptedLength-at_most ts slots m n h.1 k.1 in omega (arith, less)
 
   -- ---- what a loop over the forms has found of each
 
@@ -172,7 +174,7 @@ module _ {W Form Stmt : Type 0} (spelling : Spelling W Form Stmt) where
 
   -- The form's slots accept at most k of the tokens.
   abbrev pub ReachesTo : TokenList → ℕ → Form → Type 0
-  ReachesTo ts k form = (n : ℕ) × IsReach spelling ts (spelling.slots_of form) n × (n ≤ k)
+  ReachesTo ts k form = (n : ℕ) × IsAcceptedLength spelling ts (spelling.slots_of form) n × (n ≤ k)
 
 -- What holds of the first i forms, and of the next one, holds of the first `i + 1`.
 pub All-take_suc : {X : Type 0} (P : X → Type 0) (forms : List X) (i : ℕ) (form : X)

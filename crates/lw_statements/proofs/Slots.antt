@@ -73,11 +73,12 @@ register_no_number arch w r n reg num =
     ∙ letter_first arch r reg.0)
 
 -- A token is at most one operand.
-operand_unique : (arch : Arch) (w : Bytes) (u v : Operand) → IsOperand arch w u → IsOperand arch w v → u ≡ v
-operand_unique arch w (operand.Register r) (operand.Register q) h k = ap operand.Register (register_of_name-unique arch w r q h k)
-operand_unique arch w (operand.Register r) (operand.Number n) h k = absurd (register_no_number arch w r n h k)
-operand_unique arch w (operand.Number n) (operand.Register r) h k = absurd (register_no_number arch w r n k h)
-operand_unique arch w (operand.Number n) (operand.Number m) h k = ap operand.Number (number-unique w n m h k)
+IsOperand-unique : (arch : Arch) (w : Bytes) (u v : Operand) → IsOperand arch w u → IsOperand arch w v → u ≡ v
+IsOperand-unique arch w (operand.Register r) (operand.Register q) h k =
+    ap operand.Register (register_of_name-unique arch w r q h k)
+IsOperand-unique arch w (operand.Register r) (operand.Number n) h k = absurd (register_no_number arch w r n h k)
+IsOperand-unique arch w (operand.Number n) (operand.Register r) h k = absurd (register_no_number arch w r n k h)
+IsOperand-unique arch w (operand.Number n) (operand.Number m) h k = ap operand.Number (number-unique w n m h k)
 
 -- No token is both an operand and a location's name.
 not-operand_and_location : (arch : Arch) (w : Bytes) (v : Operand) → IsOperand arch w v → IsLocationName w → ⊥
@@ -140,16 +141,16 @@ module _ {W Form Stmt : Type 0} (spelling : Spelling W Form Stmt) where
   -- ---- one token
 
   -- A token gives at most one value at a slot.
-  pub given_unique : (t : Bytes) (slot : Slot W) (g h : SlotValue slot)
+  pub Gives-unique : (t : Bytes) (slot : Slot W) (g h : SlotValue slot)
       → Gives spelling t slot g
       → Gives spelling t slot h
       → g ≡ h
-  given_unique t (Keyword w) g h a b = refl
-  given_unique t Register g h a b = register_of_name-unique spelling.language.arch t g h a b
-  given_unique t Location g h a b = sym a.0 ∙ b.0
-  given_unique t Value g h a b = operand_unique spelling.language.arch t g h a b
-  given_unique t Number g h a b = number-unique t g h a b
-  given_unique t Label g h a b = sym a.0 ∙ b.0
+  Gives-unique t (Keyword w) g h a b = refl
+  Gives-unique t Register g h a b = register_of_name-unique spelling.language.arch t g h a b
+  Gives-unique t Location g h a b = sym a.0 ∙ b.0
+  Gives-unique t Value g h a b = IsOperand-unique spelling.language.arch t g h a b
+  Gives-unique t Number g h a b = number-unique t g h a b
+  Gives-unique t Label g h a b = sym a.0 ∙ b.0
 
   -- A text that is a register's name, up to case, names a register.
   names_register-same_lowercase : (w : Bytes) (r : ℕ)
@@ -174,21 +175,19 @@ module _ {W Form Stmt : Type 0} (spelling : Spelling W Form Stmt) where
       true≢false (sym none ∙ ap not (names_register-same_lowercase (spelling.text_of w) r reg.0 (reg.1 ∙ sym word)))
 
   -- No token is accepted by two slots that differ.
-  pub not-given_to_differing_slots : (t : Bytes) (a b : Slot W) (g : SlotValue a) (h : SlotValue b)
+  pub not-Gives-differing_slots : (t : Bytes) (a b : Slot W) (g : SlotValue a) (h : SlotValue b)
       → tokens_differ spelling a b ≡ true
       → Gives spelling t a g
       → Gives spelling t b h
       → ⊥
-  not-given_to_differing_slots t (Keyword v) (Keyword w) g h d x y = bytes_eq-false_inv _ _ d (x ∙ sym y)
-  not-given_to_differing_slots t (Keyword w) Register g r d x y = no_register-if_keyword t w r d x y
-  not-given_to_differing_slots t Register (Keyword w) r h d x y = no_register-if_keyword t w r d y x
-  not-given_to_differing_slots t Register Location r n d x y =
-      not-register_and_location _ t r x (subst IsLocationName (sym y.0) y.1)
-  not-given_to_differing_slots t Location Register n r d x y =
-      not-register_and_location _ t r y (subst IsLocationName (sym x.0) x.1)
-  not-given_to_differing_slots t Location Value n v d x y = not-operand_and_location _ t v y (subst IsLocationName (sym x.0) x.1)
-  not-given_to_differing_slots t Value Location v n d x y = not-operand_and_location _ t v x (subst IsLocationName (sym y.0) y.1)
-  not-given_to_differing_slots t a b g h d x y = absurd cc
+  not-Gives-differing_slots t (Keyword v) (Keyword w) g h d x y = bytes_eq-false_inv _ _ d (x ∙ sym y)
+  not-Gives-differing_slots t (Keyword w) Register g r d x y = no_register-if_keyword t w r d x y
+  not-Gives-differing_slots t Register (Keyword w) r h d x y = no_register-if_keyword t w r d y x
+  not-Gives-differing_slots t Register Location r n d x y = not-register_and_location _ t r x (subst IsLocationName (sym y.0) y.1)
+  not-Gives-differing_slots t Location Register n r d x y = not-register_and_location _ t r y (subst IsLocationName (sym x.0) x.1)
+  not-Gives-differing_slots t Location Value n v d x y = not-operand_and_location _ t v y (subst IsLocationName (sym x.0) x.1)
+  not-Gives-differing_slots t Value Location v n d x y = not-operand_and_location _ t v x (subst IsLocationName (sym y.0) y.1)
+  not-Gives-differing_slots t a b g h d x y = absurd cc
 
   -- A slot that accepts the name of a location, and is no word, is a location's.
   pub location_slot : (t : Bytes) (slot : Slot W) (g : SlotValue slot)
@@ -220,16 +219,16 @@ module _ {W Form Stmt : Type 0} (spelling : Spelling W Form Stmt) where
   -- ---- several tokens
 
   -- Tokens give at most one filling of slots.
-  pub filling_unique : (ts : TokenList) (slots : List (Slot W)) (f g : Filling slots)
+  pub Fills-unique : (ts : TokenList) (slots : List (Slot W)) (f g : Filling slots)
       → Fills spelling ts slots f
       → Fills spelling ts slots g
       → f ≡ g
-  filling_unique [] [] f g a b = refl
-  filling_unique [] (slot ∷ slots) f g a b = absurd a
-  filling_unique (t ∷ ts) [] f g a b = absurd a
-  filling_unique (t ∷ ts) (slot ∷ slots) (x, f) (y, g) a b =
-      let h = filling_unique ts slots f g a.1 b.1 in
-      ap (λ (z : SlotValue slot). (z, f)) (given_unique t slot x y a.0 b.0) ∙ ap (λ (z : Filling slots). (y, z)) h
+  Fills-unique [] [] f g a b = refl
+  Fills-unique [] (slot ∷ slots) f g a b = absurd a
+  Fills-unique (t ∷ ts) [] f g a b = absurd a
+  Fills-unique (t ∷ ts) (slot ∷ slots) (x, f) (y, g) a b =
+      let h = Fills-unique ts slots f g a.1 b.1 in
+      ap (λ (z : SlotValue slot). (z, f)) (Gives-unique t slot x y a.0 b.0) ∙ ap (λ (z : Filling slots). (y, z)) h
 
   -- No tokens fill two disjoint lists of slots.
   pub not-Fills-disjoint : (ts : TokenList) (first second : List (Slot W)) (f : Filling first) (g : Filling second)
@@ -243,7 +242,7 @@ module _ {W Form Stmt : Type 0} (spelling : Spelling W Form Stmt) where
   not-Fills-disjoint [] [] (b ∷ second) f g d x y = y
   not-Fills-disjoint (t ∷ ts) (a ∷ first) [] f g d x y = y
   not-Fills-disjoint (t ∷ ts) (a ∷ first) (b ∷ second) (p, f) (q, g) d x y = elim (cases_Bool (tokens_differ spelling a b)) [
-    | inl e ↦ not-given_to_differing_slots t a b p q e x.0 y.0
+    | inl e ↦ not-Gives-differing_slots t a b p q e x.0 y.0
     | inr e ↦
         not-Fills-disjoint ts first second f g
         (let h : (false || are_disjoint_forms spelling first second) ≡ true =

@@ -7,16 +7,17 @@ use Rattle.lw_statements.proofs.Common.{get_or_from_slice_get, same_Some, length
 use Rattle.lw_statements.proofs.Common.{IsLocationName, IsNameTable, Bytes, NameTable, TokenList, CellFault}
 use Rattle.lw_statements.proofs.Common.{Token, token_texts, Draft, Operands, Slot, Location, SlotBindings}
 use Rattle.lw_statements.proofs.Common.{NameRead, Spelling, Filling, Fills, ParsesStatement, grammar_of}
-use Rattle.lw_statements.proofs.Common.{name_in, CanStand, bindings_of, draft_on, draft_of, IsNameAmong}
-use Rattle.lw_statements.proofs.Common.{IsDrafted, IsNotDrafted, IsOverflowSlot, IsReach, IsSlotAfter}
-use Rattle.lw_statements.proofs.Common.{IsSpelling, Phrase, Fits, StatementRead, StatementRefused}
-use Rattle.lw_statements.proofs.Common.{HasOverflowIn}
+use Rattle.lw_statements.proofs.Common.{name_in, CanFill, bindings_of, draft_on, draft_of, IsNameAmong}
+use Rattle.lw_statements.proofs.Common.{IsDrafted, IsNotDrafted, IsOverflowSlot, IsAcceptedLength}
+use Rattle.lw_statements.proofs.Common.{IsSlotAfter, IsSpelling, Phrase, Fits, StatementRead}
+use Rattle.lw_statements.proofs.Common.{StatementRefused, HasOverflowIn}
 use Rattle.lw_statements.proofs.Elements.{All-get}
 use Rattle.lw_statements.proofs.FrontLabels.{get_text}
 use Rattle.lw_statements.proofs.Causes.{FaultClaim-weakened}
-use Rattle.lw_statements.proofs.Beginnings.{location_after}
-use Rattle.lw_statements.proofs.Fronts.{after_cut, fitting_before, IsSlotAfter-get}
-use Rattle.lw_statements.proofs.api.Forms.{is_grammar, list_all-get}
+use Rattle.lw_statements.proofs.Beginnings.{IsLocationAfter-of_slots}
+use Rattle.lw_statements.proofs.Fronts.{IsSlotAfter-before_location, BeginsFitting-before_location}
+use Rattle.lw_statements.proofs.Fronts.{IsSlotAfter-get}
+use Rattle.lw_statements.proofs.api.Forms.{IsGrammar-of_spelling, list_all-get}
 
 module _ {W Form Stmt : Type 0} (spelling : Spelling W Form Stmt) where
   -- ---- where the name of a location is
@@ -31,13 +32,13 @@ module _ {W Form Stmt : Type 0} (spelling : Spelling W Form Stmt) where
       × (k ≡ i + j)
       × (slice_get ts j ≡ Some x)
       × (slots ≡ front ++ Location ∷ back)
-      × CanStand spelling (take j ts) front
+      × CanFill spelling (take j ts) front
       × IsLocationName x
 
   -- The name is the same with one more slot before, which names nothing.
   IsNamed-suc : (i k : ℕ) (t : Bytes) (ts : TokenList) (slot : Slot W) (slots : List (Slot W)) (f : Filling (slot ∷ slots))
       → name_in (slot ∷ slots) f ≡ name_in slots f.1
-      → CanStand spelling (t ∷ []) (slot ∷ [])
+      → CanFill spelling (t ∷ []) (slot ∷ [])
       → IsNamed (i + 1) k ts slots f.1
       → IsNamed i k (t ∷ ts) (slot ∷ slots) f
   IsNamed-suc i k t ts slot slots f same stands (x, j, front, back, is, at, there, cut, before, loc) = (
@@ -142,7 +143,7 @@ module _ {W Form Stmt : Type 0} (spelling : Spelling W Form Stmt) where
         }
         go (Some k) is (t, loc, at, read, made) =
             let n = (name_in-found k t is at).0 in
-            record { syntax = said; says = (there, fills); names = rw n read.names; made = rw (is, n, ← read.number) made }
+            record { syntax = said; says = (there, fills); names = rw n read.names; made = rw (is, n, ← read.index) made }
 
     -- A statement is rejected if the table has no room for its location.
     pub StatementRefused-IsNotDrafted : (made : Form → Operands → Option Stmt)
@@ -154,14 +155,16 @@ module _ {W Form Stmt : Type 0} (spelling : Spelling W Form Stmt) where
     StatementRefused-IsNotDrafted made lawful before fault table h =
         let n = IsNamed-of_found h.index h.name in
         let is = name_in-found h.index h.token h.name h.token_at in
-        let front : CanStand spelling (token_texts (take h.index tokens)) n.2 =
-        subst (λ (ts : TokenList). CanStand spelling ts n.2)
+        let front : CanFill spelling (token_texts (take h.index tokens)) n.2 =
+        subst (λ (ts : TokenList). CanFill spelling ts n.2)
         (ap (λ (m : ℕ). take m (token_texts tokens)) (omega (arith, n.5)) ∙ take-map (λ (t : Token). t.text.now) h.index tokens)
         n.8 in
-        let after = after_cut spelling n.2 n.3 (spelling.slots_of form) (token_texts (take h.index tokens)) n.7 front in
+        let after =
+        IsSlotAfter-before_location spelling n.2 n.3 (spelling.slots_of form) (token_texts (take h.index tokens)) n.7 front in
         record {
           none = λ known s fits.
-              let same : s ≡ said = (is_grammar _ _ lawful).deterministic (token_texts tokens) s said fits.0 (there, fills) in
+              let same : s ≡ said =
+              (IsGrammar-of_spelling _ _ lawful).deterministic (token_texts tokens) s said fits.0 (there, fills) in
               h.refused.none known (is.1, rw (same, is.0) at fits.1);
           cause =
               FaultClaim-weakened (λ c none. absurd none) (λ none. absurd none) (λ overflow. record {
@@ -169,10 +172,11 @@ module _ {W Form Stmt : Type 0} (spelling : Spelling W Form Stmt) where
                 token = h.token;
                 token_at = h.token_at;
                 begun = λ some.
-                    fitting_before spelling before table form (token_texts (take h.index tokens)) there
+                    BeginsFitting-before_location spelling before table form (token_texts (take h.index tokens)) there
                     (list_all-get _ spelling.forms there.0 form lawful.names there.1 there.2) after;
                 location =
-                    location_after _ made lawful form (token_texts (take h.index tokens)) h.token.text.now there after is.1;
+                    IsLocationAfter-of_slots _ made lawful form (token_texts (take h.index tokens)) h.token.text.now there after
+                    is.1;
                 overflow = overflow;
               }) h.refused.cause;
           place = λ len lies. h.refused.place len (All-get (λ t. t.at ≤ len) tokens _ h.token h.token_at lies.0);
@@ -184,7 +188,7 @@ module _ {W Form Stmt : Type 0} (spelling : Spelling W Form Stmt) where
       → (form : Form)
       → Contains spelling.forms form
       → (tokens : List Token) (names : NameTable) (table : IsNameTable names) (front index : ℕ) (default : Token)
-      → IsReach spelling (token_texts tokens) (spelling.slots_of form) front
+      → IsAcceptedLength spelling (token_texts tokens) (spelling.slots_of form) front
       → IsOverflowSlot (spelling.slots_of form) tokens front names index
       → HasOverflowIn (grammar_of spelling) tokens names (get_or tokens index default).at
   HasOverflowIn-IsOverflowSlot made lawful form there tokens names table front index default reach n =
@@ -199,9 +203,9 @@ module _ {W Form Stmt : Type 0} (spelling : Spelling W Form Stmt) where
         token = n.token;
         token_at = n.token_at;
         begun = λ some.
-            fitting_before spelling names table form _ there
+            BeginsFitting-before_location spelling names table form _ there
             (list_all-get _ spelling.forms there.0 form lawful.names there.1 there.2) after;
-        location = location_after spelling made lawful form _ n.token.text.now there after loc;
+        location = IsLocationAfter-of_slots spelling made lawful form _ n.token.text.now there after loc;
         overflow = (refl, loc, n.full, n.new);
       })
 

@@ -4,7 +4,7 @@ use Rattle.lw_statements.proofs.Common.{◌≡◌, ◌≤◌, true, List, [], �
 use Rattle.lw_statements.proofs.Common.{subst, arith, AllZip, AllByRecursion, map-append, contains_name}
 use Rattle.lw_statements.proofs.Common.{insert_name, insert_names, Bytes, NameTable, All-append_inv}
 use Rattle.lw_statements.proofs.Common.{contains_name-of_inserted, contains_name-insert_names}
-use Rattle.lw_statements.proofs.Common.{insert_names-append, insert_names-longer, ReadOn}
+use Rattle.lw_statements.proofs.Common.{insert_names-append, insert_names-longer, ReadWithTable}
 use Rattle.lw_statements.proofs.api.Zips.{Cut, AllZip-unique, AllZip-snoc}
 
 -- All names are in the table.
@@ -36,7 +36,7 @@ module _ {X D : Type 0} (names_by : List X → List Bytes) (make : NameTable →
 
   -- What was read, and what follows.
   module _ {C : Type 0} (Says : C → X → Type 0) (front : List C) (before mid : NameTable) (ds : List D)
-      (read : ReadOn (AllZip Says front) names_by (λ names. map (make names)) before ds mid) (c : C) where
+      (read : ReadWithTable (AllZip Says front) names_by (λ names. map (make names)) before ds mid) (c : C) where
     -- Reading the next thing adds it to what was read, and its names to the table.
     pub columns_read-push : (x : X) (d : D) (after : NameTable)
         → Says c x

@@ -8,9 +8,9 @@ use Rattle.lw_statements.proofs.Common.{Memory, CellFault, Cell, cells_texts, al
 use Rattle.lw_statements.proofs.Common.{placed_cells, EndsBefore, grid_placed, Grammar, IsGrammar, CellSyntax}
 use Rattle.lw_statements.proofs.Common.{Column, names_in, names_of, code_in, FrameHasTest, ColumnRead}
 use Rattle.lw_statements.proofs.Common.{ColumnsRead, ColumnRefused, ColumnsRefused}
-use Rattle.lw_statements.proofs.Causes.{refusal-Memory}
+use Rattle.lw_statements.proofs.Causes.{Refused-Memory}
 use Rattle.lw_statements.proofs.Elements.{All-middle, take-item-drop, take_further}
-use Rattle.lw_statements.proofs.OneReading.{column_unique}
+use Rattle.lw_statements.proofs.OneReading.{Column-unique}
 use Rattle.lw_statements.proofs.ResolvedNames.{code_in-insert_names}
 use Rattle.lw_statements.proofs.TablesRead.{AreIn, columns_read-push, room_for_read_names}
 use Rattle.lw_statements.proofs.api.Zips.{AllZip-split}
@@ -29,11 +29,11 @@ module _ {Syntax Stmt : Type 0} (grammar : Grammar Syntax Stmt) where
       code_in-insert_names grammar _ ns t (subst (AreIn names) (append-nil (names_in grammar t)) all)
 
   -- A fault because memory ran out rejects the cells of the threads.
-  pub columns_out_of_memory : {A : Type 0} (names : NameTable) (columns : List (List (Cell A))) (f : CellFault)
+  pub ColumnsRefused-out_of_memory : {A : Type 0} (names : NameTable) (columns : List (List (Cell A))) (f : CellFault)
       → f.cause ≡ Memory
       → f.at ≡ 0
       → ColumnsRefused grammar names columns f
-  columns_out_of_memory names columns f = refusal-Memory f (λ at. tt)
+  ColumnsRefused-out_of_memory names columns f = Refused-Memory f (λ at. tt)
 
   -- A column, after those that were read.
   module _ {A : Type 0} (columns : List (List (Cell A))) (i : ℕ) (column : List (Cell A)) (within : i < length columns)
@@ -74,7 +74,7 @@ module _ {Syntax Stmt : Type 0} (grammar : Grammar Syntax Stmt) where
               (ap all_texts whole ∙ map-append cells_texts front (column ∷ rest)) all) in
               let room =
               room_for_read_names (names_of grammar) (code_in grammar) names_of-append code_in-insert_more_names (Column grammar)
-              _ before mid threads read _ (column_unique grammar lawful) (all_texts rest) ts cut in
+              _ before mid threads read _ (Column-unique grammar lawful) (all_texts rest) ts cut in
               r.none known cut.here (
                 cut.says,
                 omega (

@@ -66,7 +66,7 @@ bind_slot k Value v o = with_value v o
 bind_slot k Number n o = with_number n o
 bind_slot k Label l o = with_label_at k o
 
--- The bindings of tokens with these values in their slots. The first token has this index.
+-- The bindings of tokens with these values in their slots. The first token has this index. The slots are bound from the last to the first.
 abbrev pub bindings_of : {W : Type 0} → ℕ → (slots : List (Slot W)) → Filling slots → SlotBindings
 bindings_of k [] f = no_bindings
 bindings_of k (slot ∷ slots) (g, f) = bind_slot k slot g (bindings_of (k + 1) slots f)
@@ -97,21 +97,21 @@ numbers_in (slot ∷ slots) (g, f) = numbers_with slot g (numbers_in slots f)
 abbrev pub with_target : Option ℕ → Operands → Operands
 with_target to o = record o { to = to }
 
--- The operands of the bindings, with the index of their location, if there is a name, and this target.
+-- The operands of the bindings, with x as the index of their location, if there is a name, and this target.
 abbrev pub operands_of : ℕ → Option ℕ → SlotBindings → Operands
 operands_of x to o = record o.operands { loc = option_map (λ (k : ℕ). x) o.name; to = to }
 
--- The function of an operand, if it is given.
+-- The function of an operand, or `None` if it is missing.
 abbrev pub map_some : {A C : Type 0} → (A → C) → Option A → Option C
 map_some make None = None
 map_some make (Some a) = Some (make a)
 
--- The function of two operands, if both are given.
+-- The function of two operands, or `None` if one is missing.
 abbrev pub map_some2 : {A B C : Type 0} → (A → B → C) → Option A → Option B → Option C
 map_some2 make None b = None
 map_some2 make (Some a) b = map_some (make a) b
 
--- The function of three operands, if all are given.
+-- The function of three operands, or `None` if one is missing.
 abbrev pub map_some3 : {A B D C : Type 0} → (A → B → D → C) → Option A → Option B → Option D → Option C
 map_some3 make None b d = None
 map_some3 make (Some a) b d = map_some2 (make a) b d
@@ -121,8 +121,8 @@ abbrev pub draft_on : {Form : Type 0} → Form → Option ℕ → SlotBindings �
 draft_on form loc o = record { form = form; operands = record o.operands { loc = loc; to = None }; label = o.label }
 
 -- The draft of a statement: its form, this index as its location's, if there is a name, and its bindings.
-abbrev pub drafted : {Form : Type 0} → Form → ℕ → SlotBindings → Draft Form
-drafted form x o = draft_on form (option_map (λ (k : ℕ). x) o.name) o
+abbrev pub draft_with_location : {Form : Type 0} → Form → ℕ → SlotBindings → Draft Form
+draft_with_location form x o = draft_on form (option_map (λ (k : ℕ). x) o.name) o
 
 -- The name of the bindings, if there is one, is that of a location, and its token is in range.
 abbrev pub IsNameAmong : SlotBindings → List Token → Type 0
@@ -135,7 +135,7 @@ IsDrafted form o tokens before draft after =
     (λ k.
     (t : Token) × (loc : ℕ) × (slice_get tokens k ≡ Some t) × NameRead before t loc after × (draft ≡ draft_on form (Some loc) o))
 
--- The bindings have no draft, since the table has no room for the location. The fault says so.
+-- The bindings have no draft: the table has no room for the location, or memory ran out. The fault says which.
 pub record IsNotDrafted (o : SlotBindings) (tokens : List Token) (before : NameTable) (fault : CellFault) : Type 0 where
   pub index : ℕ
   pub name : o.name ≡ Some index
@@ -175,58 +175,58 @@ IsRegisterSlot slot = (slot ≡ Register) ⊎ (slot ≡ Value)
 
 module _ {W Form Stmt : Type 0} (spelling : Spelling W Form Stmt) where
   -- The tokens fit these slots, one in each.
-  abbrev pub CanStand : TokenList → List (Slot W) → Type 0
-  CanStand ts slots = (f : Filling slots) × Fills spelling ts slots f
+  abbrev pub CanFill : TokenList → List (Slot W) → Type 0
+  CanFill ts slots = (f : Filling slots) × Fills spelling ts slots f
 
   -- There is a first slot, and the token fits it.
   abbrev pub BeginsWith : List (Slot W) → Bytes → Type 0
   BeginsWith slots t =
-      (slot : Slot W) × (rest : List (Slot W)) × (slots ≡ slot ∷ rest) × CanStand (t ∷ []) (slot ∷ [])
+      (slot : Slot W) × (rest : List (Slot W)) × (slots ≡ slot ∷ rest) × CanFill (t ∷ []) (slot ∷ [])
 
   -- The bindings of a parsed statement's tokens.
-  abbrev pub found_in : ParsesStatement spelling → SlotBindings
-  found_in s = bindings_of 0 (spelling.slots_of s.form) s.filling
+  abbrev pub statement_bindings : ParsesStatement spelling → SlotBindings
+  statement_bindings s = bindings_of 0 (spelling.slots_of s.form) s.filling
 
   -- The draft of a parsed statement, if its location has this index.
   abbrev pub draft_of : ℕ → ParsesStatement spelling → Draft Form
-  draft_of x s = drafted s.form x (found_in s)
+  draft_of x s = draft_with_location s.form x (statement_bindings s)
 
-  -- Exactly this number of tokens fit the slots: the next does not, or there is no further token or slot.
-  abbrev pub IsReach : TokenList → List (Slot W) → ℕ → Type 0
-  IsReach ts [] k = k ≡ 0
-  IsReach [] (slot ∷ slots) k = k ≡ 0
-  IsReach (t ∷ ts) (slot ∷ slots) zero = CanStand (t ∷ []) (slot ∷ []) → ⊥
-  IsReach (t ∷ ts) (slot ∷ slots) (suc k) = CanStand (t ∷ []) (slot ∷ []) × IsReach ts slots k
+  -- Exactly the first k tokens fit the slots, one each: the next does not, or there is no further token or slot.
+  abbrev pub IsAcceptedLength : TokenList → List (Slot W) → ℕ → Type 0
+  IsAcceptedLength ts [] k = k ≡ 0
+  IsAcceptedLength [] (slot ∷ slots) k = k ≡ 0
+  IsAcceptedLength (t ∷ ts) (slot ∷ slots) zero = CanFill (t ∷ []) (slot ∷ []) → ⊥
+  IsAcceptedLength (t ∷ ts) (slot ∷ slots) (suc k) = CanFill (t ∷ []) (slot ∷ []) × IsAcceptedLength ts slots k
 
-  -- The slots of each form accept at most this number of the tokens.
-  abbrev pub AreFront : TokenList → ℕ → Type 0
-  AreFront ts k =
+  -- The slots of each form accept at most k of the tokens.
+  abbrev pub AcceptAtMost : TokenList → ℕ → Type 0
+  AcceptAtMost ts k =
       (form : Form) → Contains spelling.forms form
-      → (n : ℕ) × IsReach ts (spelling.slots_of form) n × (n ≤ k)
+      → (n : ℕ) × IsAcceptedLength ts (spelling.slots_of form) n × (n ≤ k)
 
-  -- This number of the tokens is the most that the slots of any form accept, 0 if there is no form.
-  pub record IsLongestFront (ts : TokenList) (k : ℕ) : Type 0 where
-    pub reached : (k ≡ 0) ⊎ ((form : Form) × Contains spelling.forms form × IsReach ts (spelling.slots_of form) k)
-    pub front : AreFront ts k
+  -- The slots of some form accept the first k tokens, or k is 0, and those of no form accept more.
+  pub record IsLongestAccepted (ts : TokenList) (k : ℕ) : Type 0 where
+    pub reached : (k ≡ 0) ⊎ ((form : Form) × Contains spelling.forms form × IsAcceptedLength ts (spelling.slots_of form) k)
+    pub front : AcceptAtMost ts k
 
   -- The first of the slots accept the tokens, one each, and this slot follows these.
   abbrev pub IsSlotAfter : TokenList → List (Slot W) → Slot W → Type 0
   IsSlotAfter ts [] next = ⊥
   IsSlotAfter [] (slot ∷ slots) next = slot ≡ next
-  IsSlotAfter (t ∷ ts) (slot ∷ slots) next = CanStand (t ∷ []) (slot ∷ []) × IsSlotAfter ts slots next
+  IsSlotAfter (t ∷ ts) (slot ∷ slots) next = CanFill (t ∷ []) (slot ∷ []) × IsSlotAfter ts slots next
 
-  -- After those of the slots that accept the tokens, such a slot follows.
+  -- The slots accept the tokens, one each, and the slot that follows is of a kind.
   abbrev pub HasNext : (Slot W → Type 0) → TokenList → List (Slot W) → Type 0
   HasNext IsSo ts slots = (slot : Slot W) × IsSlotAfter ts slots slot × IsSo slot
 
-  -- Some form has such a slot after those that accept the tokens.
+  -- Some form has a slot of a kind after those that accept the tokens.
   abbrev pub HasSlotAfter : (Slot W → Type 0) → TokenList → Type 0
   HasSlotAfter IsSo ts = (form : Form) × Contains spelling.forms form × HasNext IsSo ts (spelling.slots_of form)
 
   -- The fault is that of the first token after which no statement is possible, or of the end of the tokens.
   pub record IsFirstRejected (tokens : List Token) (end : ℕ) (fault : CellFault) : Type 0 where
     pub front : ℕ
-    pub longest : IsLongestFront (token_texts tokens) front
+    pub longest : IsLongestAccepted (token_texts tokens) front
     pub fault_is : MatchOption (slice_get tokens front) ((fault.at ≡ end) × (fault.cause ≡ cause.Form))
         (λ t. (fault.at ≡ t.at) × IsMisfitCause (IsMeantAsRegister (grammar_of spelling) (token_texts (take front tokens)) t.text.now) fault.cause)
 
@@ -283,16 +283,16 @@ module _ {W Form Stmt : Type 0} (spelling : Spelling W Form Stmt) where
   is_label_last (slot ∷ slots) = is_label_last slots
 
   -- Tests whether no slot is a location's.
-  abbrev pub names_none : List (Slot W) → Bool
-  names_none [] = true
-  names_none (Location ∷ slots) = false
-  names_none (slot ∷ slots) = names_none slots
+  abbrev pub has_no_location_slot : List (Slot W) → Bool
+  has_no_location_slot [] = true
+  has_no_location_slot (Location ∷ slots) = false
+  has_no_location_slot (slot ∷ slots) = has_no_location_slot slots
 
   -- Tests whether at most one slot is a location's.
-  abbrev pub names_one : List (Slot W) → Bool
-  names_one [] = true
-  names_one (Location ∷ slots) = names_none slots
-  names_one (slot ∷ slots) = names_one slots
+  abbrev pub has_at_most_one_location_slot : List (Slot W) → Bool
+  has_at_most_one_location_slot [] = true
+  has_at_most_one_location_slot (Location ∷ slots) = has_no_location_slot slots
+  has_at_most_one_location_slot (slot ∷ slots) = has_at_most_one_location_slot slots
 
   -- ---- Locations and registers among the forms.
 
@@ -328,19 +328,21 @@ module _ {W Form Stmt : Type 0} (spelling : Spelling W Form Stmt) where
         (spelling.statement x to form f)
     pub located : location_of (spelling.language.operation_of (spelling.statement x to form f)) ≡ option_map (λ n. x) (name_in (spelling.slots_of form) f)
     pub target_is : branch_target (spelling.language.operation_of (spelling.statement x to form f)) ≡ option_map (λ l. to) (label_in (spelling.slots_of form) f)
-    pub given :
+    pub operands_in_range :
         AllByRecursion IsRegisterIndex (registers_in (spelling.slots_of form) f)
         → AllByRecursion IsWordNumber (numbers_in (spelling.slots_of form) f)
         → AllByRecursion IsRegisterIndex (registers_of (spelling.language.operation_of (spelling.statement x to form f)))
         × AllByRecursion IsWordNumber (numbers_of (spelling.language.operation_of (spelling.statement x to form f)))
 
-  -- What the rule of cells requires: a language's forms are disjoint, and each begins, names and jumps as the rule demands; where one has
-  -- a location or a register, no other has a word that is a location's name; and no keyword is a register's name.
+  -- What the rule of cells requires of a spelling. `countable`: the number of statements of a thread is below 2^64. `apart`: no tokens fill
+  -- two forms. `statements`: each form has a first slot, no `:` in the second, and a label's slot only as the last. `names`: each has at most
+  -- one location. `clear`: where one form has a location or a register, no other has a word that is a location's name. `words`: no keyword
+  -- is a register's name. `makes_statements`: the statement of a form results from the operands of its tokens.
   pub record IsSpelling (made : Form → Operands → Option Stmt) : Type 0 where
     pub countable : spelling.language.most < 2 ^ 64
     pub apart : all_apart spelling.forms ≡ true
     pub statements : list_all (λ form. is_statement (spelling.slots_of form) && is_label_last (spelling.slots_of form)) spelling.forms ≡ true
-    pub names : list_all (λ form. names_one (spelling.slots_of form)) spelling.forms ≡ true
+    pub names : list_all (λ form. has_at_most_one_location_slot (spelling.slots_of form)) spelling.forms ≡ true
     pub clear : all_clear spelling.forms ≡ true
     pub words : list_all (λ form. is_register_free (spelling.slots_of form)) spelling.forms ≡ true
-    pub making : (x to : ℕ) (form : Form) (f : Filling (spelling.slots_of form)) → IsMade made x to form f
+    pub makes_statements : (x to : ℕ) (form : Form) (f : Filling (spelling.slots_of form)) → IsMade made x to form f

@@ -17,14 +17,14 @@ use Rattle.lw_text.specs.PlacedCells.{PlacedCell, texts_of_cells, texts_of_grid}
 use Rattle.lw_statements.specs.Grammars.{Grammar, BeginsStatement, CanBegin, IsLocationAfter, IsBeforeRegister}
 use Rattle.lw_statements.specs.Cells.{CellSyntax, Labels, ParsesCell, Column, statements, labels_of, target_in, names_in, names_of, LabelsLeadForward}
 
--- A cell among the columns, with the cells above and below it in its thread, and the threads before and after its own.
+-- A cell among the columns, with the cells above and below it in its column, and the columns before and after that.
 pub record CellPosition (columns : List (List PlacedCell)) : Type 0 where
   pub before : List (List PlacedCell)
   pub above : List PlacedCell
   pub cell : PlacedCell
   pub below : List PlacedCell
-  pub behind : List (List PlacedCell)
-  pub in_columns : columns ≡ before ++ (above ++ cell ∷ below) ∷ behind
+  pub after : List (List PlacedCell)
+  pub in_columns : columns ≡ before ++ (above ++ cell ∷ below) ∷ after
 
 -- The token that begins at an offset, with its cell, and the tokens before and after it in the cell. A fault is reported there.
 pub record TokenPosition (columns : List (List PlacedCell)) (at : ℕ) : Type 0 where
@@ -51,7 +51,7 @@ BeginsWithLabel ts = slice_get ts 1 ≡ Some (codes ":")
 abbrev pub IsUnknownRegister : Bytes → Type 0
 IsUnknownRegister t = (is_numbered_register t ≡ true) × ((r : ℕ) → IsRegisterName Source t r → ⊥)
 
--- The cause of a token that fits none of the statements is Register if the token is meant as a register, as the first argument says, and
+-- The cause of a token that fits none of the statements is Register if the token is meant as a register, which is what `IsMeant` says, and
 -- otherwise Form.
 abbrev pub IsMisfitCause : Type 0 → CellCause → Type 0
 IsMisfitCause IsMeant Form = IsMeant → ⊥

@@ -9,7 +9,7 @@ ghost use Rattle.lw_statements.specs.Grammars.{statement_limit, CanBegin};
 ghost use Rattle.lw_statements.specs.Spellings.{grammar_of};
 ghost use Rattle.lw_statements.specs.Bindings.{draft_of, IsFirstRejected, IsSpelling};
 ghost use Rattle.lw_statements.specs.inner.Drafts.{IsFresh, ColumnDrafted, target_by};
-ghost use Rattle.lw_statements.specs.inner.Reading.{MaybeRead, MaybeRefused, LedForward, LabelLost, JumpCause, ColumnRead, ColumnRefused};
+ghost use Rattle.lw_statements.specs.inner.Reading.{MaybeRead, MaybeRefused, HasForwardTarget, JumpRefused, IsJumpCause, ColumnRead, ColumnRefused};
 ghost use Rattle.lw_statements.specs.inner.Reading.{CellRead, CellRefused, IsResolvable, IsResolved, IsCellResolved, IsUnresolved};
 
 use crate::draft::{Draft, DraftCell, Operands};
@@ -22,8 +22,8 @@ use lw_text::{Cell, Token};
 use std::alloc::{Allocator, Global};
 use std::collections::BTreeMap;
 
-/// What is read of a thread before its jumps are resolved: a draft of each cell, its labels, each with the index of
-/// its target, and the number of statements.
+/// What is read of a thread before its jumps are resolved: a draft of each cell, the thread's labels, each with the index
+/// of the statement that it targets, and the number of statements so far.
 #[derive(Drop)]
 struct DraftColumn<'a, D, A: Allocator = Global> {
     cells: Sequence<DraftCell<D>, A>,
@@ -50,7 +50,7 @@ pub(crate) fn read_column<L: StatementReader, A: Allocator + Copy>(
     cells: &[Cell<'_, A>],
     locs: &mut LocNames<A>,
 ) -> Result<Sequence<L::Stmt, A>, CellFault>
-    requires lawful { IsSpelling L.spelling L.made }
+    requires lawful { IsSpelling L.spelling L.statement_of }
     ensures { MatchResult result
         (λ stmts. ColumnRead (grammar_of L.spelling) (cells_texts cells.now) locs.old stmts locs.new)
         (ColumnRefused (grammar_of L.spelling) locs.old cells.now) }
@@ -59,14 +59,14 @@ pub(crate) fn read_column<L: StatementReader, A: Allocator + Copy>(
     read_cells::<L, A>(alloc, cells, &mut column, locs)
 }
 
-/// Reads the cells of a thread, each with its labels and its statement, and then resolves its jumps.
+/// Reads the cells of a thread into `column`, each with its labels and its statement, and then resolves the thread's jumps.
 fn read_cells<'a, L: StatementReader, A: Allocator + Copy>(
     alloc: A,
     cells: &[Cell<'a, A>],
     column: &mut DraftColumn<'a, Draft<L::Form>, A>,
     locs: &mut LocNames<A>,
 ) -> Result<Sequence<L::Stmt, A>, CellFault>
-    requires lawful { IsSpelling L.spelling L.made }
+    requires lawful { IsSpelling L.spelling L.statement_of }
     requires fresh { IsFresh column.old }
     ensures { MatchResult result
         (λ stmts. ColumnRead (grammar_of L.spelling) (cells_texts cells.now) locs.old stmts locs.new)
@@ -79,13 +79,13 @@ fn read_cells<'a, L: StatementReader, A: Allocator + Copy>(
     resolve::<L, A>(alloc, cells, column)
 }
 
-/// Reads a cell of a thread: its labels and its statement.
+/// Reads a cell of a thread, its labels and its statement, and adds both to `column`.
 fn read_cell<'a, L: StatementReader, A: Allocator + Copy>(
     cell: &Cell<'a, A>,
     column: &mut DraftColumn<'a, Draft<L::Form>, A>,
     locs: &mut LocNames<A>,
 ) -> Result<(), CellFault>
-    requires lawful { IsSpelling L.spelling L.made }
+    requires lawful { IsSpelling L.spelling L.statement_of }
     requires bounded { column.old.count ≤ statement_limit (grammar_of L.spelling) }
     ensures { MatchResult result
         (λ _. CellRead (grammar_of L.spelling) (draft_of L.spelling) cell.now column.old locs.old column.new locs.new)
@@ -99,7 +99,7 @@ fn read_cell<'a, L: StatementReader, A: Allocator + Copy>(
     push(&mut column.cells, DraftCell { start, stmt })
 }
 
-/// Appends an item. Memory that runs out becomes a fault.
+/// Appends an item. If memory runs out, the fault says so, at the offset 0.
 pub(crate) fn push<T: Drop, A: Allocator>(
     items: &mut Sequence<T, A>,
     item: T,
@@ -119,14 +119,14 @@ fn statement_count<F>(stmt: &Option<Draft<F>>) -> usize
     }
 }
 
-/// Reads the draft of the statement after a cell's labels, if there is one, and inserts the names of its locations into
-/// the table. The cells above have `above` statements; one more than the limit is refused.
+/// Reads the draft of the statement after a cell's labels, or returns `None` if the cell has only labels. Inserts the name of
+/// its location into the table. The cells above have `above` statements; one more than the limit is refused.
 fn maybe_statement<L: StatementReader, A: Allocator + Copy>(
     phrase: &Phrase<'_, '_>,
     above: usize,
     locs: &mut LocNames<A>,
 ) -> Result<Option<Draft<L::Form>>, CellFault>
-    requires lawful { IsSpelling L.spelling L.made }
+    requires lawful { IsSpelling L.spelling L.statement_of }
     ensures { MatchResult result
         (λ stmt. MaybeRead (grammar_of L.spelling) (draft_of L.spelling) above (token_texts phrase.now.tokens.now) locs.old stmt locs.new)
         (MaybeRefused (grammar_of L.spelling) above locs.old phrase.now) }
@@ -140,10 +140,10 @@ fn maybe_statement<L: StatementReader, A: Allocator + Copy>(
     Ok(Some(read_statement::<L, A>(phrase, locs)?))
 }
 
-/// Returns the fault of a statement beyond the limit. It is at its first token, unless no statement begins with that
-/// token.
+/// Returns the fault of a statement beyond the limit, whose first token is `first`: TooMany at this token, or, if no statement
+/// begins with it, the fault that the token has anyway.
 fn too_many_statements<L: StatementReader>(phrase: &Phrase<'_, '_>, first: &Token<'_>) -> CellFault
-    requires lawful { IsSpelling L.spelling L.made }
+    requires lawful { IsSpelling L.spelling L.statement_of }
     requires first { Some first.now ≡ slice_get phrase.now.tokens.now 0 }
     ensures { ((result.cause ≡ TooMany) × (result.at ≡ first.now.at) × CanBegin (grammar_of L.spelling) first.now.text.now)
         ⊎ ((CanBegin (grammar_of L.spelling) first.now.text.now → ⊥)
@@ -158,13 +158,13 @@ fn too_many_statements<L: StatementReader>(phrase: &Phrase<'_, '_>, first: &Toke
     first_rejected::<L>(phrase)
 }
 
-/// Resolves a thread's drafts by its labels.
+/// Returns a thread's statements: its drafts, resolved by its labels. Fails at the first jump that leads nowhere or backward.
 fn resolve<L: StatementReader, A: Allocator + Copy>(
     alloc: A,
     cells: &[Cell<'_, A>],
     column: &DraftColumn<'_, Draft<L::Form>, A>,
 ) -> Result<Sequence<L::Stmt, A>, CellFault>
-    requires lawful { IsSpelling L.spelling L.made }
+    requires lawful { IsSpelling L.spelling L.statement_of }
     requires read { (before after : NameTable) × ColumnDrafted (grammar_of L.spelling) (draft_of L.spelling) cells.now before column.now after }
     ensures { MatchResult result
         (λ code. (before after : NameTable) → ColumnDrafted (grammar_of L.spelling) (draft_of L.spelling) cells.now before column.now after
@@ -189,8 +189,8 @@ fn resolve_cell<L: StatementReader, A: Allocator + Copy>(
     code: &mut Sequence<L::Stmt, A>,
 ) -> Result<(), CellFault>
     requires start { draft.start ≤ length cell.now.tokens }
-    requires resolvable { IfSome draft.stmt (IsResolvable L.made (drop draft.start cell.now.tokens)) }
-    ensures { MatchResult result (λ _. IsCellResolved L.made labels.now cell.now draft code.old code.new)
+    requires resolvable { IfSome draft.stmt (IsResolvable L.statement_of (drop draft.start cell.now.tokens)) }
+    ensures { MatchResult result (λ _. IsCellResolved L.statement_of labels.now cell.now draft code.old code.new)
         (IsUnresolved labels.now (length code.old) cell.now draft) }
 {
     let DraftCell { start, stmt } = draft;
@@ -202,18 +202,17 @@ fn resolve_cell<L: StatementReader, A: Allocator + Copy>(
     push(code, stmt)
 }
 
-/// Resolves a draft by its thread's labels. `number` is the statement's index in its thread, and the tokens are its
-/// own.
+/// Resolves a draft by its thread's labels. `tokens` are the statement's, and `own_index` is its index in its thread.
 fn resolve_draft<L: StatementReader, A: Allocator>(
     draft: Draft<L::Form>,
     tokens: &[Token<'_>],
-    number: usize,
+    own_index: usize,
     labels: &BTreeMap<&str, usize, A>,
 ) -> Result<L::Stmt, CellFault>
-    requires resolvable { IsResolvable L.made tokens.now draft }
-    ensures { MatchResult result (IsResolved L.made labels.now number tokens.now draft) (LabelLost labels.now number tokens.now draft.label) }
+    requires resolvable { IsResolvable L.statement_of tokens.now draft }
+    ensures { MatchResult result (IsResolved L.statement_of labels.now own_index tokens.now draft) (JumpRefused labels.now own_index tokens.now draft.label) }
 {
-    let to = jump_target(draft.label, tokens, number, labels)?;
+    let to = jump_target(draft.label, tokens, own_index, labels)?;
     let operands = Operands {
         to,
         ..draft.operands
@@ -221,32 +220,33 @@ fn resolve_draft<L: StatementReader, A: Allocator>(
     Ok(L::statement(draft.form, &operands).unwrap())
 }
 
-/// Returns the target of a statement's jump, if it is one. `label` is the label's index among the statement's tokens,
-/// and `number` the statement's index in its thread.
+/// Returns the index of the statement that a statement's label targets, or `None` if the statement is no jump. `label` is
+/// the label's index among the statement's tokens, and `own_index` the statement's index in its thread.
 fn jump_target<A: Allocator>(
     label: Option<usize>,
     tokens: &[Token<'_>],
-    number: usize,
+    own_index: usize,
     labels: &BTreeMap<&str, usize, A>,
 ) -> Result<Option<usize>, CellFault>
     requires { IfSome label (λ k. k < length tokens.now) }
-    ensures { MatchResult result (LedForward labels.now number tokens.now label) (LabelLost labels.now number tokens.now label) }
+    ensures { MatchResult result (HasForwardTarget labels.now own_index tokens.now label) (JumpRefused labels.now own_index tokens.now label) }
 {
     match label {
-        Some(index) => Ok(Some(target(&tokens[index], number, labels)?)),
+        Some(index) => Ok(Some(target(&tokens[index], own_index, labels)?)),
         None => Ok(None),
     }
 }
 
-/// Returns the index of the statement that a label targets, which must be greater than the jump's own, `number`.
+/// Returns the index of the statement that a label targets. Fails at the label if the thread does not have it, or if the index is
+/// not greater than the jump's own, `own_index`.
 fn target<A: Allocator>(
     label: &Token<'_>,
-    number: usize,
+    own_index: usize,
     labels: &BTreeMap<&str, usize, A>,
 ) -> Result<usize, CellFault>
-    ensures found { IfOk result (λ to. (target_by labels.now label.now.text.now ≡ Some to) × (number < to)) }
+    ensures found { IfOk result (λ to. (target_by labels.now label.now.text.now ≡ Some to) × (own_index < to)) }
     ensures place { IfErr result (λ f. f.at ≡ label.now.at) }
-    ensures cause { IfErr result (λ f. JumpCause labels.now number label.now.text.now f.cause) }
+    ensures cause { IfErr result (λ f. IsJumpCause labels.now own_index label.now.text.now f.cause) }
 {
     let Some(to) = labels.get(label.text).copied() else {
         return Err(CellFault {
@@ -254,7 +254,7 @@ fn target<A: Allocator>(
             cause: CellCause::LabelMissing,
         });
     };
-    if to <= number {
+    if to <= own_index {
         return Err(CellFault {
             at: label.at,
             cause: CellCause::Backward,

@@ -4,27 +4,27 @@ use lw_base::{Loc, Operand, Reg, Word};
 /// The operands of a statement, as far as its tokens have them.
 #[derive(Clone, Copy, Default)]
 pub struct Operands {
-    /// Its register, or the first of two.
+    /// The statement's register, or the first of two.
     pub reg: Option<Reg>,
     /// The second of two registers.
     pub other: Option<Reg>,
     /// The register or number of a slot that takes either.
     pub val: Option<Operand>,
-    /// Its number.
+    /// The number of a slot that takes only numbers.
     pub num: Option<Word>,
-    /// Its location.
+    /// The location.
     pub loc: Option<Loc>,
-    /// The target of its jump.
+    /// The target of the jump: the index of a statement.
     pub to: Option<usize>,
 }
 
-/// A statement that is read and not yet resolved.
+/// A statement that is read and not yet resolved: its label has no target yet.
 #[derive(Clone, Copy)]
 pub(crate) struct Draft<F> {
     pub(crate) form: F,
-    /// Its operands, without the target.
+    /// The operands, without the target.
     pub(crate) operands: Operands,
-    /// The index of its label among its tokens.
+    /// The index of the label among the statement's tokens, if it is a jump.
     pub(crate) label: Option<usize>,
 }
 

@@ -2,14 +2,15 @@
 ghost use Rattle.std.specs.Prelude.{MatchResult};
 ghost use Rattle.lw_statements.specs.inner.Reading.{LabelsTaken, LabelsRefused};
 
-use crate::token::{misfit, stands_at};
+use crate::token::{is_token_at, misfit};
 use lw_base::{CellCause, CellFault, is_location_name};
 use lw_text::Token;
 use std::alloc::Allocator;
 use std::collections::BTreeMap;
 
-/// Reads the labels at the start of a cell and adds them to those of the thread, with the statement of this index as
-/// their target. Returns the number of tokens that they take.
+/// Reads the labels at the start of a cell and adds them to those of the thread, with the statement of the index `to` as
+/// their target. Returns the number of tokens of the labels, each with its `:`. Fails at a token before a `:` that is no name,
+/// or a label that the thread has already.
 pub(crate) fn read_labels<'a, A: Allocator + Copy>(
     tokens: &[Token<'a>],
     to: usize,
@@ -18,7 +19,7 @@ pub(crate) fn read_labels<'a, A: Allocator + Copy>(
     ensures { MatchResult result (λ next. LabelsTaken tokens.now to labels.old next labels.new) (LabelsRefused tokens.now labels.old) }
 {
     let mut next = 0;
-    while stands_at(tokens, next + 1, ":") {
+    while is_token_at(tokens, next + 1, ":") {
         let token = tokens[next];
         if !is_location_name(token.text) {
             return Err(misfit(&token));

@@ -6,7 +6,7 @@ ghost use Rattle.lw_statements.specs.inner.Tokens.{AllEndBefore};
 use lw_text::{Cell, Token};
 use std::alloc::Allocator;
 
-/// The tokens of a statement, and the offset of the `|` or `;` that ends the cell.
+/// The tokens of a cell after its labels, which are a statement's or none, and the offset of the `|` or `;` that ends the cell.
 #[derive(Clone, Copy)]
 pub(crate) struct Phrase<'t, 'a> {
     pub(crate) tokens: &'t [Token<'a>],

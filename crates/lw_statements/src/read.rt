@@ -32,7 +32,7 @@ pub fn read_test<L: StatementReader, A: Allocator + Copy>(
     frame: Frame<'_, A>,
 ) -> Result<TestParts<L::Stmt, A>, CellFault>
     requires arch { frame.head.arch ≡ arch_of (grammar_of L.spelling) }
-    requires lawful { IsSpelling L.spelling L.made }
+    requires lawful { IsSpelling L.spelling L.statement_of }
     // The result is the frame's test. If reading fails, the frame has no test, or memory ran out.
     ensures found { IfOk result (λ parts. FrameHasTest (grammar_of L.spelling) (frame_of frame.entry) (test_of parts.head parts.threads)) }
     ensures well_formed { IfOk result (λ parts. IsWellFormed (grammar_of L.spelling).language (test_of parts.head parts.threads)) }
@@ -55,7 +55,7 @@ pub fn read_test<L: StatementReader, A: Allocator + Copy>(
 
 /// States that, apart from a lack of memory, at most one fault of the same cells is true, and none of the cells of a test.
 pub fn cells_have_one_fault<L: StatementReader>()
-    requires lawful { IsSpelling L.spelling L.made }
+    requires lawful { IsSpelling L.spelling L.statement_of }
     ensures one_fault { (names : NameTable) (columns : List (List PlacedCell)) (f g : CellFault) → f.cause ≢ Memory → g.cause ≢ Memory
         → CellFaultIsTrue (grammar_of L.spelling) names columns f → CellFaultIsTrue (grammar_of L.spelling) names columns g → f ≡ g }
     ensures none { (frame : TestFrame) (columns : List (List PlacedCell)) (f : CellFault) (test : Test L.Stmt)
@@ -79,7 +79,8 @@ fn parts_of<S: Drop, A: Allocator>(
     }
 }
 
-/// Appends a 0 to the initial words for each location that has none, if the threads were read.
+/// Appends a 0 to the head's initial words for each location that the threads have and the head has not, and returns the threads.
+/// Fails if the threads could not be read, or memory runs out.
 fn with_zeros<T: Drop, A: Allocator>(
     head: &mut Head<A>,
     threads: Result<T, CellFault>,
@@ -91,7 +92,7 @@ fn with_zeros<T: Drop, A: Allocator>(
 {
     let threads = threads?;
     let len = head.locs.len();
-    fill(&mut head.init_words, len)?;
+    pad_with_zeros(&mut head.init_words, len)?;
     Ok(threads)
 }
 
@@ -101,7 +102,7 @@ fn read_columns<L: StatementReader, A: Allocator + Copy>(
     columns: &[Sequence<Cell<'_, A>, A>],
     locs: &mut LocNames<A>,
 ) -> Result<Sequence<Sequence<L::Stmt, A>, A>, CellFault>
-    requires lawful { IsSpelling L.spelling L.made }
+    requires lawful { IsSpelling L.spelling L.statement_of }
     ensures { MatchResult result
         (λ threads. ColumnsRead (grammar_of L.spelling) (all_texts columns.now) locs.old threads locs.new)
         (ColumnsRefused (grammar_of L.spelling) locs.old columns.now) }
@@ -114,8 +115,8 @@ fn read_columns<L: StatementReader, A: Allocator + Copy>(
     Ok(threads)
 }
 
-/// Appends zeros to words, up to a length.
-fn fill<A: Allocator>(words: &mut Sequence<Word, A>, len: usize) -> Result<(), AllocFailed<Word>>
+/// Appends zeros to words, up to the length `len`. Appends none if there are as many already.
+fn pad_with_zeros<A: Allocator>(words: &mut Sequence<Word, A>, len: usize) -> Result<(), AllocFailed<Word>>
     ensures { IfOk result (λ _. words.new ≡ words.old ++ replicate (len - length words.old) 0) }
 {
     for _word in 0..len.saturating_sub(words.len()) {

@@ -15,9 +15,9 @@ ghost use Rattle.lw_statements.specs.Operands.{IsOperand};
 ghost use Rattle.lw_statements.specs.inner.Tokens.{IsOverflowName, AllEndBefore};
 ghost use Rattle.lw_statements.specs.Grammars.{CanBegin, IsBeforeRegister};
 ghost use Rattle.lw_statements.specs.Spellings.{grammar_of, SlotValue, Gives, Filling, Fills};
-ghost use Rattle.lw_statements.specs.Bindings.{CanStand, BeginsWith};
+ghost use Rattle.lw_statements.specs.Bindings.{CanFill, BeginsWith};
 ghost use Rattle.lw_statements.specs.Bindings as bindings;
-ghost use Rattle.lw_statements.specs.Bindings.{bind_slot, bindings_of, draft_of, IsNameAmong, IsDrafted, IsNotDrafted, IsOverflowSlot, IsReach, IsLongestFront, IsSlotAfter, IsLocationSlot, IsRegisterSlot, HasNext, HasSlotAfter, IsFirstRejected, IsSpelling};
+ghost use Rattle.lw_statements.specs.Bindings.{bind_slot, bindings_of, draft_of, IsNameAmong, IsDrafted, IsNotDrafted, IsOverflowSlot, IsAcceptedLength, IsLongestAccepted, IsSlotAfter, IsLocationSlot, IsRegisterSlot, HasNext, HasSlotAfter, IsFirstRejected, IsSpelling};
 ghost use Rattle.lw_statements.specs.inner.Reading.{StatementRead, StatementFaultIsTrue, StatementRefused};
 
 use crate::draft::{Draft, Operands};
@@ -58,7 +58,8 @@ fn no_bindings() -> SlotBindings
     }
 }
 
-/// Binds a token as the first register. Returns `None` if the token is no register.
+/// Binds a token as the first register; the register that was the first becomes the second, since slots are bound from the last to the
+/// first. Returns `None` if the token is no register.
 fn with_register(found: SlotBindings, arch: Arch, token: &Token<'_>) -> Option<SlotBindings>
     ensures { MatchOption result ((r : ℕ) → IsRegisterName arch token.now.text.now r → ⊥)
         (λ all. (r : ℕ) × IsRegisterName arch token.now.text.now r × (all ≡ bindings.with_register r found)) }
@@ -160,7 +161,7 @@ fn is_keyword_of<L: StatementReader>(keyword: L::Keyword, token: &Token<'_>) -> 
     }
 }
 
-/// Returns the register or the number that the token is, if it is one.
+/// Returns the register or the number that the token is, or `None` if it is neither.
 fn operand(arch: Arch, token: &Token<'_>) -> Option<Operand>
     ensures { MatchOption result ((v : Operand) → IsOperand arch token.now.text.now v → ⊥) (IsOperand arch token.now.text.now) }
 {
@@ -173,7 +174,7 @@ fn operand(arch: Arch, token: &Token<'_>) -> Option<Operand>
     }
 }
 
-/// Binds the token at this index, and returns whether it fits the slot.
+/// Binds the token at this index in `found`, and returns whether it fits the slot. If not, `found` is unchanged.
 fn add_token<L: StatementReader>(
     found: &mut SlotBindings,
     slot: Slot<L::Keyword>,
@@ -193,8 +194,8 @@ fn add_token<L: StatementReader>(
     }
 }
 
-/// Binds the tokens to these slots, the first of which has this index. Returns whether there is one fitting token for
-/// each slot.
+/// Binds the tokens to these slots in `found`, which has no bindings; the first token has this index. Returns whether there is one
+/// fitting token for each slot. If not, `found` means nothing.
 /// A keyword is compared before the tokens after it are read, since most forms differ from the tokens in a keyword.
 fn read_slots<L: StatementReader>(
     slots: &[Slot<L::Keyword>],
@@ -226,8 +227,8 @@ fn read_slots<L: StatementReader>(
     add_token::<L>(found, *slot, token, index)
 }
 
-/// Binds the tokens to all slots of a form. Returns `None` unless there is one fitting token for each slot. Most
-/// forms have more slots or fewer.
+/// Binds the tokens to all slots of a form. Returns `None` unless there is one fitting token for each slot. The numbers are
+/// compared first, since most forms have more slots or fewer.
 fn read_as<L: StatementReader>(
     slots: &[Slot<L::Keyword>],
     tokens: &[Token<'_>],
@@ -271,12 +272,12 @@ fn read_form<L: StatementReader>(tokens: &[Token<'_>]) -> Option<Filled<L::Form>
     None
 }
 
-/// Parses a statement that is not empty. Inserts the name of its location into the table.
+/// Parses the statement of a phrase that is not empty. Inserts the name of the statement's location into the table.
 pub(crate) fn read_statement<L: StatementReader, A: Allocator + Copy>(
     phrase: &Phrase<'_, '_>,
     locs: &mut LocNames<A>,
 ) -> Result<Draft<L::Form>, CellFault>
-    requires lawful { IsSpelling L.spelling L.made }
+    requires lawful { IsSpelling L.spelling L.statement_of }
     ensures { MatchResult result
         (λ draft. StatementRead (grammar_of L.spelling) (draft_of L.spelling) (token_texts phrase.now.tokens.now) locs.old draft locs.new)
         (StatementRefused (grammar_of L.spelling) locs.old phrase.now) }
@@ -288,7 +289,8 @@ pub(crate) fn read_statement<L: StatementReader, A: Allocator + Copy>(
     }
 }
 
-/// Returns the draft of a statement of this form. Inserts the name of its location into the table.
+/// Returns the draft of a statement of this form with these bindings of its tokens. Inserts the name of its location into
+/// the table. Fails if that is a ninth one.
 fn draft<F: Copy + Drop, A: Allocator + Copy>(
     form: F,
     found: SlotBindings,
@@ -326,7 +328,7 @@ fn refusal<L: StatementReader, A: Allocator>(
     phrase: &Phrase<'_, '_>,
     locs: &LocNames<A>,
 ) -> CellFault
-    requires lawful { IsSpelling L.spelling L.made }
+    requires lawful { IsSpelling L.spelling L.statement_of }
     requires none { HoldsOfNothing ((grammar_of L.spelling).says (token_texts phrase.now.tokens.now)) }
     ensures { StatementFaultIsTrue (grammar_of L.spelling) phrase.now.tokens.now phrase.now.end locs.now result.at result.cause
         × ((len : ℕ) → AllEndBefore len phrase.now → result.at ≤ len) }
@@ -346,7 +348,7 @@ fn refusal<L: StatementReader, A: Allocator>(
 }
 
 /// Returns the index of the first token that names a ninth location, among the first `front` tokens, which fit these
-/// slots.
+/// slots. Returns `None` if none of them does.
 fn overflow_token<W: Copy + Drop, A: Allocator>(
     slots: &[Slot<W>],
     tokens: &[Token<'_>],
@@ -365,7 +367,7 @@ fn overflow_token<W: Copy + Drop, A: Allocator>(
     None
 }
 
-/// Returns whether the slot is a location's, and the token names one that the table does not have and has no room for.
+/// Returns whether the slot takes a location, and the token names one that the table does not have and has no room for.
 fn overflows<W: Copy + Drop, A: Allocator>(
     slot: Slot<W>,
     token: &Token<'_>,
@@ -390,18 +392,18 @@ fn lacks_room_for<A: Allocator>(locs: &LocNames<A>, token: &Token<'_>) -> bool
 }
 
 /// Returns whether the token fits the slot.
-fn can_stand<L: StatementReader>(slot: Slot<L::Keyword>, token: &Token<'_>) -> bool
-    ensures { IsTrue result ↔ CanStand L.spelling (token.now.text.now ∷ []) (slot ∷ []) }
+fn fits_slot<L: StatementReader>(slot: Slot<L::Keyword>, token: &Token<'_>) -> bool
+    ensures { IsTrue result ↔ CanFill L.spelling (token.now.text.now ∷ []) (slot ∷ []) }
 {
     with_token::<L>(no_bindings(), slot, token, 0).is_some()
 }
 
-/// Returns the number of tokens that fit these slots, before the first that does not.
+/// Returns the number of tokens that fit these slots, one each, before the first that does not.
 fn accepted_prefix_len<L: StatementReader>(
     slots: &[Slot<L::Keyword>],
     tokens: &[Token<'_>],
 ) -> usize
-    ensures { IsReach L.spelling (token_texts tokens.now) slots.now result }
+    ensures { IsAcceptedLength L.spelling (token_texts tokens.now) slots.now result }
 {
     let _len = tokens.len();
     let Some((slot, slots)) = slots.split_first() else {
@@ -410,7 +412,7 @@ fn accepted_prefix_len<L: StatementReader>(
     let Some((token, tokens)) = tokens.split_first() else {
         return 0;
     };
-    if !can_stand::<L>(*slot, token) {
+    if !fits_slot::<L>(*slot, token) {
         return 0;
     }
     1 + accepted_prefix_len::<L>(slots, tokens)
@@ -418,7 +420,7 @@ fn accepted_prefix_len<L: StatementReader>(
 
 /// Returns the length of the longest prefix of the tokens that can begin a statement of some form.
 fn longest_accepted_prefix<L: StatementReader>(tokens: &[Token<'_>]) -> usize
-    ensures longest { IsLongestFront L.spelling (token_texts tokens.now) result }
+    ensures longest { IsLongestAccepted L.spelling (token_texts tokens.now) result }
     ensures within { result ≤ length tokens.now }
 {
     let mut longest = 0;
@@ -430,7 +432,7 @@ fn longest_accepted_prefix<L: StatementReader>(tokens: &[Token<'_>]) -> usize
 
 /// Returns the fault of the first token after which no statement is possible, or of the cell's end.
 pub(crate) fn first_rejected<L: StatementReader>(phrase: &Phrase<'_, '_>) -> CellFault
-    requires lawful { IsSpelling L.spelling L.made }
+    requires lawful { IsSpelling L.spelling L.statement_of }
     ensures { IsFirstRejected L.spelling phrase.now.tokens.now phrase.now.end result }
 {
     let front = longest_accepted_prefix::<L>(phrase.tokens);
@@ -448,7 +450,7 @@ pub(crate) fn first_rejected<L: StatementReader>(phrase: &Phrase<'_, '_>) -> Cel
 
 /// Returns whether a register may follow the tokens, and no location may.
 fn wants_register<L: StatementReader>(tokens: &[Token<'_>]) -> bool
-    requires lawful { IsSpelling L.spelling L.made }
+    requires lawful { IsSpelling L.spelling L.statement_of }
     ensures { IsTrue result ↔ IsBeforeRegister (grammar_of L.spelling) (token_texts tokens.now) }
 {
     if may_be_location::<L>(tokens) {
@@ -481,7 +483,7 @@ fn may_be_register<L: StatementReader>(tokens: &[Token<'_>]) -> bool
     false
 }
 
-/// Returns whether a location's slot follows those that accept the tokens.
+/// Returns whether a slot that takes a location follows those that accept the tokens.
 fn location_next<L: StatementReader>(slots: &[Slot<L::Keyword>], tokens: &[Token<'_>]) -> bool
     ensures { IsTrue result ↔ HasNext L.spelling IsLocationSlot (token_texts tokens.now) slots.now }
 {
@@ -537,7 +539,7 @@ fn slot_after<L: StatementReader>(
     let Some((token, tokens)) = tokens.split_first() else {
         return Some(*slot);
     };
-    if !can_stand::<L>(*slot, token) {
+    if !fits_slot::<L>(*slot, token) {
         return None;
     }
     slot_after::<L>(slots, tokens)
@@ -560,7 +562,7 @@ fn begins_with<L: StatementReader>(slots: &[Slot<L::Keyword>], token: &Token<'_>
     ensures { IsTrue result ↔ BeginsWith L.spelling slots.now token.now.text.now }
 {
     match slots.split_first() {
-        Some((slot, _)) => can_stand::<L>(*slot, token),
+        Some((slot, _)) => fits_slot::<L>(*slot, token),
         None => false,
     }
 }

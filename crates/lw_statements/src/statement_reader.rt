@@ -12,17 +12,17 @@ pub trait StatementReader {
     /// A keyword or a sign of the language.
     type Keyword: Copy + Drop + 'static;
 
-    /// A form of its statements.
+    /// A form of the language's statements.
     type Form: Copy + Drop + 'static;
 
     /// A statement.
     type Stmt: Copy + Drop;
 
-    /// The spelling of its statements.
+    /// The spelling of the language's statements.
     ghost spelling: { Spelling Self.Keyword Self.Form Self.Stmt };
 
-    /// The statement of a form with these operands.
-    ghost made: { Self.Form → Operands → Option Self.Stmt };
+    /// The statement of a form with these operands, or `None` if one is missing for which the form has a slot.
+    ghost statement_of: { Self.Form → Operands → Option Self.Stmt };
 
     /// Returns the language whose statements are read.
     fn arch() -> Arch
@@ -44,7 +44,7 @@ pub trait StatementReader {
     fn slots(form: Self::Form) -> &'static [Slot<Self::Keyword>]
         ensures { result.now ≡ spelling.slots_of form };
 
-    /// Returns the statement of a form with the operands for which it has slots.
+    /// Returns the statement of a form with these operands, or `None` if one is missing for which the form has a slot.
     fn statement(form: Self::Form, operands: &Operands) -> Option<Self::Stmt>
-        ensures { result ≡ made form operands.now };
+        ensures { result ≡ statement_of form operands.now };
 }

@@ -9,7 +9,8 @@ use lw_base::{Arch, CellCause, CellFault, Loc, LocNames, is_numbered, reg_from_n
 use lw_text::{Token, TokenKind};
 use std::alloc::Allocator;
 
-/// Returns the location that the token names, and inserts a new name into the table.
+/// Returns the index of the location that the token names, and inserts the name if the table does not have it. Fails at the token
+/// if it is that of a ninth location.
 pub(crate) fn location<A: Allocator + Copy>(
     token: &Token<'_>,
     locs: &mut LocNames<A>,
@@ -61,7 +62,7 @@ pub(crate) fn no_register(token: &Token<'_>) -> CellFault
 }
 
 /// Returns whether the token at an index is this symbol or keyword.
-pub(crate) fn stands_at(tokens: &[Token<'_>], index: usize, sign: &str) -> bool
+pub(crate) fn is_token_at(tokens: &[Token<'_>], index: usize, sign: &str) -> bool
     ensures { IsTrue result ↔ slice_get (token_texts tokens.now) index ≡ Some sign.now }
 {
     if tokens.len() <= index {

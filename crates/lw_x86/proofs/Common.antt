@@ -100,7 +100,7 @@ pub use Rattle.lw_statements.proofs.Common.{ParsesStatement, SlotValue, code_in,
 pub use Rattle.lw_statements.proofs.Common.{location_index, name_in, names_in, names_of, resolve_test}
 pub use Rattle.lw_statements.proofs.Common.{resolved_statement, resolved_target, statements, target_in}
 pub use Rattle.lw_statements.proofs.api.Faults.{CellFaultIsTrue-unique, no_CellFault-if_test}
-pub use Rattle.lw_statements.proofs.api.Forms.{is_grammar, names_allowed}
+pub use Rattle.lw_statements.proofs.api.Forms.{IsGrammar-of_spelling, IsLocationName-name_of}
 pub use Rattle.lw_statements.proofs.api.Greater.{ord_max-is_max}
 pub use Rattle.lw_statements.proofs.api.Tests.{test-unique, well_formed_test}
 pub use Rattle.lw_statements.specs.declared.slot.Slot.{Slot}

@@ -79,7 +79,7 @@ impl StatementReader for X86Language {
 
     ghost spelling = { x86_spelling };
 
-    ghost made = { instruction_of_operands };
+    ghost statement_of = { instruction_of_operands };
 
     /// Returns x86.
     fn arch() -> Arch {

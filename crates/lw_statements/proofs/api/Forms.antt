@@ -9,7 +9,7 @@ use Rattle.lw_statements.proofs.Common.{Operands, Slot, Register, Location, Valu
 use Rattle.lw_statements.proofs.Common.{Spelling, Filling, Gives, Fills, ParsesStatement, grammar_of, name_in}
 use Rattle.lw_statements.proofs.Common.{are_disjoint_forms, all_apart, is_statement, is_label_last}
 use Rattle.lw_statements.proofs.Common.{registers_in, numbers_in, IsSpelling}
-use Rattle.lw_statements.proofs.Slots.{filling_unique, not-Fills-disjoint, colon_gives}
+use Rattle.lw_statements.proofs.Slots.{Fills-unique, not-Fills-disjoint, colon_gives}
 use Rattle.lw_base.specs.declared.operand.Operand.TheVariants as operand
 
 -- If all elements of a list pass a test, each does.
@@ -68,7 +68,7 @@ module _ {W Form Stmt : Type 0} (spelling : Spelling W Form Stmt) where
           e (λ g h.
           ap (λ (f : Filling (spelling.slots_of s.form)).
           (let r : ParsesStatement spelling = record { form = s.form; filling = f } in r))
-          (filling_unique spelling ts (spelling.slots_of s.form) s.filling g x.1 h))
+          (Fills-unique spelling ts (spelling.slots_of s.form) s.filling g x.1 h))
 
   -- A statement has at least one token.
   not-empty-is_statement : (slots : List (Slot W)) (f : Filling slots)
@@ -109,19 +109,19 @@ module _ {W Form Stmt : Type 0} (spelling : Spelling W Form Stmt) where
   registers_and_numbers-Fills (t ∷ ts) (slot ∷ slots) (g, f) h = registers_and_numbers-Fills ts slots f h.1
 
   -- The name of a location is allowed.
-  name_allowed : (ts : TokenList) (slots : List (Slot W)) (f : Filling slots)
+  IsLocationName-name_in : (ts : TokenList) (slots : List (Slot W)) (f : Filling slots)
       → Fills spelling ts slots f
       → ForSome (name_in slots f) IsLocationName
-  name_allowed ts [] f h = λ n e. absurd (none-some n e)
-  name_allowed [] (slot ∷ slots) f h = absurd h
-  name_allowed (t ∷ ts) (Location ∷ slots) (x, f) h = λ n e. subst IsLocationName (same_Some x n e) h.0.1
-  name_allowed (t ∷ ts) (slot ∷ slots) (g, f) h = name_allowed ts slots f h.1
+  IsLocationName-name_in ts [] f h = λ n e. absurd (none-some n e)
+  IsLocationName-name_in [] (slot ∷ slots) f h = absurd h
+  IsLocationName-name_in (t ∷ ts) (Location ∷ slots) (x, f) h = λ n e. subst IsLocationName (same_Some x n e) h.0.1
+  IsLocationName-name_in (t ∷ ts) (slot ∷ slots) (g, f) h = IsLocationName-name_in ts slots f h.1
 
   -- The name of a location in each statement that tokens say is allowed.
-  pub names_allowed : (ts : TokenList) (s : ParsesStatement spelling)
+  pub IsLocationName-name_of : (ts : TokenList) (s : ParsesStatement spelling)
       → (grammar_of spelling).says ts s
       → ForSome ((grammar_of spelling).name_of s) IsLocationName
-  names_allowed ts s says = name_allowed ts (spelling.slots_of s.form) s.filling says.1
+  IsLocationName-name_of ts s says = IsLocationName-name_in ts (spelling.slots_of s.form) s.filling says.1
 
   module _ (made : Form → Operands → Option Stmt) (lawful : IsSpelling spelling made) where
     -- The slots of each form are those of a statement, and its label, if it has one, comes last.
@@ -137,25 +137,25 @@ module _ {W Form Stmt : Type 0} (spelling : Spelling W Form Stmt) where
     operation x to s = spelling.language.operation_of (spelling.statement x to s.form s.filling)
 
     -- The registers and numbers of a statement's operation are in range.
-    IsGiven-Fills : (ts : TokenList) (x to : ℕ) (s : ParsesStatement spelling)
+    operands_in_range-Fills : (ts : TokenList) (x to : ℕ) (s : ParsesStatement spelling)
         → (grammar_of spelling).says ts s
         → AllByRecursion IsRegisterIndex (registers_of (operation x to s))
         × AllByRecursion IsWordNumber (numbers_of (operation x to s))
-    IsGiven-Fills ts x to s says =
+    operands_in_range-Fills ts x to s says =
         let g = registers_and_numbers-Fills ts (spelling.slots_of s.form) s.filling says.1 in
-        (lawful.making x to s.form s.filling).given g.0 g.1
+        (lawful.makes_statements x to s.form s.filling).operands_in_range g.0 g.1
 
     -- A lawful spelling gives a grammar that satisfies the rules of cells.
-    pub is_grammar : IsGrammar (grammar_of spelling)
-    is_grammar = record {
+    pub IsGrammar-of_spelling : IsGrammar (grammar_of spelling)
+    IsGrammar-of_spelling = record {
       countable = lawful.countable;
       deterministic = ParsesStatement-unique lawful.apart;
       some = λ ts s says none.
           not-empty-is_statement (spelling.slots_of s.form) s.filling (well_spelled s.form says.0).0
           (subst (λ (us : TokenList). Fills spelling us (spelling.slots_of s.form) s.filling) none says.1);
       no_label = λ ts s says colon. no_colon-if_statement ts _ s.filling (well_spelled s.form says.0).0 says.1 colon;
-      located = λ x to s. (lawful.making x to s.form s.filling).located;
-      target_is = λ x to s. (lawful.making x to s.form s.filling).target_is;
-      registers = λ ts x to s says. All-from_recursion IsRegisterIndex _ (IsGiven-Fills ts x to s says).0;
-      numbers = λ ts x to s says. All-from_recursion IsWordNumber _ (IsGiven-Fills ts x to s says).1;
+      located = λ x to s. (lawful.makes_statements x to s.form s.filling).located;
+      target_is = λ x to s. (lawful.makes_statements x to s.form s.filling).target_is;
+      registers = λ ts x to s says. All-from_recursion IsRegisterIndex _ (operands_in_range-Fills ts x to s says).0;
+      numbers = λ ts x to s says. All-from_recursion IsWordNumber _ (operands_in_range-Fills ts x to s says).1;
     }

@@ -10,9 +10,9 @@ use Rattle.lw_statements.proofs.Common.{Test, TestFrame, Grammar, IsGrammar, Cel
 use Rattle.lw_statements.proofs.Common.{ParsesCell, Column, statements, names_of, code_in, resolve_test}
 use Rattle.lw_statements.proofs.Common.{FrameHasTest}
 use Rattle.lw_statements.proofs.Elements.{AllByRecursion-cons_option}
-use Rattle.lw_statements.proofs.OneReading.{column_unique}
+use Rattle.lw_statements.proofs.OneReading.{Column-unique}
 use Rattle.lw_statements.proofs.api.Zips.{AllZip-unique, AllZip-length}
-use Rattle.lw_statements.proofs.ResolvedNames.{AllSaid, IsWellFormedThread-code_in}
+use Rattle.lw_statements.proofs.ResolvedNames.{HaveTokens, IsWellFormedThread-code_in}
 use Rattle.lw_statements.proofs.TablesRead.{AreIn, AreIn-insert_names}
 
 -- Inserting an allowed name preserves that all names of a table are allowed.
@@ -39,20 +39,20 @@ module _ {Syntax Stmt : Type 0} (grammar : Grammar Syntax Stmt) (lawful : IsGram
   -- A frame has at most one test.
   pub test-unique : (frame : TestFrame) (s t : Test Stmt) → FrameHasTest grammar frame s → FrameHasTest grammar frame t → s ≡ t
   test-unique frame s t h k =
-      let same = AllZip-unique _ (column_unique grammar lawful) frame.cells h.threads k.threads h.says k.says in
+      let same = AllZip-unique _ (Column-unique grammar lawful) frame.cells h.threads k.threads h.says k.says in
       h.made
       ∙ ap (λ ts. resolve_test grammar frame.head (insert_names frame.head.locs (names_of grammar ts)) ts) same
       ∙ sym k.made
 
   -- Each statement of a column is said by some tokens.
-  AllSaid-Column : (cells : Cells) (t : List (CellSyntax Syntax))
+  HaveTokens-Column : (cells : Cells) (t : List (CellSyntax Syntax))
       → AllZip (ParsesCell grammar) cells t
-      → AllSaid grammar lawful (statements t)
-  AllSaid-Column [] [] says = tt
-  AllSaid-Column (c ∷ cells) (y ∷ t) says =
+      → HaveTokens grammar lawful (statements t)
+  HaveTokens-Column [] [] says = tt
+  HaveTokens-Column (c ∷ cells) (y ∷ t) says =
       AllByRecursion-cons_option (λ (s : Syntax). (ts : TokenList) × grammar.says ts s) y.stmt (statements t)
-      (λ s is. (says.0.0, subst (MaybeStatement grammar says.0.0) is says.0.2)) (AllSaid-Column cells t says.1)
-  AllSaid-Column cells t says = absurd says
+      (λ s is. (says.0.0, subst (MaybeStatement grammar says.0.0) is says.0.2)) (HaveTokens-Column cells t says.1)
+  HaveTokens-Column cells t says = absurd says
 
   -- The threads of a frame's columns are well-formed, if the table has all names of their statements.
   IsWellFormedThread-all : (names : NameTable) (columns : CellGrid) (ts : List (List (CellSyntax Syntax)))
@@ -62,19 +62,20 @@ module _ {Syntax Stmt : Type 0} (grammar : Grammar Syntax Stmt) (lawful : IsGram
   IsWellFormedThread-all names [] [] says all = tt
   IsWellFormedThread-all names (c ∷ columns) (t ∷ ts) says all =
       let parts = All-append_inv (λ n. contains_name names n ≡ true) _ (names_of grammar ts) all in (
-        IsWellFormedThread-code_in grammar lawful names t (AllSaid-Column c t says.0.says) parts.0 says.0.bounded says.0.forward,
+        IsWellFormedThread-code_in grammar lawful names t (HaveTokens-Column c t says.0.says) parts.0 says.0.bounded
+            says.0.forward,
         IsWellFormedThread-all names columns ts says.1 parts.1,
       )
   IsWellFormedThread-all names columns ts says all = absurd says
 
   -- The names of locations in statements are allowed.
   module _ (named : (ts : TokenList) (s : Syntax) → grammar.says ts s → ForSome (grammar.name_of s) IsLocationName) where
-    IsLocationName-AllSaid : (ss : List Syntax)
-        → AllSaid grammar lawful ss
+    IsLocationName-HaveTokens : (ss : List Syntax)
+        → HaveTokens grammar lawful ss
         → AllByRecursion IsLocationName (filter_map grammar.name_of ss)
-    IsLocationName-AllSaid [] said = tt
-    IsLocationName-AllSaid (s ∷ ss) said =
-        AllByRecursion-cons_option IsLocationName _ _ (named said.0.0 s said.0.1) (IsLocationName-AllSaid ss said.1)
+    IsLocationName-HaveTokens [] said = tt
+    IsLocationName-HaveTokens (s ∷ ss) said =
+        AllByRecursion-cons_option IsLocationName _ _ (named said.0.0 s said.0.1) (IsLocationName-HaveTokens ss said.1)
 
     -- Each name of the statements in the columns is a location's name.
     IsLocationName-all_names : (columns : CellGrid) (ts : List (List (CellSyntax Syntax)))
@@ -82,7 +83,7 @@ module _ {Syntax Stmt : Type 0} (grammar : Grammar Syntax Stmt) (lawful : IsGram
         → AllByRecursion IsLocationName (names_of grammar ts)
     IsLocationName-all_names [] [] says = tt
     IsLocationName-all_names (c ∷ columns) (t ∷ ts) says =
-        AllByRecursion-append IsLocationName _ _ (IsLocationName-AllSaid _ (AllSaid-Column c t says.0.says))
+        AllByRecursion-append IsLocationName _ _ (IsLocationName-HaveTokens _ (HaveTokens-Column c t says.0.says))
         (IsLocationName-all_names columns ts says.1)
     IsLocationName-all_names columns ts says = absurd says
 

@@ -35,8 +35,9 @@ label_target above (syntax ∷ syntaxes) n =
 abbrev pub MapsLabelsAs : {Syntax : Type 0} → LabelMap → List (CellSyntax Syntax) → Type 0
 MapsLabelsAs labels syntaxes = (n : Bytes) → target_by labels n ≡ label_target 0 syntaxes n
 
--- The input has this syntax, the table grew by its names from before to after, and the result is that of the syntax with the table after.
-pub record ReadOn {X D : Type 0} (Says : X → Type 0) (names_by : X → List Bytes) (make : NameTable → X → D)
+-- Reading inserts names into the table of locations: the input has some syntax, the table grew by the names in it from before to after, and
+-- the result is what `make` makes of this syntax with the table after.
+pub record ReadWithTable {X D : Type 0} (Says : X → Type 0) (names_by : X → List Bytes) (make : NameTable → X → D)
     (before : NameTable) (result : D) (after : NameTable) : Type 0 where
   pub syntax : X
   pub says : Says syntax
@@ -65,10 +66,10 @@ module _ {Syntax Stmt : Type 0} (grammar : Grammar Syntax Stmt) where
     -- from before to after. Their jumps are not checked yet.
     pub record ColumnDrafted
         {A : Type 0} (cells : List (Cell A)) (before : NameTable) (column : DraftColumn D A) (after : NameTable) : Type 0 where
-      pub read : ReadOn (AllZip (ParsesCell grammar) (cells_texts cells)) (names_in grammar) (λ names. map (draft_cell names))
+      pub read : ReadWithTable (AllZip (ParsesCell grammar) (cells_texts cells)) (names_in grammar) (λ names. map (draft_cell names))
           before column.cells after
       pub bounded : length (statements read.syntax) ≤ grammar.language.most
       pub without_duplicates : IsDuplicateFree (labels_of read.syntax)
-      pub leads : MapsLabelsAs column.labels read.syntax
+      pub labels_are : MapsLabelsAs column.labels read.syntax
       pub counted : column.count ≡ length (statements read.syntax)
       pub room : length after ≤ most_locations

@@ -24,7 +24,7 @@ use Rattle.lw_statements.specs.declared.draft.Operands.{Operands}
 use Rattle.lw_statements.specs.Grammars.{Grammar, BeginsStatement, CanBegin, IsLocationAfter}
 use Rattle.lw_statements.specs.Cells.{CellSyntax, MaybeStatement, Labels, Column, statements, LabelsLeadForward, names_in, names_of, code_in}
 use Rattle.lw_statements.specs.declared.column.DraftColumn.{DraftColumn}
-use Rattle.lw_statements.specs.inner.Drafts.{LabelMap, target_by, ReadOn, draft_in, ColumnDrafted}
+use Rattle.lw_statements.specs.inner.Drafts.{LabelMap, target_by, ReadWithTable, draft_in, ColumnDrafted}
 use Rattle.lw_statements.specs.Faults.{BeginsWithLabel, IsMisfitCause, IsUnknownRegister, IsMeantAsRegister, BeginsFitting, CellCauseIsTrue}
 use Rattle.lw_statements.specs.Bindings.{with_target}
 use Rattle.lw_statements.specs.inner.Tokens.{FaultClaim, Refused, IsOverflowName, AllEndBefore}
@@ -92,39 +92,39 @@ LabelsRefused tokens labels =
 -- ---- Jumps.
 
 -- The jump of the statement at this index to a label is rejected for this cause.
-abbrev pub JumpCause : LabelMap → ℕ → Bytes → CellCause → Type 0
-JumpCause labels number l LabelMissing = target_by labels l ≡ None
-JumpCause labels number l Backward = (to : ℕ) × (target_by labels l ≡ Some to) × (to ≤ number)
-JumpCause labels number l cause = ⊥
+abbrev pub IsJumpCause : LabelMap → ℕ → Bytes → CellCause → Type 0
+IsJumpCause labels own_index l LabelMissing = target_by labels l ≡ None
+IsJumpCause labels own_index l Backward = (to : ℕ) × (target_by labels l ≡ Some to) × (to ≤ own_index)
+IsJumpCause labels own_index l cause = ⊥
 
 -- If the statement has a label, at this index among its tokens, its target is `to`, and `to` is greater than the statement's own index.
-abbrev pub LedForward : LabelMap → ℕ → List Token → Option ℕ → Option ℕ → Type 0
-LedForward labels number tokens None to = to ≡ None
-LedForward labels number tokens (Some k) to =
-    (t : Token) × (n : ℕ) × (slice_get tokens k ≡ Some t) × (to ≡ Some n) × (target_by labels t.text.now ≡ Some n) × (number < n)
+abbrev pub HasForwardTarget : LabelMap → ℕ → List Token → Option ℕ → Option ℕ → Type 0
+HasForwardTarget labels own_index tokens None to = to ≡ None
+HasForwardTarget labels own_index tokens (Some k) to =
+    (t : Token) × (n : ℕ) × (slice_get tokens k ≡ Some t) × (to ≡ Some n) × (target_by labels t.text.now ≡ Some n) × (own_index < n)
 
--- The label at this index among the tokens does not target a statement after the one at the index `number`; the fault says at that token
+-- The label at this index among the tokens does not target a statement after the one at the index `own_index`; the fault says at that token
 -- whether it is missing, or leads backward.
-pub record LabelLost (labels : LabelMap) (number : ℕ) (tokens : List Token) (label : Option ℕ) (fault : CellFault) : Type 0 where
+pub record JumpRefused (labels : LabelMap) (own_index : ℕ) (tokens : List Token) (label : Option ℕ) (fault : CellFault) : Type 0 where
   pub index : ℕ
   pub token : Token
   pub labelled : label ≡ Some index
   pub token_at : slice_get tokens index ≡ Some token
   pub begins : token.at ≡ fault.at
-  pub because : JumpCause labels number token.text.now fault.cause
+  pub because : IsJumpCause labels own_index token.text.now fault.cause
 
 -- Resolving drafts, by the function from a form and operands to a statement.
 module _ {Form Stmt : Type 0} (make : Form → Operands → Option Stmt) where
   -- The label of a draft, if it has one, is one of the tokens; and for any target a statement results from the draft.
   pub record IsResolvable (tokens : List Token) (draft : Draft Form) : Type 0 where
     pub labelled : IfSome draft.label (λ k. k < length tokens)
-    pub makes : (labels : LabelMap) (number : ℕ) (to : Option ℕ) → LedForward labels number tokens draft.label to
+    pub makes : (labels : LabelMap) (own_index : ℕ) (to : Option ℕ) → HasForwardTarget labels own_index tokens draft.label to
         → IsSome (make draft.form (with_target to draft.operands))
 
-  -- This statement, at the index `number`, results from the draft, and the draft's label, if it has one, leads forward.
-  pub record IsResolved (labels : LabelMap) (number : ℕ) (tokens : List Token) (draft : Draft Form) (stmt : Stmt) : Type 0 where
+  -- This statement, at the index `own_index`, results from the draft, and the draft's label, if it has one, leads forward.
+  pub record IsResolved (labels : LabelMap) (own_index : ℕ) (tokens : List Token) (draft : Draft Form) (stmt : Stmt) : Type 0 where
     pub to : Option ℕ
-    pub leads_forward : LedForward labels number tokens draft.label to
+    pub leads_forward : HasForwardTarget labels own_index tokens draft.label to
     pub made : make draft.form (with_target to draft.operands) ≡ Some stmt
 
   -- The statement of a cell, if it has one, is resolved and appended to those before.
@@ -135,13 +135,13 @@ module _ {Form Stmt : Type 0} (make : Form → Operands → Option Stmt) where
 
 -- Why a cell's statement, with this index, is not resolved: memory ran out, or its label does not lead forward.
 abbrev pub IsUnresolved : {Form A : Type 0} → LabelMap → ℕ → Cell A → DraftCell (Draft Form) → CellFault → Type 0
-IsUnresolved {Form} labels number cell draft f =
+IsUnresolved {Form} labels own_index cell draft f =
     ((f.cause ≡ Memory) × (f.at ≡ 0))
-    ⊎ ((d : Draft Form) × (draft.stmt ≡ Some d) × LabelLost labels number (drop draft.start cell.tokens) d.label f)
+    ⊎ ((d : Draft Form) × (draft.stmt ≡ Some d) × JumpRefused labels own_index (drop draft.start cell.tokens) d.label f)
 
--- The content of a cell without labels.
-abbrev pub bare : {Syntax : Type 0} → Option Syntax → CellSyntax Syntax
-bare o = record { labels = []; stmt = o }
+-- The content of a cell without labels, with this statement or none.
+abbrev pub cell_without_labels : {Syntax : Type 0} → Option Syntax → CellSyntax Syntax
+cell_without_labels o = record { labels = []; stmt = o }
 
 module _ {Syntax Stmt : Type 0} (grammar : Grammar Syntax Stmt) where
   -- ---- Statements.
@@ -198,8 +198,8 @@ module _ {Syntax Stmt : Type 0} (grammar : Grammar Syntax Stmt) where
   -- after `above` others.
   pub record FitsBelow (above : ℕ) (names : NameTable) (ts : TokenList) (o : Option Syntax) : Type 0 where
     pub says : MaybeStatement grammar ts o
-    pub bounded : above + length (statements (bare o ∷ [])) ≤ grammar.language.most
-    pub room : length (insert_names names (names_in grammar (bare o ∷ []))) ≤ most_locations
+    pub bounded : above + length (statements (cell_without_labels o ∷ [])) ≤ grammar.language.most
+    pub room : length (insert_names names (names_in grammar (cell_without_labels o ∷ []))) ≤ most_locations
 
   -- The token at this place is the first, and can begin a statement.
   abbrev pub BeginsStatementAt : List Token → ℕ → Type 0
@@ -239,11 +239,11 @@ module _ {Syntax Stmt : Type 0} (grammar : Grammar Syntax Stmt) where
 
   -- The cells of a thread are read: these are its resolved statements; the tables are those before and after its locations' names.
   abbrev pub ColumnRead : Cells → NameTable → List Stmt → NameTable → Type 0
-  ColumnRead cells = ReadOn (Column grammar cells) (names_in grammar) (code_in grammar)
+  ColumnRead cells = ReadWithTable (Column grammar cells) (names_in grammar) (code_in grammar)
 
   -- The cells of threads are read: these are their resolved statements; the tables are those before and after their locations' names.
   abbrev pub ColumnsRead : CellGrid → NameTable → List (List Stmt) → NameTable → Type 0
-  ColumnsRead columns = ReadOn (AllZip (Column grammar) columns) (names_of grammar) (λ names. map (code_in grammar names))
+  ColumnsRead columns = ReadWithTable (AllZip (Column grammar) columns) (names_of grammar) (λ names. map (code_in grammar names))
 
   -- What the cause of a fault in a thread's cells means for its place, whatever the other threads are; those before it were read, and the
   -- table grew by their names.
@@ -268,12 +268,12 @@ module _ {Syntax Stmt : Type 0} (grammar : Grammar Syntax Stmt) where
 module _ {Syntax Stmt D : Type 0} (grammar : Grammar Syntax Stmt) (draft_of : ℕ → Syntax → D) where
   -- The tokens are a statement, and this is its draft. The tables are those before and after its location's name.
   abbrev pub StatementRead : TokenList → NameTable → D → NameTable → Type 0
-  StatementRead ts = ReadOn (grammar.says ts) (named_by grammar) (draft_in grammar draft_of)
+  StatementRead ts = ReadWithTable (grammar.says ts) (named_by grammar) (draft_in grammar draft_of)
 
   -- The tokens after a cell's labels are empty, or a statement for which the thread has room; this is its draft.
   pub record MaybeRead (above : ℕ) (ts : TokenList) (before : NameTable) (draft : Option D) (after : NameTable) : Type 0 where
     pub room : ForSome draft (λ _. above ≢ grammar.language.most)
-    pub read : ReadOn (MaybeStatement grammar ts) (λ o. names_in grammar (bare o ∷ [])) (λ names. option_map (draft_in grammar draft_of names))
+    pub read : ReadWithTable (MaybeStatement grammar ts) (λ o. names_in grammar (cell_without_labels o ∷ [])) (λ names. option_map (draft_in grammar draft_of names))
         before draft after
 
   -- The cell is read: if the old column results from the cells above it, the new one results from these and it.

@@ -33,18 +33,18 @@ pub record FaultClaim (wrong : CellCause → Type 0) (no_label second_label back
   pub back : cause ≡ Backward → backward
   pub many : cause ≡ TooMany → one_more
 
--- What each refusal states: unless memory ran out, nothing fits; the cause means something for the fault's place; and the place is within
--- what was read.
-pub record Refused (unfit : Type 0) (told : ℕ → CellCause → Type 0) (lies : ℕ → Type 0) (fault : CellFault) : Type 0 where
+-- What each refusal states: unless memory ran out, nothing fits (`unfit`); the cause means something for the fault's place (`claim`); and the
+-- place is at or before each offset at or before which all is that was read (`all_within`).
+pub record Refused (unfit : Type 0) (claim : ℕ → CellCause → Type 0) (all_within : ℕ → Type 0) (fault : CellFault) : Type 0 where
   pub none : fault.cause ≢ Memory → unfit
-  pub cause : told fault.at fault.cause
-  pub place : (len : ℕ) → lies len → fault.at ≤ len
+  pub cause : claim fault.at fault.cause
+  pub place : (len : ℕ) → all_within len → fault.at ≤ len
 
 -- The token names a location, which has this index in the table with its name.
 pub record NameRead (before : NameTable) (t : Token) (loc : ℕ) (after : NameTable) : Type 0 where
   pub is_location : IsLocationName t.text.now
   pub names : after ≡ insert_name before t.text.now
-  pub number : loc ≡ position_of_name after t.text.now
+  pub index : loc ≡ position_of_name after t.text.now
 
 -- The token names no location that the table has or has room for: it is a ninth, and the fault says so.
 abbrev pub NameRefused : NameTable → Token → CellFault → Type 0

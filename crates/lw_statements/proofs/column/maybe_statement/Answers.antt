@@ -1,9 +1,9 @@
 -- `maybe_statement` promises the draft of what follows a cell's labels, or why there is none. The interesting
 -- case is a thread that is full: whatever follows is refused, as one statement too many if its first token
--- can begin one (`surplus_refused`).
+-- can begin one (`MaybeRefused-surplus`).
 use Rattle.lw_statements.proofs.Common.{sym, ◌∙◌, grammar_of, draft_of, Err-clause_known}
 use Rattle.lw_statements.proofs.Drafts.{MaybeRead-some, MaybeRead-none, MaybeRefused-StatementRefused}
-use Rattle.lw_statements.proofs.Drafts.{surplus_refused}
+use Rattle.lw_statements.proofs.Drafts.{MaybeRefused-surplus}
 use Rattle.lw_statements.proofs.FirstFaults.{fault_at_first_token}
 use Rattle.lw_statements.proofs.column.maybe_statement.Goals as goal
 
@@ -20,7 +20,7 @@ returns-then-above-max_statements g c =
     let told =
     fault_at_first_token g.L.StatementReader.spelling c.args.phrase.now c.in-Some.first.now c.in-Some.ensures.value
     c.args.locs.now c.args.above c.too_many_statements.result c.too_many_statements.ensures in
-    surplus_refused _ (draft_of _) c.args.phrase.now _ c.in-Some.ensures.value _ _ _
+    MaybeRefused-surplus _ (draft_of _) c.args.phrase.now _ c.in-Some.ensures.value _ _ _
     (c.if-above-max_statements.true ∙ c.max_statements.ensures) told.0 told.1
 
 pub returns-in_err-read_statement : goal.returns-in_err-read_statement

@@ -4,9 +4,9 @@
 -- no label is left (`stops`).
 use Rattle.lw_statements.proofs.Common.{ℕ, ◌+◌, ◌-◌, ◌<◌, ◌≤◌, sym, ap, ◌∙◌, arith, true≢false, is_some}
 use Rattle.lw_statements.proofs.Common.{btree_map_updates_str, refl, slice_get_read, subst}
-use Rattle.lw_statements.proofs.Causes.{FaultClaim-wrong, FaultClaim-Memory, FaultClaim-Twice, refusal-Memory}
-use Rattle.lw_statements.proofs.Exits.{out_of_memory}
-use Rattle.lw_statements.proofs.FrontLabels.{get-drop_tokens, next_within, labels_start, LabelsRead-push}
+use Rattle.lw_statements.proofs.Causes.{FaultClaim-wrong, FaultClaim-Memory, FaultClaim-Twice, Refused-Memory}
+use Rattle.lw_statements.proofs.Exits.{MatchResult-out_of_memory}
+use Rattle.lw_statements.proofs.FrontLabels.{get-drop_tokens, next_within, LabelsRead-none, LabelsRead-push}
 use Rattle.lw_statements.proofs.FrontLabels.{Labels-continue, IsAtLabel-of_token, labels_twice}
 use Rattle.lw_statements.proofs.FrontLabels.{HasDuplicateLabelAt-of_token}
 use Rattle.lw_statements.proofs.labels.read_labels.Goals as goal
@@ -17,18 +17,18 @@ minus_two-lt next len within = omega arith
 
 pub loop-token-smaller : goal.loop-token-smaller
 loop-token-smaller g c =
-    minus_two-lt _ _ (next_within c.args.tokens.now c.loop-token.next _ (c.stands_at.ensures.0 c.loop-token-test.true))
+    minus_two-lt _ _ (next_within c.args.tokens.now c.loop-token.next _ (c.is_token_at.ensures.0 c.loop-token-test.true))
 
 pub loop-token-init : goal.loop-token-init
-loop-token-init g c = labels_start _ _ _
+loop-token-init g c = LabelsRead-none _ _ _
 
 pub bounds-tokens-next : goal.bounds-tokens-next
 bounds-tokens-next g c =
-    let within = next_within c.args.tokens.now c.loop-token.next _ (c.stands_at.ensures.0 c.loop-token-test.true) in omega arith
+    let within = next_within c.args.tokens.now c.loop-token.next _ (c.is_token_at.ensures.0 c.loop-token-test.true) in omega arith
 
 pub loop-token-preserved : goal.loop-token-preserved
 loop-token-preserved g c =
-    let colon = c.stands_at.ensures.0 c.loop-token-test.true in
+    let colon = c.is_token_at.ensures.0 c.loop-token-test.true in
     let within = next_within c.args.tokens.now c.loop-token.next _ colon in
     LabelsRead-push _ _ _ _ _ c.loop-token.invariant _
     (slice_get_read c.args.tokens.now _ c.loop-token.next _ refl (omega arith) c.index-tokens-next.is) colon _
@@ -38,7 +38,7 @@ loop-token-preserved g c =
 
 pub returns-then-not-is_location_name : goal.returns-then-not-is_location_name
 returns-then-not-is_location_name g c =
-    let colon = c.stands_at.ensures.0 c.loop-token-test.true in
+    let colon = c.is_token_at.ensures.0 c.loop-token-test.true in
     let within = next_within c.args.tokens.now c.loop-token.next _ colon in
     let token = slice_get_read c.args.tokens.now _ c.loop-token.next _ refl (omega arith) c.index-tokens-next.is in
     record {
@@ -58,7 +58,7 @@ returns-then-not-is_location_name g c =
 
 pub returns-then-is_some : goal.returns-then-is_some
 returns-then-is_some g c =
-    let colon = c.stands_at.ensures.0 c.loop-token-test.true in
+    let colon = c.is_token_at.ensures.0 c.loop-token-test.true in
     let within = next_within c.args.tokens.now c.loop-token.next _ colon in
     let token = slice_get_read c.args.tokens.now _ c.loop-token.next _ refl (omega arith) c.index-tokens-next.is in
     let led = ap is_some (sym c.in_ok-insert.ensures.old) ∙ sym c.is_some.ensures ∙ c.if-is_some.true in
@@ -69,12 +69,13 @@ returns-then-is_some g c =
     }
 
 pub returns-in_err-insert : goal.returns-in_err-insert
-returns-in_err-insert g c = out_of_memory _ _ _ c.from_residual.ensures.1 (λ f. refusal-Memory f (λ at. FaultClaim-Memory))
+returns-in_err-insert g c =
+    MatchResult-out_of_memory _ _ _ c.from_residual.ensures.1 (λ f. Refused-Memory f (λ at. FaultClaim-Memory))
 
 pub returns : goal.returns
 returns g c = record {
   read = c.loop-token.invariant;
   stops = λ at.
-      true≢false (sym (c.stands_at.ensures.1 (sym (get-drop_tokens c.args.tokens.now c.loop-token.next 1) ∙ at))
+      true≢false (sym (c.is_token_at.ensures.1 (sym (get-drop_tokens c.args.tokens.now c.loop-token.next 1) ∙ at))
       ∙ c.loop-token-test.false);
 }

@@ -4,8 +4,8 @@
 use Rattle.lw_statements.proofs.Common.{refl, ◌∙◌, IfOk, length-map, MatchResult-weaker, head_of, test_of}
 use Rattle.lw_statements.proofs.Common.{all_texts, cells_texts, frame_of, FrameHasTest, grammar_of}
 use Rattle.lw_statements.proofs.Exits.{MatchResult-propagated, MatchResult-part}
-use Rattle.lw_statements.proofs.Threads.{columns_out_of_memory, FrameHasTest-ColumnsRead}
-use Rattle.lw_statements.proofs.api.Forms.{is_grammar, names_allowed}
+use Rattle.lw_statements.proofs.Threads.{ColumnsRefused-out_of_memory, FrameHasTest-ColumnsRead}
+use Rattle.lw_statements.proofs.api.Forms.{IsGrammar-of_spelling, IsLocationName-name_of}
 use Rattle.lw_statements.proofs.api.Tests.{well_formed_test}
 use Rattle.lw_statements.proofs.read.read_test.Goals as goal
 
@@ -15,7 +15,8 @@ returns g c =
     let grammar = grammar_of spelling in
     let frame = c.args.frame in
     let columns = rw c.as_slice.ensures at c.read_columns-threads.ensures in
-    let threads = MatchResult-propagated _ _ _ _ _ columns c.with_zeros-threads.ensures (columns_out_of_memory grammar _ _) in
+    let threads =
+    MatchResult-propagated _ _ _ _ _ columns c.with_zeros-threads.ensures (ColumnsRefused-out_of_memory grammar _ _) in
     let made = MatchResult-part _ _ _ _ _ _ threads c.parts_of.ensures in
     let found : IfOk c.parts_of.result (λ parts. FrameHasTest grammar (frame_of frame) (test_of parts.head parts.threads)) =
     MatchResult-weaker c.parts_of.result made (λ parts m.
@@ -26,8 +27,8 @@ returns g c =
       found = found;
       well_formed =
           MatchResult-weaker c.parts_of.result found (λ parts has.
-          well_formed_test grammar (is_grammar spelling g.L.StatementReader.made c.requires.lawful) (names_allowed spelling)
-          (frame_of frame) (test_of parts.head parts.threads) frame.well_formed
+          well_formed_test grammar (IsGrammar-of_spelling spelling g.L.StatementReader.statement_of c.requires.lawful)
+          (IsLocationName-name_of spelling) (frame_of frame) (test_of parts.head parts.threads) frame.well_formed
           (length-map frame.cells cells_texts ∙ frame.columns) has) (λ f refused. tt);
       fault =
           MatchResult-weaker c.parts_of.result made (λ parts m. tt)

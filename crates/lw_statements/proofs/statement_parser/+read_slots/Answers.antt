@@ -8,9 +8,9 @@ use Rattle.lw_statements.proofs.statement_parser.+read_slots.Goals as goal
 
 pub returns : goal.returns
 returns g t c =
-    let behind = rw c.if-not-read_slots.false at c.read_slots-2.ensures in
+    let after = rw c.if-not-read_slots.false at c.read_slots-2.ensures in
     rw (c.in-Some.ensures.cases.0, c.in-Some-split_first.ensures.cases.0)
-    (AreTaken-cons g.L.StatementReader.spelling _ c.in-Some.slot.now _ _ _ _ _ _ behind c.add_token.ensures)
+    (AreTaken-cons g.L.StatementReader.spelling _ c.in-Some.slot.now _ _ _ _ _ _ after c.add_token.ensures)
 
 pub returns-in-Keyword : goal.returns-in-Keyword
 returns-in-Keyword g t c =

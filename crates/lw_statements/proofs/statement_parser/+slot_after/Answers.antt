@@ -12,13 +12,13 @@ returns-in_default-split_first g t c =
     rw c.in-Some.ensures.cases.0
     (slot_next g.L.StatementReader.spelling _ c.in-Some.slot.now _ c.in_default-split_first.ensures.cases)
 
-pub returns-then-not-can_stand : goal.returns-then-not-can_stand
-returns-then-not-can_stand g t c =
+pub returns-then-not-fits_slot : goal.returns-then-not-fits_slot
+returns-then-not-fits_slot g t c =
     rw (c.in-Some.ensures.cases.0, c.in-Some-split_first.ensures.cases.0)
-    (λ next h. true≢false (sym (c.can_stand.ensures.1 h.0) ∙ c.if-not-can_stand.true))
+    (λ next h. true≢false (sym (c.fits_slot.ensures.1 h.0) ∙ c.if-not-fits_slot.true))
 
 pub returns : goal.returns
 returns g t c =
     rw (c.in-Some.ensures.cases.0, c.in-Some-split_first.ensures.cases.0)
-    (slot_further g.L.StatementReader.spelling _ c.in-Some.slot.now _ _ _ (c.can_stand.ensures.0 c.if-not-can_stand.false)
+    (slot_further g.L.StatementReader.spelling _ c.in-Some.slot.now _ _ _ (c.fits_slot.ensures.0 c.if-not-fits_slot.false)
     c.slot_after.ensures)

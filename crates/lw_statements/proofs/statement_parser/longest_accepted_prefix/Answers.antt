@@ -3,7 +3,7 @@
 use Rattle.lw_statements.proofs.Common.{◌≡◌, ◌∙◌, max, sym, inl, take, refl, arith, length-map, All-weaker}
 use Rattle.lw_statements.proofs.Common.{token_texts}
 use Rattle.lw_statements.proofs.Fronts.{longer_reached}
-use Rattle.lw_statements.proofs.SlotTokens.{ReachesTo, All-take_suc, All-take_all, IsReach-in_range}
+use Rattle.lw_statements.proofs.SlotTokens.{ReachesTo, All-take_suc, All-take_all, IsAcceptedLength-in_range}
 use Rattle.lw_statements.proofs.api.Greater.{ord_max-is_max}
 use Rattle.lw_statements.proofs.statement_parser.longest_accepted_prefix.Goals as goal
 
@@ -26,7 +26,7 @@ loop-form-preserved g c =
     let longest = c.loop-form.longest in
     let longer : c.max-longest.result ≡ max longest c.accepted_prefix_len.result =
     c.max-longest.ensures ∙ ord_max-is_max longest c.accepted_prefix_len.result in
-    let within = (IsReach-in_range spelling _ _ _ c.accepted_prefix_len.ensures).1 in
+    let within = (IsAcceptedLength-in_range spelling _ _ _ c.accepted_prefix_len.ensures).1 in
     let here = rw c.forms-form-items.ensures at c.loop-form-test.true in
     let item = rw c.forms-form-items.ensures at c.form-item.is in
     let reach = rw c.slots.ensures at c.accepted_prefix_len.ensures in

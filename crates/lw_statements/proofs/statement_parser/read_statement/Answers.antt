@@ -16,7 +16,7 @@ returns-in-Some g c =
     let r = rw c.in-Some.is at c.read_form.ensures in
     MatchResult-weaker c.draft.result c.draft.ensures (λ draft made.
     StatementRead-IsDrafted g.L.StatementReader.spelling c.args.phrase.now _ r.0 r.1 r.2 _ draft _ (rw r.3 at made)) (λ f none.
-    StatementRefused-IsNotDrafted g.L.StatementReader.spelling c.args.phrase.now _ r.0 r.1 r.2 g.L.StatementReader.made
+    StatementRefused-IsNotDrafted g.L.StatementReader.spelling c.args.phrase.now _ r.0 r.1 r.2 g.L.StatementReader.statement_of
     c.requires.lawful _ f c.len-known.ensures.table (rw r.3 at none))
 
 pub refusal-requires-clause-none : goal.refusal-requires-clause-none

@@ -1,23 +1,23 @@
 -- `refusal` promises the true fault of tokens that are no statement. A ninth location comes first, at the
 -- first form that has one (`HasOverflowIn-IsOverflowSlot`); at the loop's end no form has one, so the fault is that of the first
--- rejected token (`statement_wrong`).
+-- rejected token (`StatementFaultIsTrue-of_first_rejected`).
 use Rattle.lw_statements.proofs.Common.{◌≡◌, sym, arith, slice_get_within, length-map, Memory, Token, TooMany}
 use Rattle.lw_statements.proofs.Causes.{FaultClaim-TooMany}
-use Rattle.lw_statements.proofs.Fronts.{HasRoom, rejected_within, statement_wrong}
-use Rattle.lw_statements.proofs.SlotTokens.{All-take_suc, All-take_all, IsReach-in_range}
+use Rattle.lw_statements.proofs.Fronts.{HasRoom, rejected_within, StatementFaultIsTrue-of_first_rejected}
+use Rattle.lw_statements.proofs.SlotTokens.{All-take_suc, All-take_all, IsAcceptedLength-in_range}
 use Rattle.lw_statements.proofs.StatementsRead.{HasOverflowIn-IsOverflowSlot}
 use Rattle.lw_statements.proofs.statement_parser.refusal.Goals as goal
 
 pub overflow_token-requires : goal.overflow_token-requires
 overflow_token-requires g c =
-    let r = IsReach-in_range g.L.StatementReader.spelling _ _ _ c.accepted_prefix_len-front.ensures in
+    let r = IsAcceptedLength-in_range g.L.StatementReader.spelling _ _ _ c.accepted_prefix_len-front.ensures in
     (r.0, omega (arith, r.1, length-map c.args.phrase.now.tokens.now (λ (t : Token). t.text.now)))
 
 pub returns-in-Some : goal.returns-in-Some
 returns-in-Some g c =
     let within = rw c.forms-form-items.ensures at c.loop-form-test.true in
     let n = rw (c.in-Some.is, c.slots-slots.ensures) at c.overflow_token.ensures in (
-      FaultClaim-TooMany (HasOverflowIn-IsOverflowSlot _ g.L.StatementReader.made c.requires.lawful c.form-item.result
+      FaultClaim-TooMany (HasOverflowIn-IsOverflowSlot _ g.L.StatementReader.statement_of c.requires.lawful c.form-item.result
           (c.loop-form.form-index, within, sym (rw c.forms-form-items.ensures at c.form-item.is)) _ c.args.locs.now
           c.len-known.ensures.table c.accepted_prefix_len-front.result c.in-Some.index _
           (rw c.slots-slots.ensures at c.accepted_prefix_len-front.ensures) n),
@@ -53,7 +53,7 @@ pub returns : goal.returns
 returns g c =
     let spelling = g.L.StatementReader.spelling in
     let phrase = c.args.phrase.now in (
-      statement_wrong spelling phrase.tokens.now phrase.end c.args.locs.now c.len-known.ensures.table
+      StatementFaultIsTrue-of_first_rejected spelling phrase.tokens.now phrase.end c.args.locs.now c.len-known.ensures.table
           (All-take_all (HasRoom spelling phrase.tokens.now c.args.locs.now) spelling.forms c.loop-form.form-index
           (rw c.forms-form-items.ensures at c.loop-form-test.false) c.loop-form.invariant) c.requires.none _
           c.first_rejected.ensures,

@@ -3,8 +3,8 @@
 use Rattle.lw_statements.proofs.Common.{most_locations, ◌≡◌, ◌<◌, ◌≤◌, [], ◌∷◌, length, length-append, refl}
 use Rattle.lw_statements.proofs.Common.{sym, ap, arith, Contains, slice_get_read, insert_name, Bytes}
 use Rattle.lw_statements.proofs.Common.{NameTable, insert_name-if_in_table, insert_name-if_new}
-use Rattle.lw_statements.proofs.Exits.{out_of_memory}
-use Rattle.lw_statements.proofs.Causes.{FaultClaim-Memory, FaultClaim-TooMany, refusal-Memory}
+use Rattle.lw_statements.proofs.Exits.{MatchResult-out_of_memory}
+use Rattle.lw_statements.proofs.Causes.{FaultClaim-Memory, FaultClaim-TooMany, Refused-Memory}
 use Rattle.lw_statements.proofs.token.location.Goals as goal
 
 -- If inserting a name makes the table longer than it may be, the table is full and does not have the name.
@@ -22,7 +22,7 @@ pub returns-in-Some : goal.returns-in-Some
 returns-in-Some g c = record {
   is_location = c.requires;
   names = rw c.in-Some.is at c.in_ok-loc.ensures.names;
-  number = rw c.in-Some.is at c.in_ok-loc.ensures.index;
+  index = rw c.in-Some.is at c.in_ok-loc.ensures.index;
 }
 
 pub returns-in-None : goal.returns-in-None
@@ -36,4 +36,5 @@ returns-in-None g c =
     }
 
 pub returns-in_err-loc : goal.returns-in_err-loc
-returns-in_err-loc g c = out_of_memory _ _ _ c.from_residual.ensures.1 (λ f. refusal-Memory f (λ at. FaultClaim-Memory))
+returns-in_err-loc g c =
+    MatchResult-out_of_memory _ _ _ c.from_residual.ensures.1 (λ f. Refused-Memory f (λ at. FaultClaim-Memory))

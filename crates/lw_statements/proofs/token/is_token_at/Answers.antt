@@ -1,8 +1,8 @@
--- `stands_at` promises to be true exactly if the token at the index is this sign. If the index is in range,
+-- `is_token_at` promises to be true exactly if the token at the index is this sign. If the index is in range,
 -- it is the comparison with that token (`sign_equal-iff_get`).
 use Rattle.lw_statements.proofs.Common.{token_texts, at_index}
 use Rattle.lw_statements.proofs.FrontLabels.{sign_equal-iff_get, get_text}
-use Rattle.lw_statements.proofs.token.stands_at.Goals as goal
+use Rattle.lw_statements.proofs.token.is_token_at.Goals as goal
 
 pub returns : goal.returns
 returns c =
