@@ -159,7 +159,7 @@ HasTest-of_compilation one back text made source has makes =
     let read = back is.program (IsWellFormedProgram-compiled source is.program is.starts formed is.compiled) in (
       is.program,
       subst (λ (t : Bytes). HasTest t (Of_x86 is.program)) (sym is.text_is)
-          (record { frame = read.frame; has_frame = read.framed; says = read.says }),
+          (record { frame = read.frame; has_frame = read.has_frame; says = read.says }),
       is.compiled.head,
       λ o.
           IsMachineOutcome-compiled_iff source is.program is.starts o (IsWellScoped-well_formed source_language formed)

@@ -24,8 +24,8 @@ length-cells names code k (r ∷ rest) =
 
 module _ (names : NameTable) (locs : ℕ) (code : List Instr) (thread : IsWellFormedThread x86_language locs code) where
   -- No instruction jumps past the end.
-  no_target : (n : ℕ) → length code < n → is_target code n ≡ false
-  no_target n past = list_any_none (jumps_to n) code (λ k i lt. go k _ (slice_get-get_or code k i lt))
+  is_target-false_past_end : (n : ℕ) → length code < n → is_target code n ≡ false
+  is_target-false_past_end n past = list_any_none (jumps_to n) code (λ k i lt. go k _ (slice_get-get_or code k i lt))
     where
       go : (k : ℕ) (i : Instr) → slice_get code k ≡ Some i → jumps_to n i ≡ false
       go k i at = is_target-false_of_other (branch_target (x86_operation i)) (λ to e. (thread.forward k i at to e).1)
@@ -42,7 +42,8 @@ module _ (names : NameTable) (locs : ℕ) (code : List Instr) (thread : IsWellFo
       → k + length rest ≡ length code
       → slice_index_or (cells_from names code k rest) j [] ≡ text_at_row names code (k + j) (slice_get rest j)
   cell_from k [] zero is = let here : k ≡ k + 0 = omega arith in ap (λ (n : ℕ). slice_index_or (end_cells code n) 0 []) here
-  cell_from k [] (suc j) is = no_cell_past_end (is_target code k) ∙ rw (no_target (k + suc j) (omega (arith, is))) refl
+  cell_from k [] (suc j) is =
+      no_cell_past_end (is_target code k) ∙ rw (is_target-false_past_end (k + suc j) (omega (arith, is))) refl
     where
       -- In the row of the end there is at most one cell: the end's label.
       no_cell_past_end : (b : Bool) → slice_index_or (if b then (label k ++ codes ":") ∷ [] else []) (suc j) [] ≡ []

@@ -33,8 +33,8 @@ pub use Rattle.lw_base.proofs.Common.{IsNameTable, IsRegisterIndex, IsSeenInRang
 pub use Rattle.lw_base.proofs.Common.{IsWordNumber, NameTable, TestHead, TokenList, all_registers}
 pub use Rattle.lw_base.proofs.Common.{condition_text, contains_name, first_byte_is, head_of, insert_names}
 pub use Rattle.lw_base.proofs.Common.{is_blank, is_name_byte, joined, locations, most_locations}
-pub use Rattle.lw_base.proofs.Common.{most_name_bytes, most_nodes, most_threads, register_name, registers}
-pub use Rattle.lw_base.proofs.Common.{seen_eq, thread_registers}
+pub use Rattle.lw_base.proofs.Common.{most_name_bytes, most_nodes, most_text_bytes, most_threads}
+pub use Rattle.lw_base.proofs.Common.{register_name, registers, seen_eq, thread_registers}
 pub use Rattle.lw_base.proofs.api.Blanks.{name_ascii}
 pub use Rattle.lw_base.proofs.api.Elements.{All-map_inv, All-mono, AllByRecursion-append}
 pub use Rattle.lw_base.proofs.api.Elements.{AllByRecursion-filter, AllByRecursion-flat_map_range}

@@ -12,8 +12,8 @@ use Rattle.lw_x86.proofs.Common.{CellSyntax, MaybeStatement, Labels, ParsesCell,
 use Rattle.lw_x86.proofs.Common.{IsWellFormedThread, Instr, ParsesStatement, x86_spelling, x86_language}
 use Rattle.lw_x86.proofs.Common.{label, printed_form, is_target, cells_of, x86_grammar}
 use Rattle.lw_x86.proofs.PrintedInstructions.{most_label_bytes, most_instruction_bytes, instruction_tokens}
-use Rattle.lw_x86.proofs.PrintedInstructions.{HasTarget, label_is_location, Spells-label, IsPrintedAs-each}
-use Rattle.lw_x86.proofs.PrintedInstructions.{instruction_spelled, Fills-instruction_tokens}
+use Rattle.lw_x86.proofs.PrintedInstructions.{HasSmallTarget, label_is_location, Spells-label}
+use Rattle.lw_x86.proofs.PrintedInstructions.{IsPrintedAs-each, instruction_spelled, Fills-instruction_tokens}
 use Rattle.lw_x86.proofs.PrintedInstructions.{instruction_no_end}
 use Rattle.lw_x86.proofs.CellLists.{text_at_row, cells_of-get}
 use Rattle.lw_x86.proofs.PrintedSlots.{name_no_end}
@@ -118,8 +118,8 @@ module _ (names : NameTable) (table : AllByRecursion IsLocationName names) (code
       (thread.statements_formed k i (slice_get_within code k i e))
 
   -- Each target in the thread is below `2 ^ 32`.
-  pub target_small : (k : ℕ) (i : Instr) → slice_get code k ≡ Some i → HasTarget i
-  target_small k i e = λ to f. omega (arith, (thread.forward k i e to f).1, thread.short)
+  pub HasSmallTarget-in_thread : (k : ℕ) (i : Instr) → slice_get code k ≡ Some i → HasSmallTarget i
+  HasSmallTarget-in_thread k i e = λ to f. omega (arith, (thread.forward k i e to f).1, thread.short)
 
   module _ (k : ℕ) (small : k < 2 ^ 32) where
     -- The text of a cell, of an instruction or of the end, spells its label and what follows.
@@ -129,7 +129,7 @@ module _ (names : NameTable) (table : AllByRecursion IsLocationName names) (code
     maybe_printed None e = end_printed (is_target code k) k small
     maybe_printed (Some i) e =
         let fine = IsWellFormedStatement-get k i e in
-        let goes = target_small k i e in
+        let goes = HasSmallTarget-in_thread k i e in
         record {
           spells =
               Spells-before IsBlankNext blank_ends_name
@@ -145,7 +145,7 @@ module _ (names : NameTable) (table : AllByRecursion IsLocationName names) (code
         → MaybeStatement x86_grammar (maybe_tokens names o) (option_map (printed_form names) o)
     MaybeStatement-maybe_tokens None e = refl
     MaybeStatement-maybe_tokens (Some i) e =
-        Fills-instruction_tokens names table i (IsWellFormedStatement-get k i e) (target_small k i e)
+        Fills-instruction_tokens names table i (IsWellFormedStatement-get k i e) (HasSmallTarget-in_thread k i e)
 
     -- The text of a thread's cell spells its tokens.
     pub cell_printed : IsPrintedCell (slice_index_or (cells_of names code) k []) (cell_tokens names code k)

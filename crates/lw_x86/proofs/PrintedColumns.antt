@@ -12,7 +12,7 @@ use Rattle.lw_x86.proofs.Common.{ParsesStatement, x86_spelling, branch_target, l
 use Rattle.lw_x86.proofs.Common.{x86_operation, label, printed_form, is_target, end_cells, cells_of}
 use Rattle.lw_x86.proofs.Common.{x86_grammar}
 use Rattle.lw_x86.proofs.PrintedCells.{most_cells, cell_tokens, ParsesCell-cell_tokens}
-use Rattle.lw_x86.proofs.PrintedCells.{IsWellFormedStatement-get, target_small}
+use Rattle.lw_x86.proofs.PrintedCells.{IsWellFormedStatement-get, HasSmallTarget-in_thread}
 use Rattle.lw_x86.proofs.CellLists.{length-cells}
 use Rattle.lw_x86.proofs.PrintedInstructions.{IsPrintedAs-each}
 use Rattle.lw_x86.proofs.PrintedLabels.{syntaxes_from, is_target-of_branch, statements-syntaxes_from}
@@ -33,7 +33,7 @@ module _ (names : NameTable) (once : IsDuplicateFree names) (syntaxes : List (Ce
       → resolved_statement x86_grammar names syntaxes (printed_form names i) ≡ i
   resolved_statement-printed_form i h =
       let p = IsPrintedAs-each names i in
-      p.again _ _ (λ x e.
+      p.gives_back _ _ (λ x e.
       ap (location_index names) (p.name ∙ ap (option_map (λ (y : ℕ). slice_index_or names y [])) e)
       ∙ position_of_name-again names once x (h.0 x e))
       (λ to e. ap (resolved_target syntaxes) (p.label_is ∙ ap (option_map label) e) ∙ h.1 to e)
@@ -115,7 +115,7 @@ module _ (names : NameTable) (table : IsNameTable names) (n : ℕ) (few : n ≤ 
       → Contains (labels_of syntaxes) (label to) × (target_in syntaxes (label to) ≡ to) × (k < to)
   target_in-of_branch k to i e f =
       let goes = thread.forward k i e to f in
-      let small = target_small names table.are_location_names code thread k i e to f in
+      let small = HasSmallTarget-in_thread names table.are_location_names code thread k i e to f in
       let is = is_target-of_branch code k to i e f in
       let first : 0 ≤ to = omega arith in
       let last : to < 0 + n = omega (arith, target_row to is goes.1) in
@@ -127,8 +127,8 @@ module _ (names : NameTable) (table : IsNameTable names) (n : ℕ) (few : n ≤ 
   statements_all = statements-syntaxes_from names code 0 n (omega (arith, long, length-cells names code 0 code))
 
   -- The printed cells of a thread say their syntax, row by row.
-  thread_column : Column x86_grammar (map (cell_tokens names code) (range_with_len 0 n)) syntaxes
-  thread_column = record {
+  Column-printed_thread : Column x86_grammar (map (cell_tokens names code) (range_with_len 0 n)) syntaxes
+  Column-printed_thread = record {
     says = Column_cells-from_k 0 n (omega (arith, few));
     bounded = omega (arith, ap length statements_all, length-map code (printed_form names), thread.short);
     without_duplicates = (labels_of_cells-duplicate_free names code 0 n (omega (arith, few))).1;
@@ -171,4 +171,4 @@ module _ (names : NameTable) (table : IsNameTable names) (n : ℕ) (few : n ≤ 
   pub Column-of_thread : Column x86_grammar (map (cell_tokens names code) (range_with_len 0 n)) syntaxes
       × (code_in x86_grammar names syntaxes ≡ code)
       × AllByRecursion (IsInTable names) (names_in x86_grammar syntaxes)
-  Column-of_thread = (thread_column, code_in-printed_thread, AreInTable-thread_names)
+  Column-of_thread = (Column-printed_thread, code_in-printed_thread, AreInTable-thread_names)

@@ -1,27 +1,28 @@
 -- The printed text of a test is the text of a frame: preamble, block, header, rows and condition in sequence,
 -- with the test's head and its threads' cells. One half of the proof that a printed test reads back.
-use Rattle.lw_x86.proofs.Common.{suc, name_ascii, ◌≡◌, ℕ, ◌+◌, ◌*◌, ◌<◌, ◌≤◌, inl, List, [], ◌∷◌, ◌++◌, map}
-use Rattle.lw_x86.proofs.Common.{length, refl, sym, ap, ◌∙◌, subst, arith, append_assoc, length-append, codes}
-use Rattle.lw_x86.proofs.Common.{flat_map, IsUtf8, slice_index_or, AllByRecursion, AllZip, range_with_len}
-use Rattle.lw_x86.proofs.Common.{length-map, length-map-range_with_len, recursion_from_All, IsUtf8-append}
-use Rattle.lw_x86.proofs.Common.{IsUtf8-from_ascii, Bytes, NameTable, TokenList, Cells, CellGrid, X86}
-use Rattle.lw_x86.proofs.Common.{condition_text, IsName, blank, Preamble, columns, HasFewNodes, IsProposition}
-use Rattle.lw_x86.proofs.Common.{sites_in, resolved, TestSyntax, TestFrame, ParsesTest, HasFrame}
-use Rattle.lw_x86.proofs.Common.{location_table, head_of_syntax, frame_of_syntax, AllByRecursion-append}
-use Rattle.lw_x86.proofs.Common.{AllByRecursion-map, All-mono, proposition_nodes, resolved_single}
-use Rattle.lw_x86.proofs.Common.{node_count-resolved, Anything, Spells, Spells-append_anything, Spells-mono}
-use Rattle.lw_x86.proofs.Common.{Spells-whole, Spells-space, Spells-newline, Spells-name, name_by_test}
-use Rattle.lw_x86.proofs.Common.{printed_proposition, IsPrintable, sites_printable, condition_is_printable}
-use Rattle.lw_x86.proofs.Common.{resolved-enclosed_named_terms, IsWellFormedThread, Instr, x86_language}
-use Rattle.lw_x86.proofs.Common.{IsWellFormedProgram, X86Test, cells_of, row_at, max_cell_count, rows_text}
-use Rattle.lw_x86.proofs.Common.{header_text, block_text, listed_text, canonical_text}
+use Rattle.lw_x86.proofs.Common.{most_text_bytes, suc, name_ascii, ◌≡◌, ℕ, ◌+◌, ◌*◌, ◌<◌, ◌≤◌, inl, List, []}
+use Rattle.lw_x86.proofs.Common.{◌∷◌, ◌++◌, map, length, refl, sym, ap, ◌∙◌, subst, arith, append_assoc}
+use Rattle.lw_x86.proofs.Common.{length-append, codes, flat_map, IsUtf8, slice_index_or, AllByRecursion}
+use Rattle.lw_x86.proofs.Common.{AllZip, range_with_len, length-map, length-map-range_with_len}
+use Rattle.lw_x86.proofs.Common.{recursion_from_All, IsUtf8-append, IsUtf8-from_ascii, Bytes, NameTable}
+use Rattle.lw_x86.proofs.Common.{TokenList, Cells, CellGrid, X86, condition_text, IsName, blank, Preamble}
+use Rattle.lw_x86.proofs.Common.{columns, HasFewNodes, IsProposition, sites_in, resolved, TestSyntax}
+use Rattle.lw_x86.proofs.Common.{TestFrame, ParsesTest, HasFrame, location_table, head_of_syntax}
+use Rattle.lw_x86.proofs.Common.{frame_of_syntax, AllByRecursion-append, AllByRecursion-map, All-mono}
+use Rattle.lw_x86.proofs.Common.{proposition_nodes, resolved_single, node_count-resolved, Anything, Spells}
+use Rattle.lw_x86.proofs.Common.{Spells-append_anything, Spells-mono, Spells-whole, Spells-space}
+use Rattle.lw_x86.proofs.Common.{Spells-newline, Spells-name, name_by_test, printed_proposition, IsPrintable}
+use Rattle.lw_x86.proofs.Common.{sites_printable, condition_is_printable, resolved-enclosed_named_terms}
+use Rattle.lw_x86.proofs.Common.{IsWellFormedThread, Instr, x86_language, IsWellFormedProgram, X86Test}
+use Rattle.lw_x86.proofs.Common.{cells_of, row_at, max_cell_count, rows_text, header_text, block_text}
+use Rattle.lw_x86.proofs.Common.{listed_text, canonical_text}
 use Rattle.lw_x86.proofs.PrintedCells.{most_cells, IsPrintedCell, cell_tokens, cell_printed}
 use Rattle.lw_text.specs.Tokens.{none as no_trivia}
 use Rattle.lw_text.specs.Preambles.{none as no_notes}
 use Rattle.lw_x86.proofs.PrintedRows.{row_tokens, header_tokens, row_bytes, header_spelled}
 use Rattle.lw_x86.proofs.PrintedRows.{Header-header_tokens, rows_spelled, rows_plain}
 use Rattle.lw_x86.proofs.PrintedRows.{ParsesManyTill-row_tokens}
-use Rattle.lw_x86.proofs.PrintedGrids.{columns-of_rows_by_item, longest_under, cell_count_at_most}
+use Rattle.lw_x86.proofs.PrintedGrids.{columns-of_rows_by_item, max_cell_count-at_most, cell_count_at_most}
 use Rattle.lw_x86.proofs.PrintedBlocks.{initializers_of, block_tokens, block_bytes, block_spelled}
 use Rattle.lw_x86.proofs.PrintedBlocks.{Block-block_tokens, initializers_exist}
 use Rattle.lw_x86.proofs.PrintedHeads.{insert_names-printed_names, initial_registers-printed}
@@ -67,20 +68,20 @@ frame_in p =
 -- ---- tokens
 
 -- The tokens of the list of names and of the condition.
-abbrev tokens_behind_rows : X86Test → TokenList
-tokens_behind_rows p = listed_tokens p.head.locs p.head.listed ++ condition_tokens p.head
+abbrev tokens_after_rows : X86Test → TokenList
+tokens_after_rows p = listed_tokens p.head.locs p.head.listed ++ condition_tokens p.head
 
 -- The tokens of the rows, and all after them.
-abbrev tokens_behind_header : X86Test → TokenList
-tokens_behind_header p = flat_map row_tokens (rows_in p) ++ tokens_behind_rows p
+abbrev tokens_after_header : X86Test → TokenList
+tokens_after_header p = flat_map row_tokens (rows_in p) ++ tokens_after_rows p
 
 -- The tokens of the header, and all after it.
-abbrev tokens_behind_block : X86Test → TokenList
-tokens_behind_block p = header_tokens p.head.threads ++ tokens_behind_header p
+abbrev tokens_after_block : X86Test → TokenList
+tokens_after_block p = header_tokens p.head.threads ++ tokens_after_header p
 
 -- All tokens of the printed test.
 abbrev tokens_in : X86Test → TokenList
-tokens_in p = block_tokens p.head ++ tokens_behind_block p
+tokens_in p = block_tokens p.head ++ tokens_after_block p
 
 -- The canonical text after its first line.
 abbrev body_text : X86Test → Bytes
@@ -101,7 +102,7 @@ module _ (p : X86Test) (well : IsWellFormedProgram p) where
   -- No thread has more than `most_cells` cells.
   pub height_few : height_of p ≤ most_cells
   height_few =
-      longest_under most_cells (texts_in p)
+      max_cell_count-at_most most_cells (texts_in p)
       (AllByRecursion-map (λ cells. length cells ≤ most_cells) (cells_of p.head.locs) p.threads
       (All-mono (IsWellFormedThread x86_language (length p.head.locs)) (λ code. length (cells_of p.head.locs code) ≤ most_cells)
       (λ code thread. omega (arith, cell_count_at_most p.head.locs code, thread.short)) p.threads IsWellFormedThread-threads))
@@ -184,14 +185,14 @@ module _ (p : X86Test) (well : IsWellFormedProgram p) where
   -- The tokens are the parts of a test, and no others.
   ParsesTest-of_tokens : ParsesTest X86 (tokens_in p) (syntax_in p)
   ParsesTest-of_tokens = record {
-    after_block = tokens_behind_block p;
-    after_header = tokens_behind_header p;
-    after_rows = tokens_behind_rows p;
-    block = Block-block_tokens p.head well.head (tokens_behind_block p);
-    header = Header-header_tokens p.head.threads (tokens_behind_header p) well.head.has_thread well.head.bounded;
+    after_block = tokens_after_block p;
+    after_header = tokens_after_header p;
+    after_rows = tokens_after_rows p;
+    block = Block-block_tokens p.head well.head (tokens_after_block p);
+    header = Header-header_tokens p.head.threads (tokens_after_header p) well.head.has_thread well.head.bounded;
     threads_exist = initializers_exist p.head well.head;
     rows = (
-      ParsesManyTill-row_tokens p.head.threads (rows_in p) (tokens_behind_rows p) well.head.has_thread
+      ParsesManyTill-row_tokens p.head.threads (rows_in p) (tokens_after_rows p) well.head.has_thread
           (rows_plain (row_at (texts_in p)) (row_in p) p.head.threads most_cells well.head.has_thread well.head.bounded
           IsPrintedCell-rows texts_long row_long 0 (height_of p) (omega (arith, height_few))) (rows_stop p.head well.head),
       omega (arith, length-map-range_with_len (row_in p) 0 (height_of p), height_few),
@@ -257,12 +258,12 @@ module _ (p : X86Test) (well : IsWellFormedProgram p) where
   )
 
   -- The text is short enough to be read.
-  text_short : length (canonical_text p) ≤ 65536
+  text_short : length (canonical_text p) ≤ most_text_bytes
   text_short = omega (arith, length-append p.head.name (codes "\n" ++ body_text p), well.head.name.short, body_spelled.short)
 
   -- The canonical text of a well-formed program is the text of the frame `frame_in`.
-  pub printed_frame : HasFrame (canonical_text p) (frame_in p)
-  printed_frame = record {
+  pub HasFrame-canonical_text : HasFrame (canonical_text p) (frame_in p)
+  HasFrame-canonical_text = record {
     short = text_short;
     utf8 = text_utf8;
     arch = X86;

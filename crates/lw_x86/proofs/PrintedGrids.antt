@@ -54,10 +54,10 @@ pub cell_counts_at_most_longest : (threads : List (List Bytes))
 cell_counts_at_most_longest threads = All-map_inv _ length threads (fold_max-at_least_each 0 (map length threads))
 
 -- If no thread has more than n cells, neither has the longest.
-pub longest_under : (n : ℕ) (threads : List (List Bytes))
+pub max_cell_count-at_most : (n : ℕ) (threads : List (List Bytes))
     → AllByRecursion (λ cells. length cells ≤ n) threads
     → max_cell_count threads ≤ n
-longest_under n threads h = fold_max-at_most 0 n _ (omega arith) (AllByRecursion-map (λ k. k ≤ n) length threads h)
+max_cell_count-at_most n threads h = fold_max-at_most 0 n _ (omega arith) (AllByRecursion-map (λ k. k ≤ n) length threads h)
 
 -- A thread has at most one cell more than instructions.
 pub cell_count_at_most : (names : NameTable) (code : List Instr) → length (cells_of names code) ≤ length code + 1

@@ -35,15 +35,17 @@ module _ (head : TestHead) (well : IsWellFormedHead head) where
   initializer_sites (s ∷ ss) = rw (initializer_sites ss) refl
 
   -- The site is a register.
-  abbrev InNoMemory : Seen → Type 0
-  InNoMemory (Register t r) = Unit {0}
-  InNoMemory (Location x) = ⊥
+  abbrev IsRegisterSite : Seen → Type 0
+  IsRegisterSite (Register t r) = Unit {0}
+  IsRegisterSite (Location x) = ⊥
 
   -- Registers name no location.
-  site_names-InNoMemory : (ss : List Seen) → AllByRecursion InNoMemory ss → site_names (map (named_site head.locs) ss) ≡ []
-  site_names-InNoMemory [] h = refl
-  site_names-InNoMemory (Register t r ∷ ss) h = site_names-InNoMemory ss h.1
-  site_names-InNoMemory (Location x ∷ ss) h = absurd h.0
+  site_names-IsRegisterSite : (ss : List Seen)
+      → AllByRecursion IsRegisterSite ss
+      → site_names (map (named_site head.locs) ss) ≡ []
+  site_names-IsRegisterSite [] h = refl
+  site_names-IsRegisterSite (Register t r ∷ ss) h = site_names-IsRegisterSite ss h.1
+  site_names-IsRegisterSite (Location x ∷ ss) h = absurd h.0
 
   -- The locations from a on are named as the table says.
   location_names : (a n : ℕ)
@@ -57,10 +59,10 @@ module _ (head : TestHead) (well : IsWellFormedHead head) where
   entered_names =
       let written = filter (needs_initializer head) (all_registers head.threads) in
       let none =
-      site_names-InNoMemory written
-      (AllByRecursion-filter InNoMemory (needs_initializer head) (all_registers head.threads)
-      (AllByRecursion-flat_map_range InNoMemory thread_registers 0 head.threads
-      (λ t le lt. AllByRecursion-map_range InNoMemory (λ r. Register t r) 0 registers (λ r le2 lt2. tt)))) in
+      site_names-IsRegisterSite written
+      (AllByRecursion-filter IsRegisterSite (needs_initializer head) (all_registers head.threads)
+      (AllByRecursion-flat_map_range IsRegisterSite thread_registers 0 head.threads
+      (λ t le lt. AllByRecursion-map_range IsRegisterSite (λ r. Register t r) 0 registers (λ r le2 lt2. tt)))) in
       rw (
         initializer_sites (initialized_sites head),
         map-append (named_site head.locs) written (locations (length head.locs)),

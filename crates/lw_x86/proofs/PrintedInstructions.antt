@@ -9,8 +9,8 @@ use Rattle.lw_x86.proofs.Common.{Instr, branch_target, location_of, x86_language
 use Rattle.lw_x86.proofs.Common.{ParsesStatement, name_in, label_in, x86_forms, x86_slots, instruction}
 use Rattle.lw_x86.proofs.Common.{x86_spelling, label, printed_form, instruction_text}
 use Rattle.lw_base.specs.declared.operand.Operand.TheVariants.{Register}
-use Rattle.lw_x86.proofs.PrintedSlots.{ArePrintable, are_spaced, most_in, slots_tokens, slots_spelled}
-use Rattle.lw_x86.proofs.PrintedSlots.{Fills-slots_tokens, slots_no_end}
+use Rattle.lw_x86.proofs.PrintedSlots.{ArePrintable, are_spaced, most_slots_bytes, slots_tokens}
+use Rattle.lw_x86.proofs.PrintedSlots.{slots_spelled, Fills-slots_tokens, slots_no_end}
 use Rattle.lw_litmus.specs.declared.instr.Instr.TheVariants as instr
 
 -- ---- labels
@@ -38,8 +38,8 @@ Spells-label k h =
 -- ---- the printed form of an instruction
 
 -- The instruction's target, if it has one, is below `2 ^ 32`.
-abbrev pub HasTarget : Instr → Type 0
-HasTarget i = ForSome (branch_target (x86_operation i)) (λ to. to < 2 ^ 32)
+abbrev pub HasSmallTarget : Instr → Type 0
+HasSmallTarget i = ForSome (branch_target (x86_operation i)) (λ to. to < 2 ^ 32)
 
 -- The tokens of an instruction, slot by slot of its form.
 abbrev pub instruction_tokens : NameTable → Instr → TokenList
@@ -53,11 +53,11 @@ most_instruction_bytes = 133
 pub record IsPrintedAs (names : NameTable) (i : Instr) (s : ParsesStatement x86_spelling) : Type 0 where
   pub form_is_listed : Contains x86_forms s.form
   pub spaced : are_spaced (x86_slots s.form) ≡ true
-  pub short : most_in (x86_slots s.form) ≤ most_instruction_bytes
+  pub short : most_slots_bytes (x86_slots s.form) ≤ most_instruction_bytes
   pub starts : begins_stop (slots_tokens (x86_slots s.form) s.filling) ≡ false
   pub name : name_in (x86_slots s.form) s.filling ≡ option_map (λ x. slice_index_or names x []) (location_of (x86_operation i))
   pub label_is : label_in (x86_slots s.form) s.filling ≡ option_map label (branch_target (x86_operation i))
-  pub again : (x to : ℕ)
+  pub gives_back : (x to : ℕ)
       → ForSome (location_of (x86_operation i)) (λ y. x ≡ y)
       → ForSome (branch_target (x86_operation i)) (λ t. to ≡ t)
       → instruction x to s.form s.filling ≡ i
@@ -68,7 +68,7 @@ module _ (names : NameTable) where
   IsPrintedAs-by_form : {i : Instr} {s : ParsesStatement x86_spelling}
       → Contains x86_forms s.form
       → are_spaced (x86_slots s.form) ≡ true
-      → most_in (x86_slots s.form) ≤ most_instruction_bytes
+      → most_slots_bytes (x86_slots s.form) ≤ most_instruction_bytes
       → begins_stop (slots_tokens (x86_slots s.form) s.filling) ≡ false
       → name_in (x86_slots s.form) s.filling ≡ option_map (λ x. slice_index_or names x []) (location_of (x86_operation i))
       → label_in (x86_slots s.form) s.filling ≡ option_map label (branch_target (x86_operation i))
@@ -77,14 +77,14 @@ module _ (names : NameTable) where
       → ForSome (branch_target (x86_operation i)) (λ t. to ≡ t)
       → instruction x to s.form s.filling ≡ i)
       → IsPrintedAs names i s
-  IsPrintedAs-by_form there spaced short starts name led again = record {
+  IsPrintedAs-by_form there spaced short starts name led gives_back = record {
     form_is_listed = there;
     spaced = spaced;
     short = short;
     starts = starts;
     name = name;
     label_is = led;
-    again = again;
+    gives_back = gives_back;
   }
 
   -- Each instruction has such a printed form.
@@ -129,7 +129,7 @@ module _ (names : NameTable) (table : AllByRecursion IsLocationName names) where
       → ForSome (location_of (x86_operation i)) (λ x. x < length names)
       → AllByRecursion IsRegisterIndex (registers_of (x86_operation i))
       → AllByRecursion IsWordNumber (numbers_of (x86_operation i))
-      → HasTarget i
+      → HasSmallTarget i
       → ArePrintable (x86_slots (printed_form names i).form) (printed_form names i).filling
   ArePrintable-of_operands (instr.Store x (Register a)) l r n t =
       (tt, (tt, (IsLocationName-in_table _ x table (l x refl), (tt, (tt, (r.0, tt))))))
@@ -155,7 +155,7 @@ module _ (names : NameTable) (table : AllByRecursion IsLocationName names) where
   -- The operands of a well-formed instruction can be printed in its form's slots.
   ArePrintable-of_instruction : (i : Instr)
       → IsWellFormedStatement x86_language (length names) i
-      → HasTarget i
+      → HasSmallTarget i
       → ArePrintable (x86_slots (printed_form names i).form) (printed_form names i).filling
   ArePrintable-of_instruction i h t =
       ArePrintable-of_operands i h.0 (recursion_from_All _ _ h.1) (recursion_from_All IsWordNumber _ h.2) t
@@ -163,7 +163,7 @@ module _ (names : NameTable) (table : AllByRecursion IsLocationName names) where
   -- The text of an instruction spells its tokens.
   pub instruction_spelled : (i : Instr)
       → IsWellFormedStatement x86_language (length names) i
-      → HasTarget i
+      → HasSmallTarget i
       → Spells EndsName most_instruction_bytes (instruction_text names i) (instruction_tokens names i)
   instruction_spelled i h t =
       let p = IsPrintedAs-each names i in
@@ -173,7 +173,7 @@ module _ (names : NameTable) (table : AllByRecursion IsLocationName names) where
   -- The tokens of an instruction fill the slots of its form.
   pub Fills-instruction_tokens : (i : Instr)
       → IsWellFormedStatement x86_language (length names) i
-      → HasTarget i
+      → HasSmallTarget i
       → Contains x86_forms (printed_form names i).form
       × Fills x86_spelling (instruction_tokens names i) (x86_slots (printed_form names i).form) (printed_form names i).filling
   Fills-instruction_tokens i h t = (
@@ -184,6 +184,6 @@ module _ (names : NameTable) (table : AllByRecursion IsLocationName names) where
   -- The tokens of an instruction contain no end of a cell.
   pub instruction_no_end : (i : Instr)
       → IsWellFormedStatement x86_language (length names) i
-      → HasTarget i
+      → HasSmallTarget i
       → EndsNoCell (instruction_tokens names i)
   instruction_no_end i h t = slots_no_end _ (printed_form names i).filling (ArePrintable-of_instruction i h t)

@@ -40,27 +40,27 @@ name_no_end w n = run_no_end w n.0.not_empty n.0.are_name_bytes
 
 -- The keyword is a mnemonic: a name, and no sign.
 record IsMnemonic (w : X86Keyword) : Type 0 where
-  unsigned : is_sign w ≡ false
+  no_sign : is_sign w ≡ false
   name : IsName (x86_keyword_text w)
 
 -- The keyword is a sign: it spells one token, ends a name before it, and ends no cell.
 record IsSign (w : X86Keyword) : Type 0 where
-  signed : is_sign w ≡ true
+  sign : is_sign w ≡ true
   mark : Spells Anything 1 (x86_keyword_text w) (x86_keyword_text w ∷ [])
   ends : (rest : Bytes) → EndsName (x86_keyword_text w ++ rest)
   plain : ends_cell (x86_keyword_text w) ≡ false
 
 -- Each keyword of x86 is a mnemonic or a sign.
-kind_of : (w : X86Keyword) → IsMnemonic w ⊎ IsSign w
-kind_of Open =
-    inr (record { signed = refl; mark = Spells-mark 91 refl (λ c. refl) refl (omega arith); ends = λ rest. refl; plain = refl })
-kind_of Close =
-    inr (record { signed = refl; mark = Spells-mark 93 refl (λ c. refl) refl (omega arith); ends = λ rest. refl; plain = refl })
-kind_of Comma =
-    inr (record { signed = refl; mark = Spells-mark 44 refl (λ c. refl) refl (omega arith); ends = λ rest. refl; plain = refl })
-kind_of Dollar =
-    inr (record { signed = refl; mark = Spells-mark 36 refl (λ c. refl) refl (omega arith); ends = λ rest. refl; plain = refl })
-kind_of w = inl (record { unsigned = refl; name = name_by_test _ refl })
+is_mnemonic_or_sign : (w : X86Keyword) → IsMnemonic w ⊎ IsSign w
+is_mnemonic_or_sign Open =
+    inr (record { sign = refl; mark = Spells-mark 91 refl (λ c. refl) refl (omega arith); ends = λ rest. refl; plain = refl })
+is_mnemonic_or_sign Close =
+    inr (record { sign = refl; mark = Spells-mark 93 refl (λ c. refl) refl (omega arith); ends = λ rest. refl; plain = refl })
+is_mnemonic_or_sign Comma =
+    inr (record { sign = refl; mark = Spells-mark 44 refl (λ c. refl) refl (omega arith); ends = λ rest. refl; plain = refl })
+is_mnemonic_or_sign Dollar =
+    inr (record { sign = refl; mark = Spells-mark 36 refl (λ c. refl) refl (omega arith); ends = λ rest. refl; plain = refl })
+is_mnemonic_or_sign w = inl (record { no_sign = refl; name = name_by_test _ refl })
 
 -- ---- values that can be printed
 
@@ -96,14 +96,14 @@ are_spaced (slot ∷ []) = true
 are_spaced (slot ∷ next ∷ slots) = (is_keyword_slot slot || is_sign_slot next) && are_spaced (next ∷ slots)
 
 -- The maximum length of what is printed at a slot, in bytes, with the blank after a mnemonic.
-abbrev pub most_of : Slot X86Keyword → ℕ
-most_of (Keyword w) = 1 + length (x86_keyword_text w)
-most_of slot = most_name_bytes
+abbrev pub most_slot_bytes : Slot X86Keyword → ℕ
+most_slot_bytes (Keyword w) = 1 + length (x86_keyword_text w)
+most_slot_bytes slot = most_name_bytes
 
 -- The maximum length of what is printed at all slots, in bytes.
-abbrev pub most_in : List (Slot X86Keyword) → ℕ
-most_in [] = 0
-most_in (slot ∷ slots) = most_of slot + most_in slots
+abbrev pub most_slots_bytes : List (Slot X86Keyword) → ℕ
+most_slots_bytes [] = 0
+most_slots_bytes (slot ∷ slots) = most_slot_bytes slot + most_slots_bytes slots
 
 -- The tokens of slots, one for each.
 abbrev pub slots_tokens : (slots : List (Slot X86Keyword)) → Filling slots → TokenList
@@ -122,7 +122,7 @@ number_no_end n p = run_no_end (decimal n) (decimal_nonempty n (omega (arith, p)
 
 -- The value is printed at the slot as one token, which gives the value and ends no cell.
 record IsPrinted (slot : Slot X86Keyword) (g : SlotValue slot) : Type 0 where
-  spelled : Spells EndsName (most_of slot) (slot_text slot g) (slot_text slot g ∷ [])
+  spelled : Spells EndsName (most_slot_bytes slot) (slot_text slot g) (slot_text slot g ∷ [])
   said : Gives x86_spelling (slot_text slot g) slot g
   plain : ends_cell (slot_text slot g) ≡ false
 
@@ -132,7 +132,7 @@ register_no_end r p = name_no_end (register_name X86 r) (register_is_name X86 r 
 
 -- A value that can be printed is printed as one token.
 IsPrinted-IsPrintable : (slot : Slot X86Keyword) (g : SlotValue slot) → IsPrintable slot g → IsPrinted slot g
-IsPrinted-IsPrintable (Keyword w) g p = elim (kind_of w) [
+IsPrinted-IsPrintable (Keyword w) g p = elim (is_mnemonic_or_sign w) [
   | inl m ↦ record {
     spelled = Spells-mono (1 + length (x86_keyword_text w)) (omega arith) (name_spelled (x86_keyword_text w) m.name);
     said = refl;
@@ -162,7 +162,7 @@ IsPrinted-IsPrintable Label l p = record { spelled = Spells-name l p.0; said = (
 
 -- A sign spells one token, which ends a name and no cell.
 IsSign-is_sign : (w : X86Keyword) → is_sign w ≡ true → IsSign w
-IsSign-is_sign w e = elim (kind_of w) [ inl m ↦ absurd (let other = m.unsigned in cc) | inr s ↦ s ]
+IsSign-is_sign w e = elim (is_mnemonic_or_sign w) [ inl m ↦ absurd (let other = m.no_sign in cc) | inr s ↦ s ]
 
 -- Before slots of which the first is a sign's, a name ends.
 sign_ends : (next : Slot X86Keyword) (slots : List (Slot X86Keyword)) (h : SlotValue next) (f : Filling slots)
@@ -174,21 +174,21 @@ sign_ends (Keyword w) (next ∷ slots) h (k, f) e rest = rw (append_assoc (x86_k
 sign_ends next slots h f e rest = absurd cc
 
 module _ (next : Slot X86Keyword) (slots : List (Slot X86Keyword)) (h : SlotValue next) (f : Filling slots) (n : ℕ)
-    (us : TokenList) (behind : Spells EndsName n (slots_text (next ∷ slots) (h, f)) us) where
+    (us : TokenList) (after : Spells EndsName n (slots_text (next ∷ slots) (h, f)) us) where
   -- A slot's text spells its token if what follows ends a name.
   front_spelled : (slot : Slot X86Keyword) (g : SlotValue slot)
       → IsPrintable slot g
       → (is_keyword_slot slot || is_sign_slot next) ≡ true
-      → Spells EndsName (most_of slot + n) (slots_text (slot ∷ next ∷ slots) (g, (h, f))) (slot_text slot g ∷ us)
-  front_spelled (Keyword w) g p e = elim (kind_of w) [
+      → Spells EndsName (most_slot_bytes slot + n) (slots_text (slot ∷ next ∷ slots) (g, (h, f))) (slot_text slot g ∷ us)
+  front_spelled (Keyword w) g p e = elim (is_mnemonic_or_sign w) [
     | inl m ↦
-        rw m.unsigned
+        rw m.no_sign
         (Spells-mono (1 + length (x86_keyword_text w) + n) (omega arith)
-        (Spells-append (λ rest g. refl) (name_spelled (x86_keyword_text w) m.name) (Spells-append_anything Spells-space behind)))
-    | inr s ↦ rw s.signed (Spells-mono (1 + length (x86_keyword_text w) + n) (omega arith) (Spells-append_anything s.mark behind))
+        (Spells-append (λ rest g. refl) (name_spelled (x86_keyword_text w) m.name) (Spells-append_anything Spells-space after)))
+    | inr s ↦ rw s.sign (Spells-mono (1 + length (x86_keyword_text w) + n) (omega arith) (Spells-append_anything s.mark after))
   ]
   front_spelled slot g p e =
-      Spells-append (λ rest k. sign_ends next slots h f e rest) (IsPrinted-IsPrintable slot g p).spelled behind
+      Spells-append (λ rest k. sign_ends next slots h f e rest) (IsPrinted-IsPrintable slot g p).spelled after
 
 -- ---- slots
 
@@ -196,12 +196,13 @@ module _ (next : Slot X86Keyword) (slots : List (Slot X86Keyword)) (h : SlotValu
 pub slots_spelled : (slots : List (Slot X86Keyword)) (f : Filling slots)
     → ArePrintable slots f
     → are_spaced slots ≡ true
-    → Spells EndsName (most_in slots) (slots_text slots f) (slots_tokens slots f)
+    → Spells EndsName (most_slots_bytes slots) (slots_text slots f) (slots_tokens slots f)
 slots_spelled [] f p e = Spells-nothing EndsName
-slots_spelled (slot ∷ []) (g, f) p e = Spells-mono (most_of slot + 0) (omega arith) (IsPrinted-IsPrintable slot g p.0).spelled
+slots_spelled (slot ∷ []) (g, f) p e =
+    Spells-mono (most_slot_bytes slot + 0) (omega arith) (IsPrinted-IsPrintable slot g p.0).spelled
 slots_spelled (slot ∷ next ∷ slots) (g, (h, f)) p e =
     let both = and_parts (is_keyword_slot slot || is_sign_slot next) (are_spaced (next ∷ slots)) e in
-    front_spelled next slots h f (most_in (next ∷ slots)) (slots_tokens (next ∷ slots) (h, f))
+    front_spelled next slots h f (most_slots_bytes (next ∷ slots)) (slots_tokens (next ∷ slots) (h, f))
     (slots_spelled (next ∷ slots) (h, f) p.1 both.1) slot g p.0 both.0
 
 -- The tokens of slots give the values that were printed.

@@ -11,7 +11,7 @@ use Rattle.lw_x86.proofs.PrintedLabels.{syntaxes_from}
 use Rattle.lw_x86.proofs.PrintedColumns.{Column-of_thread}
 use Rattle.lw_x86.proofs.PrintedGrids.{cell_counts_at_most_longest}
 use Rattle.lw_x86.proofs.PrintedFrames.{texts_in, height_of, frame_in, IsWellFormedThread-threads, height_few}
-use Rattle.lw_x86.proofs.PrintedFrames.{printed_frame}
+use Rattle.lw_x86.proofs.PrintedFrames.{HasFrame-canonical_text}
 
 module _ (p : X86Test) (well : IsWellFormedProgram p) where
   -- The test's table of locations.
@@ -23,20 +23,20 @@ module _ (p : X86Test) (well : IsWellFormedProgram p) where
   syntaxes_of_thread code = syntaxes_from locs code 0 (height_of p)
 
   -- The thread has a row for each of its cells.
-  abbrev HasRoom : List Instr → Type 0
-  HasRoom code = IsWellFormedThread x86_language (length locs) code × (length (cells_of locs code) ≤ height_of p)
+  abbrev HasEnoughRows : List Instr → Type 0
+  HasEnoughRows code = IsWellFormedThread x86_language (length locs) code × (length (cells_of locs code) ≤ height_of p)
 
   -- Each thread's cells fit into the rows.
-  HasRoom-threads : (threads : List (List Instr))
+  HasEnoughRows-threads : (threads : List (List Instr))
       → AllByRecursion (IsWellFormedThread x86_language (length locs)) threads
       → AllByRecursion (λ code. length (cells_of locs code) ≤ height_of p) threads
-      → AllByRecursion HasRoom threads
-  HasRoom-threads [] h k = tt
-  HasRoom-threads (code ∷ threads) h k = ((h.0, k.0), HasRoom-threads threads h.1 k.1)
+      → AllByRecursion HasEnoughRows threads
+  HasEnoughRows-threads [] h k = tt
+  HasEnoughRows-threads (code ∷ threads) h k = ((h.0, k.0), HasEnoughRows-threads threads h.1 k.1)
 
   -- The cells of all threads say their code, and name only locations of the table.
   AllZip-Column_of_threads : (threads : List (List Instr))
-      → AllByRecursion HasRoom threads
+      → AllByRecursion HasEnoughRows threads
       → AllZip (Column x86_grammar) (map (λ code. map (cell_tokens locs code) (range_with_len 0 (height_of p))) threads)
       (map syntaxes_of_thread threads)
       × (map (code_in x86_grammar locs) (map syntaxes_of_thread threads) ≡ threads)
@@ -52,9 +52,9 @@ module _ (p : X86Test) (well : IsWellFormedProgram p) where
       )
 
   -- The cells of each thread of the test fit into the rows.
-  HasRoom-of_test : AllByRecursion HasRoom p.threads
-  HasRoom-of_test =
-      HasRoom-threads p.threads (IsWellFormedThread-threads p well)
+  HasEnoughRows-of_test : AllByRecursion HasEnoughRows p.threads
+  HasEnoughRows-of_test =
+      HasEnoughRows-threads p.threads (IsWellFormedThread-threads p well)
       (All-map_inv (λ cells. length cells ≤ height_of p) (cells_of locs) p.threads (cell_counts_at_most_longest (texts_in p)))
 
   -- The syntax of all threads' cells.
@@ -65,26 +65,28 @@ module _ (p : X86Test) (well : IsWellFormedProgram p) where
   insert_names-no_new_name : insert_names locs (names_of x86_grammar syntaxes_of_threads) ≡ locs
   insert_names-no_new_name =
       insert_names-if_in_table locs (names_of x86_grammar syntaxes_of_threads)
-      (AllZip-Column_of_threads p.threads HasRoom-of_test).2
+      (AllZip-Column_of_threads p.threads HasEnoughRows-of_test).2
 
   -- No location is new, so no word is.
   resolve_test-printed :
       resolve_test x86_grammar p.head (insert_names locs (names_of x86_grammar syntaxes_of_threads)) syntaxes_of_threads ≡ p
   resolve_test-printed =
       let none : length locs - length locs ≡ 0 = omega arith in
-      rw (insert_names-no_new_name, none, append-nil p.head.init_words, (AllZip-Column_of_threads p.threads HasRoom-of_test).1)
+      rw
+      (insert_names-no_new_name, none, append-nil p.head.init_words, (AllZip-Column_of_threads p.threads HasEnoughRows-of_test).1)
       refl
 
   -- The frame of the test says the test.
-  HasProgram-printed_frame : HasProgram (frame_in p) p
-  HasProgram-printed_frame = record {
+  HasProgram-HasFrame-canonical_text : HasProgram (frame_in p) p
+  HasProgram-HasFrame-canonical_text = record {
     arch = well.arch;
     threads = syntaxes_of_threads;
-    says = (AllZip-Column_of_threads p.threads HasRoom-of_test).0;
+    says = (AllZip-Column_of_threads p.threads HasEnoughRows-of_test).0;
     bounded = omega (arith, ap length insert_names-no_new_name, well.head.table.bounded);
     made = sym resolve_test-printed;
   }
 
   -- The canonical text of a well-formed program says that program.
   pub HasTest-canonical_text : IsTextOf (canonical_text p) p
-  HasTest-canonical_text = record { frame = frame_in p; framed = printed_frame p well; says = HasProgram-printed_frame }
+  HasTest-canonical_text =
+      record { frame = frame_in p; has_frame = HasFrame-canonical_text p well; says = HasProgram-HasFrame-canonical_text }

@@ -38,11 +38,11 @@ module _ (between : Bytes) (parts : List Bytes) (k : ℕ) (start out : Bytes)
   joined_prefix-whole all = rw (← take_all k parts all) before
 
 -- If what precedes a line's parts was written, then the parts, and then the line's end, the line was written.
-pub line_written : {T E : Type 0} (answer : Result T E) (start front parts back : Bytes) {opened told end : Bytes}
+pub OnOk-line_written : {T E : Type 0} (answer : Result T E) (start front parts back : Bytes) {opened told end : Bytes}
     → opened ≡ start ++ front
     → told ≡ opened ++ parts
     → end ≡ (if is_ok answer then told ++ back else told)
     → OnOk answer (end ≡ start ++ (front ++ (parts ++ back)))
-line_written answer start front parts back {opened} {told} {end} opens tells ends =
+OnOk-line_written answer start front parts back {opened} {told} {end} opens tells ends =
     written-two_parts answer start end (front ++ parts) back (written-append start opened told front parts opens tells)
     (append_assoc front parts back) (OnOk-push_str answer told end back ends)

@@ -34,7 +34,8 @@ use Rattle.lw_x86.specs.Spelling.{x86_keyword_text, x86_slots, x86_spelling}
 abbrev pub label : ℕ → Bytes
 label k = codes "L" ++ decimal k
 
--- The form in which an instruction is printed, and the values of its slots.
+-- The form in which an instruction is printed, and the values of its slots: a location by its name, a target by its label. Numbers have a
+-- `$`, and an exchange begins with its location.
 abbrev pub printed_form : NameTable → Instr → ParsesStatement x86_spelling
 printed_form names (instr.Store x (operand.Register a)) =
     record { form = Store; filling = (tt, (tt, (slice_index_or names x [], (tt, (tt, (operand.Register a, tt)))))) }
@@ -73,7 +74,7 @@ is_sign Comma = true
 is_sign Dollar = true
 is_sign w = false
 
--- The blank after a mnemonic, if more follows; a sign has none.
+-- The blank after a slot that others follow: one after a mnemonic, none after a sign, a register, a location or a number.
 abbrev pub space_after : Slot X86Keyword → Bytes
 space_after (Keyword w) = if is_sign w then [] else codes " "
 space_after slot = []
@@ -98,7 +99,7 @@ jumps_to k i = option_map_or (λ to. to == k) (branch_target (x86_operation i)) 
 abbrev pub is_target : List Instr → ℕ → Bool
 is_target code k = list_any (jumps_to k) code
 
--- The label before the instruction at a position, if some instruction jumps to it.
+-- The label before the instruction at a position, with `: `, if some instruction jumps to it; empty otherwise.
 abbrev pub label_prefix : List Instr → ℕ → Bytes
 label_prefix code k = if is_target code k then label k ++ codes ": " else []
 

@@ -7,5 +7,5 @@ use Rattle.lw_x86.specs.Grammar.{HasProgram}
 -- The text has a frame, and the frame's cells are the program.
 pub record IsTextOf (text : Bytes) (program : X86Test) : Type 0 where
   pub frame : TestFrame
-  pub framed : HasFrame text frame
+  pub has_frame : HasFrame text frame
   pub says : HasProgram frame program

@@ -82,8 +82,8 @@ fn write_listed<A: Allocator, B: Allocator>(
         return Ok(());
     }
     out.push_str("locations [")?;
-    for (number, site) in listed.iter().enumerate() {
-        write_separator(out, number, " ")?;
+    for (index, site) in listed.iter().enumerate() {
+        write_separator(out, index, " ")?;
         write_element(out, &head.locs, *site)?;
     }
     out.push_str("]\n")

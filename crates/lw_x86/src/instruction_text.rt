@@ -41,7 +41,7 @@ pub(crate) fn write_instruction<A: Allocator, B: Allocator>(
     }
 }
 
-/// Writes an instruction on a register: a mnemonic, the register and a value.
+/// Writes an instruction whose first operand is a register: a mnemonic, the register, and a value.
 fn write_on_register<A: Allocator>(
     out: &mut String<A>,
     mnemonic: &str,
@@ -55,7 +55,7 @@ fn write_on_register<A: Allocator>(
     write_operand(out, val)
 }
 
-/// Writes an instruction on a location: a mnemonic, the location and a value.
+/// Writes an instruction whose first operand is a location: a mnemonic, the location in brackets, and a value.
 fn write_on_memory<A: Allocator, B: Allocator>(
     out: &mut String<A>,
     names: &LocNames<B>,
@@ -71,7 +71,7 @@ fn write_on_memory<A: Allocator, B: Allocator>(
     write_operand(out, val)
 }
 
-/// Writes the load of a register from a location.
+/// Writes a `MOV` that loads a register from a location. Its location is the second operand, so `write_on_memory` does not fit.
 fn write_load<A: Allocator, B: Allocator>(
     out: &mut String<A>,
     names: &LocNames<B>,

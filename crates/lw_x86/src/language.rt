@@ -283,7 +283,7 @@ impl StatementReader for X86Language {
 }
 
 /// Returns the last operand: a register, or a number, which is in `num` if the form has a `$`, and in `val`
-/// otherwise.
+/// otherwise. Returns `None` if there is neither.
 fn value(operands: &Operands) -> Option<Operand>
     ensures { result ≡ value_of operands.now }
 {

@@ -38,7 +38,8 @@ fn height<B: Allocator>(program: &Program<B>) -> usize
     height
 }
 
-/// Returns the number of a thread's cells.
+/// Returns the number of a thread's cells: one for each instruction, and one for the label of its end, if some instruction
+/// jumps there.
 fn count_cells(code: &[Instr]) -> usize
     ensures { result ≡ length code.now + length (end_cells code.now (length code.now)) }
 {
@@ -128,14 +129,14 @@ fn write_end<A: Allocator>(
     Ok(())
 }
 
-/// Returns whether some instruction jumps to this position.
+/// Returns whether some instruction of the code jumps to the position `index`, which may be the end.
 fn is_target(code: &[Instr], index: usize) -> bool
     ensures { result ≡ printed.is_target code.now index }
 {
     code.iter().any(|instr| jumps_to(instr, index))
 }
 
-/// Returns whether an instruction jumps to this position.
+/// Returns whether an instruction jumps to the position `index`.
 fn jumps_to(instr: &Instr, index: usize) -> bool
     ensures { result ≡ printed.jumps_to index instr.now }
 {

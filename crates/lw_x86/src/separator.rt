@@ -5,15 +5,15 @@ ghost use Rattle.lw_x86.specs.inner.Separators.{separator};
 
 use std::alloc::{AllocError, Allocator};
 
-/// Writes the separator before the part at an index, which is empty before the first.
+/// Writes the separator `between` before the part at this index of a line. Writes nothing before the first part.
 pub(crate) fn write_separator<A: Allocator>(
     out: &mut String<A>,
-    number: usize,
+    index: usize,
     between: &str,
 ) -> Result<(), AllocError>
-    ensures { OnOk result (string_bytes out.new ≡ string_bytes out.old ++ separator number between.now) }
+    ensures { OnOk result (string_bytes out.new ≡ string_bytes out.old ++ separator index between.now) }
 {
-    if number == 0 {
+    if index == 0 {
         return Ok(());
     }
     out.push_str(between)

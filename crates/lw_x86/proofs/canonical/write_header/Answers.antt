@@ -4,7 +4,7 @@
 use Rattle.lw_x86.proofs.Common.{map, codes, arith, append-nil, sym, range_with_len, decimal_digit}
 use Rattle.lw_x86.proofs.Common.{get_or-map-range_with_len, length-map-range_with_len, slice_get_read}
 use Rattle.lw_x86.proofs.Common.{thread_name, written-append}
-use Rattle.lw_x86.proofs.SeparatedTexts.{joined_prefix-push, joined_prefix-whole, line_written}
+use Rattle.lw_x86.proofs.SeparatedTexts.{joined_prefix-push, joined_prefix-whole, OnOk-line_written}
 use Rattle.lw_x86.proofs.canonical.write_header.Goals as goal
 
 pub loop-thread-init : goal.loop-thread-init
@@ -26,4 +26,4 @@ returns g c =
     let written =
     joined_prefix-whole (codes " | ") names c.loop-thread.thread-counter _ _ c.loop-thread.invariant
     (omega (arith, length-map-range_with_len thread_name 0 c.args.threads, c.loop-thread-test.false)) in
-    line_written _ _ (codes " ") _ _ c.in_ok-push_str.ensures.bytes written c.push_str-2.ensures.bytes
+    OnOk-line_written _ _ (codes " ") _ _ c.in_ok-push_str.ensures.bytes written c.push_str-2.ensures.bytes

@@ -5,7 +5,7 @@ use Rattle.lw_x86.proofs.Common.{◌≡◌, ◌++◌, ◌==◌, List, [], ◌∷
 use Rattle.lw_x86.proofs.Common.{sym, arith, length-map, All-from_recursion, slice_get-map, slice_get_read}
 use Rattle.lw_x86.proofs.Common.{option_map, joined, NameTable, Seen, written-append, written-equal_text}
 use Rattle.lw_x86.proofs.Common.{element_text, listed_text}
-use Rattle.lw_x86.proofs.SeparatedTexts.{joined_prefix-push, joined_prefix-whole, line_written}
+use Rattle.lw_x86.proofs.SeparatedTexts.{joined_prefix-push, joined_prefix-whole, OnOk-line_written}
 use Rattle.lw_x86.proofs.canonical.write_listed.Goals as goal
 
 -- The list of names is not empty.
@@ -18,17 +18,17 @@ listed_text-if_not_empty names (s ∷ ss) some = refl
 pub write_element-requires : goal.write_element-requires
 write_element-requires g c =
     let head = c.args.head.now in
-    let is = rw c.as_slice-listed.ensures at c.index-listed-number.is in
-    let lt = rw c.as_slice-listed.ensures at c.loop-number-test.true in
-    (head.threads, rw is (All-from_recursion _ head.listed c.requires c.loop-number.number _ lt))
+    let is = rw c.as_slice-listed.ensures at c.index-listed-index.is in
+    let lt = rw c.as_slice-listed.ensures at c.loop-index-test.true in
+    (head.threads, rw is (All-from_recursion _ head.listed c.requires c.loop-index.index _ lt))
 
-pub loop-number-preserved : goal.loop-number-preserved
-loop-number-preserved g c =
+pub loop-index-preserved : goal.loop-index-preserved
+loop-index-preserved g c =
     let head = c.args.head.now in
-    let k = c.loop-number.number in
-    let is = rw c.as_slice-listed.ensures at c.index-listed-number.is in
-    let lt = rw c.as_slice-listed.ensures at c.loop-number-test.true in
-    joined_prefix-push (codes " ") _ k _ _ c.loop-number.invariant _ _
+    let k = c.loop-index.index in
+    let is = rw c.as_slice-listed.ensures at c.index-listed-index.is in
+    let lt = rw c.as_slice-listed.ensures at c.loop-index-test.true in
+    joined_prefix-push (codes " ") _ k _ _ c.loop-index.invariant _ _
     (slice_get-map (element_text head.locs) head.listed k
     ∙ ap (option_map (element_text head.locs)) (slice_get_read head.listed _ k _ refl lt is))
     (written-append _ _ _ _ _ c.in_ok-write_separator.ensures c.in_ok-write_element.ensures)
@@ -37,12 +37,12 @@ pub returns : goal.returns
 returns g c =
     let head = c.args.head.now in
     let parts = map (element_text head.locs) head.listed in
-    let elements = joined_prefix-whole (codes " ") parts c.loop-number.number _ _ c.loop-number.invariant (omega (
+    let elements = joined_prefix-whole (codes " ") parts c.loop-index.index _ _ c.loop-index.invariant (omega (
       arith,
       length-map head.listed (element_text head.locs),
       ap length c.as_slice-listed.ensures,
-      c.loop-number-test.false,
+      c.loop-index-test.false,
     )) in
     let some = rw c.as_slice-listed.ensures at (sym c.is_empty.ensures ∙ c.if-is_empty.false) in
     written-equal_text _ _ _ _ _ (listed_text-if_not_empty head.locs head.listed some)
-    (line_written c.push_str-2.result _ _ _ (codes "]\n") c.in_ok-push_str.ensures.bytes elements c.push_str-2.ensures.bytes)
+    (OnOk-line_written c.push_str-2.result _ _ _ (codes "]\n") c.in_ok-push_str.ensures.bytes elements c.push_str-2.ensures.bytes)

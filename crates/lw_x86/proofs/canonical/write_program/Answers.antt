@@ -13,6 +13,6 @@ returns g c =
     let back = HasTest-canonical_text p c.args.program.now.well_formed in
     record {
       text = text;
-      short = omega (arith, ap length text, back.framed.short);
+      short = omega (arith, ap length text, back.has_frame.short);
       reads_back = subst (λ (t : Bytes). IsTextOf t p) (sym text) back;
     }

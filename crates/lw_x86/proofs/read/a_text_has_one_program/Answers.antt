@@ -7,4 +7,4 @@ use Rattle.lw_x86.proofs.read.a_text_has_one_program.Goals as goal
 pub returns : goal.returns
 returns c = λ text p q t u.
     test-unique x86_grammar x86_grammar_is_lawful u.frame p q
-    (subst (λ (f : TestFrame). HasProgram f p) (HasFrame-unique text t.frame u.frame t.framed u.framed) t.says) u.says
+    (subst (λ (f : TestFrame). HasProgram f p) (HasFrame-unique text t.frame u.frame t.has_frame u.has_frame) t.says) u.says
