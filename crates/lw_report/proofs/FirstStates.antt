@@ -78,10 +78,11 @@ IsSmallest-dedup_from : (k : ListedState) (xs : List ListedState)
     → All (NotAbove k) xs
     → AllPairs NotAbove xs
     → All (IsSmallest (k ∷ xs)) (dedup_from have_same_words k xs)
-IsSmallest-dedup_from k [] first rest = All-cons (IsSmallest (k ∷ [])) k [] own (All-nil (IsSmallest (k ∷ [])))
+IsSmallest-dedup_from k [] first rest = All-cons (IsSmallest (k ∷ [])) k [] first_is_smallest (All-nil (IsSmallest (k ∷ [])))
   where
-    own : IsSmallest (k ∷ []) k
-    own t h e = elim (Contains-cons k t [] h) [
+    -- The first state has the smallest index of those with its words.
+    first_is_smallest : IsSmallest (k ∷ []) k
+    first_is_smallest t h e = elim (Contains-cons k t [] h) [
       | inl is ↦ subst (λ (y : ListedState). k.entry ≤ y.entry) is (omega arith)
       | inr (j, lt, at) ↦ absurd (omega arith)
     ]
@@ -90,23 +91,28 @@ IsSmallest-dedup_from k (x ∷ xs) first rest = elim (cases_Bool (have_same_word
       rw same
       (All-weaker (IsSmallest (k ∷ xs)) (IsSmallest (k ∷ x ∷ xs))
       (λ s old. IsSmallest-skip_same_words (same_text x.words k.words (sym same)) s old) (dedup_from have_same_words k xs)
-      (IsSmallest-dedup_from k xs (All-tail (NotAbove k) x xs first) later))
-  | inr other ↦ rw other (All-cons (IsSmallest (k ∷ x ∷ xs)) k (dedup_from have_same_words x xs) own (λ j d lt.
+      (IsSmallest-dedup_from k xs (All-tail (NotAbove k) x xs first) later_not_above))
+  | inr other ↦ rw other (All-cons (IsSmallest (k ∷ x ∷ xs)) k (dedup_from have_same_words x xs) first_is_smallest (λ j d lt.
       IsSmallest-keep_greater (other_text x.words k.words (sym other)) (get_or (dedup_from have_same_words x xs) j d)
-      (Contains-get_or (dedup_from have_same_words x xs) j d lt) (IsSmallest-dedup_from x xs next later j d lt)))
+      (Contains-get_or (dedup_from have_same_words x xs) j d lt)
+      (IsSmallest-dedup_from x xs next_not_above_later later_not_above j d lt)))
 ]
   where
-    here : NotAbove k x
-    here = All-head (NotAbove k) x xs first
+    -- The first state is not greater than the next.
+    first_not_above_next : NotAbove k x
+    first_not_above_next = All-head (NotAbove k) x xs first
 
-    next : All (NotAbove x) xs
-    next j d lt = rest 0 (suc j) d (omega arith) (omega (arith, lt))
+    -- The next state is not greater than those after it.
+    next_not_above_later : All (NotAbove x) xs
+    next_not_above_later j d lt = rest 0 (suc j) d (omega arith) (omega (arith, lt))
 
-    later : AllPairs NotAbove xs
-    later i j d lt within = rest (suc i) (suc j) d (omega (arith, lt)) (omega (arith, within))
+    -- Of two states after the first, the one before is not greater.
+    later_not_above : AllPairs NotAbove xs
+    later_not_above i j d lt within = rest (suc i) (suc j) d (omega (arith, lt)) (omega (arith, within))
 
-    own : IsSmallest (k ∷ x ∷ xs) k
-    own t h e = elim (Contains-cons k t (x ∷ xs) h) [
+    -- The first state has the smallest index of those with its words.
+    first_is_smallest : IsSmallest (k ∷ x ∷ xs) k
+    first_is_smallest t h e = elim (Contains-cons k t (x ∷ xs) h) [
       | inl is ↦ subst (λ (y : ListedState). k.entry ≤ y.entry) is (omega arith)
       | inr there ↦ entry_le-if_not_above k t (All-contains (NotAbove k) (x ∷ xs) t first there) e
     ]
@@ -119,7 +125,7 @@ IsSmallest-dedup_from k (x ∷ xs) first rest = elim (cases_Bool (have_same_word
         | inl is ↦
             let words : t.words ≡ x.words = ap (λ (y : ListedState). y.words) (sym is) in
             let first_of = old k (0, omega arith, refl) (sym same ∙ sym words ∙ e) in
-            omega (arith, first_of, entry_le-if_not_above k x here same, ap (λ (y : ListedState). y.entry) is)
+            omega (arith, first_of, entry_le-if_not_above k x first_not_above_next same, ap (λ (y : ListedState). y.entry) is)
         | inr (j, lt, at) ↦ old t (suc j, omega (arith, lt), at) e
       ]
     ]
@@ -135,15 +141,16 @@ IsSmallest-dedup_from k (x ∷ xs) first rest = elim (cases_Bool (have_same_word
       | inl is ↦
           let words : k.words ≡ s.words = ap (λ (y : ListedState). y.words) is ∙ e in
           absurd (words_less-irreflexive k.words
-          (above here (elim (Contains-cons x s xs (Contains-from_dedup have_same_words (x ∷ xs) s among)) [
+          (above first_not_above_next (elim (Contains-cons x s xs (Contains-from_dedup have_same_words (x ∷ xs) s among)) [
             | inl same ↦ inr (ap (λ (y : ListedState). y.words) same ∙ sym words)
-            | inr far ↦ elim (All-contains (NotAbove x) xs s next far) [
+            | inr far ↦ elim (All-contains (NotAbove x) xs s next_not_above_later far) [
               | inl less ↦ inl (subst (λ (w : List ℕ). slice_cmp nat_cmp x.words w ≡ Less) (sym words) less)
               | inr p ↦ inr (p.0 ∙ sym words)
             ]
           ])))
     ]
       where
+        -- The words of k would be less than themselves.
         above : NotAbove k x
             → (slice_cmp nat_cmp x.words k.words ≡ Less) ⊎ (x.words ≡ k.words)
             → slice_cmp nat_cmp k.words k.words ≡ Less

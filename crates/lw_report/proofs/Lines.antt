@@ -205,10 +205,10 @@ pub record ReportParts (head : TestHead) (claim : Claim) (states : List ListedSt
   pub count : ℕ
   pub p : ℕ
   pub q : ℕ
-  pub none : first ≡ []
-  pub titled : title ≡ first ++ (title_line head ++ count_line count)
-  pub lined : lines ≡ title ++ flat_map (λ (s : ListedState). state_line head s.words) states
-  pub ended : end ≡ lines ++ judgement_lines head claim p q
+  pub starts_empty : first ≡ []
+  pub title_is : title ≡ first ++ (title_line head ++ count_line count)
+  pub lines_are : lines ≡ title ++ flat_map (λ (s : ListedState). state_line head s.words) states
+  pub end_is : end ≡ lines ++ judgement_lines head claim p q
   pub is_count : count ≡ length states
   pub is_positive : p ≡ positive (map projection_of states)
   pub is_negative : q ≡ negative (map projection_of states)
@@ -220,20 +220,20 @@ pub report_text-of_parts : (head : TestHead) (claim : Claim) (states : List List
 report_text-of_parts head claim states end parts =
     let shown = map projection_of states in
     let begun =
-    parts.titled
-    ∙ ap (λ t. t ++ (title_line head ++ count_line parts.count)) parts.none
+    parts.title_is
+    ∙ ap (λ t. t ++ (title_line head ++ count_line parts.count)) parts.starts_empty
     ∙ ap (λ (m : ℕ). title_line head ++ count_line m) (parts.is_count ∙ sym (length-map states projection_of)) in
     let all : Bytes = flat_map (λ (s : ProjectedState). state_line head s.words) shown in
-    let told : parts.lines ≡ title_line head ++ (count_line (length shown) ++ all) =
-    parts.lined
+    let lines_so_far : parts.lines ≡ title_line head ++ (count_line (length shown) ++ all) =
+    parts.lines_are
     ∙ ap (λ t. parts.title ++ t) (state_lines-of_projections head states)
     ∙ ap (λ t. t ++ all) begun
     ∙ append_assoc (title_line head) (count_line (length shown)) all in
     let judged : Bytes = judgement_lines head claim (positive shown) (negative shown) in
-    parts.ended
+    parts.end_is
     ∙ ap (λ (a : ℕ). parts.lines ++ judgement_lines head claim a parts.q) parts.is_positive
     ∙ ap (λ (b : ℕ). parts.lines ++ judgement_lines head claim (positive shown) b) parts.is_negative
-    ∙ ap (λ t. t ++ judged) told
+    ∙ ap (λ t. t ++ judged) lines_so_far
     ∙ append_assoc (title_line head) (count_line (length shown) ++ all) judged
     ∙ ap (λ t. title_line head ++ t) (append_assoc (count_line (length shown)) all judged)
 

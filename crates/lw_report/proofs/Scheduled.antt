@@ -98,9 +98,9 @@ pub record ListParts (head : TestHead) (schedules : List (List Event)) (states :
   pub title : Bytes
   pub name : Bytes
   pub count : ℕ
-  pub none : first ≡ []
-  pub titled : title ≡ first ++ (codes "Test " ++ (name ++ (codes "\nStates " ++ (decimal count ++ codes "\n"))))
-  pub ended : end ≡ title ++ flat_map (λ (s : ListedState). scheduled_lines head (scheduled schedules s)) states
+  pub starts_empty : first ≡ []
+  pub title_is : title ≡ first ++ (codes "Test " ++ (name ++ (codes "\nStates " ++ (decimal count ++ codes "\n"))))
+  pub end_is : end ≡ title ++ flat_map (λ (s : ListedState). scheduled_lines head (scheduled schedules s)) states
   pub is_name : name ≡ head.name
   pub is_count : count ≡ length states
 
@@ -112,11 +112,12 @@ schedule_list_text-of_parts head schedules states end parts =
     let all : Bytes = flat_map (scheduled_lines head) (map (scheduled schedules) states) in
     let len : ℕ = length (map (scheduled schedules) states) in
     let begun : parts.title ≡ (codes "Test " ++ (head.name ++ codes "\n")) ++ count_line len =
-    parts.titled
-    ∙ ap (λ t. t ++ (codes "Test " ++ (parts.name ++ (codes "\nStates " ++ (decimal parts.count ++ codes "\n"))))) parts.none
+    parts.title_is
+    ∙ ap (λ t. t ++ (codes "Test " ++ (parts.name ++ (codes "\nStates " ++ (decimal parts.count ++ codes "\n")))))
+    parts.starts_empty
     ∙ schedules_head-as_written parts.name parts.count head.name len parts.is_name
     (parts.is_count ∙ sym (length-map states (scheduled schedules))) in
-    parts.ended
+    parts.end_is
     ∙ ap (λ t. parts.title ++ t) (scheduled_lines-of_scheduled head schedules states)
     ∙ ap (λ t. t ++ all) begun
     ∙ append_assoc-five (codes "Test ") head.name (codes "\n") (count_line len) all

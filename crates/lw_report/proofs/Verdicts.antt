@@ -16,36 +16,36 @@ abbrev SomePasses : {X : Type 0} → (X → Type 0) → (X → Bool) → Type 0
 SomePasses {X} Has p = (x : X) × Has x × (p x ≡ true)
 
 -- The number is 0 if and only if no element of the set passes the test.
-abbrev TellsIfAny : {X : Type 0} → (X → Type 0) → (X → Bool) → ℕ → Type 0
-TellsIfAny Has p n = ((n == 0) ≡ true) × NonePasses Has p ⊎ ((n == 0) ≡ false) × SomePasses Has p
+abbrev IsZeroIffNone : {X : Type 0} → (X → Type 0) → (X → Bool) → ℕ → Type 0
+IsZeroIffNone Has p n = ((n == 0) ≡ true) × NonePasses Has p ⊎ ((n == 0) ≡ false) × SomePasses Has p
 
 -- A successor is not 0.
 suc_eq_zero-false : (n : ℕ) → (suc n == 0) ≡ false
 suc_eq_zero-false n = elim (cases_Bool (suc n == 0)) [ inl e ↦ absurd (omega (arith, eqb-true (suc n) 0 e)) | inr e ↦ e ]
 
 -- The number of a list's elements that pass a test is 0 if and only if none does.
-TellsIfAny-length_filter : {X : Type 0} (p : X → Bool) (xs : List X) → TellsIfAny (Contains xs) p (length (filter p xs))
-TellsIfAny-length_filter {X} p [] = inl (refl, λ x h. absurd (let lt = h.1 in omega arith))
-TellsIfAny-length_filter {X} p (x ∷ xs) = go (cases_Bool (p x)) (TellsIfAny-length_filter p xs)
+IsZeroIffNone-length_filter : {X : Type 0} (p : X → Bool) (xs : List X) → IsZeroIffNone (Contains xs) p (length (filter p xs))
+IsZeroIffNone-length_filter {X} p [] = inl (refl, λ x h. absurd (let lt = h.1 in omega arith))
+IsZeroIffNone-length_filter {X} p (x ∷ xs) = go (cases_Bool (p x)) (IsZeroIffNone-length_filter p xs)
   where
     go : (p x ≡ true) ⊎ (p x ≡ false)
-        → TellsIfAny (Contains xs) p (length (filter p xs))
-        → TellsIfAny (Contains (x ∷ xs)) p (length (filter p (x ∷ xs)))
+        → IsZeroIffNone (Contains xs) p (length (filter p xs))
+        → IsZeroIffNone (Contains (x ∷ xs)) p (length (filter p (x ∷ xs)))
     go (inl t) rest = inr (rw t (suc_eq_zero-false (length (filter p xs))), (x, Contains-head x x xs refl, t))
     go (inr t) (inl nothing) =
         inl (rw t nothing.0, λ y h. elim (Contains-cons x y xs h) [ inl e ↦ ap p (sym e) ∙ t | inr k ↦ nothing.1 y k ])
     go (inr t) (inr some) = inr (rw t some.0, (some.1.0, Contains-tail x some.1.0 xs some.1.1, some.1.2))
 
 -- The number of states whose truth value passes a test is 0 if and only if no outcome's does.
-counted : (head : TestHead) (Has : FinalState → Type 0) (states : List ProjectedState)
+IsZeroIffNone-states : (head : TestHead) (Has : FinalState → Type 0) (states : List ProjectedState)
     → AreStatesOf head Has states
     → (p : Bool → Bool)
-    → TellsIfAny Has (λ o. p (is_true head.condition o)) (length (filter (λ (s : ProjectedState). p s.holds) states))
-counted head Has states are p = go (TellsIfAny-length_filter (λ (s : ProjectedState). p s.holds) states)
+    → IsZeroIffNone Has (λ o. p (is_true head.condition o)) (length (filter (λ (s : ProjectedState). p s.holds) states))
+IsZeroIffNone-states head Has states are p = go (IsZeroIffNone-length_filter (λ (s : ProjectedState). p s.holds) states)
   where
-    go : TellsIfAny (Contains states) (λ (s : ProjectedState). p s.holds)
+    go : IsZeroIffNone (Contains states) (λ (s : ProjectedState). p s.holds)
         (length (filter (λ (s : ProjectedState). p s.holds) states))
-        → TellsIfAny Has (λ o. p (is_true head.condition o)) (length (filter (λ (s : ProjectedState). p s.holds) states))
+        → IsZeroIffNone Has (λ o. p (is_true head.condition o)) (length (filter (λ (s : ProjectedState). p s.holds) states))
     go (inl nothing) =
         inl (nothing.0, λ o h. nothing.1 (project_state head o) ((are.exactly (project_state head o)).1 (o, h, refl)))
     go (inr some) =
@@ -63,20 +63,20 @@ module _ {Has : FinalState → Type 0} {holds : FinalState → Bool} (p q : ℕ)
   not-NonePasses-SomePasses none (o, has, is) = let f = none o has in cc
 
   -- For `exists`, `Ok` means that the proposition is true in some outcome.
-  Ok-iff_some_passes : TellsIfAny Has holds p → verdict_of Exact Exists p q ≡ verdict.Ok ↔ SomePasses Has holds
+  Ok-iff_some_passes : IsZeroIffNone Has holds p → verdict_of Exact Exists p q ≡ verdict.Ok ↔ SomePasses Has holds
   Ok-iff_some_passes (inl none) = rw none.0 (λ e. absurd cc, λ some. absurd (not-NonePasses-SomePasses none.1 some))
   Ok-iff_some_passes (inr some) = rw some.0 (λ e. some.1, λ _. refl)
 
   -- For `~exists`, `Ok` means that it is true in none.
-  Ok-iff_none_passes : TellsIfAny Has holds p → verdict_of Exact NotExists p q ≡ verdict.Ok ↔ NonePasses Has holds
+  Ok-iff_none_passes : IsZeroIffNone Has holds p → verdict_of Exact NotExists p q ≡ verdict.Ok ↔ NonePasses Has holds
   Ok-iff_none_passes (inl none) = rw none.0 (λ e. none.1, λ _. refl)
   Ok-iff_none_passes (inr some) = rw some.0 (λ e. absurd cc, λ none. absurd (not-NonePasses-SomePasses none some.1))
 
   -- For `forall`, `Ok` means that it is true in all.
-  Ok-iff_all_pass : TellsIfAny Has (λ o. not (holds o)) q
+  Ok-iff_all_pass : IsZeroIffNone Has (λ o. not (holds o)) q
       → verdict_of Exact Forall p q ≡ verdict.Ok ↔ ((o : FinalState) → Has o → holds o ≡ true)
   Ok-iff_all_pass (inl none) = rw none.0 (λ e o has. true-if_not_false (holds o) (none.1 o has), λ _. refl)
-  Ok-iff_all_pass (inr (counted, (o, has, is))) = rw counted (
+  Ok-iff_all_pass (inr (false_count, (o, has, is))) = rw false_count (
     λ e. absurd cc,
     λ all.
         absurd (let t = all o has in
@@ -89,9 +89,9 @@ pub OkMeans-of_outcomes : (head : TestHead) (Has : FinalState → Type 0) (state
     → AreStatesOf head Has states
     → OkMeans head Has (positive states) (negative states)
 OkMeans-of_outcomes head Has states are =
-    let true_ones = counted head Has states are (λ b. b) in
+    let true_ones = IsZeroIffNone-states head Has states are (λ b. b) in
     record {
       exists_some = Ok-iff_some_passes (positive states) (negative states) true_ones;
       exists_none = Ok-iff_none_passes (positive states) (negative states) true_ones;
-      forall_all = Ok-iff_all_pass (positive states) (negative states) (counted head Has states are not);
+      forall_all = Ok-iff_all_pass (positive states) (negative states) (IsZeroIffNone-states head Has states are not);
     }

@@ -21,8 +21,8 @@ positive states = length (filter (λ (s : ProjectedState). s.holds) states)
 abbrev pub negative : List ProjectedState → ℕ
 negative states = length (filter (λ (s : ProjectedState). not s.holds) states)
 
--- Whether the condition holds. If the states are all, a state that satisfies the proposition makes `exists` true and `~exists` false, and
--- one that does not makes `forall` false. If there may be others, only such a state decides.
+-- Whether the condition holds, from p states that satisfy the proposition and q that do not. If the states are all, one that satisfies it
+-- makes `exists` true and `~exists` false, and one that does not makes `forall` false. If there may be others, only such a state decides.
 abbrev pub verdict_of : Claim → Quant → ℕ → ℕ → Verdict
 verdict_of Exact Exists p q = if p == 0 then verdict.No else verdict.Ok
 verdict_of Exact NotExists p q = if p == 0 then verdict.Ok else verdict.No
@@ -31,7 +31,8 @@ verdict_of Listed Exists p q = if p == 0 then verdict.Unknown else verdict.Ok
 verdict_of Listed NotExists p q = if p == 0 then verdict.Unknown else verdict.No
 verdict_of Listed Forall p q = if q == 0 then verdict.Unknown else verdict.No
 
--- In how many states the proposition is true. If there may be other states, only one of each kind decides.
+-- In how many states the proposition is true, from p in which it is and q in which it is not. If there may be other states, only one of each
+-- kind decides.
 abbrev pub observation_of : Claim → ℕ → ℕ → Observation
 observation_of Exact p q = if p == 0 then seen.Never else if q == 0 then seen.Always else seen.Sometimes
 observation_of Listed p q = if p == 0 then seen.Unknown else if q == 0 then seen.Unknown else seen.Sometimes

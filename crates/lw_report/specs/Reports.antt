@@ -108,7 +108,7 @@ pub record IsReport (head : TestHead) (Has : FinalState → Type 0) (claim : Cla
 
 -- ---- The list of schedules.
 
--- The line of a state and, after a space, its schedule.
+-- The lines of a state: its words and, after a space, its schedule.
 abbrev pub scheduled_lines : TestHead → (ProjectedState × List Event) → Bytes
 scheduled_lines head s = state_line head s.0.words ++ (codes " " ++ (schedule_text head.locs s.1 ++ codes "\n"))
 

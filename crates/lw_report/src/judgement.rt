@@ -17,11 +17,11 @@ pub enum Claim {
 /// Whether a test's condition holds.
 #[derive(Clone, Copy)]
 pub enum Verdict {
-    /// It holds.
+    /// The condition holds.
     Ok,
-    /// It does not hold.
+    /// The condition does not hold.
     No,
-    /// The listed states do not decide it.
+    /// The listed states do not decide the condition.
     Unknown,
 }
 
@@ -34,7 +34,7 @@ pub enum Observation {
     Sometimes,
     /// In all states.
     Always,
-    /// The listed states do not decide it.
+    /// The listed states do not decide in how many.
     Unknown,
 }
 
@@ -45,7 +45,7 @@ pub(crate) struct Counts {
     pub negative: usize,
 }
 
-/// Returns the verdict, from the claim on the states that were counted.
+/// Returns the verdict on a condition with this quantifier, from the numbers of states and the claim on these states.
 pub(crate) fn verdict_of(claim: Claim, quant: Quant, counts: Counts) -> Verdict
     ensures { result ≡ judgement.verdict_of claim quant counts.positive counts.negative }
 {
@@ -65,7 +65,7 @@ pub(crate) fn verdict_of(claim: Claim, quant: Quant, counts: Counts) -> Verdict
     }
 }
 
-/// Returns the observation, from the claim on the states that were counted.
+/// Returns the observation, from the numbers of states and the claim on these states.
 pub(crate) fn observation_of(claim: Claim, counts: Counts) -> Observation
     ensures { result ≡ judgement.observation_of claim counts.positive counts.negative }
 {
@@ -80,7 +80,7 @@ pub(crate) fn observation_of(claim: Claim, counts: Counts) -> Observation
 }
 
 impl Claim {
-    /// Returns the printed line of a claim, which is empty if the states are all.
+    /// Returns the printed line of a claim, with its end; it is empty if the states are all.
     pub(crate) fn line(self) -> &'static str
         ensures { result.now ≡ claim_line self }
     {

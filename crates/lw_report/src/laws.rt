@@ -16,7 +16,7 @@ ghost use Rattle.lw_report.specs.declared.judgement.Claim.{Claim};
 pub trait OutcomeSet {
     ghost use Rattle.lw_base.specs.Outcomes.{FinalState};
 
-    /// The outcomes that it contains.
+    /// The outcomes that the set contains.
     ghost has: { FinalState → Type 0 };
 }
 

@@ -47,7 +47,7 @@ fn labels_of<A: Allocator + Copy>(
     Ok(texts)
 }
 
-/// Returns the label of a name, after a prefix.
+/// Returns the label of a name, after `before`: nothing for the first name of a line, and a space for the others.
 fn label_of<A: Allocator>(
     alloc: A,
     head: &Head<A>,
@@ -62,7 +62,7 @@ fn label_of<A: Allocator>(
     Ok(Text::from(out))
 }
 
-/// Writes a prefix and the label of a name: a thread's register, as in `0:r0`, or a location, and `=`.
+/// Writes `before` and the label of a name: a thread's register, as in `0:r0`, or a location, and `=`.
 fn write_label<A: Allocator>(
     out: &mut String<A>,
     head: &Head<A>,
@@ -81,7 +81,7 @@ fn write_label<A: Allocator>(
     }
 }
 
-/// Writes the line of a state: its words after their labels.
+/// Writes the line of a state: its words after their labels, of which there are as many, and the line's end.
 pub(crate) fn write_state<A: Allocator>(
     out: &mut String<A>,
     labels: &[Text<A>],
@@ -97,7 +97,7 @@ pub(crate) fn write_state<A: Allocator>(
     out.push_str("\n")
 }
 
-/// Writes a word in decimal, and `;`. Most words of most tests have one digit.
+/// Writes a word in decimal, and `;`. A word of one digit, as most are, is written without the formatter, which takes longer.
 fn write_word<A: Allocator>(out: &mut String<A>, word: Word) -> Result<(), AllocError>
     ensures { OnOk result (string_bytes out.new ≡ string_bytes out.old ++ (decimal word ++ codes ";")) }
 {

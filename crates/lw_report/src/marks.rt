@@ -47,7 +47,7 @@ fn write_marked_states<A: Allocator + Copy>(
     Ok(())
 }
 
-/// Returns the mark of a state.
+/// Returns the mark of a state, with a space after it, by whether the proposition holds in the state.
 fn mark(holds: bool) -> &'static str
     ensures { result.now ≡ mark_text holds }
 {

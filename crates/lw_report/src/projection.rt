@@ -49,7 +49,7 @@ pub fn observed<A: Allocator, B: Allocator>(
     Ok(names)
 }
 
-/// Appends the observed registers of a thread.
+/// Appends the observed registers of a thread to `names`.
 fn push_registers<A: Allocator, B: Allocator>(
     names: &mut Sequence<Seen, A>,
     head: &Head<B>,
@@ -63,7 +63,7 @@ fn push_registers<A: Allocator, B: Allocator>(
     Ok(())
 }
 
-/// Appends the observed locations.
+/// Appends the observed locations to `names`.
 fn push_locations<A: Allocator, B: Allocator>(
     names: &mut Sequence<Seen, A>,
     head: &Head<B>,
@@ -77,7 +77,7 @@ fn push_locations<A: Allocator, B: Allocator>(
     Ok(())
 }
 
-/// Appends a register or a location if it is observed.
+/// Appends a register or a location to `names` if it is observed.
 fn push_observed<A: Allocator, B: Allocator>(
     names: &mut Sequence<Seen, A>,
     head: &Head<B>,

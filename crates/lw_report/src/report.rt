@@ -58,7 +58,7 @@ fn counts_of<A: Allocator>(states: &[State<A>]) -> Counts
     }
 }
 
-/// Writes the first lines: the test's name, the kind of its condition, and the number of states.
+/// Writes the first two lines: the test's name with the kind of its condition, and the number of states, `states`.
 fn write_title<A: Allocator>(
     out: &mut String<A>,
     head: &Head<A>,

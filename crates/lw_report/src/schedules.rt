@@ -56,7 +56,7 @@ fn write_scheduled_states<A: Allocator + Copy>(
     Ok(())
 }
 
-/// Writes the line of a state and, after a space, its schedule.
+/// Writes two lines: that of a state, and, after a space, that of its entry's schedule.
 fn write_scheduled_state<A: Allocator>(
     out: &mut String<A>,
     head: &Head<A>,

@@ -26,7 +26,7 @@ pub struct State<A: Allocator = Global> {
     pub words: Sequence<Word, A>,
     /// The index, in the listing, of the smallest outcome with these words.
     pub entry: usize,
-    /// Whether the test's proposition is true in it.
+    /// Whether the test's proposition is true in the state.
     pub holds: bool,
 }
 
@@ -45,7 +45,7 @@ pub type States<A = Global> = Sequence<State<A>, A>;
 
 /// Returns the states of the listed outcomes of a test with this head, each with the index of the smallest outcome
 /// with its words and the truth of the test's proposition. The outcomes have the head's threads and locations, and
-/// its proposition names no others.
+/// its proposition names no others. Fails only if memory runs out.
 pub fn states_of<A: Allocator + Copy, K>(
     alloc: A,
     head: &Head<A>,
@@ -118,7 +118,8 @@ fn state_of<A: Allocator + Copy>(
     })
 }
 
-/// Returns the first of each run of sorted states with the same words.
+/// Returns the first of each run of sorted states with the same words. Its entry is the smallest, since states with the same words
+/// are sorted by their entries.
 fn first_of_each<A: Allocator>(sorted: Vec<State<A>, A>) -> States<A>
     requires { IsSorted state_cmp sorted.items }
     ensures { AreFirstStates sorted.items result }

@@ -9,7 +9,7 @@ use Rattle.lw_base.specs.Schedules.{schedule_text}
 use Rattle.lw_base.specs.declared.event.Event.{Event}
 use Rattle.lw_base.specs.declared.head.Seen.{Seen}
 
--- The text `name=`, after a prefix.
+-- The text `name=`, after the prefix `before`.
 abbrev pub label : TestHead → Bytes → Seen → Bytes
 label head before s = before ++ (site_text head.arch head.locs s ++ codes "=")
 
@@ -27,7 +27,7 @@ labels head (s ∷ ss) = label head [] s ∷ map (label head (codes " ")) ss
 abbrev pub labelled_word : (Bytes × ℕ) → Bytes
 labelled_word entry = entry.0 ++ (decimal entry.1 ++ codes ";")
 
--- The words, each after its label.
+-- The words, each after its label in `names`.
 abbrev pub labelled_words : List Bytes → List ℕ → Bytes
 labelled_words names words = flat_map labelled_word (zip names words)
 

@@ -31,7 +31,7 @@ pub record AreStatesOfFirst (head : TestHead) (outcomes : List FinalState) (coun
 abbrev pub state_cmp : ListedState → ListedState → Ordering
 state_cmp s t = ordering_then (slice_cmp nat_cmp s.words t.words) (ordering_then (nat_cmp s.entry t.entry) (bool_cmp s.holds t.holds))
 
--- The states with the smallest index among those with the same words, sorted by the words.
+-- `states` are those of `all` with the smallest index among the states with the same words, sorted by the words.
 pub record AreFirstStates (all states : List ListedState) : Type 0 where
   pub sorted : AllPairs (λ (first later : ListedState). slice_cmp nat_cmp first.words later.words ≡ Less) states
   pub among : All (λ s. Contains all s) states

@@ -15,9 +15,9 @@ returns g c =
       title = string_bytes c.writeln.new.self;
       name = c.as_str.result.now;
       count = c.len.result;
-      none = c.new-out.ensures.bytes;
-      titled = c.in_ok-writeln.ensures.bytes;
-      ended = rw c.as_slice.ensures at c.in_ok-write_scheduled_states.ensures;
+      starts_empty = c.new-out.ensures.bytes;
+      title_is = c.in_ok-writeln.ensures.bytes;
+      end_is = rw c.as_slice.ensures at c.in_ok-write_scheduled_states.ensures;
       is_name = c.as_str.ensures;
       is_count = c.len.ensures;
     })
