@@ -80,12 +80,12 @@ not-Contains-x_in_y_table c = go c.0 c.1 c.2
     go (suc k) l e = omega (arith, l)
 
 -- The head of a test of two threads is well-formed if its name and its condition are.
-head_formed : (name : List ℕ) (arch : Arch) (quant : Quant) (condition : Formula)
+IsWellFormedHead-two_threads : (name : List ℕ) (arch : Arch) (quant : Quant) (condition : Formula)
     → IsTestName name
     → nodes condition ≤ 256
     → MentionsOnly 2 2 condition
     → IsWellFormedHead (two_threads name arch quant condition)
-head_formed name arch quant condition named few speaks = record {
+IsWellFormedHead-two_threads name arch quant condition named few speaks = record {
   name = named;
   has_thread = omega arith;
   bounded = omega arith;
@@ -115,8 +115,8 @@ record IsPlain (i : Instr) : Type 0 where
   goes_on : branch_target (x86_operation i) ≡ None
 
 -- A store of a word to one of the two locations is a plain instruction.
-store_plain : (x n : ℕ) → x < 2 → n < 2 ^ 32 → IsPlain (instr.Store x (Number n))
-store_plain x n there word = record {
+IsPlain-store : (x n : ℕ) → x < 2 → n < 2 ^ 32 → IsPlain (instr.Store x (Number n))
+IsPlain-store x n there word = record {
   formed = (
     λ y same. subst (λ k. k < 2) (same_Some x y same) there,
     All-nil IsRegisterIndex,
@@ -126,8 +126,8 @@ store_plain x n there word = record {
 }
 
 -- A load of one of the two locations is a plain instruction.
-load_plain : (d x : ℕ) → d < registers → x < 2 → IsPlain (instr.Load d x)
-load_plain d x register there = record {
+IsPlain-load : (d x : ℕ) → d < registers → x < 2 → IsPlain (instr.Load d x)
+IsPlain-load d x register there = record {
   formed = (
     λ y same. subst (λ k. k < 2) (same_Some x y same) there,
     All-cons IsRegisterIndex d [] register (All-nil IsRegisterIndex),
@@ -137,8 +137,11 @@ load_plain d x register there = record {
 }
 
 -- Two plain instructions are a well-formed thread.
-two_formed : {first second : Instr} → IsPlain first → IsPlain second → IsWellFormedThread x86_language 2 (first ∷ second ∷ [])
-two_formed {first} {second} a b = record {
+IsWellFormedThread-two_plain : {first second : Instr}
+    → IsPlain first
+    → IsPlain second
+    → IsWellFormedThread x86_language 2 (first ∷ second ∷ [])
+IsWellFormedThread-two_plain {first} {second} a b = record {
   short = omega arith;
   statements_formed =
       All-cons (IsWellFormedStatement x86_language 2) first (second ∷ []) a.formed
@@ -161,7 +164,7 @@ two_formed {first} {second} a b = record {
     branches_forward-two (suc (suc k)) s e = cc
 
 -- The x86 test has two well-formed threads, two locations and a well-formed head.
-record IsOfTwo (test : X86Test) : Type 0 where
+record IsTestOfTwoThreads (test : X86Test) : Type 0 where
   first : List Instr
   second : List Instr
   threads : test.threads ≡ first ∷ second ∷ []
@@ -172,9 +175,9 @@ record IsOfTwo (test : X86Test) : Type 0 where
   first_formed : IsWellFormedThread x86_language 2 first
   second_formed : IsWellFormedThread x86_language 2 second
 
--- A test that satisfies `IsOfTwo` is well-formed.
-program_formed : (test : X86Test) → IsOfTwo test → IsWellFormedProgram test
-program_formed test two = record {
+-- A test that satisfies `IsTestOfTwoThreads` is well-formed.
+IsWellFormedProgram-IsTestOfTwoThreads : (test : X86Test) → IsTestOfTwoThreads test → IsWellFormedProgram test
+IsWellFormedProgram-IsTestOfTwoThreads test two = record {
   head = two.head;
   arch = two.arch;
   as_many = ap length two.threads ∙ sym two.as_many;
@@ -186,8 +189,8 @@ program_formed test two = record {
 }
 
 -- Store buffering in x86 is well-formed.
-pub store_buffering_formed : IsWellFormedProgram store_buffering_in_x86
-store_buffering_formed = program_formed store_buffering_in_x86 (record {
+pub IsWellFormedProgram-store_buffering : IsWellFormedProgram store_buffering_in_x86
+IsWellFormedProgram-store_buffering = IsWellFormedProgram-IsTestOfTwoThreads store_buffering_in_x86 (record {
   first = instr.Store 0 (Number 1) ∷ instr.Load 0 1 ∷ [];
   second = instr.Store 1 (Number 1) ∷ instr.Load 0 0 ∷ [];
   threads = refl;
@@ -195,18 +198,20 @@ store_buffering_formed = program_formed store_buffering_in_x86 (record {
   locations = refl;
   arch = refl;
   head =
-      head_formed (codes "SB-x86") X86 Exists both_loads_are_early (record {
+      IsWellFormedHead-two_threads (codes "SB-x86") X86 Exists both_loads_are_early (record {
         not_empty = omega arith;
         short = omega arith;
         are_graphic_bytes = (refl, (refl, (refl, (refl, (refl, (refl, tt))))));
       }) (omega arith) ((omega arith, omega arith, omega arith), (omega arith, omega arith, omega arith));
-  first_formed = two_formed (store_plain 0 1 (omega arith) (omega arith)) (load_plain 0 1 (omega arith) (omega arith));
-  second_formed = two_formed (store_plain 1 1 (omega arith) (omega arith)) (load_plain 0 0 (omega arith) (omega arith));
+  first_formed =
+      IsWellFormedThread-two_plain (IsPlain-store 0 1 (omega arith) (omega arith)) (IsPlain-load 0 1 (omega arith) (omega arith));
+  second_formed =
+      IsWellFormedThread-two_plain (IsPlain-store 1 1 (omega arith) (omega arith)) (IsPlain-load 0 0 (omega arith) (omega arith));
 })
 
 -- Message passing in x86 is well-formed.
-pub message_passing_formed : IsWellFormedProgram message_passing_in_x86
-message_passing_formed = program_formed message_passing_in_x86 (record {
+pub IsWellFormedProgram-message_passing : IsWellFormedProgram message_passing_in_x86
+IsWellFormedProgram-message_passing = IsWellFormedProgram-IsTestOfTwoThreads message_passing_in_x86 (record {
   first = instr.Store 0 (Number 1) ∷ instr.Store 1 (Number 1) ∷ [];
   second = instr.Load 0 1 ∷ instr.Load 1 0 ∷ [];
   threads = refl;
@@ -214,13 +219,16 @@ message_passing_formed = program_formed message_passing_in_x86 (record {
   locations = refl;
   arch = refl;
   head =
-      head_formed (codes "MP-x86") X86 NotExists flag_without_message (record {
+      IsWellFormedHead-two_threads (codes "MP-x86") X86 NotExists flag_without_message (record {
         not_empty = omega arith;
         short = omega arith;
         are_graphic_bytes = (refl, (refl, (refl, (refl, (refl, (refl, tt))))));
       }) (omega arith) ((omega arith, omega arith, omega arith), (omega arith, omega arith, omega arith));
-  first_formed = two_formed (store_plain 0 1 (omega arith) (omega arith)) (store_plain 1 1 (omega arith) (omega arith));
-  second_formed = two_formed (load_plain 0 1 (omega arith) (omega arith)) (load_plain 1 0 (omega arith) (omega arith));
+  first_formed =
+      IsWellFormedThread-two_plain (IsPlain-store 0 1 (omega arith) (omega arith))
+      (IsPlain-store 1 1 (omega arith) (omega arith));
+  second_formed =
+      IsWellFormedThread-two_plain (IsPlain-load 0 1 (omega arith) (omega arith)) (IsPlain-load 1 0 (omega arith) (omega arith));
 })
 
 -- ---- both threads store, both load, and then both drain
@@ -262,31 +270,31 @@ abbrev both_drained : MachineState (List ℕ)
 both_drained = state (state_at 2 [] ∷ state_at 2 [] ∷ []) (1 ∷ 1 ∷ [])
 
 -- The event leads from the first state to the second.
-abbrev Leads : Event → MachineState (List ℕ) → MachineState (List ℕ) → Type 0
-Leads e s mid = MachineTransition flat_memory store_buffering_in_x86.threads e s (Ok tt) mid
+abbrev EventReaches : Event → MachineState (List ℕ) → MachineState (List ℕ) → Type 0
+EventReaches e s mid = MachineTransition flat_memory store_buffering_in_x86.threads e s (Ok tt) mid
 
 -- The first thread's store enters its store buffer.
-first_stores : Leads (Step 0) store_buffering_start one_stored
+first_stores : EventReaches (Step 0) store_buffering_start one_stored
 first_stores = (state_at 1 ((0, 1) ∷ []), 0 ∷ 0 ∷ [], (refl, refl, refl), refl)
 
 -- The second thread's store enters its store buffer.
-second_stores : Leads (Step 1) one_stored both_stored
+second_stores : EventReaches (Step 1) one_stored both_stored
 second_stores = (state_at 1 ((1, 1) ∷ []), 0 ∷ 0 ∷ [], (refl, refl, refl), refl)
 
 -- The first thread loads 0, which memory still has.
-first_loads : Leads (Step 0) both_stored one_loaded
+first_loads : EventReaches (Step 0) both_stored one_loaded
 first_loads = (state_at 2 ((0, 1) ∷ []), 0 ∷ 0 ∷ [], (Some 0, refl, refl, (refl, refl)), refl)
 
 -- The second thread loads 0, which memory still has.
-second_loads : Leads (Step 1) one_loaded both_loaded
+second_loads : EventReaches (Step 1) one_loaded both_loaded
 second_loads = (state_at 2 ((1, 1) ∷ []), 0 ∷ 0 ∷ [], (Some 0, refl, refl, (refl, refl)), refl)
 
 -- The first store reaches memory.
-first_drains : Leads (Drain 0) both_loaded one_drained
+first_drains : EventReaches (Drain 0) both_loaded one_drained
 first_drains = (state_at 2 [], 1 ∷ 0 ∷ [], (None, refl, refl, (refl, refl)), refl)
 
 -- The second store reaches memory.
-second_drains : Leads (Drain 1) one_drained both_drained
+second_drains : EventReaches (Drain 1) one_drained both_drained
 second_drains = (state_at 2 [], 1 ∷ 1 ∷ [], (None, refl, refl, (refl, refl)), refl)
 
 -- The events with both loads early are a run of the flat machine to a final state.

@@ -29,8 +29,8 @@ abbrev arguments_after_first : Arguments → Arguments
 arguments_after_first words = take (length words - 1) (drop 1 words)
 
 -- The result r is right by the definition `Is`: its value is the arguments', and if it has none they have none.
-abbrev Gives : {X : Type 0} → (List (List ℕ) → X → Type 0) → List (List ℕ) → Option X → Type 0
-Gives Is words r = MatchOption r (HoldsOfNothing (Is words)) (Is words)
+abbrev IsResultOf : {X : Type 0} → (List (List ℕ) → X → Type 0) → List (List ℕ) → Option X → Type 0
+IsResultOf Is words r = MatchOption r (HoldsOfNothing (Is words)) (Is words)
 
 -- Equal lists of arguments have equal tails.
 cons-injective_tail : {a b : List ℕ} {l k : List (List ℕ)} → a ∷ l ≡ b ∷ k → l ≡ k
@@ -81,15 +81,15 @@ two_arguments _ many few = absurd (omega (arith, many))
 module _ (words : Arguments) (many : 2 ≤ length words) (few : length words < 3) (differs : Bool)
     (is : differs ≡ not (pointwise nat_eq (argument_at words 0) (codes "--protocol"))) where
   -- If the first of two arguments is `--protocol`, they name the protocol that the second names, or none.
-  pub Gives-IsProtocolOption : (r : Option Protocol)
+  pub IsResultOf-IsProtocolOption : (r : Option Protocol)
       → differs ≡ false
       → MatchOption r (HoldsOfNothing (λ p. protocol_name p ≡ argument_at words 1)) (λ p. protocol_name p ≡ argument_at words 1)
-      → Gives IsProtocolOption (argument_texts words) r
-  Gives-IsProtocolOption (Some p) same known =
+      → IsResultOf IsProtocolOption (argument_texts words) r
+  IsResultOf-IsProtocolOption (Some p) same known =
       inl (two_arguments words many few
       ∙ ap (λ n. n ∷ argument_at words 1 ∷ []) (texts_equal-by_test (argument_at words 0) (codes "--protocol") differs is same)
       ∙ ap (λ n. codes "--protocol" ∷ n ∷ []) (sym known))
-  Gives-IsProtocolOption None same none = go
+  IsResultOf-IsProtocolOption None same none = go
     where
       go : (p : Protocol) → IsProtocolOption (argument_texts words) p → ⊥
       go p (inl e) = none p (sym (cons-head_eq _ _ _ _ (cons-injective_tail (sym (two_arguments words many few) ∙ e))))
@@ -128,14 +128,14 @@ nothing_after_command name l Schedules other said = cons-injective_tail said
 
 -- If the first argument is the name of a task without further arguments, all arguments name that task if it is the only one, and none
 -- otherwise.
-pub Gives-IsCommand_one_word : (words : Arguments) (name : List ℕ) (task : Task) (r : Option Task)
+pub IsResultOf-IsCommand_one_word : (words : Arguments) (name : List ℕ) (task : Task) (r : Option Task)
     → 1 ≤ length words
     → argument_at words 0 ≡ name
     → (name ≡ codes "replay" → ⊥)
     → IsCommand (name ∷ []) task
     → MatchOption r (arguments_after_first words ≡ [] → ⊥) (λ given. (arguments_after_first words ≡ []) × (given ≡ task))
-    → Gives IsCommand (argument_texts words) r
-Gives-IsCommand_one_word words name task r many is other named = go r
+    → IsResultOf IsCommand (argument_texts words) r
+IsResultOf-IsCommand_one_word words name task r many is other named = go r
   where
     -- The arguments are the first, which is the name, followed by the others.
     texts_split : argument_texts words ≡ name ∷ argument_texts (arguments_after_first words)
@@ -143,7 +143,7 @@ Gives-IsCommand_one_word words name task r many is other named = go r
 
     go : (r : Option Task)
         → MatchOption r (arguments_after_first words ≡ [] → ⊥) (λ given. (arguments_after_first words ≡ []) × (given ≡ task))
-        → Gives IsCommand (argument_texts words) r
+        → IsResultOf IsCommand (argument_texts words) r
     go (Some given) told =
         subst (λ l. IsCommand l given) (sym (texts_split ∙ ap (λ (o : Arguments). name ∷ argument_texts o) told.0))
         (subst (IsCommand (name ∷ [])) (sym told.1) named)
@@ -156,13 +156,13 @@ Gives-IsCommand_one_word words name task r many is other named = go r
         texts_empty-inv (x ∷ o) e = absurd (nil_ne_cons _ _ (sym e))
 
 -- If the first argument is `replay`, the task of all arguments is that of `replay` with the others.
-pub Gives-IsCommand_replay : (words : Arguments) (r : Option Task)
+pub IsResultOf-IsCommand_replay : (words : Arguments) (r : Option Task)
     → 1 ≤ length words
     → argument_at words 0 ≡ codes "replay"
-    → Gives IsCommand (codes "replay" ∷ argument_texts (arguments_after_first words)) r
-    → Gives IsCommand (argument_texts words) r
-Gives-IsCommand_replay words r many is told =
-    subst (λ l. Gives IsCommand l r)
+    → IsResultOf IsCommand (codes "replay" ∷ argument_texts (arguments_after_first words)) r
+    → IsResultOf IsCommand (argument_texts words) r
+IsResultOf-IsCommand_replay words r many is told =
+    subst (λ l. IsResultOf IsCommand l r)
     (sym (texts-first_and_rest words many ∙ ap (λ n. n ∷ argument_texts (arguments_after_first words)) is)) told
 
 -- If the arguments after the schedule are no option of a protocol, `replay` with the schedule and these is no command.

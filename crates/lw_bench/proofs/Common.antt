@@ -135,6 +135,7 @@ pub use Rattle.lw_bench.specs.FaultTruth.{RunFaultIsTrue, TakesBeforeFault, Text
 pub use Rattle.lw_bench.specs.Faults.{cell_fault, cell_run_fault, schedule_fault, schedule_run_fault}
 pub use Rattle.lw_bench.specs.Faults.{text_fault, text_run_fault}
 pub use Rattle.lw_bench.specs.Films.{IsFilm, IsFilmOf}
+pub use Rattle.lw_bench.specs.Limits.{most_read_bytes}
 pub use Rattle.lw_bench.specs.Lists.{AreObservedOutcomesOf, AreOutcomesOf, IsExactMarkedList, IsExactReport}
 pub use Rattle.lw_bench.specs.Lists.{IsExactScheduleList, IsListOf, IsReachedOnMachine, IsReachedOverCaches}
 pub use Rattle.lw_bench.specs.Lists.{IsStatesReport, IsWithinListLimits}

@@ -1,11 +1,11 @@
 -- The bytes read from a reader and written to a writer, with one more piece; and how they relate to the whole
 -- input, of which a run reads at most 65,537 bytes. The loops of `read_input` and `write_output` go by these
 -- lemmas.
-use Rattle.lw_bench.proofs.Common.{arith, inl, inr, refl, ◌≡◌, ◌≢◌, ℕ, zero, suc, ◌-◌, ◌<◌, ◌≤◌, Option, Some}
-use Rattle.lw_bench.proofs.Common.{None, List, [], ◌∷◌, ◌++◌, length, length-append, take, drop, sym, ap, ◌∙◌}
-use Rattle.lw_bench.proofs.Common.{subst, append_assoc, length-take-le, take-append-drop, take-append-le}
-use Rattle.lw_bench.proofs.Common.{Appends, Consumes, IsAtEnd, Keeps, IsInput, TakesInput, TakesSome}
-use Rattle.lw_bench.proofs.Common.{ReadsMore, LosesInput, WritesPrefix}
+use Rattle.lw_bench.proofs.Common.{most_read_bytes, arith, inl, inr, refl, ◌≡◌, ◌≢◌, ℕ, zero, suc, ◌-◌, ◌<◌}
+use Rattle.lw_bench.proofs.Common.{◌≤◌, Option, Some, None, List, [], ◌∷◌, ◌++◌, length, length-append, take}
+use Rattle.lw_bench.proofs.Common.{drop, sym, ap, ◌∙◌, subst, append_assoc, length-take-le, take-append-drop}
+use Rattle.lw_bench.proofs.Common.{take-append-le, Appends, Consumes, IsAtEnd, Keeps, IsInput, TakesInput}
+use Rattle.lw_bench.proofs.Common.{TakesSome, ReadsMore, LosesInput, WritesPrefix}
 
 -- Appending some bytes, and then more, appends the concatenation.
 Appends-more : (a b c : Option (List ℕ)) (xs ys : List ℕ) → Appends a b xs → Appends b c ys → Appends a c (xs ++ ys)
@@ -38,37 +38,36 @@ WritesPrefix-more a b c bytes rest n puts more = record {
 -- The first `count` bytes of a buffer were read, after the bytes `before`; the buffer is no larger than what may still be read.
 pub record IsFront (before buffer : List ℕ) (count : ℕ) : Type 0 where
   pub room : ℕ
-  pub short : length before < 65537
+  pub short : length before < most_read_bytes
   pub has_room : 0 < room
-  pub is_room : room ≤ 65537 - length before
+  pub is_room : room ≤ most_read_bytes - length before
   pub whole : length buffer ≡ room
   pub count_in_range : count ≤ length buffer
 
 -- If the first bytes of a buffer were read and appended to those before, the reader supplied these bytes.
-pub ReadsMore-front : {before after : List ℕ} (known left : Option (List ℕ)) (buffer behind : List ℕ) (count : ℕ)
+pub ReadsMore-front : {before after : List ℕ} (known left : Option (List ℕ)) (buffer later : List ℕ) (count : ℕ)
     → IsFront before buffer count
     → Consumes known left (take count buffer) × (count ≡ 0 → 0 < length buffer → IsAtEnd left)
-    → after ≡ before ++ take count (buffer ++ behind)
+    → after ≡ before ++ take count (buffer ++ later)
     → ReadsMore known left before after count
-ReadsMore-front {before} known left buffer behind count front consumed added =
-    let got = take count buffer in
-    let many : length got ≡ count = length-take-le count buffer front.count_in_range in
-    let more = added ∙ ap (λ t. before ++ t) (take-append-le count buffer behind front.count_in_range) in
+ReadsMore-front {before} known left buffer later count front consumed added =
+    let new_bytes = take count buffer in
+    let many : length new_bytes ≡ count = length-take-le count buffer front.count_in_range in
+    let more = added ∙ ap (λ t. before ++ t) (take-append-le count buffer later front.count_in_range) in
     record {
-      got = got;
+      new_bytes = new_bytes;
       as_many = many;
       added = more;
-      limit =
-          omega (
-            arith,
-            ap length more,
-            length-append before got,
-            many,
-            front.count_in_range,
-            front.whole,
-            front.is_room,
-            front.short,
-          );
+      limit = omega (
+        arith,
+        ap length more,
+        length-append before new_bytes,
+        many,
+        front.count_in_range,
+        front.whole,
+        front.is_room,
+        front.short,
+      );
       consumed = consumed.0;
       ended = λ none. consumed.1 none (omega (arith, front.whole, front.has_room));
     }
@@ -84,19 +83,22 @@ pub Consumes-more_read : (a b c : Option (List ℕ)) (before after : List ℕ) (
     → ReadsMore b c before after n
     → Consumes a c after
 Consumes-more_read a b c before after n before_that gets =
-    subst (Consumes a c) (sym gets.added) (Consumes-more a b c before gets.got before_that gets.consumed)
+    subst (Consumes a c) (sym gets.added) (Consumes-more a b c before gets.new_bytes before_that gets.consumed)
 
 -- What was consumed up to the end is the input.
-pub input_ended : (a b : Option (List ℕ)) (bytes : List ℕ) → Consumes a b bytes → IsAtEnd b → IsInput a bytes
-input_ended None b bytes h end = tt
-input_ended (Some x) None bytes h end = absurd h
-input_ended (Some x) (Some y) bytes h end = (y, h, inl end)
+pub IsInput-at_end : (a b : Option (List ℕ)) (bytes : List ℕ) → Consumes a b bytes → IsAtEnd b → IsInput a bytes
+IsInput-at_end None b bytes h end = tt
+IsInput-at_end (Some x) None bytes h end = absurd h
+IsInput-at_end (Some x) (Some y) bytes h end = (y, h, inl end)
 
 -- If 65,537 bytes were consumed, they are the input as far as it may be read.
-pub input_full : (a b : Option (List ℕ)) (bytes : List ℕ) → Consumes a b bytes → length bytes ≡ 65537 → IsInput a bytes
-input_full None b bytes h full = tt
-input_full (Some x) None bytes h full = absurd h
-input_full (Some x) (Some y) bytes h full = (y, h, inr full)
+pub IsInput-if_full : (a b : Option (List ℕ)) (bytes : List ℕ)
+    → Consumes a b bytes
+    → length bytes ≡ most_read_bytes
+    → IsInput a bytes
+IsInput-if_full None b bytes h full = tt
+IsInput-if_full (Some x) None bytes h full = absurd h
+IsInput-if_full (Some x) (Some y) bytes h full = (y, h, inr full)
 
 -- ---- what was consumed
 
@@ -124,22 +126,28 @@ drop-at_end (suc n) (b ∷ input) le = drop-at_end n input (omega (arith, le))
 pub TakesInput-ended : (a b : Option (List ℕ)) (bytes : List ℕ)
     → Consumes a b bytes
     → IsAtEnd b
-    → length bytes ≤ 65537
+    → length bytes ≤ most_read_bytes
     → TakesInput a b
 TakesInput-ended None b bytes h end le = tt
 TakesInput-ended (Some x) None bytes h end le = absurd h
 TakesInput-ended (Some x) (Some y) bytes h end le =
-    let short : length x ≤ 65537 = omega (arith, ap length h, length-append bytes y, ap length end, le) in
-    ap Some (end ∙ sym (drop-at_end 65537 x short))
+    let short : length x ≤ most_read_bytes = omega (arith, ap length h, length-append bytes y, ap length end, le) in
+    ap Some (end ∙ sym (drop-at_end most_read_bytes x short))
 
 -- If 65,537 bytes were consumed, all was consumed that a run reads of its input.
-pub TakesInput-full : (a b : Option (List ℕ)) (bytes : List ℕ) → Consumes a b bytes → length bytes ≡ 65537 → TakesInput a b
+pub TakesInput-full : (a b : Option (List ℕ)) (bytes : List ℕ)
+    → Consumes a b bytes
+    → length bytes ≡ most_read_bytes
+    → TakesInput a b
 TakesInput-full None b bytes h full = tt
 TakesInput-full (Some x) None bytes h full = absurd h
 TakesInput-full (Some x) (Some y) bytes h full = ap Some (sym (subst (λ n. drop n x ≡ y) full (drop-of_prefix x _ y h)))
 
 -- If at most 65,537 bytes were consumed, a part of what a run may read of its input was consumed.
-TakesSome-ReadsMore : (a b : Option (List ℕ)) (bytes : List ℕ) → Consumes a b bytes → length bytes ≤ 65537 → TakesSome a b
+TakesSome-ReadsMore : (a b : Option (List ℕ)) (bytes : List ℕ)
+    → Consumes a b bytes
+    → length bytes ≤ most_read_bytes
+    → TakesSome a b
 TakesSome-ReadsMore None b bytes h le = tt
 TakesSome-ReadsMore (Some x) None bytes h le = absurd h
 TakesSome-ReadsMore (Some x) (Some y) bytes h le = (length bytes, le, ap Some (sym (drop-of_prefix x bytes y h)))
@@ -147,13 +155,13 @@ TakesSome-ReadsMore (Some x) (Some y) bytes h le = (length bytes, le, ap Some (s
 -- If bytes were consumed, and then more were read and lost, a part of what a run may read of its input was consumed.
 pub TakesSome-lost : (a b c : Option (List ℕ)) (bytes : List ℕ) → Consumes a b bytes → LosesInput b c bytes → TakesSome a c
 TakesSome-lost a b c bytes h loses =
-    TakesSome-ReadsMore a c (bytes ++ loses.got) (Consumes-more a b c bytes loses.got h loses.consumed)
-    (omega (arith, length-append bytes loses.got, loses.limit))
+    TakesSome-ReadsMore a c (bytes ++ loses.new_bytes) (Consumes-more a b c bytes loses.new_bytes h loses.consumed)
+    (omega (arith, length-append bytes loses.new_bytes, loses.limit))
 
 -- If the whole input was consumed, a part of it was.
 pub TakesSome-TakesInput : (a b : Option (List ℕ)) → TakesInput a b → TakesSome a b
 TakesSome-TakesInput None b h = tt
-TakesSome-TakesInput (Some x) b h = (65537, omega arith, h)
+TakesSome-TakesInput (Some x) b h = (most_read_bytes, omega arith, h)
 
 -- If a reader keeps its bytes, none were consumed.
 Consumes-Keeps : (a b : Option (List ℕ)) → Keeps a b → Consumes a b []
@@ -163,11 +171,11 @@ Consumes-Keeps (Some x) (Some y) h = sym h
 
 -- A reader that failed and kept its bytes lost none.
 pub LosesInput-none : (known left : Option (List ℕ)) (before : List ℕ)
-    → length before < 65537
+    → length before < most_read_bytes
     → Keeps known left
     → LosesInput known left before
 LosesInput-none known left before short kept =
-    record { got = []; limit = omega (arith, short); consumed = Consumes-Keeps known left kept }
+    record { new_bytes = []; limit = omega (arith, short); consumed = Consumes-Keeps known left kept }
 
 -- Bytes that were read into a buffer may be lost: with those before they are no more than may be read.
 pub LosesInput-front : (known left : Option (List ℕ)) (before buffer : List ℕ) (count : ℕ)
@@ -175,7 +183,7 @@ pub LosesInput-front : (known left : Option (List ℕ)) (before buffer : List �
     → Consumes known left (take count buffer)
     → LosesInput known left before
 LosesInput-front known left before buffer count front consumed = record {
-  got = take count buffer;
+  new_bytes = take count buffer;
   limit =
       omega (
         arith,
@@ -192,6 +200,6 @@ LosesInput-front known left before buffer count front consumed = record {
 pub unread_count-decreases : (known left : Option (List ℕ)) (before after : List ℕ) (count : ℕ)
     → ReadsMore known left before after count
     → count ≢ 0
-    → 65537 - length after < 65537 - length before
+    → most_read_bytes - length after < most_read_bytes - length before
 unread_count-decreases known left before after count gets some =
-    omega (arith, some, gets.limit, gets.as_many, ap length gets.added, length-append before gets.got)
+    omega (arith, some, gets.limit, gets.as_many, ap length gets.added, length-append before gets.new_bytes)

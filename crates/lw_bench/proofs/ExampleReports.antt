@@ -15,8 +15,8 @@ use Rattle.lw_bench.proofs.Common.{HasTooManyItems, IsWithinOrderLimit, items_of
 use Rattle.lw_bench.proofs.Common.{IsTotalOrderCount-total_of, EffectLeadsTo, MachineTransition-of_effect}
 use Rattle.lw_bench.proofs.Common.{store_buffering_report, Leaves, act_after}
 use Rattle.std.specs.Fmt.{digits}
-use Rattle.lw_bench.proofs.Classics.{store_buffering_formed}
-use Rattle.lw_bench.proofs.Searches.{state_after_event_of, event_after, every_machine_end_satisfies}
+use Rattle.lw_bench.proofs.Classics.{IsWellFormedProgram-store_buffering}
+use Rattle.lw_bench.proofs.Searches.{state_after_event_of, state_after_event, every_machine_end_satisfies}
 use Rattle.lw_bench.proofs.Searches.{every_machine_end_satisfies-sound}
 use Rattle.lw_tso.specs.Runs as machine
 
@@ -31,7 +31,7 @@ EffectLeadsTo-act_after act m r h = subst (λ o. Leaves o r.0 r.1) (sym h) (refl
 module _ (program : List (List Instr)) where
   -- If the state after an event can be computed, the event leads to it on the machine.
   event_leads : (e : Event) (s after : MachineState (List ℕ))
-      → event_after program e s ≡ Some after
+      → state_after_event program e s ≡ Some after
       → MachineTransition flat_memory program e s (Ok tt) after
   event_leads e s after = go (slice_get s.processors (cpu_of e)) refl
     where
@@ -64,7 +64,7 @@ module _ (program : List (List Instr)) where
   -- Computes the state after events, if each is enabled in turn.
   unfoldable pub state_after : List Event → MachineState (List ℕ) → Option (MachineState (List ℕ))
   state_after [] s = Some s
-  state_after (e ∷ es) s = bind (state_after es) (event_after program e s)
+  state_after (e ∷ es) s = bind (state_after es) (state_after_event program e s)
 
   -- Events that are enabled in turn are a run to the computed state.
   pub state_ran : (events : List Event) (s end : MachineState (List ℕ))
@@ -72,10 +72,10 @@ module _ (program : List (List Instr)) where
       → MachineRunsTo flat_memory program events s end
   unfolding state_after
   state_ran [] s end h = sym (same_Some s end h)
-  state_ran (e ∷ es) s end h = go (event_after program e s) refl h (λ mid on. state_ran es mid end on)
+  state_ran (e ∷ es) s end h = go (state_after_event program e s) refl h (λ mid on. state_ran es mid end on)
     where
       go : (o : Option (MachineState (List ℕ)))
-          → event_after program e s ≡ o
+          → state_after_event program e s ≡ o
           → bind (state_after es) o ≡ Some end
           → ((mid : MachineState (List ℕ)) → state_after es mid ≡ Some end → MachineRunsTo flat_memory program es mid end)
           → MachineRunsTo flat_memory program (e ∷ es) s end
@@ -191,22 +191,23 @@ Shows-only_states s (o, outcome, is) =
     subst (Contains states) is (states-contain (read_of 0 o) (read_of 1 o) (ltb-true _ 2 both.0) (ltb-true _ 2 both.1))
 
 -- A state's words are less than another's.
-abbrev IsFirst : ProjectedState → ProjectedState → Type 0
-IsFirst a b = slice_cmp nat_cmp a.words b.words ≡ Less
+abbrev HasLessWords : ProjectedState → ProjectedState → Type 0
+HasLessWords a b = slice_cmp nat_cmp a.words b.words ≡ Less
 
 -- The states are sorted by their words.
-abbrev Ascend : List ProjectedState → Type 0
-Ascend [] = Unit {0}
-Ascend (s ∷ ss) = AllByRecursion (IsFirst s) ss × Ascend ss
+abbrev AreAscending : List ProjectedState → Type 0
+AreAscending [] = Unit {0}
+AreAscending (s ∷ ss) = AllByRecursion (HasLessWords s) ss × AreAscending ss
 
 -- Sorted states are sorted in all pairs.
-AllPairs-Ascend : (ss : List ProjectedState) → Ascend ss → AllPairs IsFirst ss
-AllPairs-Ascend [] up = λ i j d l m. absurd (omega (arith, m))
-AllPairs-Ascend (s ∷ ss) up = AllPairs-cons IsFirst s ss (All-from_recursion (IsFirst s) ss up.0) (AllPairs-Ascend ss up.1)
+AllPairs-AreAscending : (ss : List ProjectedState) → AreAscending ss → AllPairs HasLessWords ss
+AllPairs-AreAscending [] up = λ i j d l m. absurd (omega (arith, m))
+AllPairs-AreAscending (s ∷ ss) up =
+    AllPairs-cons HasLessWords s ss (All-from_recursion (HasLessWords s) ss up.0) (AllPairs-AreAscending ss up.1)
 
 -- The four states are sorted.
-states_ascend : AllPairs IsFirst states
-states_ascend = AllPairs-Ascend states ((refl, (refl, (refl, tt))), ((refl, (refl, tt)), ((refl, tt), (tt, tt))))
+AreAscending-states : AllPairs HasLessWords states
+AreAscending-states = AllPairs-AreAscending states ((refl, (refl, (refl, tt))), ((refl, (refl, tt)), ((refl, tt), (tt, tt))))
 
 -- ---- the limits
 
@@ -214,7 +215,7 @@ states_ascend = AllPairs-Ascend states ((refl, (refl, (refl, tt))), ((refl, (ref
 JumpsForward-store_buffering : All (JumpsForward x86_language) store_buffering_threads
 JumpsForward-store_buffering =
     All-weaker _ _ (λ (code : List Instr) (is : IsWellFormedThread x86_language 2 code). is.forward) store_buffering_threads
-    store_buffering_formed.code
+    IsWellFormedProgram-store_buffering.code
 
 -- Store buffering does not have too many items for a list.
 few_items : HasTooManyItems x86_language store_buffering_threads → ⊥
@@ -237,7 +238,7 @@ few_orders = (
 
 -- The four states are those of the outcomes of store buffering in x86, sorted, without duplicates.
 AreStatesOf-store_buffering : AreStatesOf store_buffering_in_x86.head (OutcomeOf (Of_x86 store_buffering_in_x86)) states
-AreStatesOf-store_buffering = record { sorted = states_ascend; exactly = λ s. (Shows-each_state s, Shows-only_states s) }
+AreStatesOf-store_buffering = record { sorted = AreAscending-states; exactly = λ s. (Shows-each_state s, Shows-only_states s) }
 
 -- The report of the example is the report of store buffering in x86.
 pub IsReport-store_buffering : IsStatesReport (Of_x86 store_buffering_in_x86) store_buffering_report

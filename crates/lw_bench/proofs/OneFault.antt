@@ -19,26 +19,26 @@ data CauseKind (c : TextCause) : Type 0 where
   another : c ≢ text.TooLong → c ≢ text.NotUtf8 → CauseKind c
 
 -- Each cause is of one of the kinds.
-kind_of : (c : TextCause) → CauseKind c
-kind_of text.TooLong = long refl
-kind_of text.NotUtf8 = encoded refl
-kind_of text.Unterminated = another (λ e. cc) (λ e. cc)
-kind_of text.Unexpected = another (λ e. cc) (λ e. cc)
-kind_of text.Number = another (λ e. cc) (λ e. cc)
-kind_of text.Name = another (λ e. cc) (λ e. cc)
-kind_of text.Ragged = another (λ e. cc) (λ e. cc)
-kind_of text.TooManyThreads = another (λ e. cc) (λ e. cc)
-kind_of text.TooManyRows = another (λ e. cc) (λ e. cc)
-kind_of text.TooManyLocations = another (λ e. cc) (λ e. cc)
-kind_of text.Condition = another (λ e. cc) (λ e. cc)
-kind_of text.Memory = another (λ e. cc) (λ e. cc)
+CauseKind-of_cause : (c : TextCause) → CauseKind c
+CauseKind-of_cause text.TooLong = long refl
+CauseKind-of_cause text.NotUtf8 = encoded refl
+CauseKind-of_cause text.Unterminated = another (λ e. cc) (λ e. cc)
+CauseKind-of_cause text.Unexpected = another (λ e. cc) (λ e. cc)
+CauseKind-of_cause text.Number = another (λ e. cc) (λ e. cc)
+CauseKind-of_cause text.Name = another (λ e. cc) (λ e. cc)
+CauseKind-of_cause text.Ragged = another (λ e. cc) (λ e. cc)
+CauseKind-of_cause text.TooManyThreads = another (λ e. cc) (λ e. cc)
+CauseKind-of_cause text.TooManyRows = another (λ e. cc) (λ e. cc)
+CauseKind-of_cause text.TooManyLocations = another (λ e. cc) (λ e. cc)
+CauseKind-of_cause text.Condition = another (λ e. cc) (λ e. cc)
+CauseKind-of_cause text.Memory = another (λ e. cc) (λ e. cc)
 
 module _ (one_place : (bytes : Bytes) (m n : ℕ) (c d : TextCause) → FailsAt bytes m c → FailsAt bytes n d → (m ≡ n) × (c ≡ d))
     (one_cell : (bytes : Bytes) (f g : CellFault) → CellFaultIsTrueOf bytes f → CellFaultIsTrueOf bytes g → f ≡ g)
     (bytes : Bytes) where
   -- At most one fault of a text is true.
   TextFaultIsTrue-unique : (f g : TextFault) → TextFaultIsTrue bytes f → TextFaultIsTrue bytes g → f ≡ g
-  TextFaultIsTrue-unique f g p q = faults_equal-by_kinds (kind_of f.cause) (kind_of g.cause)
+  TextFaultIsTrue-unique f g p q = faults_equal-by_kinds (CauseKind-of_cause f.cause) (CauseKind-of_cause g.cause)
     where
       -- Two true faults of a text are equal, by the kinds of their causes.
       faults_equal-by_kinds : CauseKind f.cause → CauseKind g.cause → f ≡ g

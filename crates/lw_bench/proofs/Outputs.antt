@@ -1,16 +1,17 @@
 -- What holds of the whole input, from what holds of the bytes that were read: if they are few enough, they are the input, and otherwise the
 -- input is too long to be a test. Runs proves the whole run by this.
-use Rattle.lw_bench.proofs.Common.{◌≡◌, ◌≤◌, ◌⊎◌, inl, inr, ℕ, Option, Some, None, List, [], ◌++◌, length}
-use Rattle.lw_bench.proofs.Common.{sym, ap, ◌∙◌, subst, arith, append-nil, Appends, IsInput, LitmusTest}
-use Rattle.lw_bench.proofs.Common.{HasTest, IsOutputOf, Writes}
+use Rattle.lw_bench.proofs.Common.{most_read_bytes, ◌≡◌, ◌≤◌, ◌⊎◌, inl, inr, ℕ, Option, Some, None, List, []}
+use Rattle.lw_bench.proofs.Common.{◌++◌, length, sym, ap, ◌∙◌, subst, arith, append-nil, Appends, IsInput}
+use Rattle.lw_bench.proofs.Common.{LitmusTest, HasTest, IsOutputOf, Writes}
 
 -- Bytes that were read: the whole input, or more than a test has.
-module _ (input bytes : List ℕ) (is : (rest : List ℕ) × (input ≡ bytes ++ rest) × ((rest ≡ []) ⊎ (length bytes ≡ 65537))) where
+module _ (input bytes : List ℕ)
+    (is : (rest : List ℕ) × (input ≡ bytes ++ rest) × ((rest ≡ []) ⊎ (length bytes ≡ most_read_bytes))) where
   -- Bytes that are not too many for a test are the whole input.
   pub input_is_whole : length bytes ≤ 65536 → bytes ≡ input
   input_is_whole short = go is.2
     where
-      go : (is.0 ≡ []) ⊎ (length bytes ≡ 65537) → bytes ≡ input
+      go : (is.0 ≡ []) ⊎ (length bytes ≡ most_read_bytes) → bytes ≡ input
       go (inl none) = sym (is.1 ∙ ap (λ rest. bytes ++ rest) none ∙ append-nil bytes)
       go (inr long) = absurd (omega arith)
 
@@ -19,13 +20,13 @@ module _ (input bytes : List ℕ) (is : (rest : List ℕ) × (input ≡ bytes ++
   HasTest-in_whole_input test has = subst (λ t. HasTest t test) (input_is_whole has.has_frame.short) has
 
 -- What is written is rendered from the test that the whole input says.
-pub output_written : (IsMade : LitmusTest → List ℕ → Type 0) (known before after : Option (List ℕ)) (bytes made : List ℕ)
+pub Writes-of_output : (IsMade : LitmusTest → List ℕ → Type 0) (known before after : Option (List ℕ)) (bytes made : List ℕ)
     → IsInput known bytes
     → IsOutputOf IsMade bytes made
     → Appends before after made
     → Writes IsMade known before after
-output_written IsMade None before after bytes made is makes put = tt
-output_written IsMade (Some input) before after bytes made is makes put = (
+Writes-of_output IsMade None before after bytes made is makes put = tt
+Writes-of_output IsMade (Some input) before after bytes made is makes put = (
   made,
   record { test = makes.test; has_test = HasTest-in_whole_input _ bytes is _ makes.has_test; is_made = makes.is_made },
   put,

@@ -28,17 +28,17 @@ get-of_map {X} {Y} f xs k x y at read =
 
 -- Items are written in sequence, each with its index: `out` followed by the texts of those from k on is `start` followed by the texts of
 -- all.
-pub record AllWritten {X : Type 0} (tell : ℕ → X → List ℕ) (xs : List X) (start : List ℕ) (k : ℕ) (out : List ℕ) : Type 0 where
-  pub left : out ++ numbered tell k (drop k xs) ≡ start ++ numbered tell 0 xs
+pub record AllWritten {X : Type 0} (text_of : ℕ → X → List ℕ) (xs : List X) (start : List ℕ) (k : ℕ) (out : List ℕ) : Type 0 where
+  pub left : out ++ numbered text_of k (drop k xs) ≡ start ++ numbered text_of 0 xs
 
-module _ {X : Type 0} {tell : ℕ → X → List ℕ} {xs : List X} {start out : List ℕ} {k : ℕ}
-    (told : AllWritten tell xs start k out) where
+module _ {X : Type 0} {text_of : ℕ → X → List ℕ} {xs : List X} {start out : List ℕ} {k : ℕ}
+    (told : AllWritten text_of xs start k out) where
   -- Writing the text of the item at k extends the first k items written to `k + 1`.
   pub AllWritten-step : (x : X) (part new : List ℕ)
       → slice_get xs k ≡ Some x
-      → part ≡ tell k x
+      → part ≡ text_of k x
       → new ≡ out ++ part
-      → AllWritten tell xs start (k + 1) new
+      → AllWritten text_of xs start (k + 1) new
   AllWritten-step x part new at is written = record {
     left =
         ap (λ t. t ++ rest) written
@@ -49,18 +49,18 @@ module _ {X : Type 0} {tell : ℕ → X → List ℕ} {xs : List X} {start out :
     where
       -- The texts of the items after the one at k.
       rest : List ℕ
-      rest = numbered tell (k + 1) (drop (k + 1) xs)
+      rest = numbered text_of (k + 1) (drop (k + 1) xs)
 
       -- The texts from k on are the text of the item at k, followed by those of the rest.
-      numbered-split : numbered tell k (drop k xs) ≡ tell k x ++ rest
+      numbered-split : numbered text_of k (drop k xs) ≡ text_of k x ++ rest
       numbered-split =
-          ap (numbered tell k) (drop-get xs k x at)
-          ∙ ap (λ (n : ℕ). tell k x ++ numbered tell n (drop (k + 1) xs)) (let e : suc k ≡ k + 1 = omega arith in e)
+          ap (numbered text_of k) (drop-get xs k x at)
+          ∙ ap (λ (n : ℕ). text_of k x ++ numbered text_of n (drop (k + 1) xs)) (let e : suc k ≡ k + 1 = omega arith in e)
 
   -- If all items are written, `out` is `start` followed by the texts of all.
-  pub AllWritten-of_every : length xs ≤ k → out ≡ start ++ numbered tell 0 xs
+  pub AllWritten-of_every : length xs ≤ k → out ≡ start ++ numbered text_of 0 xs
   AllWritten-of_every whole =
-      sym (append-nil out) ∙ ap (λ (rest : List X). out ++ numbered tell k rest) (sym (drop_all k xs whole)) ∙ told.left
+      sym (append-nil out) ∙ ap (λ (rest : List X). out ++ numbered text_of k rest) (sym (drop_all k xs whole)) ∙ told.left
 
 -- If a title, then the parts, and then the line's end were written, the whole line was.
 pub AllWritten-newline : {T E : Type 0} {first out new whole : List ℕ} (answer : Result T E) (start title parts : List ℕ)
@@ -139,10 +139,10 @@ pub record SourceParts (head : TestHead) (r : Replay) (s : State) (start new : L
   pub after_first_lines : List ℕ
   pub after_threads : List ℕ
   pub words : List ℕ
-  pub begun : after_first_lines ≡ start ++ first_lines head r
-  pub threads : after_threads
+  pub first_lines_are : after_first_lines ≡ start ++ first_lines head r
+  pub threads_are : after_threads
       ≡ after_first_lines ++ numbered (λ t (th : Thread). thread_line head.arch t th.position th.regs) 0 s.threads
-  pub memory : new ≡ after_threads ++ word_line (codes "Memory") head.locs words
+  pub memory_line_is : new ≡ after_threads ++ word_line (codes "Memory") head.locs words
   pub is_memory : words ≡ s.words
 
 -- The parts of a page in sequence are the page of a source test.
@@ -151,8 +151,8 @@ pub source_page-SourceParts : (head : TestHead) (r : Replay) (s : State) (start 
     → new ≡ start ++ source_page head r s
 source_page-SourceParts head r s start new parts =
     let line = word_line (codes "Memory") head.locs in
-    AllWritten-three start _ _ (line s.words) parts.begun parts.threads
-    (parts.memory ∙ ap (λ (ws : List ℕ). parts.after_threads ++ line ws) parts.is_memory)
+    AllWritten-three start _ _ (line s.words) parts.first_lines_are parts.threads_are
+    (parts.memory_line_is ∙ ap (λ (ws : List ℕ). parts.after_threads ++ line ws) parts.is_memory)
 
 -- The text of an x86 test's page, from `start`: the first lines, the processors, memory's words, and the content.
 pub record MachineParts (head : TestHead) (r : Replay) (processors : List Processor) (held : ℕ → ℕ → LineState)
@@ -160,14 +160,14 @@ pub record MachineParts (head : TestHead) (r : Replay) (processors : List Proces
   pub after_first_lines : List ℕ
   pub after_processors : List ℕ
   pub after_memory : List ℕ
-  pub in_memory : List ℕ
-  pub in_content : List ℕ
-  pub begun : after_first_lines ≡ start ++ first_lines head r
-  pub lines : after_processors ≡ after_first_lines ++ numbered (processor_lines head held) 0 processors
-  pub below : after_memory ≡ after_processors ++ word_line (codes "Memory") head.locs in_memory
-  pub last : new ≡ after_memory ++ word_line (codes "Content") head.locs in_content
-  pub is_memory : in_memory ≡ memory
-  pub is_content : in_content ≡ content
+  pub memory_words : List ℕ
+  pub content_words : List ℕ
+  pub first_lines_are : after_first_lines ≡ start ++ first_lines head r
+  pub processors_are : after_processors ≡ after_first_lines ++ numbered (processor_lines head held) 0 processors
+  pub memory_line_is : after_memory ≡ after_processors ++ word_line (codes "Memory") head.locs memory_words
+  pub content_line_is : new ≡ after_memory ++ word_line (codes "Content") head.locs content_words
+  pub is_memory : memory_words ≡ memory
+  pub is_content : content_words ≡ content
 
 -- The parts of a page in sequence are the page of an x86 test.
 pub machine_page-MachineParts : (head : TestHead) (r : Replay) (processors : List Processor) (held : ℕ → ℕ → LineState)
@@ -178,9 +178,9 @@ machine_page-MachineParts head r processors held memory content start new parts 
     let first = word_line (codes "Memory") head.locs in
     let second = word_line (codes "Content") head.locs in
     let all = numbered (processor_lines head held) 0 processors in
-    let behind =
-    AllWritten-three parts.after_first_lines all (first memory) _ parts.lines
-    (parts.below ∙ ap (λ (ws : List ℕ). parts.after_processors ++ first ws) parts.is_memory)
-    (parts.last ∙ ap (λ (ws : List ℕ). parts.after_memory ++ second ws) parts.is_content) in
-    written-append start parts.after_first_lines new (first_lines head r) (all ++ (first memory ++ second content)) parts.begun
-    behind
+    let after =
+    AllWritten-three parts.after_first_lines all (first memory) _ parts.processors_are
+    (parts.memory_line_is ∙ ap (λ (ws : List ℕ). parts.after_processors ++ first ws) parts.is_memory)
+    (parts.content_line_is ∙ ap (λ (ws : List ℕ). parts.after_memory ++ second ws) parts.is_content) in
+    written-append start parts.after_first_lines new (first_lines head r) (all ++ (first memory ++ second content))
+    parts.first_lines_are after

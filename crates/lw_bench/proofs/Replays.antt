@@ -11,8 +11,8 @@ pub IsReplay-IsPageOf : {locs : List (List ℕ)} {events listed : List Event} (p
     → listed ≡ events
     → IsPageOf protocol test listed page end
     → IsReplayPage protocol test schedule page end
-IsReplay-IsPageOf {events} protocol test schedule page end table is_schedule all tells = record {
+IsReplay-IsPageOf {events} protocol test schedule page end table is_schedule all is_page = record {
   events = events;
   is_schedule = subst (λ l. IsSchedule l schedule events) table is_schedule;
-  tells = subst (λ (es : List Event). IsPageOf protocol test es page end) all tells;
+  is_page = subst (λ (es : List Event). IsPageOf protocol test es page end) all is_page;
 }

@@ -8,11 +8,11 @@ use Rattle.lw_bench.proofs.Common.{Devices, IsRun}
 use Rattle.lw_bench.proofs.DeviceFaults.{Read-iff_failed, input_fault_ne_Write, Write_fault-reader_not_failed}
 use Rattle.lw_bench.proofs.DeviceFaults.{other_fault-iff_not_failed, no_device_fault-of_success}
 use Rattle.lw_bench.proofs.DeviceFaults.{Err-injective, Ok_ne_Err}
-use Rattle.lw_bench.proofs.Outputs.{output_written}
+use Rattle.lw_bench.proofs.Outputs.{Writes-of_output}
 use Rattle.lw_bench.proofs.Taken.{TakesBeforeFault-TakesInput, TakesBeforeFault-TakesSome}
 use Rattle.lw_bench.proofs.FaultTruths.{IfSome-of_input_fault, IfSome-of_all, IfSome-FaultIsTrue_of_input}
 
-module _ {R W : Type 0} (readers : Devices R) (writers : Devices W) (Tells : LitmusTest → BenchFault → Type 0) (r s : R)
+module _ {R W : Type 0} (readers : Devices R) (writers : Devices W) (TestFaultIsTrue : LitmusTest → BenchFault → Type 0) (r s : R)
     (w : W) where
   module _ {T : Type 0} (IsMade : T → LitmusTest → Bytes → Type 0) (machine : IfSome (readers.bytes r) IsReachedOnMachine)
       (caches : IfSome (readers.bytes r) IsReachedOverCaches) where
@@ -21,14 +21,14 @@ module _ {R W : Type 0} (readers : Devices R) (writers : Devices W) (Tells : Lit
         → f ≡ (if readers.failed s then Read else Memory)
         → TakesSome (readers.bytes r) (readers.bytes s)
         → writers.failed w ≡ false
-        → IsRun readers writers IsMade Tells r s w w (Err f)
+        → IsRun readers writers IsMade TestFaultIsTrue r s w w (Err f)
     IsRun-unread f is some writing = record {
       written = tt;
       machine = machine;
       caches = caches;
       fault =
-          IfSome-of_input_fault (RunFaultIsTrue Tells) (readers.bytes r) f (readers.failed s) (λ bytes. inl tt) (λ bytes. inl tt)
-          is;
+          IfSome-of_input_fault (RunFaultIsTrue TestFaultIsTrue) (readers.bytes r) f (readers.failed s) (λ bytes. inl tt)
+          (λ bytes. inl tt) is;
       taken = tt;
       left = TakesBeforeFault-TakesSome _ _ f (readers.failed s) is some;
       read = Read-iff_failed (Err f) f f (readers.failed s) refl refl is;
@@ -40,15 +40,15 @@ module _ {R W : Type 0} (readers : Devices R) (writers : Devices W) (Tells : Lit
         (reading : readers.failed s ≡ false) where
       -- If everything was read, but nothing can be rendered from the text, the run satisfies its contract: it reports why.
       pub IsRun-no_output : (f : BenchFault)
-          → RunFaultIsTrue Tells bytes f
+          → RunFaultIsTrue TestFaultIsTrue bytes f
           → IsNotDeviceFault f
           → writers.failed w ≡ false
-          → IsRun readers writers IsMade Tells r s w w (Err f)
+          → IsRun readers writers IsMade TestFaultIsTrue r s w w (Err f)
       IsRun-no_output f told device writing = record {
         written = tt;
         machine = machine;
         caches = caches;
-        fault = IfSome-FaultIsTrue_of_input Tells _ bytes f input told;
+        fault = IfSome-FaultIsTrue_of_input TestFaultIsTrue _ bytes f input told;
         taken = tt;
         left = TakesBeforeFault-TakesInput _ _ f taken;
         read = other_fault-iff_not_failed (Err f) f f Read _ refl refl device.0 reading;
@@ -57,12 +57,12 @@ module _ {R W : Type 0} (readers : Devices R) (writers : Devices W) (Tells : Lit
       }
 
       -- If the writer failed, the run satisfies its contract: it reports the writer's fault.
-      pub IsRun-unwritten : (v : W) → writers.failed v ≡ true → IsRun readers writers IsMade Tells r s w v (Err Write)
+      pub IsRun-unwritten : (v : W) → writers.failed v ≡ true → IsRun readers writers IsMade TestFaultIsTrue r s w v (Err Write)
       IsRun-unwritten v failed = record {
         written = tt;
         machine = machine;
         caches = caches;
-        fault = IfSome-of_all (RunFaultIsTrue Tells) _ Write (λ bytes. inl tt);
+        fault = IfSome-of_all (RunFaultIsTrue TestFaultIsTrue) _ Write (λ bytes. inl tt);
         taken = tt;
         left = TakesBeforeFault-TakesInput _ _ Write taken;
         read = Write_fault-reader_not_failed _ reading;
@@ -75,9 +75,9 @@ module _ {R W : Type 0} (readers : Devices R) (writers : Devices W) (Tells : Lit
           → IsOutputOf (IsMade answer) bytes made
           → Appends (writers.bytes w) (writers.bytes v) made
           → writers.failed v ≡ false
-          → IsRun readers writers IsMade Tells r s w v (Ok answer)
+          → IsRun readers writers IsMade TestFaultIsTrue r s w v (Ok answer)
       IsRun-written v answer made makes appended writing = record {
-        written = output_written (IsMade answer) _ _ _ bytes made input makes appended;
+        written = Writes-of_output (IsMade answer) _ _ _ bytes made input makes appended;
         machine = machine;
         caches = caches;
         fault = tt;
@@ -100,7 +100,7 @@ Writes-weakened P Q weaker (Some text) before after (made, makes, appended) =
 
 -- A run whose result is computed from that of another.
 module _ {R W T U : Type 0} (readers : Devices R) (writers : Devices W) (P : T → LitmusTest → Bytes → Type 0)
-    (Q : U → LitmusTest → Bytes → Type 0) (Tells : LitmusTest → BenchFault → Type 0) (r s : R) (w v : W) where
+    (Q : U → LitmusTest → Bytes → Type 0) (TestFaultIsTrue : LitmusTest → BenchFault → Type 0) (r s : R) (w v : W) where
   -- A fault is a device's or not, whatever the type of the answer.
   same_fault : (f other : BenchFault) (failed : Bool)
       → ((let a : Result T BenchFault = Err f in a) ≡ Err other ↔ failed ≡ true)
@@ -110,8 +110,8 @@ module _ {R W T U : Type 0} (readers : Devices R) (writers : Devices W) (P : T �
 
   -- If a run consists of another that fails, its fault is that one's.
   pub IsRun-same_fault : (f : BenchFault)
-      → IsRun readers writers P Tells r s w v (Err f)
-      → IsRun readers writers Q Tells r s w v (Err f)
+      → IsRun readers writers P TestFaultIsTrue r s w v (Err f)
+      → IsRun readers writers Q TestFaultIsTrue r s w v (Err f)
   IsRun-same_fault f run = record {
     written = tt;
     machine = run.machine;
@@ -134,8 +134,8 @@ module _ {R W T U : Type 0} (readers : Devices R) (writers : Devices W) (P : T �
   -- If a run consists of another that succeeds, so does it, and its output satisfies its own rule Q, which P implies.
   pub IsRun-weakened : (answer : T) (other : U)
       → ((test : LitmusTest) (made : Bytes) → P answer test made → Q other test made)
-      → IsRun readers writers P Tells r s w v (Ok answer)
-      → IsRun readers writers Q Tells r s w v (Ok other)
+      → IsRun readers writers P TestFaultIsTrue r s w v (Ok answer)
+      → IsRun readers writers Q TestFaultIsTrue r s w v (Ok other)
   IsRun-weakened answer other weaker run = record {
     written = Writes-weakened (P answer) (Q other) weaker _ _ _ run.written;
     machine = run.machine;

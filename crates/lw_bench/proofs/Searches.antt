@@ -79,14 +79,14 @@ module _ (program : List (List Instr)) where
       (act_after (event_effect program (length s.memory) e p) s.memory)
 
   -- Computes the state after an event over flat memory; `None` if the event is not enabled.
-  abbrev pub event_after : Event → MachineState (List ℕ) → Option (MachineState (List ℕ))
-  event_after e s = state_after_event_of (slice_get s.processors (cpu_of e)) e s
+  abbrev pub state_after_event : Event → MachineState (List ℕ) → Option (MachineState (List ℕ))
+  state_after_event e s = state_after_event_of (slice_get s.processors (cpu_of e)) e s
 
   -- An event that is executed leads to the computed state.
-  pub event_after-MachineTransition : (e : Event) (s after : MachineState (List ℕ))
+  pub state_after_event-MachineTransition : (e : Event) (s after : MachineState (List ℕ))
       → MachineTransition flat_memory program e s (Ok tt) after
-      → event_after e s ≡ Some after
-  event_after-MachineTransition e s after = go (slice_get s.processors (cpu_of e))
+      → state_after_event e s ≡ Some after
+  state_after_event-MachineTransition e s after = go (slice_get s.processors (cpu_of e))
     where
       go : (o : Option Processor)
           → ProcessorTransition flat_memory o program e s (Ok tt) after
@@ -108,9 +108,9 @@ module _ (program : List (List Instr)) where
     every_machine_end_satisfies zero s = false
     every_machine_end_satisfies (suc n) s =
         (if machine.is_final program s then ok (machine.machine_outcome flat_memory s) else true)
-        && (agree_below (λ t. holds_if_reached (every_machine_end_satisfies n) (event_after (Step t) s)) (λ t. true)
+        && (agree_below (λ t. holds_if_reached (every_machine_end_satisfies n) (state_after_event (Step t) s)) (λ t. true)
         (length s.processors)
-        && agree_below (λ t. holds_if_reached (every_machine_end_satisfies n) (event_after (Drain t) s)) (λ t. true)
+        && agree_below (λ t. holds_if_reached (every_machine_end_satisfies n) (state_after_event (Drain t) s)) (λ t. true)
         (length s.processors))
 
     -- An event that is executed is one of a processor of the state.
@@ -154,13 +154,13 @@ module _ (program : List (List Instr)) where
         let each = agree_below_at _ _ _ t (and_parts _ _ (and_parts _ _ so).1).0 (cpu_in_range (Step t) s _ ran.1) in
         every_machine_end_satisfies-sound n events ran.0 end
         (subst (λ r. holds_if_reached (every_machine_end_satisfies n) r ≡ true)
-        (event_after-MachineTransition (Step t) s ran.0 ran.1) each) ran.2 final
+        (state_after_event-MachineTransition (Step t) s ran.0 ran.1) each) ran.2 final
     every_machine_end_satisfies-sound (suc n) (Drain t ∷ events) s end so ran final =
         let each =
-        agree_below_at (λ t. holds_if_reached (every_machine_end_satisfies n) (event_after (Drain t) s)) (λ t. true)
+        agree_below_at (λ t. holds_if_reached (every_machine_end_satisfies n) (state_after_event (Drain t) s)) (λ t. true)
         (length s.processors) t (and_parts _ _ (and_parts _ _ so).1).1 (cpu_in_range (Drain t) s ran.0 ran.1) in
         every_machine_end_satisfies-sound n events ran.0 end
         (subst (λ r. holds_if_reached (every_machine_end_satisfies n) r ≡ true)
-        (event_after-MachineTransition (Drain t) s ran.0 ran.1) each) ran.2 final
+        (state_after_event-MachineTransition (Drain t) s ran.0 ran.1) each) ran.2 final
     every_machine_end_satisfies-sound (suc n) (Evict t x ∷ events) s end so ran final =
         absurd (no_Evict-if_flat_memory t x s ran.0 ran.1)

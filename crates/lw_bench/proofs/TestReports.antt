@@ -33,21 +33,21 @@ module _ (agree : SameWordsAgree) (test : LitmusTest) (outcomes : List FinalStat
       (p.0, p.1, λ i. record { words = p.2 i; holds = truth i })
 
   -- The report rendered from a list that shows a test's outcomes is the test's report.
-  pub report_of_list : (states : List ListedState) (text : List ℕ)
+  pub IsExactReport-of_list : (states : List ListedState) (text : List ℕ)
       → AreListedStates head outcomes states
       → text ≡ report_text head Exact (map projection_of states)
       → IsExactReport test text
-  report_of_list states text listed is =
+  IsExactReport-of_list states text listed is =
       IsReport-of_listing _ _ _ are_observed.sound state_observed Exact states text
       (subst (λ d. AreListedStates d outcomes states) same listed)
       (subst (λ d. text ≡ report_text d Exact (map projection_of states)) same is)
 
   -- The list of marked states that results from a list that shows a test's outcomes is the test's.
-  pub marks_of_list : (states : List ListedState) (text : List ℕ)
+  pub IsExactMarkedList-of_list : (states : List ListedState) (text : List ℕ)
       → AreListedStates head outcomes states
       → text ≡ marked_list_text head (map projection_of states)
       → IsExactMarkedList test text
-  marks_of_list states text listed is =
+  IsExactMarkedList-of_list states text listed is =
       IsMarkedList-of_listing _ _ _ are_observed.sound state_observed states text
       (subst (λ d. AreListedStates d outcomes states) same listed)
       (subst (λ d. text ≡ marked_list_text d (map projection_of states)) same is)
@@ -64,11 +64,11 @@ HasOutcomeShape-of_same_head test outcomes shapes head same =
 module _ (test : LitmusTest) (entries : OutcomeEntries) (list : IsListOf test entries) (head : TestHead)
     (same : head ≡ head_of_test test) where
   -- The list of schedules rendered from a test's list is the test's list of schedules.
-  pub schedules_of_list : (states : List ListedState) (text : List ℕ)
+  pub IsExactScheduleList-of_list : (states : List ListedState) (text : List ℕ)
       → AreListedStates head (outcomes_of entries) states
       → text ≡ schedule_list_text head (map (scheduled (schedules_of entries)) states)
       → IsExactScheduleList test text
-  schedules_of_list states text listed is = record {
+  IsExactScheduleList-of_list states text listed is = record {
     program = list.program;
     of_test = list.of_test;
     is_schedule_list =

@@ -46,11 +46,11 @@ one_report_of one text a b m n =
 -- ---- compiled programs
 
 -- A compiled program fits the caches if its source has no more threads than they have processors.
-fits_compiled : (s : SourceTest) (p : X86Test) (starts : List (List ℕ))
+FitsCaches-compiled : (s : SourceTest) (p : X86Test) (starts : List (List ℕ))
     → IsCompiled s p starts
     → s.head.threads ≤ most_threads
     → FitsCaches p
-fits_compiled s p starts compiled few = subst (λ (h : TestHead). h.threads ≤ most_threads) (sym compiled.head) few
+FitsCaches-compiled s p starts compiled few = subst (λ (h : TestHead). h.threads ≤ most_threads) (sym compiled.head) few
 
 -- A compiled program's outcomes over caches are those of its source test by interleaving.
 pub outcomes_over_caches : CachesAreFlat
@@ -66,7 +66,7 @@ outcomes_over_caches caches s p starts ok compiled fits protocol o =
     ((λ outcome. same.0 (over.0 outcome)), (λ outcome. over.1 (same.1 outcome)))
 
 -- A program compiled with any choice of fences has at least its source test's outcomes.
-pub outcomes_with_fences : {fences : List (List Bool)} {s : SourceTest} {p : X86Test} {starts : List (List ℕ)}
+pub OutcomeOverCaches-with_fences : {fences : List (List Bool)} {s : SourceTest} {p : X86Test} {starts : List (List ℕ)}
     → CachesAreFlat
     → IsWellScopedSource s
     → IsCompiledWith fences s p starts
@@ -74,21 +74,21 @@ pub outcomes_with_fences : {fences : List (List Bool)} {s : SourceTest} {p : X86
     → (protocol : Protocol) (o : FinalState)
     → SourceOutcome s o
     → OutcomeOverCaches protocol p o
-outcomes_with_fences {s} {p} caches ok compiled fits protocol o outcome =
+OutcomeOverCaches-with_fences {s} {p} caches ok compiled fits protocol o outcome =
     (caches protocol p o (IsWellScopedProgram-with_fences _ s p _ ok compiled) fits).1 (IsMachineOutcome-of_source _ s p _ o ok
     compiled outcome)
 
 -- ---- the program that is run for a test
 
 -- The program that is run for a test has exactly the test's outcomes on the machine.
-pub program_runs : (test : LitmusTest) (program : X86Test)
+pub IsProgramOf-program_run : (test : LitmusTest) (program : X86Test)
     → IsWellFormedTest test
     → IsProgramRunFor test program
     → IsProgramOf test program
-program_runs (Of_source test) program ok runs =
+IsProgramOf-program_run (Of_source test) program ok runs =
     let scoped = IsWellScoped-well_formed source_language ok in
     record { runs = runs; outcomes = λ o. IsMachineOutcome-compiled_iff test program runs.0 o scoped runs.1 }
-program_runs (Of_x86 test) program ok runs = record {
+IsProgramOf-program_run (Of_x86 test) program ok runs = record {
   runs = runs;
   outcomes = λ o.
       let same = ap (λ (p : X86Test). IsMachineOutcome flat_memory p p.head.init_words o) runs in
@@ -99,19 +99,19 @@ program_runs (Of_x86 test) program ok runs = record {
 pub has_program : (test : LitmusTest) → IsWellFormedTest test → (program : X86Test) × IsProgramOf test program
 has_program (Of_source test) ok =
     let some = IsCompiled-exists test (IsWellScoped-well_formed source_language ok) in
-    (some.0, program_runs (Of_source test) some.0 ok (some.1, some.2))
-has_program (Of_x86 test) ok = (test, program_runs (Of_x86 test) test ok refl)
+    (some.0, IsProgramOf-program_run (Of_source test) some.0 ok (some.1, some.2))
+has_program (Of_x86 test) ok = (test, IsProgramOf-program_run (Of_x86 test) test ok refl)
 
 -- The program that is run for a test has exactly the test's outcomes over caches.
-pub runs_over_caches : CachesAreFlat
+pub HasOverCaches-program_run : CachesAreFlat
     → (test : LitmusTest) (program : X86Test)
     → IsWellFormedTest test
     → IsProgramRunFor test program
     → HasOverCaches test program
-runs_over_caches caches (Of_source test) program ok runs =
+HasOverCaches-program_run caches (Of_source test) program ok runs =
     outcomes_over_caches caches test program runs.0 (IsWellScoped-well_formed source_language ok) runs.1
-    (fits_compiled test program runs.0 runs.1 ok.head.bounded)
-runs_over_caches caches (Of_x86 test) program ok runs =
+    (FitsCaches-compiled test program runs.0 runs.1 ok.head.bounded)
+HasOverCaches-program_run caches (Of_x86 test) program ok runs =
     subst (HasOverCaches (Of_x86 test)) (sym runs)
     (λ protocol o. caches protocol test o (IsWellScoped-well_formed x86_language ok) ok.head.bounded)
 

@@ -17,20 +17,20 @@ TakesInput before after = IfSome before (λ input. after ≡ Some (drop most_rea
 abbrev pub TakesSome : Option Bytes → Option Bytes → Type 0
 TakesSome before after = IfSome before (λ input. (count : ℕ) × (count ≤ most_read_bytes) × (after ≡ Some (drop count input)))
 
--- A reader returned `count` more bytes, which were appended to those read before. It returns none only at its end.
+-- A reader returned `count` more bytes, which were appended to those read before. The reader returns none only at its end.
 pub record ReadsMore (known left : Option Bytes) (before after : Bytes) (count : ℕ) : Type 0 where
-  pub got : Bytes
-  pub as_many : length got ≡ count
-  pub added : after ≡ before ++ got
+  pub new_bytes : Bytes
+  pub as_many : length new_bytes ≡ count
+  pub added : after ≡ before ++ new_bytes
   pub limit : length after ≤ most_read_bytes
-  pub consumed : Consumes known left got
+  pub consumed : Consumes known left new_bytes
   pub ended : count ≡ 0 → IsAtEnd left
 
 -- Some bytes were consumed and lost. Together with those read before they are at most as many as may be read.
 pub record LosesInput (known left : Option Bytes) (before : Bytes) : Type 0 where
-  pub got : Bytes
-  pub limit : length before + length got ≤ most_read_bytes
-  pub consumed : Consumes known left got
+  pub new_bytes : Bytes
+  pub limit : length before + length new_bytes ≤ most_read_bytes
+  pub consumed : Consumes known left new_bytes
 
 -- A prefix of the bytes was written, and `rest` remains.
 pub record WritesPrefix (before after : Option Bytes) (bytes rest : Bytes) : Type 0 where

@@ -39,7 +39,7 @@ pub record WritesLine {A : Type 0} (line : Bytes) (s : ℕ) (e : Ending A) : Typ
   pub line_is : line_of e ≡ Some line
   pub status_is : status_of e ≡ s
 
--- The ending writes the line of a fault, and has its exit status; or, if memory ran out for the line, the line of that.
+-- The ending writes the line of a fault, and has the fault's exit status; or, if memory ran out for this line, it does both for `Memory`.
 abbrev pub Reports : {A : Type 0} → BenchFault → Ending A → Type 0
 Reports f e = WritesLine (fault_text f) (status f) e ⊎ WritesLine (fault_text Memory) (status Memory) e
 

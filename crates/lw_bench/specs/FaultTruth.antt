@@ -1,4 +1,5 @@
--- What a fault states of a run's text, of a cell, and of the test. Out of memory is always reported as `Memory`.
+-- What a fault states of a run's text, of a cell, and of the test. That memory ran out is always reported as `Memory`, and never as the fault
+-- of a text or a cell (`not_out_of_memory`).
 use Rattle.std.specs.Prelude.{◌≡◌, ◌≢◌, ◌⊎◌, ◌<◌, ◌≤◌, Option, List, length}
 use Rattle.std.specs.Option.{IfSome}
 use Rattle.std.specs.Str.{IsUtf8, IsValidUpTo}
@@ -42,7 +43,7 @@ pub record TextFaultIsTrue (bytes : Bytes) (f : TextFault) : Type 0 where
       → f ≡ record { at = utf8_valid_len bytes; cause = text.NotUtf8 }
   pub only_not_utf8 : f.cause ≡ text.NotUtf8
       → (length bytes ≤ most_text_bytes) × (¬ IsUtf8 bytes) × IsValidUpTo bytes f.at
-  pub in_memory : f.cause ≢ text.Memory
+  pub not_out_of_memory : f.cause ≢ text.Memory
   -- Any other fault is at the byte at which the text first fails to be a frame's, for the reason that its cause means.
   pub fails : f.cause ≢ text.TooLong → f.cause ≢ text.NotUtf8 → FailsAt bytes f.at f.cause
 
@@ -61,9 +62,9 @@ pub record CellFaultIsTrueOf (bytes : Bytes) (f : CellFault) : Type 0 where
   pub none : (test : LitmusTest) → FrameHasTest frame test → ⊥
   pub place : f.at ≤ length bytes
   pub cause : CellFaultIsTrueIn frame.head.arch frame.head.locs cells f
-  pub in_memory : f.cause ≢ cell.Memory
+  pub not_out_of_memory : f.cause ≢ cell.Memory
 
--- The fault is not the failure of a device.
+-- The fault is not the failure of a device, of the reader or of the writer.
 abbrev pub IsNotDeviceFault : BenchFault → Type 0
 IsNotDeviceFault f = (f ≢ Read) × (f ≢ Write)
 

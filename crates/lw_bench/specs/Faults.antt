@@ -56,8 +56,8 @@ limit_run_fault list.TooManyOrders = Limit list.TooManyOrders
 
 -- The line of a fault with a place: its kind (text, cell, schedule), its cause's code and name, and the offset.
 abbrev pub placed_text : Bytes → ℕ → Bytes → ℕ → Bytes
-placed_text kind number name place =
-    codes "lw: " ++ (kind ++ (codes " " ++ (decimal number ++ (codes " " ++ (name ++ (codes " at " ++ decimal place))))))
+placed_text kind code name place =
+    codes "lw: " ++ (kind ++ (codes " " ++ (decimal code ++ (codes " " ++ (name ++ (codes " at " ++ decimal place))))))
 
 -- The line of a fault, without its end.
 abbrev pub fault_text : BenchFault → Bytes

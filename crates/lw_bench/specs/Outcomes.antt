@@ -31,6 +31,6 @@ pub record IsProgramOf (test : LitmusTest) (program : X86Test) : Type 0 where
 abbrev pub HasOverCaches : LitmusTest → X86Test → Type 0
 HasOverCaches test program = (protocol : Protocol) (o : FinalState) → OutcomeOverCaches protocol program o ↔ OutcomeOf test o
 
--- The schedule takes the program to the outcome.
+-- The schedule takes the program to the outcome, over caches of any protocol.
 abbrev pub ProgramReplaysTo : X86Test → List Event → FinalState → Type 0
 ProgramReplaysTo program events o = (protocol : Protocol) → ReplaysToOverCaches protocol program events o

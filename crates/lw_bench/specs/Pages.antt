@@ -17,14 +17,14 @@ use Rattle.lw_memory.specs.declared.system.LineState.TheVariants.{M, O, E, S, I}
 use Rattle.lw_interleaving.specs.Runs.{State}
 use Rattle.lw_tso.specs.Processors.{Processor}
 
--- The concatenated texts of a list's items, each by `tell` from the item's index, counted from k, and the item.
+-- The concatenated texts of a list's items, each by `text_of` from the item's index, counted from k, and the item.
 abbrev pub numbered : {X : Type 0} → (ℕ → X → Bytes) → ℕ → List X → Bytes
-numbered tell k [] = []
-numbered tell k (x ∷ xs) = tell k x ++ numbered tell (suc k) xs
+numbered text_of k [] = []
+numbered text_of k (x ∷ xs) = text_of k x ++ numbered text_of (suc k) xs
 
 -- A space, a name, `=`, and the text of its index k.
 abbrev pub named : (ℕ → Bytes) → ℕ → Bytes → Bytes
-named tell k name = codes " " ++ (name ++ (codes "=" ++ tell k))
+named text_of k name = codes " " ++ (name ++ (codes "=" ++ text_of k))
 
 -- The word at an index, in decimal.
 abbrev pub word_at : List ℕ → ℕ → Bytes
@@ -56,7 +56,7 @@ thread_line arch t position regs =
 
 -- A title, and the text of each location's index.
 abbrev pub location_line : Bytes → (ℕ → Bytes) → NameTable → Bytes
-location_line title tell names = title ++ (numbered (named tell) 0 names ++ codes "\n")
+location_line title text_of names = title ++ (numbered (named text_of) 0 names ++ codes "\n")
 
 -- A title, and a word for each location.
 abbrev pub word_line : Bytes → NameTable → List ℕ → Bytes
@@ -75,7 +75,7 @@ source_page head r s =
 
 -- `P`, the processor's index, and the rest of its line.
 abbrev pub processor_title : ℕ → Bytes → Bytes
-processor_title t word = codes "P" ++ (decimal t ++ word)
+processor_title t rest = codes "P" ++ (decimal t ++ rest)
 
 -- A space, and an entry of a store buffer.
 abbrev pub entry_text : NameTable → ℕ → (ℕ × ℕ) → Bytes
@@ -86,7 +86,7 @@ abbrev pub buffer_line : NameTable → ℕ → List (ℕ × ℕ) → Bytes
 buffer_line names t buffer =
     processor_title t (codes " buffer" ++ (numbered (entry_text names) 0 buffer ++ codes "\n"))
 
--- The letter of a cache line's state.
+-- The letter of the state of a copy in a cache.
 abbrev pub letter : LineState → Bytes
 letter M = codes "M"
 letter O = codes "O"
@@ -94,15 +94,15 @@ letter E = codes "E"
 letter S = codes "S"
 letter I = codes "I"
 
--- The line of a processor's cache: the state of each location.
-abbrev pub cache_line : NameTable → ℕ → (ℕ → LineState) → Bytes
-cache_line names t held =
+-- The line of a processor's cache, by the state of each location's copy there.
+abbrev pub cache_text : NameTable → ℕ → (ℕ → LineState) → Bytes
+cache_text names t held =
     processor_title t (codes " lines" ++ (numbered (named (λ x. letter (held x))) 0 names ++ codes "\n"))
 
--- The lines of a processor: its position and registers, its store buffer, and its cache lines.
+-- The lines of a processor: its position and registers, its store buffer, and its cache.
 abbrev pub processor_lines : TestHead → (ℕ → ℕ → LineState) → ℕ → Processor → Bytes
 processor_lines head held t p =
-    thread_line head.arch t p.position p.regs ++ (buffer_line head.locs t p.buffer ++ cache_line head.locs t (held t))
+    thread_line head.arch t p.position p.regs ++ (buffer_line head.locs t p.buffer ++ cache_text head.locs t (held t))
 
 -- The page of an x86 test: its processors, the words in memory, and the coherent words.
 abbrev pub machine_page : TestHead → Replay → List Processor → (ℕ → ℕ → LineState) → List ℕ → List ℕ → Bytes

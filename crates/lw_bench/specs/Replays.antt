@@ -50,4 +50,4 @@ IsPageOf protocol (Of_x86 test) = CachesPage protocol test
 pub record IsReplayPage (protocol : Protocol) (test : LitmusTest) (schedule page : Bytes) (end : End) : Type 0 where
   pub events : List Event
   pub is_schedule : IsSchedule (head_of_test test).locs schedule events
-  pub tells : IsPageOf protocol test events page end
+  pub is_page : IsPageOf protocol test events page end

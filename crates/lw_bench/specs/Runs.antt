@@ -19,18 +19,18 @@ pub record Devices (D : Type 0) : Type 0 where
 abbrev pub devices : {D : Type 0} → (D → Option Bytes) → (D → Bool) → Devices D
 devices bytes failed = record { bytes = bytes; failed = failed }
 
--- A run reads a test, renders its output, as `IsMade` says with its answer, and writes it; `Tells` says what a fault states of the test.
+-- A run reads a test, renders its output, as `IsMade` says with its answer, and writes it; `TestFaultIsTrue` says what a fault states of the test.
 -- The run changes the reader from `r` to `s`, and the writer from `w` to `v`.
 pub record IsRun {R W T : Type 0} (readers : Devices R) (writers : Devices W) (IsMade : T → LitmusTest → Bytes → Type 0)
-    (Tells : LitmusTest → BenchFault → Type 0) (r s : R) (w v : W) (result : Result T BenchFault) : Type 0 where
-  -- If it returns an answer, the output of the test has been written, and nothing else.
+    (TestFaultIsTrue : LitmusTest → BenchFault → Type 0) (r s : R) (w v : W) (result : Result T BenchFault) : Type 0 where
+  -- If the run returns an answer, the output of the test has been written, and nothing else.
   pub written : IfOk result (λ answer. Writes (IsMade answer) (readers.bytes r) (writers.bytes w) (writers.bytes v))
   -- For every test of the input, its outcomes are those that its x86 program reaches on the machine, and over caches.
   pub machine : IfSome (readers.bytes r) IsReachedOnMachine
   pub caches : IfSome (readers.bytes r) IsReachedOverCaches
   -- What a fault states is true.
-  pub fault : IfErr result (InputFaultIsTrue Tells (readers.bytes r))
-  -- It consumes the whole input, or its first 65,537 bytes; or some of these if the reader failed or memory ran out.
+  pub fault : IfErr result (InputFaultIsTrue TestFaultIsTrue (readers.bytes r))
+  -- The run consumes the whole input, or its first 65,537 bytes; or some of these if the reader failed or memory ran out.
   pub taken : OnOk result (TakesInput (readers.bytes r) (readers.bytes s))
   pub left : IfErr result (λ f. TakesBeforeFault f (readers.bytes r) (readers.bytes s))
   -- The faults of devices are reported if and only if the devices failed, and after any other fault the writer is unchanged.

@@ -50,7 +50,7 @@ fn without_arguments<'a>(others: &[&'a str], task: Task<'a>) -> Option<Task<'a>>
     Some(task)
 }
 
-/// Parses the arguments after `replay`.
+/// Parses the arguments after `replay`: a schedule, and optionally a protocol. Returns `None` for all others.
 fn replay_command<'a>(others: &[&'a str]) -> Option<Task<'a>>
     ensures { MatchOption result
         (HoldsOfNothing (IsCommand (codes "replay" ∷ map (λ w. w.now) others.now)))
@@ -63,7 +63,8 @@ fn replay_command<'a>(others: &[&'a str]) -> Option<Task<'a>>
     Some(Task::Replay(schedule, protocol))
 }
 
-/// Parses the arguments after the schedule as a protocol, which is MESI if there are none.
+/// Parses the arguments after the schedule as a protocol: `--protocol` and its name, or nothing for MESI. Returns `None` for
+/// all others.
 fn protocol_of(option: &[&str]) -> Option<Protocol>
     ensures { MatchOption result
         (HoldsOfNothing (IsProtocolOption (map (λ w. w.now) option.now)))

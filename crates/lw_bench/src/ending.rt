@@ -68,7 +68,7 @@ impl<A: Allocator> Ending<A> {
     }
 }
 
-/// Returns the ending that reports a fault. If memory runs out for the fault's line, it reports that.
+/// Returns the ending that reports a fault. If memory runs out for the fault's line, the ending reports that memory ran out.
 pub fn refusal_of<A: Allocator + Copy>(alloc: A, fault: &BenchFault) -> Ending<A>
     ensures { Reports fault.now result }
 {

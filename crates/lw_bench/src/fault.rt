@@ -141,13 +141,13 @@ pub fn fault_line<A: Allocator + Copy>(
 fn placed_line<A: Allocator>(
     alloc: A,
     kind: &str,
-    number: u8,
+    code: u8,
     name: &str,
     place: usize,
 ) -> Result<String<A>, AllocError>
-    ensures { IfOk result (λ line. string_bytes line ≡ placed_text kind.now number name.now place) }
+    ensures { IfOk result (λ line. string_bytes line ≡ placed_text kind.now code name.now place) }
 {
-    format!(in alloc; "lw: {} {} {} at {}", kind, number, name, place)
+    format!(in alloc; "lw: {} {} {} at {}", kind, code, name, place)
 }
 
 /// Returns the exit status of a fault: 1 if the text, a cell or the schedule is rejected, 3 if a limit is exceeded,

@@ -40,8 +40,8 @@ pub fn store_buffering_is_forbidden_with_fences()
 /// States that a compiled program with more fences is the one with fewer fences with MFENCEs inserted, and that it
 /// has only outcomes of the one with fewer. So with any fences it has only outcomes that it has without fences. In
 /// `fences` and `others`, each thread has flags for its statements: a load with a flag that is set has a fence before
-/// it. In `starts` and `begins`, each thread has a list of the indices at which its statements start among its
-/// instructions.
+/// it. In `starts` and `begins`, each thread has a list: the indices at which its statements start among its
+/// instructions, and at the end the number of these.
 pub fn more_fences_have_no_more_outcomes()
     ensures are_inserted { (fences others : List (List Bool)) (source : SourceTest) (program other : X86Test)
         (starts begins : List (List ℕ)) → AreSubset fences others → IsCompiledWith fences source program starts
@@ -66,7 +66,8 @@ pub fn more_fences_have_no_more_outcomes()
 
 /// States, of a source in which no statement needs a fence by the compiler's rule (no load follows a store without a
 /// locked instruction between), that the compiled program is the one without fences, and has exactly the source's
-/// outcomes. In `starts`, each thread has a list of the indices at which its statements start among its instructions.
+/// outcomes. In `starts`, each thread has a list: the indices at which its statements start among its instructions, and
+/// at the end the number of these.
 pub fn no_fence_is_needed_if_no_store_waits()
     ensures same_program { (source : SourceTest) (program : X86Test) (starts : List (List ℕ)) → NeedsNoFence source
         → IsCompiled source program starts ↔ IsCompiledWithoutFences source program starts }

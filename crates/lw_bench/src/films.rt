@@ -83,7 +83,7 @@ impl<'a, A: Allocator + Copy> Renderer<A> for FilmRenderer<'a> {
 
     ghost is_made = { λ r _ test film. IsFilm r.protocol test r.schedule.now film };
 
-    ghost tells = { λ r. ReplayFaultIsTrue r.schedule.now };
+    ghost fault_is_true = { λ r. ReplayFaultIsTrue r.schedule.now };
 
     /// Renders the film of the test's replay.
     fn render(&self, alloc: A, test: &LitmusTest<A>) -> Result<(Text<A>, ()), BenchFault> {

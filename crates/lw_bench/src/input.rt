@@ -14,7 +14,8 @@ const MAX_READ_BYTES: usize = MAX_TEXT_BYTES + 1;
 /// The number of bytes that are requested at once.
 const CHUNK: usize = 1024;
 
-/// Reads to the end of the input, or up to 65,537 bytes, one more than a text may have.
+/// Reads to the end of the input, or up to 65,537 bytes, one more than a text may have: so a text that is too long is
+/// recognized without its rest. Fails with `Read` if the reader fails, and with `Memory` if memory runs out.
 /// The reader must not have failed before, and is not called again after it failed.
 pub fn read_input<R: ByteReader, A: Allocator>(
     alloc: A,
@@ -36,7 +37,8 @@ pub fn read_input<R: ByteReader, A: Allocator>(
     Ok(bytes)
 }
 
-/// Appends the next bytes, at most as many as may still be read, and returns their number.
+/// Appends the next bytes to `bytes`, at most as many as may still be read, and returns their number, which is 0 only at the
+/// end of the input. If memory runs out, the bytes that were pulled are lost.
 fn pull_chunk<R: ByteReader, A: Allocator>(
     reader: &mut R,
     bytes: &mut Vec<u8, A>,

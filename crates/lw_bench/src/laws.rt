@@ -81,8 +81,9 @@ pub fn a_text_has_one_report()
     a_text_has_one_test();
 }
 
-/// States that a source test has exactly one compiled program, with one table of where its statements start: in
-/// `starts` and `begins`, each thread has a list of the indices at which its statements start among its instructions.
+/// States that a source test has exactly one compiled program, with one table of where its statements start. In `starts`
+/// and `begins`, each thread has a list: the indices at which its statements start among its instructions, and at the end
+/// the number of these.
 pub fn a_source_has_one_compiled_program()
     ensures some { (source : SourceTest) → IsWellScopedSource source
         → (program : X86Test) × (starts : List (List ℕ)) × IsCompiled source program starts }
@@ -91,8 +92,8 @@ pub fn a_source_has_one_compiled_program()
 {}
 
 /// States that the compiled program has exactly its source's outcomes, over every lawful memory, from any of its
-/// states with the source's initial words. In `starts`, each thread has a list of the indices at which its statements
-/// start among its instructions.
+/// states with the source's initial words. In `starts`, each thread has a list: the indices at which its statements start
+/// among its instructions, and at the end the number of these.
 pub fn compiled_programs_have_their_sources_outcomes_over_every_memory<M: MemorySystem>()
     ensures { (source : SourceTest) (program : X86Test) (starts : List (List ℕ)) (m : M) (o : FinalState)
         → IsWellScopedSource source → IsCompiled source program starts
@@ -103,8 +104,8 @@ pub fn compiled_programs_have_their_sources_outcomes_over_every_memory<M: Memory
 }
 
 /// States that the compiled program of a source test has exactly its source's outcomes over flat memory, and over
-/// caches of either protocol, empty at the start, with evictions at any time. In `starts`, each thread has a list of
-/// the indices at which its statements start among its instructions.
+/// caches of either protocol, empty at the start, with evictions at any time. In `starts`, each thread has a list: the
+/// indices at which its statements start among its instructions, and at the end the number of these.
 pub fn compiled_programs_have_their_sources_outcomes()
     ensures flat_memory { (source : SourceTest) (program : X86Test) (starts : List (List ℕ)) (o : FinalState)
         → IsWellScopedSource source → IsCompiled source program starts
@@ -118,8 +119,8 @@ pub fn compiled_programs_have_their_sources_outcomes()
 
 /// States that every interleaving outcome is an outcome of the compiled program without its fences, and with fences
 /// before any other of its loads: interleaving has none of the outcomes that fences remove. In `starts`, each thread
-/// has a list of the indices at which its statements start among its instructions; in `fences`, flags for its
-/// statements: a load with a flag that is set has a fence before it.
+/// has a list: the indices at which its statements start among its instructions, and at the end the number of these. In
+/// `fences`, each thread has flags for its statements: a load with a flag that is set has a fence before it.
 pub fn interleaving_outcomes_need_no_fences()
     ensures without { (source : SourceTest) (program : X86Test) (starts : List (List ℕ)) (protocol : Protocol) (o : FinalState)
         → IsWellScopedSource source → IsCompiledWithoutFences source program starts → FitsCaches program

@@ -18,7 +18,8 @@ use lw_report::{
 use lw_tso_caches::outcomes_over_caches_are_flat;
 use std::alloc::{AllocError, Allocator};
 
-/// Lists all outcomes of a test, each with a schedule of its x86 program.
+/// Lists all outcomes of a test, each with a schedule of its x86 program. Fails if the test exceeds a limit of lists, or memory
+/// runs out.
 pub fn list_test<A: Allocator + Copy>(
     alloc: A,
     test: &LitmusTest<A>,
@@ -34,7 +35,7 @@ pub fn list_test<A: Allocator + Copy>(
     }
 }
 
-/// Lists all outcomes of a test, without schedules.
+/// Lists all outcomes of a test, without schedules. Fails as `list_test` does.
 pub fn list_outcomes<A: Allocator + Copy>(
     alloc: A,
     test: &LitmusTest<A>,
@@ -50,7 +51,7 @@ pub fn list_outcomes<A: Allocator + Copy>(
     }
 }
 
-/// Renders the report of the outcomes of a test.
+/// Renders the report of the outcomes of a test. Fails if there is no list of them.
 pub(crate) fn report_of<A: Allocator + Copy>(
     alloc: A,
     test: &LitmusTest<A>,
@@ -83,7 +84,7 @@ pub fn report_of_listing<A: Allocator + Copy, K: Drop>(
     report
 }
 
-/// Renders the list of the schedules of a test.
+/// Renders the list of a test's states, each with a schedule. Fails if there is no list of its outcomes.
 pub(crate) fn schedules_of<A: Allocator + Copy>(
     alloc: A,
     test: &LitmusTest<A>,
@@ -98,7 +99,7 @@ pub(crate) fn schedules_of<A: Allocator + Copy>(
     Ok(list?)
 }
 
-/// Renders the list of the schedules of a test with this list.
+/// Renders the list of a test's states, each with the schedule that the listing of its outcomes has. Fails only if memory runs out.
 pub fn schedules_of_listing<A: Allocator + Copy>(
     alloc: A,
     test: &LitmusTest<A>,

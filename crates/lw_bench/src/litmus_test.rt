@@ -73,7 +73,7 @@ pub fn a_text_has_one_fault()
     a_text_has_one_cell_fault();
 }
 
-/// Reads the test of the bytes.
+/// Reads the test of these bytes, of either language. Fails at the first fault of the text or of a cell, or if memory runs out.
 pub fn read_test<A: Allocator + Copy>(alloc: A, text: &[u8]) -> Result<LitmusTest<A>, BenchFault>
     ensures found { IfOk result (λ test. HasTest text.now (litmus_test_of test)) }
     ensures fault { IfErr result (ReadFaultIsTrue text.now) }

@@ -6,7 +6,7 @@ ghost use Rattle.lw_base.specs.Heads.{head_of};
 ghost use Rattle.lw_base.specs.declared.limits.TheConstants.{REGISTERS};
 ghost use Rattle.lw_base.specs.declared.stop.End.TheVariants as ends;
 ghost use Rattle.lw_bench.specs.Pages as pages;
-ghost use Rattle.lw_bench.specs.Pages.{numbered, named, first_lines, end_text, word_line, buffer_line, cache_line, location_line, processor_lines};
+ghost use Rattle.lw_bench.specs.Pages.{numbered, named, first_lines, end_text, word_line, buffer_line, cache_text, location_line, processor_lines};
 ghost use Rattle.lw_interleaving.specs.Runs.{source_outcome};
 ghost use Rattle.lw_interleaving.specs.declared.thread.Thread.{Thread};
 ghost use Rattle.lw_memory.specs.Memory.{memory_of};
@@ -203,7 +203,8 @@ fn write_words<A: Allocator>(
     out.push_str("\n")
 }
 
-/// Writes the word that each location has in memory, without the caches.
+/// Writes the line of memory: a word for each location, without the caches. A memory system has no slice of these words for
+/// `write_words`: it answers for one location at a time.
 fn write_memory<M: MemorySystem, A: Allocator>(
     out: &mut String<A>,
     locs: &LocNames<A>,
@@ -220,7 +221,7 @@ fn write_memory<M: MemorySystem, A: Allocator>(
     out.push_str("\n")
 }
 
-/// Writes the lines of each processor: its position and registers, its store buffer, its cache lines.
+/// Writes the lines of each processor: its position and registers, its store buffer, its cache.
 fn write_processors<M: MemorySystem, A: Allocator>(
     out: &mut String<A>,
     head: &Head<A>,
@@ -240,7 +241,7 @@ fn write_processors<M: MemorySystem, A: Allocator>(
     Ok(())
 }
 
-/// Writes the lines of a processor with these registers.
+/// Writes the three lines of a processor with these registers: its thread, its store buffer and its cache.
 fn write_processor<M: MemorySystem, A: Allocator>(
     out: &mut String<A>,
     head: &Head<A>,
@@ -256,10 +257,10 @@ fn write_processor<M: MemorySystem, A: Allocator>(
 {
     write_thread(out, head.arch, cpu, machine.position(cpu), regs)?;
     write_buffer(out, &head.locs, machine, cpu)?;
-    write_cache_line(out, &head.locs, machine.memory(), cpu)
+    write_cache(out, &head.locs, machine.memory(), cpu)
 }
 
-/// Writes the entries of a processor's store buffer, the oldest first.
+/// Writes the line of a processor's store buffer: its entries, the oldest first.
 fn write_buffer<M: MemorySystem, A: Allocator>(
     out: &mut String<A>,
     locs: &LocNames<A>,
@@ -279,8 +280,8 @@ fn write_buffer<M: MemorySystem, A: Allocator>(
     out.push_str("\n")
 }
 
-/// Writes the state of each location in a processor's cache.
-fn write_cache_line<M: MemorySystem, A: Allocator>(
+/// Writes the line of a processor's cache: the state of each location's copy there.
+fn write_cache<M: MemorySystem, A: Allocator>(
     out: &mut String<A>,
     locs: &LocNames<A>,
     memory: &M,
@@ -289,7 +290,7 @@ fn write_cache_line<M: MemorySystem, A: Allocator>(
     requires cpu { cpu < M.cpus memory.now }
     requires words { length (M.content memory.now) ≡ length locs.now }
     ensures { OnOk result (string_bytes out.new
-        ≡ string_bytes out.old ++ cache_line locs.now cpu (M.state memory.now cpu)) }
+        ≡ string_bytes out.old ++ cache_text locs.now cpu (M.state memory.now cpu)) }
 {
     write!(out, "P{} lines", cpu.index())?;
     for loc in &Loc::all()[..locs.len()] {
@@ -298,7 +299,7 @@ fn write_cache_line<M: MemorySystem, A: Allocator>(
     out.push_str("\n")
 }
 
-/// Writes a space, and a name with the letter of a cache line's state.
+/// Writes a space, and a location's name with the letter of its copy's state. (As in `write_assignment`, `named` passes an index.)
 fn write_line_state<A: Allocator>(
     out: &mut String<A>,
     name: &str,
@@ -309,7 +310,7 @@ fn write_line_state<A: Allocator>(
     write!(out, " {}={}", name, letter(state))
 }
 
-/// Returns the letter of a cache line's state.
+/// Returns the letter of the state of a copy in a cache.
 fn letter(state: LineState) -> &'static str
     ensures { result.now ≡ pages.letter state }
 {

@@ -24,20 +24,20 @@ use std::alloc::Allocator;
 
 /// A renderer of a test's output: bytes, and an answer.
 pub(crate) trait Renderer<A: Allocator + Copy> {
-    /// The answer beside the bytes.
+    /// The answer beside the bytes, such as an exit status.
     type Answer: Copy;
 
     /// The relation between a test, its output and the answer.
     ghost is_made: { Self → Self.Answer → specs.LitmusTest → Bytes → Type 0 };
 
-    /// What a fault means for a test.
-    ghost tells: { Self → specs.LitmusTest → Fault → Type 0 };
+    /// What a fault means for a test that was read.
+    ghost fault_is_true: { Self → specs.LitmusTest → Fault → Type 0 };
 
     /// Renders the output of a test, and returns it with an answer: the exit status of a task, or the end of a
     /// replay.
     fn render(&self, alloc: A, test: &LitmusTest<A>) -> Result<(Text<A>, Self::Answer), BenchFault>
         ensures found { IfOk result (λ x. is_made self.now x.1 (litmus_test_of test.now) x.0) }
-        ensures fault { IfErr result (λ f. (f ≡ Fault.Memory) ⊎ tells self.now (litmus_test_of test.now) f) }
+        ensures fault { IfErr result (λ f. (f ≡ Fault.Memory) ⊎ fault_is_true self.now (litmus_test_of test.now) f) }
         ensures device { IfErr result IsNotDeviceFault };
 }
 
@@ -47,7 +47,7 @@ impl<'a, A: Allocator + Copy> Renderer<A> for Task<'a> {
 
     ghost is_made = { λ task status test made. IsTaskOutput task test made status };
 
-    ghost tells = { TaskFaultIsTrue };
+    ghost fault_is_true = { TaskFaultIsTrue };
 
     /// Renders the output of the task on a test, and returns it with the exit status.
     fn render(&self, alloc: A, test: &LitmusTest<A>) -> Result<(Text<A>, u8), BenchFault> {
@@ -75,7 +75,7 @@ impl<'a, A: Allocator + Copy> Renderer<A> for ReplayRenderer<'a> {
 
     ghost is_made = { λ r end test page. IsReplayPage r.protocol test r.schedule.now page end };
 
-    ghost tells = { λ r. ReplayFaultIsTrue r.schedule.now };
+    ghost fault_is_true = { λ r. ReplayFaultIsTrue r.schedule.now };
 
     /// Renders the page of the test's replay, and returns it with the replay's end.
     fn render(&self, alloc: A, test: &LitmusTest<A>) -> Result<(Text<A>, End), BenchFault> {
@@ -90,7 +90,7 @@ pub(crate) fn render_text<O: Renderer<A>, A: Allocator + Copy>(
     text: &[u8],
 ) -> Result<(Text<A>, O::Answer), BenchFault>
     ensures found { IfOk result (λ x. IsOutputOf (O.is_made output.now x.1) text.now x.0) }
-    ensures fault { IfErr result (RunFaultIsTrue (O.tells output.now) text.now) }
+    ensures fault { IfErr result (RunFaultIsTrue (O.fault_is_true output.now) text.now) }
     ensures device { IfErr result IsNotDeviceFault }
 {
     let test = read_test(alloc, text)?;

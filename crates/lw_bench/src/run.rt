@@ -27,7 +27,7 @@ fn run_text<O: Renderer<A>, R: ByteReader, W: ByteWriter, A: Allocator + Copy>(
 ) -> Result<O::Answer, BenchFault>
     requires reader { R.failed reader.old ≡ false }
     requires writer { W.failed writer.old ≡ false }
-    ensures { IsRun (devices R.remaining R.failed) (devices W.contents W.failed) (O.is_made output.now) (O.tells output.now)
+    ensures { IsRun (devices R.remaining R.failed) (devices W.contents W.failed) (O.is_made output.now) (O.fault_is_true output.now)
         reader.old reader.new writer.old writer.new result }
 {
     what_is_known_is_reached_on_the_machine();

@@ -17,7 +17,7 @@ use crate::input::read_input;
 use crate::render::answer;
 use std::alloc::{AllocError, Allocator};
 
-/// Returns the texts of words.
+/// Borrows words as texts, in their order. Fails only if memory runs out.
 pub fn texts_of<A: Allocator>(alloc: A, words: &[String<A>]) -> Result<Vec<&str, A>, AllocError>
     ensures { IfOk result (λ texts. map (λ t. t.now) texts.items ≡ map string_bytes words.now) }
 {
@@ -28,8 +28,8 @@ pub fn texts_of<A: Allocator>(alloc: A, words: &[String<A>]) -> Result<Vec<&str,
     Ok(texts)
 }
 
-/// Reads the input of the command that the words name, to its end or up to 65,537 bytes, one more than a text may have. If they name none,
-/// nothing is read.
+/// Reads the input of the command that the words name, to its end or up to 65,537 bytes, one more than a text may have. If the words
+/// name no command, nothing is read, and the result is empty.
 pub fn read_for<R: ByteReader, A: Allocator>(
     alloc: A,
     words: &[&str],
@@ -46,7 +46,7 @@ pub fn read_for<R: ByteReader, A: Allocator>(
     read_input(alloc, reader)
 }
 
-/// Returns the ending of a task on a text.
+/// Returns the ending of a task on a text: its output, or the report of a fault.
 fn end_task<A: Allocator + Copy>(alloc: A, task: Task<'_>, text: &[u8]) -> Ending<A>
     ensures { EndsTask task.entry text.now result }
 {
@@ -62,10 +62,10 @@ pub fn run_command<A: Allocator + Copy>(
     words: &[&str],
     input: &Result<Vec<u8, A>, BenchFault>,
 ) -> Ending<A>
-    // If the words name no task, it ends with the usage, whatever the input is.
+    // If the words name no task, the run ends with the usage line, whatever the input is.
     ensures usage { HoldsOfNothing (IsCommand (map (λ w. w.now) words.now)) → WritesLine faults.usage_text faults.usage_status result }
-    // Otherwise it ends as the task that they name: if reading failed, it reports that, and if not, it ends with what the task makes of the
-    // bytes, or with a fault that is true of them.
+    // Otherwise the run ends as the task that the words name: if reading failed, the ending reports that, and if not, it is what the task
+    // makes of the bytes, or the report of a fault that is true of them.
     ensures ended { HoldsOfNothing (IsCommand (map (λ w. w.now) words.now)) ⊎ ((task : Task) × IsCommand (map (λ w. w.now) words.now) task
         × IfErr input.now (λ f. Reports f result) × IfOk input.now (λ text. EndsTask task text.items result)) }
 {

@@ -2,12 +2,13 @@
 -- option. With two arguments the answer is that of `Protocol::from_name`; one argument or more than two, or
 -- another first word, name no protocol.
 use Rattle.lw_bench.proofs.Common.{sym, ◌∙◌, arith}
-use Rattle.lw_bench.proofs.Commands.{Gives-IsProtocolOption, not-IsProtocolOption-if_other_count}
+use Rattle.lw_bench.proofs.Commands.{IsResultOf-IsProtocolOption, not-IsProtocolOption-if_other_count}
 use Rattle.lw_bench.proofs.Commands.{not-IsProtocolOption-if_other_word}
 use Rattle.lw_bench.proofs.command.protocol_of.Goals as goal
 
 pub returns : goal.returns
-returns c = Gives-IsProtocolOption _ c.in-len2.len_at_least c.in-len2.len_below _ c.ne.ensures _ c.if-ne.false c.from_name.ensures
+returns c =
+    IsResultOf-IsProtocolOption _ c.in-len2.len_at_least c.in-len2.len_below _ c.ne.ensures _ c.if-ne.false c.from_name.ensures
 
 pub returns-in_default : goal.returns-in_default
 returns-in_default c = λ p.

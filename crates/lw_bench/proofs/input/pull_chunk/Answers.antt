@@ -1,8 +1,8 @@
 -- `pull_chunk` promises that the returned number of bytes was read and appended, or that at most what may
 -- still be read was lost. The interesting case is a refused allocation after the read: these bytes are lost,
 -- but they were at most a chunk, within what may be read (`IsFront-appended`, `LosesInput-front`).
-use Rattle.lw_bench.proofs.Common.{ℕ, arith, refl, sym, ◌∙◌, ◌-◌, ◌≤◌, length, length-append, length-take-le}
-use Rattle.lw_bench.proofs.Common.{err_from_is_err_and}
+use Rattle.lw_bench.proofs.Common.{most_read_bytes, ℕ, arith, refl, sym, ◌∙◌, ◌-◌, ◌≤◌, length, length-append}
+use Rattle.lw_bench.proofs.Common.{length-take-le, err_from_is_err_and}
 use Rattle.lw_bench.proofs.Devices.{IsFront, ReadsMore-front, LosesInput-none, LosesInput-front}
 use Rattle.lw_bench.proofs.input.pull_chunk.Goals.{After-extend_from_slice}
 use Rattle.lw_bench.proofs.input.pull_chunk.Goals as goal
@@ -11,7 +11,7 @@ pub returns-in_default-clause-err : goal.returns-in_default-clause-err
 returns-in_default-clause-err g c = rw c.in_default.ensures.failed refl
 
 -- The chunk is no larger than what may still be read.
-count_le-rest : (g : _) (c : After-extend_from_slice g) → c.min-room.result ≤ 65537 - length c.args.bytes.now.items
+count_le-rest : (g : _) (c : After-extend_from_slice g) → c.min-room.result ≤ most_read_bytes - length c.args.bytes.now.items
 count_le-rest g c = omega (arith, c.min-room.ensures, c.len.ensures, c.args.bytes.now.ok.0)
 
 -- The bytes appended are a front of the buffer that was read into, and no more than there was room for.

@@ -1,14 +1,14 @@
 -- `read_input` promises all input, or its first 65,537 bytes. A read of no bytes means the end
--- (`input_ended`), and a full buffer means the limit (`input_full`). On an error the bytes read so far are a
+-- (`IsInput-at_end`), and a full buffer means the limit (`IsInput-if_full`). On an error the bytes read so far are a
 -- part of what a run may take (`TakesSome-lost`). Each other round leaves fewer bytes to read.
 use Rattle.lw_bench.proofs.Common.{length, ap, arith, err_from_is_err_and}
-use Rattle.lw_bench.proofs.Devices.{Consumes-none, unread_count-decreases, Consumes-more_read, input_ended}
-use Rattle.lw_bench.proofs.Devices.{input_full, TakesInput-ended, TakesInput-full, TakesSome-lost}
+use Rattle.lw_bench.proofs.Devices.{Consumes-none, unread_count-decreases, Consumes-more_read, IsInput-at_end}
+use Rattle.lw_bench.proofs.Devices.{IsInput-if_full, TakesInput-ended, TakesInput-full, TakesSome-lost}
 use Rattle.lw_bench.proofs.input.read_input.Goals as goal
 
 pub returns-then-branch-eq0-clause-bytes : goal.returns-then-branch-eq0-clause-bytes
 returns-then-branch-eq0-clause-bytes g c =
-    input_ended _ _ _ (Consumes-more_read _ _ _ _ _ _ c.loop-reader.invariant.bytes c.in_ok-pull_chunk.ensures.bytes)
+    IsInput-at_end _ _ _ (Consumes-more_read _ _ _ _ _ _ c.loop-reader.invariant.bytes c.in_ok-pull_chunk.ensures.bytes)
     (c.in_ok-pull_chunk.ensures.bytes.ended c.if-branch-eq0.true)
 
 pub returns-then-branch-eq0-clause-taken : goal.returns-then-branch-eq0-clause-taken
@@ -20,7 +20,7 @@ pub returns-clause-taken : goal.returns-clause-taken
 returns-clause-taken g c = TakesInput-full _ _ _ c.loop-reader.invariant.bytes (omega arith)
 
 pub returns-clause-bytes : goal.returns-clause-bytes
-returns-clause-bytes g c = input_full _ _ _ c.loop-reader.invariant.bytes (omega arith)
+returns-clause-bytes g c = IsInput-if_full _ _ _ c.loop-reader.invariant.bytes (omega arith)
 
 pub loop-reader-preserved : goal.loop-reader-preserved
 loop-reader-preserved g c = record {

@@ -1,8 +1,8 @@
 -- `marks_of_listing` promises the list of the states of all outcomes, with marks. The states are those of the
--- listing, which has exactly the test's outcomes, so the list depends only on the test (`marks_of_list`). The
+-- listing, which has exactly the test's outcomes, so the list depends only on the test (`IsExactMarkedList-of_list`). The
 -- other goals are the bounds of a well-formed head.
 use Rattle.lw_bench.proofs.Common.{IsExactMarkedList, litmus_test_of, IfOk-weaker, outcomes_of}
-use Rattle.lw_bench.proofs.TestReports.{marks_of_list, HasOutcomeShape-of_same_head}
+use Rattle.lw_bench.proofs.TestReports.{IsExactMarkedList-of_list, HasOutcomeShape-of_same_head}
 use Rattle.lw_bench.proofs.lists.marks_of_listing.Goals as goal
 
 pub states_of-states-requires-clause-threads : goal.states_of-states-requires-clause-threads
@@ -22,6 +22,6 @@ write_marks-list-requires g c = c.head-head.ensures.formed.bounded
 pub returns : goal.returns
 returns g c =
     IfOk-weaker _ _ (IsExactMarkedList (litmus_test_of c.args.test.now)) (λ text is.
-    marks_of_list c.outcomes_with_the_same_words_agree.ensures _ (outcomes_of c.args.listing) c.requires _
+    IsExactMarkedList-of_list c.outcomes_with_the_same_words_agree.ensures _ (outcomes_of c.args.listing) c.requires _
     c.head-head.ensures.head c.head-head.ensures.formed.condition c.in_ok-states.states text c.in_ok-states.ensures is)
     c.write_marks-list.ensures

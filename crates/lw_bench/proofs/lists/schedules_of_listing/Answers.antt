@@ -1,9 +1,10 @@
 -- `schedules_of_listing` promises the list of states, each with a schedule that reaches it. The schedules are
 -- those of the listing's entries, and name only locations of the test (`IsEvent-of_schedules`);
--- `schedules_of_list` goes from the listing to the test.
+-- `IsExactScheduleList-of_list` goes from the listing to the test.
 use Rattle.lw_bench.proofs.Common.{IfOk-weaker, litmus_test_of, IsExactScheduleList}
 use Rattle.lw_bench.proofs.api.TestLists.{AreOutcomesOf-IsListOf}
-use Rattle.lw_bench.proofs.TestReports.{schedules_of_list, HasOutcomeShape-of_same_head, IsEvent-of_schedules}
+use Rattle.lw_bench.proofs.TestReports.{IsExactScheduleList-of_list, HasOutcomeShape-of_same_head}
+use Rattle.lw_bench.proofs.TestReports.{IsEvent-of_schedules}
 use Rattle.lw_bench.proofs.lists.schedules_of_listing.Goals as goal
 
 pub states_of-requires-clause-threads : goal.states_of-requires-clause-threads
@@ -30,5 +31,5 @@ write_schedules-list-requires-clause-states g c = c.in_ok-states.ensures
 pub returns : goal.returns
 returns g c =
     IfOk-weaker _ _ (IsExactScheduleList (litmus_test_of c.args.test.now))
-    (λ text is. schedules_of_list _ _ c.requires _ c.head-head.ensures.head _ text c.in_ok-states.ensures is)
+    (λ text is. IsExactScheduleList-of_list _ _ c.requires _ c.head-head.ensures.head _ text c.in_ok-states.ensures is)
     c.write_schedules-list.ensures

@@ -8,7 +8,7 @@ use Rattle.lw_bench.proofs.litmus_test.a_text_has_one_cell_fault.Goals as goal
 pub returns : goal.returns
 returns c text f g p q =
     cell_fault-unique c.source_cells_have_one_fault.ensures.one_fault c.x86_cells_have_one_fault.ensures.one_fault
-    p.frame.head.arch p.frame.head.locs p.cells f g p.in_memory q.in_memory p.cause
+    p.frame.head.arch p.frame.head.locs p.cells f g p.not_out_of_memory q.not_out_of_memory p.cause
     (subst (λ cells. CellFaultIsTrueIn p.frame.head.arch p.frame.head.locs cells g)
     (sym (c.a_text_has_its_cells_once.ensures text p.cells q.cells p.has_cells q.has_cells))
     (subst (λ (frame : TestFrame). CellFaultIsTrueIn frame.head.arch frame.head.locs q.cells g)

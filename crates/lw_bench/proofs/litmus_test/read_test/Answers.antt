@@ -4,8 +4,8 @@
 use Rattle.lw_bench.proofs.Common.{arith, Err-clause_propagated, frame_of, placed_cells, grid_placed}
 use Rattle.lw_bench.proofs.Common.{ReadFaultIsTrue}
 use Rattle.lw_bench.proofs.DeviceFaults.{Err-injective}
-use Rattle.lw_bench.proofs.FaultTruths.{holds-text_run_fault, holds-cell_run_fault, text_no_device}
-use Rattle.lw_bench.proofs.FaultTruths.{cell_no_device}
+use Rattle.lw_bench.proofs.FaultTruths.{holds-text_run_fault, holds-cell_run_fault}
+use Rattle.lw_bench.proofs.FaultTruths.{IsNotDeviceFault-text_run_fault, IsNotDeviceFault-cell_run_fault}
 use Rattle.lw_bench.proofs.litmus_test.read_test.Goals as goal
 
 pub returns-in_err-frame-clause-fault : goal.returns-in_err-frame-clause-fault
@@ -19,12 +19,12 @@ returns-in_err-frame-clause-fault g c =
       only_too_long = f.ensures.only_too_long;
       not_utf8 = λ short other. Err-injective (f.ensures.not_utf8 short other);
       only_not_utf8 = f.ensures.only_not_utf8;
-      in_memory = known;
+      not_out_of_memory = known;
       fails = λ short encoded. f.ensures.fails short encoded known;
     }))
 
 pub returns-in_err-frame-clause-device : goal.returns-in_err-frame-clause-device
-returns-in_err-frame-clause-device g c = Err-clause_propagated _ _ c.from_residual.ensures.1 (text_no_device _)
+returns-in_err-frame-clause-device g c = Err-clause_propagated _ _ c.from_residual.ensures.1 (IsNotDeviceFault-text_run_fault _)
 
 pub returns-in_err-read_cells-clause-fault : goal.returns-in_err-read_cells-clause-fault
 returns-in_err-read_cells-clause-fault g c =
@@ -38,9 +38,9 @@ returns-in_err-read_cells-clause-fault g c =
       none = c.in_err-read_cells.ensures.fault known;
       place = omega (arith, c.in_err-read_cells.ensures.place, c.in_ok-frame.ensures.len);
       cause = c.in_err-read_cells.ensures.cause;
-      in_memory = known;
+      not_out_of_memory = known;
     }))
 
 pub returns-in_err-read_cells-clause-device : goal.returns-in_err-read_cells-clause-device
 returns-in_err-read_cells-clause-device g c =
-    Err-clause_propagated _ _ c.from_residual-in_err-read_cells.ensures.1 (cell_no_device _)
+    Err-clause_propagated _ _ c.from_residual-in_err-read_cells.ensures.1 (IsNotDeviceFault-cell_run_fault _)

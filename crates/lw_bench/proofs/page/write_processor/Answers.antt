@@ -10,8 +10,8 @@ use Rattle.lw_bench.proofs.page.write_processor.Goals as goal
 pub write_buffer-requires : goal.write_buffer-requires
 write_buffer-requires g c = record { cpu = c.requires.cpu; words = c.requires.words }
 
-pub write_cache_line-requires : goal.write_cache_line-requires
-write_cache_line-requires g c = record {
+pub write_cache-requires : goal.write_cache-requires
+write_cache-requires g c = record {
   cpu = omega (arith, c.requires.cpu, c.memory.ensures.cpus);
   words = ap (λ m. length (g.M.MemorySystem.content m)) c.memory.ensures.memory ∙ c.requires.words;
 }
@@ -34,5 +34,5 @@ returns g c p at =
     let second =
     c.in_ok-write_buffer.ensures
     ∙ ap (λ b. string_bytes c.write_thread.new.out ++ buffer_line c.args.head.now.locs c.args.cpu b) buffer in
-    on_ok_weaker c.write_cache_line.result (λ third. AllWritten-three _ _ _ _ first second third)
-    (rw c.memory.ensures.memory at c.write_cache_line.ensures)
+    on_ok_weaker c.write_cache.result (λ third. AllWritten-three _ _ _ _ first second third)
+    (rw c.memory.ensures.memory at c.write_cache.ensures)

@@ -22,8 +22,8 @@ returns g c =
       after_first_lines = string_bytes c.write_first_lines.new.out;
       after_threads = string_bytes c.write_threads.new.out;
       words = c.as_slice-2.result.now;
-      begun = c.in_ok-write_first_lines.ensures;
-      threads = c.in_ok-write_threads.ensures;
-      memory = is;
+      first_lines_are = c.in_ok-write_first_lines.ensures;
+      threads_are = c.in_ok-write_threads.ensures;
+      memory_line_is = is;
       is_memory = c.as_slice-2.ensures ∙ ap (λ (o : FinalState). o.words) (c.state.view_is ∙ c.requires.outcome);
     })) c.write_words.ensures

@@ -19,6 +19,6 @@ returns-clause-found g c =
 
 pub returns-clause-fault : goal.returns-clause-fault
 returns-clause-fault g c =
-    IfErr-weaker c.render-made.result _ _
-    (λ f told. RunFaultIsTrue-of_test (g.O.Renderer.tells c.args.output.now) c.args.text.now _ f c.in_ok-test.ensures.found told)
+    IfErr-weaker c.render-made.result _ _ (λ f told.
+    RunFaultIsTrue-of_test (g.O.Renderer.fault_is_true c.args.output.now) c.args.text.now _ f c.in_ok-test.ensures.found told)
     c.render-made.ensures.fault

@@ -5,7 +5,7 @@ use Rattle.lw_bench.proofs.Common.{◌≡◌, ◌⊎◌, inl, inr, ap, refl, IfO
 use Rattle.lw_bench.proofs.Common.{Err-clause_propagated, TestHead, litmus_test_of, IsReplayPage}
 use Rattle.lw_bench.proofs.Common.{ReplayFaultIsTrue, Memory}
 use Rattle.lw_bench.proofs.Replays.{IsReplay-IsPageOf}
-use Rattle.lw_bench.proofs.FaultTruths.{holds-schedule_run_fault, schedule_no_device}
+use Rattle.lw_bench.proofs.FaultTruths.{holds-schedule_run_fault, IsNotDeviceFault-schedule_run_fault}
 use Rattle.lw_bench.proofs.FaultTruths.{IsNotDeviceFault-of_memory}
 use Rattle.lw_bench.proofs.replay.page_of.Goals as goal
 
@@ -21,7 +21,8 @@ returns-in_err-events-clause-fault g c =
     })))
 
 pub returns-in_err-events-clause-device : goal.returns-in_err-events-clause-device
-returns-in_err-events-clause-device g c = Err-clause_propagated _ _ c.from_residual.ensures.1 (schedule_no_device _)
+returns-in_err-events-clause-device g c =
+    Err-clause_propagated _ _ c.from_residual.ensures.1 (IsNotDeviceFault-schedule_run_fault _)
 
 pub returns-clause-found : goal.returns-clause-found
 returns-clause-found g c =

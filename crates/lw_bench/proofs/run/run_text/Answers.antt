@@ -11,8 +11,8 @@ returns-in_err-text g c =
     let known = c.what_is_known_is_reached_on_the_machine.ensures in
     rw (p.1, p.2)
     (IsRun-unread (devices g.R.ByteReader.remaining g.R.ByteReader.failed) (devices g.W.ByteWriter.contents g.W.ByteWriter.failed)
-    (g.O.Renderer.tells c.args.output.now) _ _ _ (g.O.Renderer.is_made c.args.output.now) (known.machine _) (known.caches _)
-    c.in_err-text.field-0.0 c.in_err-text.ensures.err c.in_err-text.ensures.left c.requires.writer)
+    (g.O.Renderer.fault_is_true c.args.output.now) _ _ _ (g.O.Renderer.is_made c.args.output.now) (known.machine _)
+    (known.caches _) c.in_err-text.field-0.0 c.in_err-text.ensures.err c.in_err-text.ensures.left c.requires.writer)
 
 pub returns-in_err-made : goal.returns-in_err-made
 returns-in_err-made g c =
@@ -21,7 +21,7 @@ returns-in_err-made g c =
     let told = rw c.as_slice.ensures.value at c.in_err-made.ensures.fault in
     rw (p.1, p.2)
     (IsRun-no_output (devices g.R.ByteReader.remaining g.R.ByteReader.failed)
-    (devices g.W.ByteWriter.contents g.W.ByteWriter.failed) (g.O.Renderer.tells c.args.output.now) _ _ _
+    (devices g.W.ByteWriter.contents g.W.ByteWriter.failed) (g.O.Renderer.fault_is_true c.args.output.now) _ _ _
     (g.O.Renderer.is_made c.args.output.now) (known.machine _) (known.caches _) _ c.in_ok-text.ensures.bytes
     c.in_ok-text.ensures.taken c.in_ok-text.ensures.failed c.in_err-made.field-0.0 told c.in_err-made.ensures.device
     c.requires.writer)
@@ -32,7 +32,7 @@ returns-in_err-write_output g c =
     let known = c.what_is_known_is_reached_on_the_machine.ensures in
     rw (p.1, p.2, c.in_err-write_output.ensures.err)
     (IsRun-unwritten (devices g.R.ByteReader.remaining g.R.ByteReader.failed)
-    (devices g.W.ByteWriter.contents g.W.ByteWriter.failed) (g.O.Renderer.tells c.args.output.now) _ _ _
+    (devices g.W.ByteWriter.contents g.W.ByteWriter.failed) (g.O.Renderer.fault_is_true c.args.output.now) _ _ _
     (g.O.Renderer.is_made c.args.output.now) (known.machine _) (known.caches _) _ c.in_ok-text.ensures.bytes
     c.in_ok-text.ensures.taken c.in_ok-text.ensures.failed _ c.in_err-write_output.ensures.failed)
 
@@ -42,8 +42,8 @@ returns g c =
     let found = rw c.as_slice.ensures.value at c.in_ok-made.ensures.found in
     let put = rw (c.as_bytes.ensures.value, c.as_str.ensures) at c.in_ok-write_output.ensures.bytes in
     IsRun-written (devices g.R.ByteReader.remaining g.R.ByteReader.failed) (devices g.W.ByteWriter.contents g.W.ByteWriter.failed)
-    (g.O.Renderer.tells c.args.output.now) _ _ _ (g.O.Renderer.is_made c.args.output.now) (known.machine _) (known.caches _) _
-    c.in_ok-text.ensures.bytes c.in_ok-text.ensures.taken c.in_ok-text.ensures.failed _ _ _ found put
+    (g.O.Renderer.fault_is_true c.args.output.now) _ _ _ (g.O.Renderer.is_made c.args.output.now) (known.machine _)
+    (known.caches _) _ c.in_ok-text.ensures.bytes c.in_ok-text.ensures.taken c.in_ok-text.ensures.failed _ _ _ found put
     c.in_ok-write_output.ensures.failed
 
 pub read_input-requires : goal.read_input-requires

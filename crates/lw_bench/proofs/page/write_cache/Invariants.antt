@@ -2,7 +2,7 @@
 -- location before the index.
 use Rattle.lw_bench.proofs.Common.{string_bytes, named, letter}
 use Rattle.lw_bench.proofs.Pages.{AllWritten}
-use Rattle.lw_bench.proofs.page.write_cache_line.Given as goal
+use Rattle.lw_bench.proofs.page.write_cache.Given as goal
 
 abbrev pub invariant-loop-loc : goal.invariant-loop-loc
 invariant-loop-loc g l =

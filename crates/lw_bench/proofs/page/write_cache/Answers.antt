@@ -1,11 +1,11 @@
--- `write_cache_line` promises a line with the state of each location in a processor's cache. The loop goes
+-- `write_cache` promises a line with the state of each location in a processor's cache. The loop goes
 -- through the first items of `Loc::all()`, so the item at an index is that index (`is_index`); `AllWritten`
 -- says what has been written.
 use Rattle.lw_bench.proofs.Common.{◌≤◌, codes, length, slice_get, refl, sym, ap, ◌∙◌, arith, length-take}
 use Rattle.lw_bench.proofs.Common.{is_index, named, letter, most_locations}
 use Rattle.lw_bench.proofs.Pages.{AllWritten-step, AllWritten-of_every, AllWritten-newline}
 use Rattle.lw_bench.proofs.Pages.{processor_title-append}
-use Rattle.lw_bench.proofs.page.write_cache_line.Goals as goal
+use Rattle.lw_bench.proofs.page.write_cache.Goals as goal
 
 pub loop-loc-init : goal.loop-loc-init
 loop-loc-init g c = record { left = refl }
