@@ -69,8 +69,8 @@ module _ (test : X86Test) (x : Execution) where
   }
 
   -- Program order and reads-from together have no cycle.
-  pub no_thin_air : HasTimes test x → Acyclic (λ a b. Po x a b ⊎ Rf x86_language test x a b)
-  no_thin_air t = record {
+  pub Acyclic-po_and_rf : HasTimes test x → Acyclic (λ a b. Po x a b ⊎ Rf x86_language test x a b)
+  Acyclic-po_and_rf t = record {
     rank = t.done;
     increases = λ a b. elim [
       | inl po ↦ t.timed.po a b po

@@ -32,11 +32,11 @@ module _ (r : ℕ → ℕ) where
       elim (cases_Bool (nat_lt (r i) (r x))) [ inl e ↦ rw e (le, h) | inr e ↦ rw e (h.0, NoLater-insert t i xs le h.1) ]
 
   -- Inserting preserves that a list is sorted by time.
-  sorted_insert : (i : ℕ) (xs : List ℕ) → Sorted xs → Sorted (insert i xs)
-  sorted_insert i [] h = (tt, tt)
-  sorted_insert i (x ∷ xs) h = elim (cases_Bool (nat_lt (r i) (r x))) [
+  Sorted-insert : (i : ℕ) (xs : List ℕ) → Sorted xs → Sorted (insert i xs)
+  Sorted-insert i [] h = (tt, tt)
+  Sorted-insert i (x ∷ xs) h = elim (cases_Bool (nat_lt (r i) (r x))) [
     | inl e ↦ rw e ((grind (arith, nat_tests), NoLater-mono (r i) (r x) xs (grind (arith, nat_tests)) h.0), h)
-    | inr e ↦ rw e (NoLater-insert (r x) i xs (grind (arith, nat_tests)) h.0, sorted_insert i xs h.1)
+    | inr e ↦ rw e (NoLater-insert (r x) i xs (grind (arith, nat_tests)) h.0, Sorted-insert i xs h.1)
   ]
 
   -- Inserting adds one number.
@@ -99,9 +99,9 @@ module _ (r : ℕ → ℕ) where
   by_time (suc n) = insert n (by_time n)
 
   -- The sorted numbers are sorted.
-  sorted_by_time : (n : ℕ) → Sorted (by_time n)
-  sorted_by_time zero = tt
-  sorted_by_time (suc n) = sorted_insert n (by_time n) (sorted_by_time n)
+  Sorted-by_time : (n : ℕ) → Sorted (by_time n)
+  Sorted-by_time zero = tt
+  Sorted-by_time (suc n) = Sorted-insert n (by_time n) (Sorted-by_time n)
 
   -- Inserting the numbers below n by their times gives n numbers.
   length_by_time : (n : ℕ) → length (by_time n) ≡ n
@@ -121,4 +121,4 @@ module _ (r : ℕ → ℕ) where
   -- An earlier number precedes a later one.
   pub Before-by_time : (n i j : ℕ) → i < n → j < n → r i < r j → Before (by_time n) i j
   Before-by_time n i j li lj lt =
-      Before-Sorted (by_time n) i j (sorted_by_time n) (in_range-by_time n i li) (in_range-by_time n j lj) lt
+      Before-Sorted (by_time n) i j (Sorted-by_time n) (in_range-by_time n i li) (in_range-by_time n j lj) lt

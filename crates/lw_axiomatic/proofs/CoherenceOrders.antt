@@ -9,10 +9,10 @@ use Rattle.lw_axiomatic.proofs.Decisions.{decided_writes, decided_true, decided_
 use Rattle.lw_axiomatic.proofs.Numberings.{Acyclic-HasNoCycle}
 
 -- The ranks of a candidate order the writes of each location.
-pub ranks_are_an_order : (test : X86Test) (x : Execution) (o : FinalState)
+pub IsCoherenceOrder-of_ranks : (test : X86Test) (x : Execution) (o : FinalState)
     → IsCandidate x86_language test x o
     → IsCoherenceOrder x86_language test x (λ w v. nat_lt (x.co w) (x.co v))
-ranks_are_an_order test x o candidate = record {
+IsCoherenceOrder-of_ranks test x o candidate = record {
   irreflexive = λ w l writing before. omega (arith, ltb-true (x.co w) (x.co w) before);
   transitive = λ u v w l wu wv ww first second.
       lt-ltb (x.co u) (x.co w) (omega (arith, ltb-true (x.co u) (x.co v) first, ltb-true (x.co v) (x.co w) second));
@@ -49,13 +49,12 @@ module _ (test : X86Test) (x : Execution) (before : MemoryEvent → MemoryEvent 
       (l, ww, wv, order.transitive w c v l ww wc wv first rest.3)
 
   -- A coherence order has no cycle, since it is irreflexive.
-  Precedes-has_no_cycle : HasNoCycle Precedes
-  Precedes-has_no_cycle n e walk = let p : Precedes e e = Precedes-Walk n e e walk in order.irreflexive e p.0 p.1 p.3
+  HasNoCycle-Precedes : HasNoCycle Precedes
+  HasNoCycle-Precedes n e walk = let p : Precedes e e = Precedes-Walk n e e walk in order.irreflexive e p.0 p.1 p.3
 
   -- Some ranks increase along a coherence order, since an execution has finitely many events.
-  Precedes-is_acyclic : Acyclic Precedes
-  Precedes-is_acyclic =
-      Acyclic-HasNoCycle x Precedes Precedes-decidable (λ w v p. (p.1.is_event, p.2.is_event)) Precedes-has_no_cycle
+  Acyclic-Precedes : Acyclic Precedes
+  Acyclic-Precedes = Acyclic-HasNoCycle x Precedes Precedes-decidable (λ w v p. (p.1.is_event, p.2.is_event)) HasNoCycle-Precedes
 
   -- A coherence order has ranks: one write of a location precedes another in it if and only if its rank is lower.
   pub order_has_ranks : (rank : MemoryEvent → ℕ)
@@ -64,14 +63,14 @@ module _ (test : X86Test) (x : Execution) (before : MemoryEvent → MemoryEvent 
       → Writes x86_language test x v l
       → (before w v ≡ true) ↔ (rank w < rank v))
   order_has_ranks = (
-    Precedes-is_acyclic.rank,
+    Acyclic-Precedes.rank,
     λ w v l ww wv. (
-      λ is. Precedes-is_acyclic.increases w v (l, ww, wv, is),
+      λ is. Acyclic-Precedes.increases w v (l, ww, wv, is),
       λ less. elim (decided_event_equal w v) [
-        | inl same_event ↦ absurd (omega (arith, less, ap Precedes-is_acyclic.rank same_event))
+        | inl same_event ↦ absurd (omega (arith, less, ap Acyclic-Precedes.rank same_event))
         | inr events_differ ↦ elim (order.total w v l ww wv events_differ) [
           | inl is ↦ is
-          | inr back ↦ absurd (omega (arith, less, Precedes-is_acyclic.increases v w (l, wv, ww, back)))
+          | inr back ↦ absurd (omega (arith, less, Acyclic-Precedes.increases v w (l, wv, ww, back)))
         ]
       ],
     ),

@@ -116,6 +116,6 @@ pub use Rattle.lw_axiomatic.specs.SpareFences.{AreSpare, HasOtherFence, IsInsert
 pub use Rattle.lw_axiomatic.specs.SplitEvents.{AreHalves, AreOfTwoThreads, Half, HalfReads, HalfWrites}
 pub use Rattle.lw_axiomatic.specs.SplitEvents.{HalvesCo, HalvesFr, HalvesPo, HalvesPoLoc, HalvesPpo, HalvesRf}
 pub use Rattle.lw_axiomatic.specs.SplitEvents.{IsAllowedBySplitAxioms, IsHalf, SatisfiesSplitAxioms}
-pub use Rattle.lw_axiomatic.specs.SplitEvents.{holds_all, reads_first, writes_last}
+pub use Rattle.lw_axiomatic.specs.SplitEvents.{is_ordered_with_all, reads_first, writes_last}
 pub use Rattle.lw_axiomatic.specs.ThreadStates.{ThreadState, at_next, first_state, state_after, word_written}
 pub use Rattle.lw_axiomatic.specs.Times.{HasConsistentTimes, HasTimes, IsBefore, IsNewest}

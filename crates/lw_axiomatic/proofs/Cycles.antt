@@ -9,8 +9,8 @@ use Rattle.lw_axiomatic.proofs.Decisions.{decided_po_loc, decided_ppo, decided_r
 use Rattle.lw_axiomatic.proofs.Numberings.{HasNoCycle-Acyclic, Acyclic-HasNoCycle}
 
 -- Coherence by ranks holds if and only if the relations on one location have no cycle.
-pub coherence_by_cycles : (test : X86Test) (x : Execution) → Coherence test x ↔ HasNoCycle (OnOneLocation test x)
-coherence_by_cycles test x = (
+pub Coherence-iff_no_cycle : (test : X86Test) (x : Execution) → Coherence test x ↔ HasNoCycle (OnOneLocation test x)
+Coherence-iff_no_cycle test x = (
   HasNoCycle-Acyclic (OnOneLocation test x),
   Acyclic-HasNoCycle x (OnOneLocation test x) (λ a b.
       decided_or (decided_po_loc x86_language test x a b)
@@ -24,8 +24,9 @@ coherence_by_cycles test x = (
 )
 
 -- Global happens-before by ranks holds if and only if its relations have no cycle.
-pub happens_before_by_cycles : (test : X86Test) (x : Execution) → GlobalHappensBefore test x ↔ HasNoCycle (HappensBefore test x)
-happens_before_by_cycles test x = (
+pub GlobalHappensBefore-iff_no_cycle : (test : X86Test) (x : Execution)
+    → GlobalHappensBefore test x ↔ HasNoCycle (HappensBefore test x)
+GlobalHappensBefore-iff_no_cycle test x = (
   HasNoCycle-Acyclic (HappensBefore test x),
   Acyclic-HasNoCycle x (HappensBefore test x) (λ a b.
       decided_or (decided_ppo x86_language test x a b)
@@ -39,9 +40,9 @@ happens_before_by_cycles test x = (
 )
 
 -- Sequential consistency by ranks holds if and only if its relations have no cycle.
-pub sequence_by_cycles : {S : Type 0} (language : Language S) (test : Test S) (x : Execution)
+pub IsSequentiallyConsistent-iff_no_cycle : {S : Type 0} (language : Language S) (test : Test S) (x : Execution)
     → IsSequentiallyConsistent language test x ↔ HasNoCycle (ScOrder language test x)
-sequence_by_cycles language test x = (
+IsSequentiallyConsistent-iff_no_cycle language test x = (
   HasNoCycle-Acyclic (ScOrder language test x),
   Acyclic-HasNoCycle x (ScOrder language test x) (λ a b.
       decided_or (decided_po x a b)

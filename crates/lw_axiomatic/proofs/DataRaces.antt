@@ -6,23 +6,26 @@ use Rattle.lw_axiomatic.proofs.Common.{IsNext, RunsToWithoutBarrier, HasTriangul
 
 module _ (test : X86Test) where
   -- A quiet run is a run.
-  ran-quiet : (q : ℕ) (order : List ℕ) (s end : Interleaved)
+  InterleavedRunsTo-without_barrier : (q : ℕ) (order : List ℕ) (s end : Interleaved)
       → RunsToWithoutBarrier test q order s end
       → InterleavedRunsTo x86_language test.threads order s end
-  ran-quiet q [] s end same = same
-  ran-quiet q (t ∷ order) s end run = (run.0, run.1, ran-quiet q order run.0 end run.3)
+  InterleavedRunsTo-without_barrier q [] s end same = same
+  InterleavedRunsTo-without_barrier q (t ∷ order) s end run =
+      (run.0, run.1, InterleavedRunsTo-without_barrier q order run.0 end run.3)
 
   -- Two runs in sequence are a run.
-  ran-append : (order more : List ℕ) (s mid end : Interleaved)
+  InterleavedRunsTo-append : (order more : List ℕ) (s mid end : Interleaved)
       → InterleavedRunsTo x86_language test.threads order s mid
       → InterleavedRunsTo x86_language test.threads more mid end
       → InterleavedRunsTo x86_language test.threads (order ++ more) s end
-  ran-append [] more s mid end same run = subst (λ z. InterleavedRunsTo x86_language test.threads more z end) same run
-  ran-append (t ∷ order) more s mid end first run = (first.0, first.1, ran-append order more first.0 mid end first.2 run)
+  InterleavedRunsTo-append [] more s mid end same run =
+      subst (λ z. InterleavedRunsTo x86_language test.threads more z end) same run
+  InterleavedRunsTo-append (t ∷ order) more s mid end first run =
+      (first.0, first.1, InterleavedRunsTo-append order more first.0 mid end first.2 run)
 
   -- A load is a plain access.
-  next-plain : (l t : ℕ) (s : Interleaved) → IsNext test is_load l t s → IsNext test is_plain l t s
-  next-plain l t s load = record {
+  IsNext-plain : (l t : ℕ) (s : Interleaved) → IsNext test is_load l t s → IsNext test is_plain l t s
+  IsNext-plain l t s load = record {
     thread = load.thread;
     instruction = load.instruction;
     was = load.was;
@@ -32,17 +35,17 @@ module _ (test : X86Test) where
   }
 
   -- The load and the write at the end of a triangular race are a data race.
-  pub data_race-triangular : HasTriangularRace test → HasDataRace test
-  data_race-triangular race = record {
+  pub HasDataRace-HasTriangularRace : HasTriangularRace test → HasDataRace test
+  HasDataRace-HasTriangularRace race = record {
     q = race.q;
     p = race.p;
     threads_differ = race.threads_differ;
     before = race.before ++ race.q ∷ race.since;
     now = race.now;
     reached =
-        ran-append race.before (race.q ∷ race.since) _ race.first race.now race.reached
-        (race.stored, race.store, ran-quiet race.q race.since race.stored race.now race.quiet);
+        InterleavedRunsTo-append race.before (race.q ∷ race.since) _ race.first race.now race.reached
+        (race.stored, race.store, InterleavedRunsTo-without_barrier race.q race.since race.stored race.now race.quiet);
     l = race.l;
-    accesses = next-plain race.l race.q race.now race.loads;
+    accesses = IsNext-plain race.l race.q race.now race.loads;
     written = race.written;
   }

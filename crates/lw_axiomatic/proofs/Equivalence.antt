@@ -28,7 +28,8 @@ module _ {test : X86Test} (well_scoped : IsWellScopedProgram test) {o : FinalSta
       let given : KeptOrder test paths =
       record { well_scoped = well_scoped; assignment = assignment; order = c.order; keeps = c.keeps } in
       let x : Execution = from.run_execution given c.run.end c.run.ran in
-      let timed : HasConsistentTimes test x (done given) (reached given) = from.has_consistent_times given c.run.end c.run.ran in
+      let timed : HasConsistentTimes test x (done given) (reached given) =
+      from.HasConsistentTimes-of_run given c.run.end c.run.ran in
       record {
         execution = x;
         candidate =
@@ -50,7 +51,7 @@ module _ {test : X86Test} (well_scoped : IsWellScopedProgram test) {o : FinalSta
           keeps = given.keeps;
           run =
               X86FollowsPathsToEnd-IsCandidate a.candidate given (λ r l reading.
-              by.newest_placed well_scoped a.candidate t.timed r l reading (a.execution.rf r) (t.timed.newest r l reading))
+              by.IsNewest-placed well_scoped a.candidate t.timed r l reading (a.execution.rf r) (t.timed.newest r l reading))
               (λ w v co.
               by.reached_lt-of_times well_scoped a.candidate t.timed w v co.first_write.is_event co.second_write.is_event
               (t.timed.co w v co));

@@ -97,14 +97,14 @@ writes_or_loads (Some (Branch c to)) l e = absurd (none-some l e)
 writes_or_loads (Some _) l e = inl refl
 
 -- A load has a location.
-load_located : (o : Operation) → is_load o ≡ true → (l : ℕ) × (location_of o ≡ Some l)
-load_located (Load d x) e = (x, refl)
-load_located _ e = absurd (true≢false (sym e))
+location_of-if_load : (o : Operation) → is_load o ≡ true → (l : ℕ) × (location_of o ≡ Some l)
+location_of-if_load (Load d x) e = (x, refl)
+location_of-if_load _ e = absurd (true≢false (sym e))
 
 -- An operation that reads has a location.
-pub reads_located : (o : Operation) → reads o ≡ true → (l : ℕ) × (location_of o ≡ Some l)
-reads_located o e =
-    elim (or_cases (is_load o) _ e) [ inl load ↦ load_located o load | inr locked ↦ location_of-if_locked o locked ]
+pub location_of-if_reads : (o : Operation) → reads o ≡ true → (l : ℕ) × (location_of o ≡ Some l)
+location_of-if_reads o e =
+    elim (or_cases (is_load o) _ e) [ inl load ↦ location_of-if_load o load | inr locked ↦ location_of-if_locked o locked ]
 
 module _ (test : X86Test) where
   -- Tests the kind of an event's operation.

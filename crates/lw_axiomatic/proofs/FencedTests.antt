@@ -30,10 +30,10 @@ module _ {test : X86Test} {x : Execution} {o : FinalState} (candidate : IsCandid
   ]
 
   -- The path of each thread is a whole flow path of its code.
-  pub path_is_flow_path : (t : ℕ)
+  pub IsFlowPathFrom-of_path : (t : ℕ)
       → t < length test.threads
       → IsFlowPathFrom x86_language (thread_code test.threads t) 0 (thread_code x.paths t)
-  path_is_flow_path t in_range =
+  IsFlowPathFrom-of_path t in_range =
       let executes = candidate.threads t in_range in
       IsFlowPathFrom-ThreadExecutes x86_language x t (thread_code test.threads t) (thread_code x.paths t)
       (first_state (slice_index_or test.head.init_regs t [])) executes.end executes.executes
@@ -51,10 +51,10 @@ module _ {test : X86Test} {x : Execution} {o : FinalState} (candidate : IsCandid
       let j = instruction_of_kind is_load (slice_get (thread_code test.threads a.thread) b.position) load_b in (
         j.0,
         record {
-          path_is = path_is_flow_path a.thread (event_thread_in_range a pair.po.first_event);
-          on_path = pair.po.first_event;
-          also_on = subst (λ t. Contains (thread_code x.paths t) b.position) same_thread pair.po.second_event;
-          less = pair.po.position_lt;
+          path_is = IsFlowPathFrom-of_path a.thread (event_thread_in_range a pair.po.first_event);
+          store_on_path = pair.po.first_event;
+          load_on_path = subst (λ t. Contains (thread_code x.paths t) b.position) same_thread pair.po.second_event;
+          position_lt = pair.po.position_lt;
           store = instr.0;
           store_at = instr.1;
           load_at = j.1;
@@ -69,16 +69,16 @@ module _ {test : X86Test} {x : Execution} {o : FinalState} (candidate : IsCandid
       → HasFenceOnPath (thread_code test.threads a.thread) (thread_code x.paths a.thread) a.position b.position
       → HasFenceBetween test x a b
   HasFenceBetween-HasFenceOnPath a b pair f = record {
-    fence = record { thread = a.thread; position = f.index_in };
+    fence = record { thread = a.thread; position = f.fence_index };
     after_first =
-        record { first_event = pair.po.first_event; second_event = f.on_path; same_thread = refl; position_lt = f.behind };
+        record { first_event = pair.po.first_event; second_event = f.on_path; same_thread = refl; position_lt = f.after_first };
     before_second = record {
       first_event = f.on_path;
       second_event = pair.po.second_event;
       same_thread = pair.po.same_thread;
-      position_lt = f.before;
+      position_lt = f.before_second;
     };
-    fence_waits = ap (λ o. option_map_or needs_empty_buffer (option_map x86_operation o) false) f.at ∙ f.fence_waits;
+    fence_waits = ap (λ o. option_map_or needs_empty_buffer (option_map x86_operation o) false) f.fence_at ∙ f.fence_waits;
   }
 
   -- If no other thread's code writes a location, no other thread does.

@@ -371,8 +371,8 @@ module _ {S : Type 0} {language : Language S} {test : Test S} (well_scoped : IsW
           (Contains-head step_position step_position (thread_code later_execution.paths t) refl)
 
       -- An event of the rest is an event of the whole.
-      is_event-of_later : (a : MemoryEvent) → IsEvent later_execution a → IsEvent whole_execution a
-      is_event-of_later a is_event = elim (cases_eq t a.thread) [
+      IsEvent-of_later : (a : MemoryEvent) → IsEvent later_execution a → IsEvent whole_execution a
+      IsEvent-of_later a is_event = elim (cases_eq t a.thread) [
         | inl same_thread ↦
             subst (λ u. Contains (thread_code whole_execution.paths u) a.position) same_thread
             (subst (λ (path : List ℕ). Contains path a.position) (sym own_path)
@@ -383,8 +383,8 @@ module _ {S : Type 0} {language : Language S} {test : Test S} (well_scoped : IsW
       ]
 
       -- Each event other than the first is one of the rest.
-      is_later_event : (a : MemoryEvent) → IsEvent whole_execution a → (a ≡ step_event → ⊥) → IsEvent later_execution a
-      is_later_event a is_event differ = elim (cases_eq t a.thread) [
+      IsEvent-in_later : (a : MemoryEvent) → IsEvent whole_execution a → (a ≡ step_event → ⊥) → IsEvent later_execution a
+      IsEvent-in_later a is_event differ = elim (cases_eq t a.thread) [
         | inl same_thread ↦
             (let on_path : Contains (step_position ∷ thread_code later_execution.paths t) a.position =
             subst (λ (path : List ℕ). Contains path a.position) own_path
@@ -426,7 +426,7 @@ module _ {S : Type 0} {language : Language S} {test : Test S} (well_scoped : IsW
           → (r ≡ step_event → ⊥)
           → Reads language test later_execution r l
       Reads-of_later r l reading differ = record {
-        is_event = is_later_event r reading.is_event differ;
+        is_event = IsEvent-in_later r reading.is_event differ;
         location_is = reading.location_is;
         is_read = reading.is_read;
       }
@@ -437,7 +437,7 @@ module _ {S : Type 0} {language : Language S} {test : Test S} (well_scoped : IsW
           → (w ≡ step_event → ⊥)
           → Writes language test later_execution w l
       Writes-of_later w l writing differ = record {
-        is_event = is_later_event w writing.is_event differ;
+        is_event = IsEvent-in_later w writing.is_event differ;
         location_is = writing.location_is;
         is_write = writing.is_write;
       }
@@ -447,7 +447,7 @@ module _ {S : Type 0} {language : Language S} {test : Test S} (well_scoped : IsW
           → Writes language test later_execution w l
           → Writes language test whole_execution w l
       Writes-of_earlier_execution w l writing = record {
-        is_event = is_event-of_later w writing.is_event;
+        is_event = IsEvent-of_later w writing.is_event;
         location_is = writing.location_is;
         is_write = writing.is_write;
       }
@@ -551,9 +551,9 @@ module _ {S : Type 0} {language : Language S} {test : Test S} (well_scoped : IsW
       -- ---- it is one
 
       -- The thread of the first event executes its path, the first event included.
-      own_thread_executes : ThreadExecutesTo language whole_execution t (thread_code test.threads t)
+      ThreadExecutesTo-own_thread : ThreadExecutesTo language whole_execution t (thread_code test.threads t)
           (step_position ∷ thread_code later_execution.paths t) step.thread o
-      own_thread_executes =
+      ThreadExecutesTo-own_thread =
           let rest = later.threads t next get-next_thread in
           record {
             end = rest.end;
@@ -576,14 +576,14 @@ module _ {S : Type 0} {language : Language S} {test : Test S} (well_scoped : IsW
           }
 
       -- Each thread executes its path in the execution with the first event before the rest.
-      threads_execute : (u : ℕ) (th : ThreadState)
+      ThreadExecutesTo-each_thread : (u : ℕ) (th : ThreadState)
           → slice_get s.threads u ≡ Some th
           → ThreadExecutesTo language whole_execution u (thread_code test.threads u) (thread_code whole_execution.paths u) th o
-      threads_execute u th thread_at = elim (cases_eq t u) [
+      ThreadExecutesTo-each_thread u th thread_at = elim (cases_eq t u) [
         | inl same_thread ↦
             (let is_own : step.thread ≡ th =
             same_Some step.thread th (sym step.was ∙ subst (λ k. slice_get s.threads k ≡ Some th) (sym same_thread) thread_at) in
-            let own = own_thread_executes in
+            let own = ThreadExecutesTo-own_thread in
             subst (λ k.
             ThreadExecutesTo language whole_execution k (thread_code test.threads k) (thread_code whole_execution.paths k) th o)
             same_thread (record {
@@ -626,21 +626,22 @@ module _ {S : Type 0} {language : Language S} {test : Test S} (well_scoped : IsW
             ∙ read_value-location_of op l s.words
             (sym event_location ∙ (ap (location language test) (sym same_event) ∙ reading.location_is))))
         | inr events_differ ↦
-            by_cases_of_source events_differ (later_execution.rf r) refl (later.rf r l (Reads-of_later r l reading events_differ))
+            IsReadFrom-by_source events_differ (later_execution.rf r) refl
+            (later.rf r l (Reads-of_later r l reading events_differ))
       ]
         where
           -- By the source that the read has in the rest of the execution.
-          by_cases_of_source : (r ≡ step_event → ⊥)
+          IsReadFrom-by_source : (r ≡ step_event → ⊥)
               → (q : Option MemoryEvent)
               → later_execution.rf r ≡ q
               → IsReadFrom language (with_words mid.words) later_execution r l q
               → IsReadFrom language (with_words s.words) whole_execution r l (whole_execution.rf r)
-          by_cases_of_source differ (Some v) source_is is =
+          IsReadFrom-by_source differ (Some v) source_is is =
               subst (IsReadFrom language (with_words s.words) whole_execution r l) (sym (rf_some r v differ source_is)) (record {
                 write = Writes-of_earlier_words v l is.write;
                 word_is = read_other r differ ∙ (is.word_is ∙ sym (written_other v (ne_first_event v is.write.is_event)));
               })
-          by_cases_of_source differ None source_is is = elim (WritesHere-decidable l) [
+          IsReadFrom-by_source differ None source_is is = elim (WritesHere-decidable l) [
             | inl here ↦
                 subst (IsReadFrom language (with_words s.words) whole_execution r l)
                 (sym (rf_it r l differ source_is reading.location_is here)) (record {
@@ -717,17 +718,17 @@ module _ {S : Type 0} {language : Language S} {test : Test S} (well_scoped : IsW
       no_ScOrder-to_first a (inl po) = elim (decided_event_equal a step_event) [
         | inl same_event ↦ omega (arith, po.position_lt, ap (λ (z : MemoryEvent). z.position) same_event)
         | inr events_differ ↦
-            omega (arith, po.position_lt, later_in_thread a (is_later_event a po.first_event events_differ) po.same_thread)
+            omega (arith, po.position_lt, later_in_thread a (IsEvent-in_later a po.first_event events_differ) po.same_thread)
       ]
       no_ScOrder-to_first a (inr (inl rf)) = none-some a (sym (rf_first step_event refl) ∙ rf.source_is)
       no_ScOrder-to_first a (inr (inr (inl co))) = omega (arith, co.co_lt, co_first step_event refl)
-      no_ScOrder-to_first a (inr (inr (inr fr))) = by_cases_of_source (later_execution.rf a) refl
+      no_ScOrder-to_first a (inr (inr (inr fr))) = IsReadFrom-by_source (later_execution.rf a) refl
         where
           -- By the source that the event has in the rest of the execution.
-          by_cases_of_source : (q : Option MemoryEvent) → later_execution.rf a ≡ q → ⊥
-          by_cases_of_source (Some v) source_is =
+          IsReadFrom-by_source : (q : Option MemoryEvent) → later_execution.rf a ≡ q → ⊥
+          IsReadFrom-by_source (Some v) source_is =
               omega (arith, fr.source_before v (rf_some a v fr.events_differ source_is), co_first step_event refl)
-          by_cases_of_source None source_is = omega (
+          IsReadFrom-by_source None source_is = omega (
             arith,
             fr.source_before step_event
                 (rf_it a fr.on_location fr.events_differ source_is fr.read.location_is (fr.write.location_is, fr.write.is_write)),
@@ -741,8 +742,8 @@ module _ {S : Type 0} {language : Language S} {test : Test S} (well_scoped : IsW
           → ScOrder language test whole_execution a b
           → ScOrder language test later_execution a b
       ScOrder-of_later a b na nb (inl po) = inl (record {
-        first_event = is_later_event a po.first_event na;
-        second_event = is_later_event b po.second_event nb;
+        first_event = IsEvent-in_later a po.first_event na;
+        second_event = IsEvent-in_later b po.second_event nb;
         same_thread = po.same_thread;
         position_lt = po.position_lt;
       })
@@ -750,13 +751,13 @@ module _ {S : Type 0} {language : Language S} {test : Test S} (well_scoped : IsW
         on_location = rf.on_location;
         write = Writes-of_later a rf.on_location rf.write na;
         read = Reads-of_later b rf.on_location rf.read nb;
-        source_is = by_cases_of_source (later_execution.rf b) refl;
+        source_is = IsReadFrom-by_source (later_execution.rf b) refl;
       }))
         where
           -- The source in the rest is the source in the whole, since that is not the first event.
-          by_cases_of_source : (q : Option MemoryEvent) → later_execution.rf b ≡ q → later_execution.rf b ≡ Some a
-          by_cases_of_source (Some v) source_is = source_is ∙ (sym (rf_some b v nb source_is) ∙ rf.source_is)
-          by_cases_of_source None source_is = elim (WritesHere-decidable rf.on_location) [
+          IsReadFrom-by_source : (q : Option MemoryEvent) → later_execution.rf b ≡ q → later_execution.rf b ≡ Some a
+          IsReadFrom-by_source (Some v) source_is = source_is ∙ (sym (rf_some b v nb source_is) ∙ rf.source_is)
+          IsReadFrom-by_source None source_is = elim (WritesHere-decidable rf.on_location) [
             | inl here ↦
                 absurd (na (same_Some a step_event
                 (sym rf.source_is ∙ rf_it b rf.on_location nb source_is rf.read.location_is here)))
@@ -805,7 +806,7 @@ module _ {S : Type 0} {language : Language S} {test : Test S} (well_scoped : IsW
       IsLater-with_first = record {
         execution = whole_execution;
         path_count = length-set later_execution.paths t (step_position ∷ thread_code later_execution.paths t) ∙ later.path_count;
-        threads = threads_execute;
+        threads = ThreadExecutesTo-each_thread;
         rf = IsReadFrom-with_first;
         co = co-injective;
         words = IsLast-with_first;

@@ -32,9 +32,10 @@ use Rattle.lw_axiomatic.proofs.StepCases.{StepCase, thread_of, word_seen, word_f
 use Rattle.lw_axiomatic.proofs.Paths.{IsSuccessor-state_after}
 use Rattle.lw_axiomatic.proofs.Indices.{number_in_order, order_length, KeptOrder, items, item_numbered, turn}
 use Rattle.lw_axiomatic.proofs.Indices.{turn-of_number, step_of, point_of, event_of_item, done, reached}
-use Rattle.lw_axiomatic.proofs.Indices.{forward, Placed, operation_is-of_instruction, step_placed}
-use Rattle.lw_axiomatic.proofs.Indices.{point_placed, turn-injective, turn_in_range}
-use Rattle.lw_axiomatic.proofs.Indices.{turn_increases-AreOrdered, Contains-IsMember, in_list, whole_path}
+use Rattle.lw_axiomatic.proofs.Indices.{forward, Placed, operation_is-of_instruction, Placed-step}
+use Rattle.lw_axiomatic.proofs.Indices.{Placed-point, turn-injective, turn_in_range}
+use Rattle.lw_axiomatic.proofs.Indices.{turn_increases-AreOrdered, Contains-IsMember, in_list}
+use Rattle.lw_axiomatic.proofs.Indices.{IsFlowPathFrom-whole_path}
 use Rattle.lw_axiomatic.proofs.Prefixes.{Written, LastBefore, PrefixInvariant, Turn, Agrees}
 use Rattle.lw_axiomatic.proofs.Prefixes.{PrefixInvariant-next, step_case, Drained-ItemStep}
 use Rattle.lw_axiomatic.proofs.Seen.{sees_newest, source_word}
@@ -176,15 +177,17 @@ module _ {test : X86Test} {paths : List (List ℕ)} (given : KeptOrder test path
   states_of-last (a ∷ done_items) s e ran = states_of-last done_items ran.0 e ran.2
 
   -- From each state to the next the run executes the item between.
-  states_of-transition : (done_items : List Item) (s e : MachineState (List ℕ)) (ran : Ran done_items s e) (k : ℕ) (a : Item)
+  X86ItemTransition-states_of : (done_items : List Item) (s e : MachineState (List ℕ)) (ran : Ran done_items s e) (k : ℕ)
+      (a : Item)
       → slice_get done_items k ≡ Some a
       → X86ItemTransition flat_memory test.threads a (states_of done_items s e ran k) (states_of done_items s e ran (suc k))
-  states_of-transition [] s e ran k a found_at = absurd (none-some a found_at)
-  states_of-transition (b ∷ done_items) s e ran zero a found_at =
+  X86ItemTransition-states_of [] s e ran k a found_at = absurd (none-some a found_at)
+  X86ItemTransition-states_of (b ∷ done_items) s e ran zero a found_at =
       subst (λ (z : Item). X86ItemTransition flat_memory test.threads z s (states_of done_items ran.0 e ran.2 0))
       (same_Some b a found_at)
       (subst (X86ItemTransition flat_memory test.threads b s) (sym (states_of-first done_items ran.0 e ran.2)) ran.1)
-  states_of-transition (b ∷ done_items) s e ran (suc k) a found_at = states_of-transition done_items ran.0 e ran.2 k a found_at
+  X86ItemTransition-states_of (b ∷ done_items) s e ran (suc k) a found_at =
+      X86ItemTransition-states_of done_items ran.0 e ran.2 k a found_at
 
   module _ (ran : Ran (map nth_item given.order) (initial_machine_state test test.head.init_words) end) where
     -- The state after the first k items of the order.
@@ -231,13 +234,13 @@ module _ {test : X86Test} {paths : List (List ℕ)} (given : KeptOrder test path
     -- The list has each event of the execution.
     Contains-events : (w : MemoryEvent) → IsEvent run_execution w → Contains events w
     Contains-events w is_event =
-        let p = step_placed given w is_event in
+        let p = Placed-step given w is_event in
         let is_there : Contains all_items (item w.thread w.position false) = (p.index, p.below, places.get-of_Placed given p) in
         Contains-map (λ (a : Item). event a.thread a.position) all_items (item w.thread w.position false) is_there
 
     -- Each event of the list is one of the execution.
-    events-contains_inv : (w : MemoryEvent) → Contains events w → IsEvent run_execution w
-    events-contains_inv w is_member =
+    IsEvent-of_contained : (w : MemoryEvent) → Contains events w → IsEvent run_execution w
+    IsEvent-of_contained w is_member =
         let source = Contains-map_inv (λ (a : Item). event a.thread a.position) all_items w is_member in
         let re : IsItemOnPath x86_language test.threads paths source.0 = places.IsItemOnPath-Contains given source.0 source.1 in
         subst (λ (z : MemoryEvent). Contains (thread_code paths z.thread) z.position) source.2
@@ -274,11 +277,11 @@ module _ {test : X86Test} {paths : List (List ℕ)} (given : KeptOrder test path
           ]))
 
       -- What passes the test is a write before the read.
-      IsBefore-is_source : (w : MemoryEvent)
+      Writes-of_source_before : (w : MemoryEvent)
           → IsEvent run_execution w
           → is_source r w ≡ true
           → Writes x86_language test run_execution w l × IsBefore run_execution done_index reached_index w r
-      IsBefore-is_source w is_event f =
+      Writes-of_source_before w is_event f =
           let a = and_parts (operation_is x86_language test writes w) _ f in
           let b = and_parts (is_same_location (location x86_language test w) (location x86_language test r)) _ a.1 in (
             record {
@@ -307,7 +310,7 @@ module _ {test : X86Test} {paths : List (List ℕ)} (given : KeptOrder test path
       IsNewest-IsTopOf None none =
           λ w writing before. none w (Contains-events w writing.is_event) (is_source-IsBefore w writing before)
       IsNewest-IsTopOf (Some v) top =
-          let s = IsBefore-is_source v (events-contains_inv v top.among) top.passes in
+          let s = Writes-of_source_before v (IsEvent-of_contained v top.among) top.passes in
           record {
             write = s.0;
             is_before = s.1;
@@ -319,8 +322,8 @@ module _ {test : X86Test} {paths : List (List ℕ)} (given : KeptOrder test path
       IsNewest-of_rf = IsNewest-IsTopOf (run_execution.rf r) (IsTopOf-newest_in reached_index (is_source r) events)
 
     -- The execution has consistent times: the indices of its items in the order.
-    pub has_consistent_times : HasConsistentTimes test run_execution done_index reached_index
-    has_consistent_times = record {
+    pub HasConsistentTimes-of_run : HasConsistentTimes test run_execution done_index reached_index
+    HasConsistentTimes-of_run = record {
       po = places.done_increases-Po given run_execution refl;
       later = places.done_before_reached given run_execution refl;
       at_once = places.reached_is_done given run_execution refl;
@@ -354,7 +357,7 @@ module _ {test : X86Test} {paths : List (List ℕ)} (given : KeptOrder test path
         record {
           now_at = record { index = i; below = split.0; index_is = index_i };
           out =
-              states_of-transition (map nth_item given.order) (initial_machine_state test test.head.init_words) end ran k
+              X86ItemTransition-states_of (map nth_item given.order) (initial_machine_state test test.head.init_words) end ran k
               (nth_item i) (slice_get-map nth_item given.order k ∙ ap (option_map nth_item) found_at);
         }
 
@@ -458,7 +461,7 @@ module _ {test : X86Test} {paths : List (List ℕ)} (given : KeptOrder test path
         → Reads x86_language test run_execution e l
         → IsReadFrom x86_language test run_execution e l (run_execution.rf e)
     IsReadFrom-of_rf e l reading =
-        let p : Placed given (step_of given e) = step_placed given e reading.is_event in
+        let p : Placed given (step_of given e) = Placed-step given e reading.is_event in
         let k_low : index_in given.order p.index < length given.order =
         omega (arith, number_in_order given p.index p.below, order_length given) in
         IsReadFrom-of_item p (TurnAt-get (index_in given.order p.index) p.index (get-index_in given.order p.index k_low)) k_low
@@ -719,14 +722,14 @@ module _ {test : X86Test} {paths : List (List ℕ)} (given : KeptOrder test path
           let position : last.position ≡ p.position = ap (λ (z : ThreadState). z.position) same in
           (omega (arith, position, past, within), same)
       GoesFrom-each (j ∷ rest) k low p le at_p within up later all =
-          let placed = step_placed given (event t j) (later j (inl refl)).1 in
+          let placed = Placed-step given (event t j) (later j (inl refl)).1 in
           ThreadExecutes-by_turn (λ k low p. GoesFrom-each rest k low p) placed.index placed.below placed.item_is placed.index_is
         where
           -- The later steps have their turns later.
           done_before_rest : (h : ℕ) → IsMember h rest → done_index (event t j) < done_index (event t h)
           done_before_rest h is_member =
               turn_increases-AreOrdered given (item t j false) (item t h false)
-              (step_placed given (event t j) (later j (inl refl)).1) (step_placed given (event t h) (later h (inr is_member)).1)
+              (Placed-step given (event t j) (later j (inl refl)).1) (Placed-step given (event t h) (later h (inr is_member)).1)
               refl (item_slot-increasing false false j h (IsAscendingFrom-lower_bound (suc j) h rest up.1 is_member))
               (λ d. absurd (true≢false (sym d)))
 
@@ -780,11 +783,11 @@ module _ {test : X86Test} {paths : List (List ℕ)} (given : KeptOrder test path
     module _ (final : IsTrue (is_final test.threads end))
         (of_test : HasOutcomeShape test.head.threads (length test.head.locs) (machine_outcome flat_memory end)) where
       -- Each thread executes its path in the execution made from the run.
-      ThreadExecutes-of_thread : (t : ℕ)
+      ThreadExecutesTo-of_thread : (t : ℕ)
           → t < length test.threads
           → ThreadExecutesTo x86_language run_execution t (thread_code test.threads t) (thread_code paths t)
           (first_state (slice_index_or test.head.init_regs t [])) (machine_outcome flat_memory end)
-      ThreadExecutes-of_thread t in_range =
+      ThreadExecutesTo-of_thread t in_range =
           let found = slice_get-in_range (state_at 0).processors t (omega (arith, in_range, processor_count 0 (omega arith))) in
           let q =
           slice_get-in_range (state_at (length given.order)).processors t
@@ -816,7 +819,8 @@ module _ {test : X86Test} {paths : List (List ℕ)} (given : KeptOrder test path
                 (thread_code paths t) 0 0 found.0 (omega arith) found.1
                 (omega (arith, ap (λ (z : Processor). z.position) mapped.2))
                 (IsAscendingFrom-flow_path x86_language (thread_code test.threads t) 0 (thread_code paths t) (forward given t)
-                (whole_path given t in_range)) (λ j there. (omega arith, Contains-IsMember (thread_code paths t) j there))
+                (IsFlowPathFrom-whole_path given t in_range))
+                (λ j there. (omega arith, Contains-IsMember (thread_code paths t) j there))
                 (λ j on from. in_list (thread_code paths t) j on));
             regs_are =
                 get_or_from_slice_get (map (λ (z : Processor). z.regs) end.processors) t q.0.regs []
@@ -826,7 +830,7 @@ module _ {test : X86Test} {paths : List (List ℕ)} (given : KeptOrder test path
       -- Each event reaches memory in the order.
       reached_below : (e : MemoryEvent) → IsEvent run_execution e → reached_index e < length given.order
       reached_below e is_event =
-          omega (arith, turn_in_range given (point_of given e) (point_placed given e is_event), order_length given)
+          omega (arith, turn_in_range given (point_of given e) (Placed-point given e is_event), order_length given)
 
       -- The last word before the end is the last word of the execution.
       IsLast-LastBefore : (l w : ℕ)
@@ -840,7 +844,7 @@ module _ {test : X86Test} {paths : List (List ℕ)} (given : KeptOrder test path
       pub IsCandidate-of_run : IsCandidate x86_language test run_execution (machine_outcome flat_memory end)
       IsCandidate-of_run = record {
         as_many = places.paths_length given;
-        threads = ThreadExecutes-of_thread;
+        threads = ThreadExecutesTo-of_thread;
         rf = IsReadFrom-of_rf;
         co = λ w v l ww wv same. places.reached-injective given run_execution refl w v ww.is_event wv.is_event same;
         words = λ l lt.

@@ -9,7 +9,7 @@ use Rattle.lw_axiomatic.proofs.Common.{x86_language, X86Test, SatisfiesAxioms, I
 use Rattle.lw_axiomatic.proofs.Common.{MemoryEvent, Execution, IsEvent, Po, reads, operation_is, location, Rf}
 use Rattle.lw_axiomatic.proofs.Common.{Co, Reads, Writes, Fr, Ppo, Half, IsHalf, HalfReads, HalfWrites}
 use Rattle.lw_axiomatic.proofs.Common.{AreHalves, HalvesRf, HalvesCo, HalvesFr, HalvesPoLoc, HalvesPpo}
-use Rattle.lw_axiomatic.proofs.Common.{reads_first, writes_last, holds_all, AreOfTwoThreads}
+use Rattle.lw_axiomatic.proofs.Common.{reads_first, writes_last, is_ordered_with_all, AreOfTwoThreads}
 use Rattle.lw_axiomatic.proofs.Common.{SatisfiesSplitAxioms, IsAllowedBySplitAxioms}
 use Rattle.lw_axiomatic.proofs.Decisions.{decided_event_equal}
 use Rattle.lw_axiomatic.proofs.EventKinds.{writes-false_if_load}
@@ -217,7 +217,8 @@ module _ (test : X86Test) (x : Execution) where
     -- Preserved program order of halves is that of their events.
     Ppo-of_halves : (a b : Half)
         → Po x a.event b.event
-        → (reads_first test x a || (writes_last test x b || (holds_all test x a || holds_all test x b))) ≡ true
+        → (reads_first test x a || (writes_last test x b || (is_ordered_with_all test x a || is_ordered_with_all test x b)))
+        ≡ true
         → Ppo x86_language test x a.event b.event
     Ppo-of_halves a b po k = record {
       po = po;
@@ -227,7 +228,7 @@ module _ (test : X86Test) (x : Execution) where
           | inl w ↦
               or_right (has_kind reads a.event) _
               (or_left (has_kind writes b.event) _ (and_parts (has_kind writes b.event) _ w).0)
-          | inr all ↦ elim (or_cases (holds_all test x a) _ all) [
+          | inr all ↦ elim (or_cases (is_ordered_with_all test x a) _ all) [
             | inl f ↦ elim (or_cases (has_kind operations.is_fence a.event) _ f) [
               | inl fence ↦
                   or_right (has_kind reads a.event) _
@@ -471,8 +472,8 @@ module _ (test : X86Test) (x : Execution) where
           | inr fences ↦
               or_right (reads_first test x (last_half a)) _
               (or_right (writes_last test x (last_half b)) _ (elim (or_cases (has_kind operations.is_fence a) _ fences) [
-                | inl f ↦ or_left (holds_all test x (last_half a)) _ (or_left (has_kind operations.is_fence a) _ f)
-                | inr f ↦ or_right (holds_all test x (last_half a)) _ (or_left (has_kind operations.is_fence b) _ f)
+                | inl f ↦ or_left (is_ordered_with_all test x (last_half a)) _ (or_left (has_kind operations.is_fence a) _ f)
+                | inr f ↦ or_right (is_ordered_with_all test x (last_half a)) _ (or_left (has_kind operations.is_fence b) _ f)
               ]))
         ]
       ];
@@ -486,13 +487,14 @@ module _ (test : X86Test) (x : Execution) where
         -- A read's half orders what follows it.
         half_reads_first : has_kind reads a ≡ true
             → (reads_first test x (last_half a)
-            || (writes_last test x (last_half b) || (holds_all test x (last_half a) || holds_all test x (last_half b))))
+            || (writes_last test x (last_half b)
+            || (is_ordered_with_all test x (last_half a) || is_ordered_with_all test x (last_half b))))
             ≡ true
         half_reads_first r = elim (cases_Bool (has_kind is_locked a)) [
           | inl a_locked ↦
               or_right (reads_first test x (last_half a)) _
               (or_right (writes_last test x (last_half b)) _
-              (or_left (holds_all test x (last_half a)) _ (or_right (has_kind operations.is_fence a) _ a_locked)))
+              (or_left (is_ordered_with_all test x (last_half a)) _ (or_right (has_kind operations.is_fence a) _ a_locked)))
           | inr a_not_locked ↦
               or_left (reads_first test x (last_half a)) _
               (and_from (has_kind reads a) _ r (not-of_false (has_kind is_locked a) a_not_locked))

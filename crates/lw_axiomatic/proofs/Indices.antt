@@ -231,28 +231,28 @@ module _ {test : X86Test} {paths : List (List ℕ)} (given : KeptOrder test path
       instruction-IsFlowSuccessor (Some i) j k f = (i, refl)
 
   -- In a path assignment the path of thread t is a whole flow path of its code.
-  flow_path_of_thread : (program : List (List Instr)) (ps : List (List ℕ))
+  IsFlowPathFrom-of_thread : (program : List (List Instr)) (ps : List (List ℕ))
       → IsPathAssignment x86_language program ps
       → (t : ℕ)
       → t < length program
       → IsFlowPathFrom x86_language (thread_code program t) 0 (thread_code ps t)
-  flow_path_of_thread (code ∷ program) (path ∷ ps) c zero in_range = c.0
-  flow_path_of_thread (code ∷ program) (path ∷ ps) c (suc t) in_range =
-      flow_path_of_thread program ps c.1 t (omega (arith, in_range))
-  flow_path_of_thread [] ps c t in_range = absurd (omega (arith, in_range))
-  flow_path_of_thread (code ∷ program) [] c t in_range = absurd c
+  IsFlowPathFrom-of_thread (code ∷ program) (path ∷ ps) c zero in_range = c.0
+  IsFlowPathFrom-of_thread (code ∷ program) (path ∷ ps) c (suc t) in_range =
+      IsFlowPathFrom-of_thread program ps c.1 t (omega (arith, in_range))
+  IsFlowPathFrom-of_thread [] ps c t in_range = absurd (omega (arith, in_range))
+  IsFlowPathFrom-of_thread (code ∷ program) [] c t in_range = absurd c
 
   -- Each thread's path is a whole flow path.
-  pub whole_path : (t : ℕ)
+  pub IsFlowPathFrom-whole_path : (t : ℕ)
       → t < length test.threads
       → IsFlowPathFrom x86_language (thread_code test.threads t) 0 (thread_code paths t)
-  whole_path t in_range = flow_path_of_thread test.threads paths given.assignment t in_range
+  IsFlowPathFrom-whole_path t in_range = IsFlowPathFrom-of_thread test.threads paths given.assignment t in_range
 
   -- An event on a path has an instruction.
   pub instr_of : (e : MemoryEvent) → OnPath e → (i : Instr) × (slice_get (thread_code test.threads e.thread) e.position ≡ Some i)
   instr_of e c =
       path_instr (thread_code test.threads e.thread) 0 (thread_code paths e.thread)
-      (whole_path e.thread (thread_in_range-OnPath e c)) e.position c
+      (IsFlowPathFrom-whole_path e.thread (thread_in_range-OnPath e c)) e.position c
 
   -- A store has a location.
   storing_operation : (o : Operation) → is_store o ≡ true → (l : ℕ) × ((if is_store o then location_of o else None) ≡ Some l)
@@ -264,11 +264,11 @@ module _ {test : X86Test} {paths : List (List ℕ)} (given : KeptOrder test path
   IsStoring-is_store i e = storing_operation (x86_operation i) e
 
   -- The step of an event on a path has its place; so has its drain, if it is a store.
-  item_placed : (e : MemoryEvent) (b : Bool)
+  Placed-item : (e : MemoryEvent) (b : Bool)
       → OnPath e
       → (b ≡ true → operation_is x86_language test is_store e ≡ true)
       → Placed (item e.thread e.position b)
-  item_placed e b c store =
+  Placed-item e b c store =
       let instr = instr_of e c in
       Placed-HasItem (item e.thread e.position b)
       (HasItem-on_path x86_language test.threads paths e.thread e.position instr.0 b
@@ -277,12 +277,12 @@ module _ {test : X86Test} {paths : List (List ℕ)} (given : KeptOrder test path
       (λ f. IsStoring-is_store instr.0 (sym (operation_is-of_instruction is_store e instr.0 instr.1) ∙ store f)))
 
   -- The step of an event on a path is an item of the path assignment.
-  pub step_placed : (e : MemoryEvent) → OnPath e → Placed (step_of e)
-  step_placed e c = item_placed e false c (λ f. absurd (true≢false (sym f)))
+  pub Placed-step : (e : MemoryEvent) → OnPath e → Placed (step_of e)
+  Placed-step e c = Placed-item e false c (λ f. absurd (true≢false (sym f)))
 
   -- The item by which an event on a path reaches memory is one of the path assignment.
-  pub point_placed : (e : MemoryEvent) → OnPath e → Placed (point_of e)
-  point_placed e c = item_placed e (operation_is x86_language test is_store e) c (λ f. f)
+  pub Placed-point : (e : MemoryEvent) → OnPath e → Placed (point_of e)
+  Placed-point e c = Placed-item e (operation_is x86_language test is_store e) c (λ f. f)
 
   -- The event of an item: its thread and its position.
   abbrev pub event_of_item : Item → MemoryEvent
@@ -336,8 +336,8 @@ module _ {test : X86Test} {paths : List (List ℕ)} (given : KeptOrder test path
     -- Of two events in program order the first is done first.
     pub done_increases-Po : (a b : MemoryEvent) → Po x a b → done a < done b
     done_increases-Po a b po =
-        turn_increases-AreOrdered (step_of a) (step_of b) (step_placed a (OnPath-IsEvent a po.first_event))
-        (step_placed b (OnPath-IsEvent b po.second_event)) po.same_thread
+        turn_increases-AreOrdered (step_of a) (step_of b) (Placed-step a (OnPath-IsEvent a po.first_event))
+        (Placed-step b (OnPath-IsEvent b po.second_event)) po.same_thread
         (item_slot-increasing false false a.position b.position po.position_lt) (λ f. absurd (true≢false (sym f)))
 
     -- A store reaches memory after it is done.
@@ -346,8 +346,8 @@ module _ {test : X86Test} {paths : List (List ℕ)} (given : KeptOrder test path
         → operation_is x86_language test is_store e ≡ true
         → done e < reached e
     done_before_reached e is_event s =
-        turn_increases-AreOrdered (step_of e) (point_of e) (step_placed e (OnPath-IsEvent e is_event))
-        (point_placed e (OnPath-IsEvent e is_event)) refl
+        turn_increases-AreOrdered (step_of e) (point_of e) (Placed-step e (OnPath-IsEvent e is_event))
+        (Placed-point e (OnPath-IsEvent e is_event)) refl
         (item_slot-store_before_drain false (operation_is x86_language test is_store e) e.position e.position refl s refl)
         (λ f. absurd (true≢false (sym f)))
 
@@ -386,8 +386,8 @@ module _ {test : X86Test} {paths : List (List ℕ)} (given : KeptOrder test path
     -- Of two events in preserved program order the first reaches memory first.
     pub reached_increases-Ppo : (a b : MemoryEvent) → Ppo x86_language test x a b → reached a < reached b
     reached_increases-Ppo a b ppo =
-        turn_increases-AreOrdered (point_of a) (point_of b) (point_placed a (OnPath-IsEvent a ppo.po.first_event))
-        (point_placed b (OnPath-IsEvent b ppo.po.second_event)) ppo.po.same_thread
+        turn_increases-AreOrdered (point_of a) (point_of b) (Placed-point a (OnPath-IsEvent a ppo.po.first_event))
+        (Placed-point b (OnPath-IsEvent b ppo.po.second_event)) ppo.po.same_thread
         (item_slot-increasing (operation_is x86_language test is_store a) (operation_is x86_language test is_store b) a.position
         b.position ppo.po.position_lt) (λ s. elim (store_or_waits-Ppo_from_store a b ppo s) [
           | inl t ↦ inl t
@@ -400,6 +400,6 @@ module _ {test : X86Test} {paths : List (List ℕ)} (given : KeptOrder test path
     pub reached-injective : (a b : MemoryEvent) → IsEvent x a → IsEvent x b → reached a ≡ reached b → a ≡ b
     reached-injective a b ia ib same =
         let e : point_of a ≡ point_of b =
-        turn-injective (point_of a) (point_of b) (point_placed a (OnPath-IsEvent a ia)) (point_placed b (OnPath-IsEvent b ib))
+        turn-injective (point_of a) (point_of b) (Placed-point a (OnPath-IsEvent a ia)) (Placed-point b (OnPath-IsEvent b ib))
         same in
         ap event_of_item e

@@ -24,17 +24,18 @@ module _ {code fenced : List Instr} (fencing : IsFencedCode code fenced) where
     pub ends : EndsBlock fencing.block code index instr
 
   -- Each instruction of the longer code is of one of these two kinds.
-  pub inserted_or_kept : (index : ℕ) → index < length fenced → IsInsertedFence index ⊎ IsKeptAt index
-  inserted_or_kept index in_range =
-      let i = slice_get-in_range fenced index in_range in inserted_or_kept-of_instruction i.0 i.1 (fencing.each index i.0 i.1)
+  pub IsInsertedFence-or_kept : (index : ℕ) → index < length fenced → IsInsertedFence index ⊎ IsKeptAt index
+  IsInsertedFence-or_kept index in_range =
+      let i = slice_get-in_range fenced index in_range in IsInsertedFence-or_kept_instruction i.0 i.1 (fencing.each index i.0 i.1)
     where
       -- An instruction of the longer code is an inserted fence, or ends a block.
-      inserted_or_kept-of_instruction : (i : Instr)
+      IsInsertedFence-or_kept_instruction : (i : Instr)
           → slice_get fenced index ≡ Some i
           → IsInserted fencing.block index i ⊎ EndsBlock fencing.block code index i
           → IsInsertedFence index ⊎ IsKeptAt index
-      inserted_or_kept-of_instruction i found (inl extra) = inl (record { fence = found ∙ ap Some extra.0; inserted = extra.1 })
-      inserted_or_kept-of_instruction i found (inr ends) = inr (record { instr = i; found = found; ends = ends })
+      IsInsertedFence-or_kept_instruction i found (inl extra) =
+          inl (record { fence = found ∙ ap Some extra.0; inserted = extra.1 })
+      IsInsertedFence-or_kept_instruction i found (inr ends) = inr (record { instr = i; found = found; ends = ends })
 
   -- No instruction of the longer code is both kept and inserted.
   pub not-IsKeptAt-if_inserted : (index : ℕ) → IsInsertedAt fencing index → IsKeptAt index → ⊥
@@ -42,8 +43,10 @@ module _ {code fenced : List Instr} (fencing : IsFencedCode code fenced) where
 
   -- From an index to the next one, the block does not decrease.
   block-next : (index : ℕ) → index < length fenced → fencing.block index ≤ fencing.block (index + 1)
-  block-next index in_range =
-      elim (inserted_or_kept index in_range) [ inl extra ↦ omega (arith, extra.inserted) | inr kept ↦ omega (arith, kept.ends.1) ]
+  block-next index in_range = elim (IsInsertedFence-or_kept index in_range) [
+    | inl extra ↦ omega (arith, extra.inserted)
+    | inr kept ↦ omega (arith, kept.ends.1)
+  ]
 
   -- Nor does it from an index to a later one.
   block-increasing : (index n : ℕ) → index + n ≤ length fenced → fencing.block index ≤ fencing.block (index + n)
@@ -85,12 +88,12 @@ module _ {code fenced : List Instr} (fencing : IsFencedCode code fenced) where
     number : fencing.block index ≡ k
 
   -- An index at whose block k has been passed shows where k is.
-  kept_index-below : (k n : ℕ) → n ≤ length fenced → k < fencing.block n → KeptIndex k
-  kept_index-below k zero within below = absurd (omega (arith, fencing.first))
-  kept_index-below k (suc n) within below = elim (inserted_or_kept n (omega arith)) [
-    | inl extra ↦ kept_index-below k n (omega arith) (omega (arith, below, next, extra.inserted))
+  KeptIndex-below : (k n : ℕ) → n ≤ length fenced → k < fencing.block n → KeptIndex k
+  KeptIndex-below k zero within below = absurd (omega (arith, fencing.first))
+  KeptIndex-below k (suc n) within below = elim (IsInsertedFence-or_kept n (omega arith)) [
+    | inl extra ↦ KeptIndex-below k n (omega arith) (omega (arith, below, next, extra.inserted))
     | inr kept ↦ elim (cases_lt k (fencing.block n)) [
-      | inl earlier ↦ kept_index-below k n (omega arith) earlier
+      | inl earlier ↦ KeptIndex-below k n (omega arith) earlier
       | inr le ↦ record { index = n; kept = kept; number = omega (arith, below, next, kept.ends.1, le) }
     ]
   ]
@@ -100,13 +103,13 @@ module _ {code fenced : List Instr} (fencing : IsFencedCode code fenced) where
       next = let same : n + 1 ≡ suc n = omega arith in ap fencing.block same
 
   -- Each instruction of the shorter code has an index in the longer one.
-  kept_index-exists : (k : ℕ) → k < length code → KeptIndex k
-  kept_index-exists k in_range =
-      kept_index-below k (length fenced) (omega arith) (omega (arith, in_range, fencing.last (length fenced) (omega arith)))
+  KeptIndex-exists : (k : ℕ) → k < length code → KeptIndex k
+  KeptIndex-exists k in_range =
+      KeptIndex-below k (length fenced) (omega arith) (omega (arith, in_range, fencing.last (length fenced) (omega arith)))
 
   -- The index of a statement in the longer code, or the length of the longer code.
   abbrev kept_index_by : (k : ℕ) → (k < length code) ⊎ (length code ≤ k) → ℕ
-  kept_index_by k (inl within) = (kept_index-exists k within).index
+  kept_index_by k (inl within) = (KeptIndex-exists k within).index
   kept_index_by k (inr past) = length fenced
 
   -- Returns the index in the longer code of the instruction at position k of the shorter one; the length, if there is none.
@@ -117,7 +120,7 @@ module _ {code fenced : List Instr} (fencing : IsFencedCode code fenced) where
   kept_index_by-kept : (k : ℕ) (d : (k < length code) ⊎ (length code ≤ k))
       → k < length code
       → IsKeptAt (kept_index_by k d) × (fencing.block (kept_index_by k d) ≡ k)
-  kept_index_by-kept k (inl within) also = let here : KeptIndex k = kept_index-exists k within in (here.kept, here.number)
+  kept_index_by-kept k (inl within) also = let here : KeptIndex k = KeptIndex-exists k within in (here.kept, here.number)
   kept_index_by-kept k (inr past) also = absurd (omega arith)
 
   -- An instruction of the shorter code is at that index, and its block is its position.

@@ -31,34 +31,43 @@ not-is_locked-if_store (Some _) store locked = true≢false (sym store)
 
 module _ (test : X86Test) (x : Execution) where
   -- What comes before in global happens-before precedes.
-  ordered-step : (a b : MemoryEvent) → HappensBefore test x a b → IsOrderedBefore test x a b
-  ordered-step a b step rank up = up a b step
+  IsOrderedBefore-step : (a b : MemoryEvent) → HappensBefore test x a b → IsOrderedBefore test x a b
+  IsOrderedBefore-step a b step rank up = up a b step
 
   -- What precedes an event precedes what that precedes.
-  ordered-trans : (a b c : MemoryEvent) → IsOrderedBefore test x a b → IsOrderedBefore test x b c → IsOrderedBefore test x a c
-  ordered-trans a b c first second rank up = omega (arith, first rank up, second rank up)
+  IsOrderedBefore-trans : (a b c : MemoryEvent)
+      → IsOrderedBefore test x a b
+      → IsOrderedBefore test x b c
+      → IsOrderedBefore test x a c
+  IsOrderedBefore-trans a b c first second rank up = omega (arith, first rank up, second rank up)
 
   -- An event precedes a later write of its thread.
-  ordered-write : (a w : MemoryEvent) → Po x a w → operation_is x86_language test writes w ≡ true → IsOrderedBefore test x a w
-  ordered-write a w po writing =
-      ordered-step a w
+  IsOrderedBefore-write : (a w : MemoryEvent)
+      → Po x a w
+      → operation_is x86_language test writes w ≡ true
+      → IsOrderedBefore test x a w
+  IsOrderedBefore-write a w po writing =
+      IsOrderedBefore-step a w
       (inl (record { po = po; is_preserved = or_right (operation_is x86_language test reads a) _ (or_left _ _ writing) }))
 
   -- An event that reads precedes each later event of its thread.
-  ordered-read : (r b : MemoryEvent) → Po x r b → operation_is x86_language test reads r ≡ true → IsOrderedBefore test x r b
-  ordered-read r b po reading = ordered-step r b (inl (record { po = po; is_preserved = or_left _ _ reading }))
+  IsOrderedBefore-read : (r b : MemoryEvent)
+      → Po x r b
+      → operation_is x86_language test reads r ≡ true
+      → IsOrderedBefore test x r b
+  IsOrderedBefore-read r b po reading = IsOrderedBefore-step r b (inl (record { po = po; is_preserved = or_left _ _ reading }))
 
   -- What is before a release in its thread precedes what is after an acquisition that the release precedes.
-  pub ordered-sections : (l : ℕ) (r s u a b : MemoryEvent)
+  pub IsOrderedBefore-sections : (l : ℕ) (r s u a b : MemoryEvent)
       → Acquires test x l s
       → Releases test x l r u
       → IsOrderedBefore test x u s
       → Po x a u
       → Po x s b
       → IsOrderedBefore test x a b
-  ordered-sections l r s u a b acquires releases order before after =
-      ordered-trans a u b (ordered-write a u before releases.writes.is_write)
-      (ordered-trans u s b order (ordered-read s b after (reads-if_locked_event test s acquires.locked)))
+  IsOrderedBefore-sections l r s u a b acquires releases order before after =
+      IsOrderedBefore-trans a u b (IsOrderedBefore-write a u before releases.writes.is_write)
+      (IsOrderedBefore-trans u s b order (IsOrderedBefore-read s b after (reads-if_locked_event test s acquires.locked)))
 
 module _ {test : X86Test} {x : Execution} {o : FinalState} (candidate : IsCandidate x86_language test x o)
     (axioms : SatisfiesAxioms test x) (l : ℕ) (lock : IsUsedAsLock test x l) where
@@ -67,8 +76,8 @@ module _ {test : X86Test} {x : Execution} {o : FinalState} (candidate : IsCandid
   Take = Acquires test x l
 
   -- An acquisition writes the lock.
-  take_writes : (r : MemoryEvent) → Take r → Writes x86_language test x r l
-  take_writes r take = record {
+  Writes-of_take : (r : MemoryEvent) → Take r → Writes x86_language test x r l
+  Writes-of_take r take = record {
     is_event = take.reads.is_event;
     location_is = take.reads.location_is;
     is_write = writes-if_locked_event test r take.locked;
@@ -85,9 +94,9 @@ module _ {test : X86Test} {x : Execution} {o : FinalState} (candidate : IsCandid
       → operation_is x86_language test is_locked s ≡ true
       → IsOrderedBefore test x u s
   IsOrderedBefore-Rf_to_locked u s rf locked = elim (cases_eq u.thread s.thread) [
-    | inr threads_differ ↦ ordered-step test x u s (inr (inl (record { rf = rf; threads_differ = threads_differ })))
+    | inr threads_differ ↦ IsOrderedBefore-step test x u s (inr (inl (record { rf = rf; threads_differ = threads_differ })))
     | inl same_thread ↦
-        ordered-write test x u s (Po-Rf_in_thread axioms u s rf same_thread) (writes-if_locked_event test s locked)
+        IsOrderedBefore-write test x u s (Po-Rf_in_thread axioms u s rf same_thread) (writes-if_locked_event test s locked)
   ]
 
   -- An acquisition has one release at most.
@@ -140,32 +149,32 @@ module _ {test : X86Test} {x : Execution} {o : FinalState} (candidate : IsCandid
           record { on_location = l; write = writing; read = take_s.reads; source_is = source_is } in
           let order : IsOrderedBefore test x u s = IsOrderedBefore-Rf_to_locked u s rf take_s.locked in
           let less : x.co u < x.co s =
-          source_precedes_locked_in_co candidate axioms.coherence s u l take_s.reads (take_writes s take_s) source_is in
+          source_precedes_locked_in_co candidate axioms.coherence s u l take_s.reads (Writes-of_take s take_s) source_is in
           let held = lock.released u writing store in
           let m : MemoryEvent = held.0 in
           let after : Co x86_language test x m u =
-          CoWW-Coherence candidate axioms.coherence m u l held.2.po (take_writes m held.1) writing in
-          elim (Co_total-of_writes candidate axioms.coherence r m l (take_writes r take_r) (take_writes m held.1)) [
+          CoWW-Coherence candidate axioms.coherence m u l held.2.po (Writes-of_take m held.1) writing in
+          elim (Co_total-of_writes candidate axioms.coherence r m l (Writes-of_take r take_r) (Writes-of_take m held.1)) [
             | inl same ↦ (u, subst (λ (z : MemoryEvent). Releases test x l z u) (sym same) held.2, order)
             | inr (inl earlier) ↦
                 (let rest = again m r (omega (arith, below, less, after.co_lt)) held.1 take_r earlier in (
                   rest.0,
                   rest.1,
-                  ordered-trans test x rest.0 m s rest.2
-                      (ordered-trans test x m u s (ordered-read test x m u held.2.po (reads-if_locked_event test m held.1.locked))
-                      order),
+                  IsOrderedBefore-trans test x rest.0 m s rest.2
+                      (IsOrderedBefore-trans test x m u s
+                      (IsOrderedBefore-read test x m u held.2.po (reads-if_locked_event test m held.1.locked)) order),
                 ))
             | inr (inr later) ↦
-                absurd (elim (Co_total-of_writes candidate axioms.coherence r u l (take_writes r take_r) writing) [
+                absurd (elim (Co_total-of_writes candidate axioms.coherence r u l (Writes-of_take r take_r) writing) [
                   | inl same ↦
                       not-is_locked-if_store _ store
                       (subst (λ (z : MemoryEvent). operation_is x86_language test is_locked z ≡ true) same take_r.locked)
                   | inr (inr between) ↦
                       (IsAtomic-GlobalHappensBefore test x axioms.happens_before).after_write s u r take_s.locked rf between co
-                  | inr (inl behind) ↦
-                      (let rest = again r m (omega (arith, below, less, behind.co_lt)) take_r held.1 later in
+                  | inr (inl co_after) ↦
+                      (let rest = again r m (omega (arith, below, less, co_after.co_lt)) take_r held.1 later in
                       let same : rest.0 ≡ u = Releases-unique m rest.0 u rest.1 held.2 in
-                      not-Co-IsOrderedBefore u r (subst (λ (z : MemoryEvent). IsOrderedBefore test x z r) same rest.2) behind)
+                      not-Co-IsOrderedBefore u r (subst (λ (z : MemoryEvent). IsOrderedBefore test x z r) same rest.2) co_after)
                 ])
           ]
 
@@ -188,7 +197,7 @@ module _ {test : X86Test} {x : Execution} {o : FinalState} (candidate : IsCandid
       → Acquires test x l s
       → (r ≡ s) ⊎ (IsOverBefore test x l r s ⊎ IsOverBefore test x l s r)
   IsOverBefore-total r s take_r take_s =
-      elim (Co_total-of_writes candidate axioms.coherence r s l (take_writes r take_r) (take_writes s take_s)) [
+      elim (Co_total-of_writes candidate axioms.coherence r s l (Writes-of_take r take_r) (Writes-of_take s take_s)) [
         | inl same ↦ inl same
         | inr (inl co) ↦ inr (inl (EachOverBefore-each (suc (x.co s)) s r (omega arith) take_s take_r co))
         | inr (inr co) ↦ inr (inr (EachOverBefore-each (suc (x.co r)) r s (omega arith) take_r take_s co))

@@ -1,6 +1,5 @@
 -- Numberings and cycles: a relation along which ranks increase has no cycle; and a decidable relation of
--- finitely many events that has no cycle increases some numbers. So acyclicity by ranks and by cycles agree
--- (Cycles).
+-- finitely many events that has no cycle has such ranks. So acyclicity by ranks and by cycles agree (Cycles).
 use Rattle.lw_axiomatic.proofs.Common.{◌≡◌, ℕ, zero, suc, ◌+◌, ◌*◌, ◌<◌, ◌≤◌, ◌⊎◌, inl, inr, refl, sym, ap}
 use Rattle.lw_axiomatic.proofs.Common.{◌∙◌, subst, arith, List, [], ◌∷◌, Contains, cases_lt, not-Contains-nil}
 use Rattle.lw_axiomatic.proofs.Common.{Contains-head, Contains-tail, Contains-cons, Acyclic, Walk, HasNoCycle}
@@ -81,8 +80,8 @@ module _ (R : MemoryEvent → MemoryEvent → Type 0) (e : MemoryEvent) where
       let w = Walk-of_Past n c b walk in (suc (suc w.0), omega (arith, w.1), (e, to, (c, from, w.2)))
 
   -- If the relation has no cycle, it has none with steps past the event.
-  Past-has_no_cycle : HasNoCycle R → HasNoCycle Past
-  Past-has_no_cycle none n a walk = (let w = Walk-of_Past (suc n) a a walk in no_cycle-by_length w.0 w.1 w.2)
+  HasNoCycle-Past : HasNoCycle R → HasNoCycle Past
+  HasNoCycle-Past none n a walk = (let w = Walk-of_Past (suc n) a a walk in no_cycle-by_length w.0 w.1 w.2)
     where
       -- A walk of one step or more does not return.
       no_cycle-by_length : (m : ℕ) → suc n ≤ m → Walk R m a a → ⊥
@@ -114,24 +113,24 @@ Numbered events R =
 module _ (R : MemoryEvent → MemoryEvent → Type 0) (decide : (a b : MemoryEvent) → Decidable (R a b)) (none : HasNoCycle R)
     (e : MemoryEvent) (events : List MemoryEvent) (rest : Numbered events (Past R e)) where
   -- The least number above the ranks of what is related to the event.
-  least_above : Top R rest.0 e events
-  least_above = Top-exists R decide rest.0 e events
+  Top-least_above : Top R rest.0 e events
+  Top-least_above = Top-exists R decide rest.0 e events
 
   -- The rank immediately above those of all related events.
   abbrev rank : MemoryEvent → ℕ
-  rank a = number_if (decided_event_equal a e) (2 * least_above.top + 1) (2 * rest.0 a + 2)
+  rank a = number_if (decided_event_equal a e) (2 * Top-least_above.top + 1) (2 * rest.0 a + 2)
 
   -- The first event has the odd number above the numbers of all events related to it.
-  rank-of_first : (a : MemoryEvent) → a ≡ e → rank a ≡ 2 * least_above.top + 1
-  rank-of_first a same = number_if-holds (decided_event_equal a e) (2 * least_above.top + 1) (2 * rest.0 a + 2) same
+  rank-of_first : (a : MemoryEvent) → a ≡ e → rank a ≡ 2 * Top-least_above.top + 1
+  rank-of_first a same = number_if-holds (decided_event_equal a e) (2 * Top-least_above.top + 1) (2 * rest.0 a + 2) same
 
   -- Each event but the first has an even number.
   rank-of_others : (a : MemoryEvent) → (a ≡ e → ⊥) → rank a ≡ 2 * rest.0 a + 2
-  rank-of_others a differ = number_if-fails (decided_event_equal a e) (2 * least_above.top + 1) (2 * rest.0 a + 2) differ
+  rank-of_others a differ = number_if-fails (decided_event_equal a e) (2 * Top-least_above.top + 1) (2 * rest.0 a + 2) differ
 
   -- An event other than the first is in the rest of the list.
-  contains_tail : (a : MemoryEvent) → Contains (e ∷ events) a → (a ≡ e → ⊥) → Contains events a
-  contains_tail a is_member differ =
+  Contains-tail_if_other : (a : MemoryEvent) → Contains (e ∷ events) a → (a ≡ e → ⊥) → Contains events a
+  Contains-tail_if_other a is_member differ =
       elim (Contains-cons e a events is_member) [ inl is_head ↦ absurd (differ (sym is_head)) | inr in_tail ↦ in_tail ]
 
   -- The numbers increase along the relation.
@@ -141,8 +140,9 @@ module _ (R : MemoryEvent → MemoryEvent → Type 0) (decide : (a b : MemoryEve
       | inl sb ↦ absurd (none 0 a (b, r, sb ∙ sym same_event))
       | inr events_differ ↦
           (let from : R e b = subst (λ (z : MemoryEvent). R z b) same_event r in
-          let least : least_above.top ≤ rest.0 b =
-          least_above.least (rest.0 b) (λ p c to. rest.1 p b c (contains_tail b cb events_differ) (inr (to, from))) in
+          let least : Top-least_above.top ≤ rest.0 b =
+          Top-least_above.least (rest.0 b)
+          (λ p c to. rest.1 p b c (Contains-tail_if_other b cb events_differ) (inr (to, from))) in
           omega (arith, rank-of_first a same_event, rank-of_others b events_differ, least))
     ]
     | inr events_differ ↦ elim (decided_event_equal b e) [
@@ -152,13 +152,13 @@ module _ (R : MemoryEvent → MemoryEvent → Type 0) (decide : (a b : MemoryEve
             arith,
             rank-of_others a events_differ,
             rank-of_first b same_event,
-            least_above.above a (contains_tail a ca events_differ) to,
+            Top-least_above.above a (Contains-tail_if_other a ca events_differ) to,
           ))
       | inr nb ↦ omega (
         arith,
         rank-of_others a events_differ,
         rank-of_others b nb,
-        rest.1 a b (contains_tail a ca events_differ) (contains_tail b cb nb) (inl r),
+        rest.1 a b (Contains-tail_if_other a ca events_differ) (Contains-tail_if_other b cb nb) (inl r),
       )
     ]
   ]
@@ -172,12 +172,12 @@ Numbered-HasNoCycle [] R decide none = ((λ e. 0), λ a b ca cb r. absurd (not-C
 Numbered-HasNoCycle (e ∷ events) R decide none =
     let rest =
     Numbered-HasNoCycle events (Past R e) (λ a b. decided_or (decide a b) (decided_and (decide a e) (decide e b)))
-    (Past-has_no_cycle R e none) in
+    (HasNoCycle-Past R e none) in
     (rank R decide none e events rest, rank_increases-R R decide none e events rest)
 
 -- ---- the events of an execution
 
--- A decidable relation of an execution's events that has no cycle increases some ranks.
+-- A decidable relation of an execution's events without a cycle has ranks, which increase along it.
 pub Acyclic-HasNoCycle : (x : Execution) (R : MemoryEvent → MemoryEvent → Type 0)
     → ((a b : MemoryEvent) → Decidable (R a b))
     → ((a b : MemoryEvent) → R a b → IsEvent x a × IsEvent x b)

@@ -27,7 +27,7 @@ use Rattle.lw_axiomatic.proofs.StepCases.{StepCase, StepCase-EffectLeadsTo, word
 use Rattle.lw_axiomatic.proofs.StepCases.{memory_after, word_put}
 use Rattle.lw_axiomatic.proofs.Indices.{KeptOrder, items, item_numbered, turn, point_of, event_of_item}
 use Rattle.lw_axiomatic.proofs.Indices.{reached, forward, turn-of_number, Placed, operation_is-of_instruction}
-use Rattle.lw_axiomatic.proofs.Indices.{point_placed, turn-injective, reached-injective, Contains-IsMember}
+use Rattle.lw_axiomatic.proofs.Indices.{Placed-point, turn-injective, reached-injective, Contains-IsMember}
 pub use Rattle.lw_axiomatic.proofs.Indices.{in_list}
 
 -- ---- what an item did
@@ -55,19 +55,20 @@ pub record Drained (old new : Processor) (m n : List ℕ) : Type 0 where
   pub memory : n ≡ slice_set m location word
 
 -- If the act of a drain of the buffer b was done, the oldest entry went to memory.
-drain_case : (p q : Processor) (m n : List ℕ) (b : List (ℕ × ℕ))
+Drained-of_step : (p q : Processor) (m n : List ℕ) (b : List (ℕ × ℕ))
     → p.buffer ≡ b
     → EffectLeadsTo m (drain_effect b p) q n
     → Drained p q m n
-drain_case p q m n [] e d = absurd d
-drain_case p q m n (f ∷ b) e d = record { location = f.0; word = f.1; newer = b; buffer_is = e; processor_is = d.0; memory = d.1 }
+Drained-of_step p q m n [] e d = absurd d
+Drained-of_step p q m n (f ∷ b) e d =
+    record { location = f.0; word = f.1; newer = b; buffer_is = e; processor_is = d.0; memory = d.1 }
 
 -- If an item of a run was a drain, the oldest entry of its processor's store buffer went to memory.
 pub Drained-ItemStep : {program : List (List Instr)} {t j : ℕ} {s mid : MachineState (List ℕ)} (b : Bool)
     → b ≡ true
     → (c : ItemStep program t j b s mid)
     → Drained c.old c.new s.memory c.words
-Drained-ItemStep {program} {t} {j} {s} {mid} true f c = drain_case c.old c.new s.memory c.words c.old.buffer refl c.does
+Drained-ItemStep {program} {t} {j} {s} {mid} true f c = Drained-of_step c.old c.new s.memory c.words c.old.buffer refl c.does
 Drained-ItemStep false f c = absurd (true≢false (sym f))
 
 -- The position of a processor is in the list of positions.
@@ -83,12 +84,12 @@ pub regs_got : (ps : List Processor) (t : ℕ) (p : Processor)
 regs_got ps t p found_at = slice_get-map _ ps t ∙ ap (option_map (λ (q : Processor). q.regs)) found_at
 
 -- What holds of a processor that is set, and of all others before, holds of all processors after.
-pub after_set : (P : ℕ → Processor → Type 0) (ps : List Processor) (t : ℕ) (old new : Processor)
+pub AtEach-after_set : (P : ℕ → Processor → Type 0) (ps : List Processor) (t : ℕ) (old new : Processor)
     → slice_get ps t ≡ Some old
     → AtEach (λ u q. t ≢ u → P u q) ps
     → P t new
     → AtEach P (slice_set ps t new)
-after_set P ps t old new was others own u q at = elim (cases_eq t u) [
+AtEach-after_set P ps t old new was others own u q at = elim (cases_eq t u) [
   | inl same_thread ↦
       (let got : new ≡ q =
       same_Some new q
@@ -241,20 +242,20 @@ module _ {test : X86Test} (x : Execution) (given : KeptOrder test x.paths) where
   -- ---- the buffers, one item further
 
   -- An appended entry has the word of its store.
-  written_pushed : (t j l w : ℕ) (ws : List ℕ) (b : List (ℕ × ℕ))
+  Written-pushed : (t j l w : ℕ) (ws : List ℕ) (b : List (ℕ × ℕ))
       → Written t ws b
       → x.written (event t j) ≡ w
       → Written t (ws ++ j ∷ []) (b ++ (l, w) ∷ [])
-  written_pushed t j l w [] [] h e = (e, tt)
-  written_pushed t j l w (u ∷ ws) (f ∷ b) h e = (h.0, written_pushed t j l w ws b h.1 e)
-  written_pushed t j l w _ _ h e = absurd h
+  Written-pushed t j l w [] [] h e = (e, tt)
+  Written-pushed t j l w (u ∷ ws) (f ∷ b) h e = (h.0, Written-pushed t j l w ws b h.1 e)
+  Written-pushed t j l w _ _ h e = absurd h
 
   -- The entries that remain after a drain have their words.
-  written_dropped : (t j : ℕ) (o : Option ℕ) (ws : List ℕ) (e : ℕ × ℕ) (b : List (ℕ × ℕ))
+  Written-dropped : (t j : ℕ) (o : Option ℕ) (ws : List ℕ) (e : ℕ × ℕ) (b : List (ℕ × ℕ))
       → Written t ws (e ∷ b)
       → Written t (own_waits true o j ws) b
-  written_dropped t j o [] e b h = absurd h
-  written_dropped t j o (w ∷ ws) e b h = h.1
+  Written-dropped t j o [] e b h = absurd h
+  Written-dropped t j o (w ∷ ws) e b h = h.1
 
   -- The location of an instruction is one of the test.
   location_in_range : (t j : ℕ) (i : Instr) (l : ℕ)
@@ -312,14 +313,14 @@ module _ {test : X86Test} (x : Execution) (given : KeptOrder test x.paths) where
     item_step = ItemStep-of_transition test.threads item_thread item_position (nth_item now_at.index).is_drain s mid out
 
     -- Before it the buffer holds the stores that wait.
-    Holds-old : HoldsStores (thread_code test.threads item_thread) (pending item_thread) item_step.old
-    Holds-old = inv.hold item_thread item_step.old item_step.was
+    HoldsStores-old : HoldsStores (thread_code test.threads item_thread) (pending item_thread) item_step.old
+    HoldsStores-old = inv.hold item_thread item_step.old item_step.was
 
     -- A drain is that of the store that has waited longest.
     pub waiting_head : (nth_item now_at.index).is_drain ≡ true → (rest : List ℕ) × (pending item_thread ≡ item_position ∷ rest)
     waiting_head =
         DrainsOldest-at_turn test.threads (forward given) x.paths given.assignment given.order given.keeps k
-        item_step.old.position now_at.index pending inv.waiting Holds-old.climbs now_at.below now_at.index_is
+        item_step.old.position now_at.index pending inv.waiting HoldsStores-old.climbs now_at.below now_at.index_is
 
     -- The stores of each thread that wait after the item.
     abbrev pub waiting_after : ℕ → List ℕ
@@ -363,7 +364,7 @@ module _ {test : X86Test} (x : Execution) (given : KeptOrder test x.paths) where
           index_is = turn-of_number given now_at.index now_at.below;
         } in
         let same : point_of given f ≡ nth_item now_at.index =
-        turn-injective given (point_of given f) (nth_item now_at.index) (point_placed given f wf.is_event) index_in
+        turn-injective given (point_of given f) (nth_item now_at.index) (Placed-point given f wf.is_event) index_in
         (at_k ∙ sym item_turn) in
         (ap (event_of_item given) same, ap (λ (a : Item). a.is_drain) same)
 
@@ -381,8 +382,9 @@ module _ {test : X86Test} (x : Execution) (given : KeptOrder test x.paths) where
     Written-of_all : Written item_thread (waiting_after item_thread) item_step.new.buffer
         → AtEach (λ u q. Written u (waiting_after u) q.buffer) mid.processors
     Written-of_all own u q got =
-        after_set (λ u q. Written u (waiting_after u) q.buffer) s.processors item_thread item_step.old item_step.new item_step.was
-        Written-others own u q (subst (λ (z : MachineState (List ℕ)). slice_get z.processors u ≡ Some q) item_step.state_is got)
+        AtEach-after_set (λ u q. Written u (waiting_after u) q.buffer) s.processors item_thread item_step.old item_step.new
+        item_step.was Written-others own u q
+        (subst (λ (z : MachineState (List ℕ)). slice_get z.processors u ≡ Some q) item_step.state_is got)
 
     -- By whether the item is a drain.
     Written-own : (b : Bool)
@@ -405,14 +407,14 @@ module _ {test : X86Test} (x : Execution) (given : KeptOrder test x.paths) where
       drained = Drained-ItemStep (nth_item now_at.index).is_drain kind_is item_step
 
       -- After a drain the own buffer has its words.
-      drain_words : Written item_thread (waiting_after item_thread) item_step.new.buffer
-      drain_words =
+      Written-after_drain : Written item_thread (waiting_after item_thread) item_step.new.buffer
+      Written-after_drain =
           Written-own true kind_is
           (subst (λ (q : Processor).
           Written item_thread
           (own_waits true (entry_location x86_language (statement_of x86_language test.threads (nth_item now_at.index)))
           item_position (pending item_thread)) q.buffer) (sym drained.processor_is)
-          (written_dropped item_thread item_position
+          (Written-dropped item_thread item_position
           (entry_location x86_language (statement_of x86_language test.threads (nth_item now_at.index))) (pending item_thread)
           (drained.location, drained.word) drained.newer
           (subst (Written item_thread (pending item_thread)) drained.buffer_is
@@ -446,7 +448,7 @@ module _ {test : X86Test} (x : Execution) (given : KeptOrder test x.paths) where
           (entry_location x86_language (slice_get (thread_code test.threads item_thread) item_position) ≡ Some drained.location)
           × (x.written item_event ≡ drained.word)
       entry_of_item =
-          entry_of_head (pending item_thread) item_step.old.buffer refl refl Holds-old.waits
+          entry_of_head (pending item_thread) item_step.old.buffer refl refl HoldsStores-old.waits
           (inv.words item_thread item_step.old item_step.was)
 
       -- The item's instruction is a store to the drained entry's location.
@@ -460,8 +462,8 @@ module _ {test : X86Test} (x : Execution) (given : KeptOrder test x.paths) where
           (ap (λ h. is_store (x86_operation h)) (sym same) ∙ g.2, ap (λ h. location_of (x86_operation h)) (sym same) ∙ g.3)
 
       -- The drained store's event writes the entry's location.
-      drain_writes : Writes x86_language test x item_event drained.location
-      drain_writes = record {
+      Writes-of_drain : Writes x86_language test x item_event drained.location
+      Writes-of_drain = record {
         is_event = on_path;
         location_is =
             ap (λ o. option_and_then location_of (option_map x86_operation o)) item_on_path.at ∙ drained_item_is_store.1;
@@ -469,8 +471,8 @@ module _ {test : X86Test} (x : Execution) (given : KeptOrder test x.paths) where
       }
 
       -- After a drain each location has the last word written before k + 1.
-      drain_memory : (y : ℕ) → LastBefore (suc k) y (slice_index mid.memory y)
-      drain_memory y =
+      LastBefore-after_drain : (y : ℕ) → LastBefore (suc k) y (slice_index mid.memory y)
+      LastBefore-after_drain y =
           let in_range : drained.location < length s.memory = omega (
             arith,
             inv.size,
@@ -478,7 +480,7 @@ module _ {test : X86Test} (x : Execution) (given : KeptOrder test x.paths) where
                 drained_item_is_store.1,
           ) in
           subst (λ (m : List ℕ). LastBefore (suc k) y (slice_index m y)) (sym (memory_after_item ∙ drained.memory))
-          (LastBefore-write k drained.location drained.word item_event s.memory drain_writes
+          (LastBefore-write k drained.location drained.word item_event s.memory Writes-of_drain
           (reached_now (event_kind is_store ∙ (drained_item_is_store.0 ∙ sym kind_is))) in_range (sym entry_of_item.1) inv.memory
           y)
 
@@ -490,8 +492,9 @@ module _ {test : X86Test} (x : Execution) (given : KeptOrder test x.paths) where
     module _ (kind_is : (nth_item now_at.index).is_drain ≡ false)
         (agrees : Agrees now_at.index item_on_path.statement item_step.old s.memory) where
       -- What a step does.
-      pub step_case_at_turn : StepCase (x86_operation item_on_path.statement) item_step.old item_step.new s.memory item_step.words
-      step_case_at_turn = step_case (nth_item now_at.index).is_drain kind_is item_step item_on_path.at
+      pub StepCase-at_items_turn :
+          StepCase (x86_operation item_on_path.statement) item_step.old item_step.new s.memory item_step.words
+      StepCase-at_items_turn = step_case (nth_item now_at.index).is_drain kind_is item_step item_on_path.at
 
       -- Whether a step adds an entry, and for which location.
       entry_location_of_item : entry_location x86_language (statement_of x86_language test.threads (nth_item now_at.index))
@@ -499,16 +502,16 @@ module _ {test : X86Test} (x : Execution) (given : KeptOrder test x.paths) where
       entry_location_of_item = ap (entry_location x86_language) item_on_path.at
 
       -- After a step the own buffer has its words.
-      step_words : Written item_thread (waiting_after item_thread) item_step.new.buffer
-      step_words = Written-own false kind_is (elim (buffer_cases (x86_operation item_on_path.statement) item_step.old) [
+      Written-after_step : Written item_thread (waiting_after item_thread) item_step.new.buffer
+      Written-after_step = Written-own false kind_is (elim (buffer_cases (x86_operation item_on_path.statement) item_step.old) [
         | inl (store, y, loc, is) ↦
             (let entry : entry_location x86_language (statement_of x86_language test.threads (nth_item now_at.index)) ≡ Some y =
             entry_location_of_item ∙ (cond-true (is_store (x86_operation item_on_path.statement)) _ None store ∙ loc) in
             let sw = store_writes (x86_operation item_on_path.statement) store in
             subst (λ o. Written item_thread (own_waits false o item_position (pending item_thread)) item_step.new.buffer)
             (sym entry)
-            (subst (Written item_thread (pending item_thread ++ item_position ∷ [])) (sym (step_case_at_turn.buffer ∙ is))
-            (written_pushed item_thread item_position y (word_written (x86_operation item_on_path.statement) item_step.old.regs 0)
+            (subst (Written item_thread (pending item_thread ++ item_position ∷ [])) (sym (StepCase-at_items_turn.buffer ∙ is))
+            (Written-pushed item_thread item_position y (word_written (x86_operation item_on_path.statement) item_step.old.regs 0)
             (pending item_thread) item_step.old.buffer (inv.words item_thread item_step.old item_step.was)
             (agrees kind_is sw.0
             ∙ sw.1 item_step.old.regs (word_for (x86_operation item_on_path.statement) item_step.old.buffer s.memory) 0))))
@@ -517,7 +520,7 @@ module _ {test : X86Test} (x : Execution) (given : KeptOrder test x.paths) where
             entry_location_of_item ∙ cond-false (is_store (x86_operation item_on_path.statement)) _ None none in
             subst (λ o. Written item_thread (own_waits false o item_position (pending item_thread)) item_step.new.buffer)
             (sym entry)
-            (subst (Written item_thread (pending item_thread)) (sym (step_case_at_turn.buffer ∙ is))
+            (subst (Written item_thread (pending item_thread)) (sym (StepCase-at_items_turn.buffer ∙ is))
             (inv.words item_thread item_step.old item_step.was)))
       ])
 
@@ -531,7 +534,7 @@ module _ {test : X86Test} (x : Execution) (given : KeptOrder test x.paths) where
                 ≡ slice_set s.memory y
                 (word_written (x86_operation item_on_path.statement) item_step.old.regs
                 (word_for (x86_operation item_on_path.statement) item_step.old.buffer s.memory)) =
-                memory_after_item ∙ (step_case_at_turn.memory ∙ is) in
+                memory_after_item ∙ (StepCase-at_items_turn.memory ∙ is) in
                 let in_range : y < length s.memory =
                 omega (
                   arith,
@@ -552,7 +555,7 @@ module _ {test : X86Test} (x : Execution) (given : KeptOrder test x.paths) where
                   ap length m ∙ (length-set s.memory y _ ∙ inv.size),
                 ))
             | inr (free, is) ↦
-                (let m : mid.memory ≡ s.memory = memory_after_item ∙ (step_case_at_turn.memory ∙ is) in (
+                (let m : mid.memory ≡ s.memory = memory_after_item ∙ (StepCase-at_items_turn.memory ∙ is) in (
                   (λ z.
                       subst (λ (n : List ℕ). LastBefore (suc k) z (slice_index n z)) (sym m)
                       (LastBefore-no_write k z (slice_index s.memory z) (λ g wg at_k.
@@ -575,22 +578,22 @@ module _ {test : X86Test} (x : Execution) (given : KeptOrder test x.paths) where
       | inl f ↦ record {
         waiting =
             AreWaitingStores-next test.threads (forward given) x.paths given.assignment given.order given.keeps k
-            item_step.old.position now_at.index pending inv.waiting Holds-old.climbs now_at.below now_at.index_is;
+            item_step.old.position now_at.index pending inv.waiting HoldsStores-old.climbs now_at.below now_at.index_is;
         hold =
             AllBuffersHoldStores-after_item test.threads (forward given) (nth_item now_at.index) item_on_path.statement pending s
             mid item_step item_on_path.at inv.hold;
-        words = Written-of_all (drain_words f);
-        memory = drain_memory f;
+        words = Written-of_all (Written-after_drain f);
+        memory = LastBefore-after_drain f;
         size = drain_size f;
       }
       | inr f ↦ record {
         waiting =
             AreWaitingStores-next test.threads (forward given) x.paths given.assignment given.order given.keeps k
-            item_step.old.position now_at.index pending inv.waiting Holds-old.climbs now_at.below now_at.index_is;
+            item_step.old.position now_at.index pending inv.waiting HoldsStores-old.climbs now_at.below now_at.index_is;
         hold =
             AllBuffersHoldStores-after_item test.threads (forward given) (nth_item now_at.index) item_on_path.statement pending s
             mid item_step item_on_path.at inv.hold;
-        words = Written-of_all (step_words f agrees);
+        words = Written-of_all (Written-after_step f agrees);
         memory = (step_memory f agrees).0;
         size = (step_memory f agrees).1;
       }

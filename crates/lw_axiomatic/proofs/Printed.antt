@@ -61,18 +61,18 @@ module _ (one : (text : Bytes) (s t : LitmusTest) → HasTest text s → HasTest
   IsWellScopedSource-HasTest text test has = IsWellScoped-well_formed source_language (formed text (Of_source test) has)
 
   -- For an x86 test, the report that is printed is that of the outcomes that the axioms allow.
-  pub prints_x86 : ((test : X86Test) (o : FinalState)
+  pub IsOutputOf-iff_x86 : ((test : X86Test) (o : FinalState)
       → IsWellScopedProgram test
       → IsMachineOutcome flat_memory test test.head.init_words o ↔ IsAllowed test o)
       → (text made : Bytes) (test : X86Test)
       → HasTest text (Of_x86 test)
       → IsOutputOf IsStatesReport text made ↔ (IsWithinListLimits (Of_x86 test) × IsReport test.head (IsAllowed test) Exact made)
-  prints_x86 machine text made test has =
+  IsOutputOf-iff_x86 machine text made test has =
       IsOutputOf-iff_report text made (Of_x86 test) (IsAllowed test) has
       (λ o. machine test o (IsWellScopedProgram-HasTest text test has))
 
   -- For a source test, the report that is printed is that of what the axioms allow its compiled program.
-  pub prints_compiled : ((test : SourceTest) (program : X86Test) (starts : List (List ℕ)) (o : FinalState)
+  pub IsOutputOf-iff_compiled : ((test : SourceTest) (program : X86Test) (starts : List (List ℕ)) (o : FinalState)
       → IsWellScopedSource test
       → IsCompiled test program starts
       → SourceOutcome test o ↔ IsAllowed program o)
@@ -81,7 +81,7 @@ module _ (one : (text : Bytes) (s t : LitmusTest) → HasTest text s → HasTest
       → IsCompiled test program starts
       → IsOutputOf IsStatesReport text made
       ↔ (IsWithinListLimits (Of_source test) × IsReport test.head (IsAllowed program) Exact made)
-  prints_compiled compiled text made test program starts has is =
+  IsOutputOf-iff_compiled compiled text made test program starts has is =
       IsOutputOf-iff_report text made (Of_source test) (IsAllowed program) has
       (λ o. compiled test program starts o (IsWellScopedSource-HasTest text test has) is)
 

@@ -21,7 +21,7 @@ use Rattle.lw_axiomatic.proofs.Decisions.{Decidable, decided_and, decided_iff, d
 use Rattle.lw_axiomatic.proofs.EventKinds.{write_or_load, position_below_size, write_stores_or_reads}
 use Rattle.lw_axiomatic.proofs.EventKinds.{needs_empty_buffer-false_if_store_event}
 use Rattle.lw_axiomatic.proofs.Levels.{level, level-le, level-lt, level-below}
-use Rattle.lw_axiomatic.proofs.FencedTests.{event_thread_in_range, path_is_flow_path}
+use Rattle.lw_axiomatic.proofs.FencedTests.{event_thread_in_range, IsFlowPathFrom-of_path}
 use Rattle.lw_axiomatic.proofs.Fronts.{fronts, tails, length-fronts, fronts_append_tails, Contains-of_fronts}
 use Rattle.lw_axiomatic.proofs.Fronts.{Contains-fronts, tails-head}
 use Rattle.lw_axiomatic.proofs.RaceRuns.{Split, Split-of_run, RunsToWithoutBarrier-Runs}
@@ -326,11 +326,11 @@ module _ {test : X86Test} (well_scoped : IsWellScopedProgram test) {x : Executio
     ]
 
     -- A path's positions increase.
-    path_is_ascending : (t j : ℕ) → Contains (thread_code x.paths t) j → IsAscendingFrom 0 (thread_code x.paths t)
-    path_is_ascending t j on_path =
+    IsAscendingFrom-of_path : (t j : ℕ) → Contains (thread_code x.paths t) j → IsAscendingFrom 0 (thread_code x.paths t)
+    IsAscendingFrom-of_path t j on_path =
         IsAscendingFrom-flow_path x86_language (thread_code test.threads t) 0 (thread_code x.paths t)
         (JumpsForward-thread x86_language test well_scoped t)
-        (path_is_flow_path candidate t (event_thread_in_range candidate (event t j) on_path))
+        (IsFlowPathFrom-of_path candidate t (event_thread_in_range candidate (event t j) on_path))
 
     -- The event is in the front of its thread's path.
     abbrev IsIn : MemoryEvent → Type 0
@@ -339,7 +339,7 @@ module _ {test : X86Test} (well_scoped : IsWellScopedProgram test) {x : Executio
     -- An event that passes is in the front.
     IsIn-passes : (e : MemoryEvent) → IsEvent x e → passes e.thread e.position ≡ true → IsIn e
     IsIn-passes e is_event p =
-        Contains-fronts passes e.thread e.position x.paths (path_is_ascending e.thread e.position is_event)
+        Contains-fronts passes e.thread e.position x.paths (IsAscendingFrom-of_path e.thread e.position is_event)
         (passes-downward_closed e.thread) is_event p
 
     -- What is in the front is an event that passes.
@@ -431,7 +431,8 @@ module _ {test : X86Test} (well_scoped : IsWellScopedProgram test) {x : Executio
         (omega (arith, event_thread_in_range candidate e is_event, walk_of_fronts.end_is_at.good.thread_count)) in
         let now = walk_of_fronts.end_is_at.threads e.thread th.0 th.1 in
         let tail =
-        tails-head passes e.thread e.position x.paths (path_is_ascending e.thread e.position is_event) is_event not before in
+        tails-head passes e.thread e.position x.paths (IsAscendingFrom-of_path e.thread e.position is_event) is_event not
+        before in
         let is_nil : thread_code walk_of_fronts.left e.thread ≡ [] =
         no_path_left (thread_code walk_of_fronts.left e.thread) refl in
         let executes : ThreadExecutes x86_language x e.thread (thread_code test.threads e.thread) (e.position ∷ tail.0) th.0
@@ -487,20 +488,20 @@ module _ {test : X86Test} (well_scoped : IsWellScopedProgram test) {x : Executio
         (passes-of_thread late_read.thread Stored-of_read.position refl Stored-of_read.po.position_lt)
 
     -- The run can be split at the store.
-    split_run : Split well_scoped candidate AreFronts-of_passes walk_of_fronts.events (start x86_language test) walk_of_fronts.end
-        earlier_store
-    split_run =
+    Split-of_walk : Split well_scoped candidate AreFronts-of_passes walk_of_fronts.events (start x86_language test)
+        walk_of_fronts.end earlier_store
+    Split-of_walk =
         Split-of_run well_scoped candidate AreFronts-of_passes walk_of_fronts.events (start x86_language test) walk_of_fronts.end
         earlier_store walk_of_fronts.ran (walk_of_fronts.complete earlier_store IsIn-earlier_store)
 
     -- Since then the read's thread has done nothing that waits for an empty buffer.
     quiet_since : (h : MemoryEvent)
-        → Contains split_run.since h
+        → Contains Split-of_walk.since h
         → h.thread ≡ late_read.thread
         → operation_is x86_language test needs_empty_buffer h ≡ false
     quiet_since h c_h same_thread =
-        let is = IsIn-inv h (walk_of_fronts.all_ahead h (split_run.among h c_h)) in
-        let later : rank earlier_store ≤ rank h = split_run.later h c_h in
+        let is = IsIn-inv h (walk_of_fronts.all_ahead h (Split-of_walk.among h c_h)) in
+        let later : rank earlier_store ≤ rank h = Split-of_walk.later h c_h in
         let before : h.position < late_read.position = elim (passes-inv h.thread h.position is.1) [
           | inr own_h ↦ own_h.1
           | inl early ↦ elim (cases_order h.position late_read.position) [
@@ -553,9 +554,9 @@ module _ {test : X86Test} (well_scoped : IsWellScopedProgram test) {x : Executio
 
     -- The instruction at the store's position is the store.
     statement_at_store : slice_get (thread_code test.threads late_read.thread) Stored-of_read.position
-        ≡ Some split_run.step.statement
+        ≡ Some Split-of_walk.step.statement
     statement_at_store =
-        ap (slice_get (thread_code test.threads late_read.thread)) (sym split_run.position_is) ∙ split_run.step.at
+        ap (slice_get (thread_code test.threads late_read.thread)) (sym Split-of_walk.position_is) ∙ Split-of_walk.step.at
 
     -- The test has a triangular race.
     HasTriangularRace-of_late_read : HasTriangularRace test
@@ -563,18 +564,18 @@ module _ {test : X86Test} (well_scoped : IsWellScopedProgram test) {x : Executio
       q = late_read.thread;
       p = late_write.thread;
       threads_differ = λ one. threads_differ (sym one);
-      before = split_run.before;
-      first = split_run.first;
-      reached = split_run.reached;
-      stored = split_run.mid;
-      store = split_run.step;
+      before = Split-of_walk.before;
+      first = Split-of_walk.first;
+      reached = Split-of_walk.reached;
+      stored = Split-of_walk.mid;
+      store = Split-of_walk.step;
       stores =
           sym (ap (λ o. option_map_or is_store (option_map x86_operation o) false) statement_at_store) ∙ Stored-of_read.store;
-      since = map (λ (e : MemoryEvent). e.thread) split_run.since;
+      since = map (λ (e : MemoryEvent). e.thread) Split-of_walk.since;
       now = walk_of_fronts.end;
       quiet =
-          RunsToWithoutBarrier-Runs well_scoped candidate AreFronts-of_passes late_read.thread split_run.since split_run.mid
-          walk_of_fronts.end split_run.ran quiet_since;
+          RunsToWithoutBarrier-Runs well_scoped candidate AreFronts-of_passes late_read.thread Split-of_walk.since
+          Split-of_walk.mid walk_of_fronts.end Split-of_walk.ran quiet_since;
       l = raced_location;
       apart = λ same. location_ne (ap (λ o. option_and_then location_of (option_map x86_operation o)) statement_at_store ∙ same);
       loads = IsNext-load;
@@ -584,8 +585,8 @@ module _ {test : X86Test} (well_scoped : IsWellScopedProgram test) {x : Executio
   -- ---- one or the other
 
   -- An execution that satisfies the axioms is sequentially consistent, or its test has a triangular race.
-  pub sequential_or_race : IsSequentiallyConsistent x86_language test x ⊎ HasTriangularRace test
-  sequential_or_race = elim (least_of_paths_or_none rank FirstWrite FirstWrite-decidable x.paths) [
+  pub IsSequentiallyConsistent-or_race : IsSequentiallyConsistent x86_language test x ⊎ HasTriangularRace test
+  IsSequentiallyConsistent-or_race = elim (least_of_paths_or_none rank FirstWrite FirstWrite-decidable x.paths) [
     | inl none ↦ inl (anchored_by.IsSequentiallyConsistent-rank_increases axioms (λ r w from. elim (cases_lt (rank r) (rank w)) [
       | inl less ↦ less
       | inr le ↦ absurd (elim (FirstWrite-decidable r) [
@@ -607,11 +608,11 @@ module _
     → IsWellScopedProgram test
     → InterleavingOutcome x86_language test o ↔ IsScOutcome x86_language test o) where
   -- An outcome that the axioms allow is one by interleaving, or the test has a triangular race.
-  pub interleaving_or_race : (test : X86Test) (o : FinalState)
+  pub InterleavingOutcome-or_race : (test : X86Test) (o : FinalState)
       → IsWellScopedProgram test
       → IsAllowed test o
       → InterleavingOutcome x86_language test o ⊎ HasTriangularRace test
-  interleaving_or_race test o well_scoped a = elim (sequential_or_race well_scoped a.candidate a.axioms) [
+  InterleavingOutcome-or_race test o well_scoped a = elim (IsSequentiallyConsistent-or_race well_scoped a.candidate a.axioms) [
     | inl sequential ↦
         inl ((same test o well_scoped).1 (record { execution = a.execution; candidate = a.candidate; sequential = sequential }))
     | inr race ↦ inr race
@@ -624,6 +625,6 @@ module _
       → (HasTriangularRace test → ⊥)
       → IsAllowed test o ↔ InterleavingOutcome x86_language test o
   IsAllowed-iff_InterleavingOutcome allowed test o well_scoped raceless = (
-    λ a. elim (interleaving_or_race test o well_scoped a) [ inl run ↦ run | inr race ↦ absurd (raceless race) ],
+    λ a. elim (InterleavingOutcome-or_race test o well_scoped a) [ inl run ↦ run | inr race ↦ absurd (raceless race) ],
     λ run. allowed test o ((same test o well_scoped).0 run),
   )

@@ -14,7 +14,7 @@ use Rattle.lw_axiomatic.proofs.EventLists.{event}
 use Rattle.lw_axiomatic.proofs.EventKinds.{}
 use Rattle.lw_axiomatic.proofs.StepCases.{word_seen, found_or}
 use Rattle.lw_axiomatic.proofs.Indices.{KeptOrder, item_numbered, done, reached, turn, turn-of_number}
-use Rattle.lw_axiomatic.proofs.Indices.{operation_is-of_instruction, instr_of, step_placed, point_placed}
+use Rattle.lw_axiomatic.proofs.Indices.{operation_is-of_instruction, instr_of, Placed-step, Placed-point}
 use Rattle.lw_axiomatic.proofs.Indices.{reached-injective, done_increases-Po, reached_increases-Ppo}
 use Rattle.lw_axiomatic.proofs.Indices.{reached_is_done, Contains-IsMember}
 use Rattle.lw_axiomatic.proofs.Prefixes.{Written, LastBefore, PrefixInvariant, Turn, store-entry_location}
@@ -67,7 +67,7 @@ module _ {test : X86Test} (x : Execution) (given : KeptOrder test x.paths) where
           last = λ v where_v of_v.
               ⊎_elim (λ first.
               (let less : suc w ≤ h.store = (IsAscendingBetween-member (suc w) high h.store ws climbs.1 h.waits).0 in
-              omega (arith, first, less))) (λ behind. h.last v behind of_v) where_v;
+              omega (arith, first, less))) (λ in_rest. h.last v in_rest of_v) where_v;
         })
         | inr h ↦ elim (cases_eq e.0 l) [
           | inl same ↦ inl (record {
@@ -77,7 +77,7 @@ module _ {test : X86Test} (x : Execution) (given : KeptOrder test x.paths) where
             found =
                 ap (λ f. option_or f (if e.0 == l then Some e.1 else None)) h.found
                 ∙ (cond-true (e.0 == l) (Some e.1) None (eq-eqb e.0 l same) ∙ ap Some (sym written.0));
-            last = λ v where_v of_v. ⊎_elim (λ first. omega (arith, first)) (λ behind. absurd (h.none v behind of_v)) where_v;
+            last = λ v where_v of_v. ⊎_elim (λ first. omega (arith, first)) (λ in_rest. absurd (h.none v in_rest of_v)) where_v;
           })
           | inr ne ↦ inr (record {
             found =
@@ -85,7 +85,7 @@ module _ {test : X86Test} (x : Execution) (given : KeptOrder test x.paths) where
                 ∙ cond-false (e.0 == l) (Some e.1) None (ne_eqb e.0 l ne);
             none = λ v where_v of_v.
                 ⊎_elim (λ first. ne (same_Some e.0 l (sym waits.0 ∙ (ap (entered_location t) first ∙ of_v))))
-                (λ behind. h.none v behind of_v) where_v;
+                (λ in_rest. h.none v in_rest of_v) where_v;
           })
         ]
       ]
@@ -132,8 +132,8 @@ module _ {test : X86Test} (x : Execution) (given : KeptOrder test x.paths) where
         done_increases-Po given x refl v read_event po,
       ))
       | inl v_stores ↦
-          (let a = step_placed given v writing.is_event in
-          let b = point_placed given v writing.is_event in
+          (let a = Placed-step given v writing.is_event in
+          let b = Placed-point given v writing.is_event in
           let drain : (item_numbered given b.index).is_drain ≡ true = ap (λ (z : Item). z.is_drain) b.item_is ∙ v_stores in
           let found =
           inv.waiting.waits a.index b.index a.below b.below
@@ -155,13 +155,13 @@ module _ {test : X86Test} (x : Execution) (given : KeptOrder test x.paths) where
     ]
 
     -- A store that waits is an own one that has not reached memory.
-    store_pending-IsMember : (w l : ℕ)
+    Writes-pending_store : (w l : ℕ)
         → IsMember w (pending read_thread)
         → entered_location read_thread w ≡ Some l
         → Writes x86_language test x (event read_thread w) l
         × Po x (event read_thread w) read_event
         × (k ≤ reach (event read_thread w))
-    store_pending-IsMember w l is_member of =
+    Writes-pending_store w l is_member of =
         let co : IsDrainedLater _ _ _ _ _ k read_thread w = inv.waiting.coming read_thread w is_member in
         let re = IsItemOnPath-of_member x86_language test.threads x.paths co.index co.below in
         let g = store-entry_location (slice_get (thread_code test.threads read_thread) w) l of in
@@ -220,9 +220,9 @@ module _ {test : X86Test} (x : Execution) (given : KeptOrder test x.paths) where
             → IsNewest test x finish reach read_event l q
             → x.written (event read_thread h.store) ≡ source_word l q
         source_word-HasEntry h None new =
-            absurd (let g = store_pending-IsMember h.store l h.waits h.of in new (event read_thread h.store) g.0 (inr g.1))
+            absurd (let g = Writes-pending_store h.store l h.waits h.of in new (event read_thread h.store) g.0 (inr g.1))
         source_word-HasEntry h (Some v) new =
-            let g = store_pending-IsMember h.store l h.waits h.of in
+            let g = Writes-pending_store h.store l h.waits h.of in
             let most : reach (event read_thread h.store) ≤ reach v = new.latest (event read_thread h.store) g.0 (inr g.1) in
             let own : Po x v read_event =
             ⊎_elim (λ early. absurd (omega (arith, early, e_done, g.2, most))) (λ po. po) new.is_before in

@@ -83,14 +83,14 @@ module _ {test : X86Test} {x : Execution} (axioms : SatisfiesAxioms test x) (ove
 -- ---- so are those with fences
 
 -- A fenced execution is fenced where another thread overwrites.
-pub fenced_where_overwritten-from_fenced : (test : X86Test) (x : Execution) → IsFenced test x → IsFencedWhereOverwritten test x
-fenced_where_overwritten-from_fenced test x fenced a b c pair fr two = fenced a b pair
+pub IsFencedWhereOverwritten-IsFenced : (test : X86Test) (x : Execution) → IsFenced test x → IsFencedWhereOverwritten test x
+IsFencedWhereOverwritten-IsFenced test x fenced a b c pair fr two = fenced a b pair
 
 -- An execution that is fenced before loads of what other threads write is fenced where another thread overwrites.
-pub fenced_where_overwritten-from_shared : (test : X86Test) (x : Execution)
+pub IsFencedWhereOverwritten-IsFencedWhereShared : (test : X86Test) (x : Execution)
     → IsFencedWhereShared test x
     → IsFencedWhereOverwritten test x
-fenced_where_overwritten-from_shared test x fenced a b c pair fr two = elim (fenced a b pair) [
+IsFencedWhereOverwritten-IsFencedWhereShared test x fenced a b c pair fr two = elim (fenced a b pair) [
   | inl between ↦ between
   | inr own ↦ absurd (two (sym (own c fr.on_location fr.read.location_is fr.write)))
 ]

@@ -22,10 +22,11 @@ use Rattle.lw_axiomatic.proofs.Anchored.{ghb_rank_increases-Po_from_waiting}
 use Rattle.lw_axiomatic.proofs.EventKinds.{position_below_size, write_or_load, write_stores_or_reads}
 use Rattle.lw_axiomatic.proofs.EventLists.{event}
 use Rattle.lw_axiomatic.proofs.FencedTests.{AreOnPath-AreStoreAndLoad, IsOfOneThread-IsLocationOnlyWrittenBy}
-use Rattle.lw_axiomatic.proofs.Inserted.{IsKeptAt, inserted_or_kept, block-later, not-IsKeptAt-if_inserted}
+use Rattle.lw_axiomatic.proofs.Inserted.{IsKeptAt, IsInsertedFence-or_kept, block-later}
+use Rattle.lw_axiomatic.proofs.Inserted.{not-IsKeptAt-if_inserted}
 use Rattle.lw_axiomatic.proofs.Timing.{anchor, anchor_above, anchor_least}
 use Rattle.lw_axiomatic.proofs.WithFences.{IsCandidate-with_fences, code_at, code_at-by_range}
-use Rattle.lw_axiomatic.proofs.WithFences.{IsEvent-event_without, is_kept-of_event, kind-event_without}
+use Rattle.lw_axiomatic.proofs.WithFences.{IsEvent-event_without, IsKeptAt-of_event, kind-event_without}
 use Rattle.lw_axiomatic.proofs.WithFences.{position-in_code, location-event_without, position-in_range}
 use Rattle.lw_axiomatic.proofs.WithFences.{Reads-event_without, with_fences, event_with}
 use Rattle.lw_axiomatic.proofs.WithFences.{event_with-event_without, event_without, event_without-event_with}
@@ -65,9 +66,9 @@ module _ {test fenced : X86Test} (fencing : IsFencedTest test fenced) (well_scop
       → PoLoc x86_language test x (event_without fencing a) (event_without fencing b)
   PoLoc-event_without a b poloc =
       let kept =
-      is_kept-of_event fencing well_scoped candidate a poloc.on_location poloc.po.first_event poloc.first_location_is in
+      IsKeptAt-of_event fencing well_scoped candidate a poloc.on_location poloc.po.first_event poloc.first_location_is in
       let last =
-      is_kept-of_event fencing well_scoped candidate b poloc.on_location poloc.po.second_event poloc.second_location_is in
+      IsKeptAt-of_event fencing well_scoped candidate b poloc.on_location poloc.po.second_event poloc.second_location_is in
       record {
         po = Po-event_without a b poloc.po kept last;
         on_location = poloc.on_location;
@@ -128,10 +129,10 @@ module _ {test fenced : X86Test} (fencing : IsFencedTest test fenced) (well_scop
     write = Writes-event_without fencing well_scoped candidate w fr.on_location fr.write;
     events_differ = λ same.
         fr.events_differ (sym (event_with-event_without fencing r
-        (is_kept-of_event fencing well_scoped candidate r fr.on_location fr.read.is_event fr.read.location_is))
+        (IsKeptAt-of_event fencing well_scoped candidate r fr.on_location fr.read.is_event fr.read.location_is))
         ∙ ap (event_with fencing) same
         ∙ event_with-event_without fencing w
-        (is_kept-of_event fencing well_scoped candidate w fr.on_location fr.write.is_event fr.write.location_is));
+        (IsKeptAt-of_event fencing well_scoped candidate w fr.on_location fr.write.is_event fr.write.location_is));
     source_before = λ u is_some.
         (let back : event_without fencing (event_with fencing u) ≡ u =
         source-event_without (event_without fencing r) u fr.on_location
@@ -251,12 +252,13 @@ module _ {test fenced : X86Test} (fencing : IsFencedTest test fenced) (well_scop
   top-other t j h not_leading = top-kept t j h ∙ cond-false (leads (event t j)) _ 0 not_leading
 
   -- An event that is not at an inserted MFENCE is at an instruction of both codes.
-  is_kept-from_not_inserted : (e : MemoryEvent)
+  IsKeptAt-if_not_inserted : (e : MemoryEvent)
       → IsEvent longer_execution e
       → is_inserted e ≡ false
       → IsKeptAt (code_at fencing e.thread) e.position
-  is_kept-from_not_inserted e among not_at_fence =
-      elim (inserted_or_kept (code_at fencing e.thread) e.position (position-in_range fencing well_scoped candidate e among)) [
+  IsKeptAt-if_not_inserted e among not_at_fence =
+      elim (IsInsertedFence-or_kept (code_at fencing e.thread) e.position
+      (position-in_range fencing well_scoped candidate e among)) [
         | inr kept ↦ kept
         | inl inserted ↦ absurd (true≢false (sym (eq-eqb _ _ inserted.inserted) ∙ not_at_fence))
       ]
@@ -279,8 +281,8 @@ module _ {test fenced : X86Test} (fencing : IsFencedTest test fenced) (well_scop
       → (has_kind reads a || (has_kind writes b || (has_kind operations.is_fence a || has_kind operations.is_fence b))) ≡ true
       → number a < number b
   number-increasing a b po not_a not_b kind =
-      let kept = is_kept-from_not_inserted a po.first_event not_a in
-      let last = is_kept-from_not_inserted b po.second_event not_b in
+      let kept = IsKeptAt-if_not_inserted a po.first_event not_a in
+      let last = IsKeptAt-if_not_inserted b po.second_event not_b in
       let reading = kind-event_without fencing reads (λ c to other. refl) a kept in
       let writing = kind-event_without fencing writes (λ c to other. refl) b last in
       let fence = kind-event_without fencing operations.is_fence (λ c to other. refl) a kept in
@@ -376,7 +378,7 @@ module _ {test fenced : X86Test} (fencing : IsFencedTest test fenced) (well_scop
       → (is_inserted e ≡ false) × (counts e ≡ true)
   counts-from_access e l among located access =
       let not_at_fence : is_inserted e ≡ false =
-      is_inserted-false_if_kept e (is_kept-of_event fencing well_scoped candidate e l among located) in (
+      is_inserted-false_if_kept e (IsKeptAt-of_event fencing well_scoped candidate e l among located) in (
         not_at_fence,
         counts-from_kind e not_at_fence (elim (or_cases (has_kind reads e) _ access) [
           | inl reading ↦ or_left (has_kind reads e) _ reading
@@ -495,20 +497,20 @@ module _ {test fenced : X86Test} (fencing : IsFencedTest test fenced) (well_scop
         → index < j
         → IsInsertedAt (code_at fencing t) index
         → HasOtherFence (code_at fencing t) path i j ⊎ IsLocationOnlyWrittenBy fenced t load
-    spare-of_thread t path i index j load on among before behind inserted =
+    spare-of_thread t path i index j load on among after_store before_load inserted =
         HasOtherFence-in_range (cases_lt t (length test.threads)) inserted
       where
         -- By whether the thread is one of the test.
         HasOtherFence-in_range : (d : (t < length test.threads) ⊎ (length test.threads ≤ t))
             → IsInsertedAt (code_at-by_range fencing t d) index
             → HasOtherFence (code_at-by_range fencing t d) path i j ⊎ IsLocationOnlyWrittenBy fenced t load
-        HasOtherFence-in_range (inl within) at = spare t within path i index j load on among before behind at
+        HasOtherFence-in_range (inl within) at = spare t within path i index j load on among after_store before_load at
         HasOtherFence-in_range (inr past) at =
             let is_nil : thread_code fenced.threads t ≡ [] =
             get_or_past fenced.threads t [] (omega (arith, past, fencing.as_many)) in
             absurd (none-some load (sym (ap (λ (code : List Instr). slice_get code j) is_nil) ∙ on.load_at))
 
-    -- A store before an inserted MFENCE has a lower number than each write that comes in from-reads after a load behind the MFENCE.
+    -- A store before an inserted MFENCE has a lower number than each write that comes in from-reads after a load that follows the MFENCE.
     number-store : (m r w : MemoryEvent) (index l : ℕ)
         → AreStoreAndLoad fenced longer_execution m r
         → is_inserted m ≡ false
@@ -522,15 +524,15 @@ module _ {test fenced : X86Test} (fencing : IsFencedTest test fenced) (well_scop
         → Fr x86_language fenced longer_execution r w
         → number r < number w
         → number m < number w
-    number-store m r w index l pair not_m not_r among before behind at_fence located writing fr less =
+    number-store m r w index l pair not_m not_r among after_store before_load at_fence located writing fr less =
         let candidate_z = IsCandidate-with_fences fencing well_scoped candidate in
         let on = AreOnPath-AreStoreAndLoad candidate_z m r pair in
         elim (spare-of_thread m.thread (thread_code longer_execution.paths m.thread) m.position index r.position on.0 on.1 among
-        before behind (eqb-true _ _ at_fence)) [
+        after_store before_load (eqb-true _ _ at_fence)) [
           | inl (fence, other) ↦
-              (let e : MemoryEvent = event m.thread fence.index_in in
+              (let e : MemoryEvent = event m.thread fence.fence_index in
               let waiting : has_kind needs_empty_buffer e ≡ true =
-              ap (λ i. option_map_or needs_empty_buffer (option_map x86_operation i) false) fence.at ∙ fence.fence_waits in
+              ap (λ i. option_map_or needs_empty_buffer (option_map x86_operation i) false) fence.fence_at ∙ fence.fence_waits in
               let not_at_fence : is_inserted e ≡ false = elim (cases_Bool (is_inserted e)) [
                 | inr not_at_fence ↦ not_at_fence
                 | inl also ↦ absurd (other (eqb-true _ _ also))
@@ -539,26 +541,26 @@ module _ {test fenced : X86Test} (fencing : IsFencedTest test fenced) (well_scop
                 first_event = pair.po.first_event;
                 second_event = fence.on_path;
                 same_thread = refl;
-                position_lt = fence.behind;
+                position_lt = fence.after_first;
               } in
               let from : Po longer_execution e r = record {
                 first_event = fence.on_path;
                 second_event = pair.po.second_event;
                 same_thread = pair.po.same_thread;
-                position_lt = fence.before;
+                position_lt = fence.before_second;
               } in
-              let kept = is_kept-from_not_inserted e fence.on_path not_at_fence in
+              let kept = IsKeptAt-if_not_inserted e fence.on_path not_at_fence in
               let waiting_there : operation_is x86_language test needs_empty_buffer (event_without fencing e) ≡ true =
               sym (kind-event_without fencing needs_empty_buffer (λ c k other. refl) e kept) ∙ waiting in
               omega (
                 arith,
                 less,
                 ghb_rank_increases-Po_to_waiting axioms (event_without fencing m) (event_without fencing e)
-                    (Po-event_without fencing well_scoped candidate m e to (is_kept-from_not_inserted m pair.po.first_event not_m)
+                    (Po-event_without fencing well_scoped candidate m e to (IsKeptAt-if_not_inserted m pair.po.first_event not_m)
                     kept) waiting_there,
                 ghb_rank_increases-Po_from_waiting axioms (event_without fencing e) (event_without fencing r)
                     (Po-event_without fencing well_scoped candidate e r from kept
-                    (is_kept-from_not_inserted r pair.po.second_event not_r)) waiting_there,
+                    (IsKeptAt-if_not_inserted r pair.po.second_event not_r)) waiting_there,
               ))
           | inr is_own ↦
               (let same_thread : w.thread ≡ r.thread =

@@ -8,7 +8,7 @@ use Rattle.lw_axiomatic.proofs.Common.{Fence, Branch, needs_empty_buffer, Proces
 use Rattle.lw_axiomatic.proofs.Common.{advance_processor, cond-true, if◌then◌else◌, is_locked, set_register}
 use Rattle.lw_axiomatic.proofs.Common.{operation_effect, load_effect, EffectLeadsTo, ThreadState, state_after}
 use Rattle.lw_axiomatic.proofs.Common.{word_written, reads, location_of, EffectLeadsTo-if_buffer_empty}
-use Rattle.lw_axiomatic.proofs.EventKinds.{reads_located}
+use Rattle.lw_axiomatic.proofs.EventKinds.{location_of-if_reads}
 
 -- A processor without its buffer.
 abbrev pub thread_of : Processor → ThreadState
@@ -107,4 +107,5 @@ StepCase-EffectLeadsTo o p q m n does =
 pub word_for-reads : (o : Operation) (b : List (ℕ × ℕ)) (m : List ℕ)
     → reads o ≡ true
     → (l : ℕ) × (location_of o ≡ Some l) × (word_for o b m ≡ word_seen b m l)
-word_for-reads o b m e = let l = reads_located o e in (l.0, l.1, cond-true (reads o) _ 0 e ∙ ap (λ q. word_seen_at q b m) l.1)
+word_for-reads o b m e =
+    let l = location_of-if_reads o e in (l.0, l.1, cond-true (reads o) _ 0 e ∙ ap (λ q. word_seen_at q b m) l.1)

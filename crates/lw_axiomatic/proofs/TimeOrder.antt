@@ -18,7 +18,7 @@ use Rattle.lw_axiomatic.proofs.EventKinds.{is_store-false_if_reads_event, needs_
 use Rattle.lw_axiomatic.proofs.Paths.{IsFlowPathFrom-ThreadExecutes}
 use Rattle.lw_axiomatic.proofs.ByTime.{by_time, IsOrder-by_time, Before-by_time}
 use Rattle.lw_axiomatic.proofs.Indices.{KeptOrder, turn, step_of, point_of, done, reached, Placed}
-use Rattle.lw_axiomatic.proofs.Indices.{step_placed, point_placed, Contains-IsMember}
+use Rattle.lw_axiomatic.proofs.Indices.{Placed-step, Placed-point, Contains-IsMember}
 use Rattle.lw_litmus.specs.Operations as operations
 
 -- ---- the paths of a candidate are a path assignment
@@ -39,8 +39,8 @@ IsPathAssignment-flow_paths (code ∷ program) [] same each = absurd (omega (ari
 module _ {test : X86Test} (well_scoped : IsWellScopedProgram test) {x : Execution} {o : FinalState}
     (candidate : IsCandidate x86_language test x o) where
   -- A candidate's paths are a path assignment.
-  pub candidate_paths_are_assignment : IsPathAssignment x86_language test.threads x.paths
-  candidate_paths_are_assignment = IsPathAssignment-flow_paths test.threads x.paths candidate.as_many (λ t l.
+  pub IsPathAssignment-of_candidate : IsPathAssignment x86_language test.threads x.paths
+  IsPathAssignment-of_candidate = IsPathAssignment-flow_paths test.threads x.paths candidate.as_many (λ t l.
       (let executes = candidate.threads t l in
       IsFlowPathFrom-ThreadExecutes x86_language x t (thread_code test.threads t) (thread_code x.paths t) (first_state _)
       executes.end executes.executes))
@@ -117,63 +117,76 @@ module _ {test : X86Test} (well_scoped : IsWellScopedProgram test) {x : Executio
         (same : (item_at all_items i).thread ≡ (item_at all_items k).thread)
         (ordered : AreOrdered x86_language test.threads (item_at all_items i) (item_at all_items k)) where
       -- The first item's number is in range.
-      li : i < length all_items
-      li = omega (arith, less, l)
+      first_in_range : i < length all_items
+      first_in_range = omega (arith, less, l)
 
       -- The first item's event.
-      abbrev ei : MemoryEvent
-      ei = record { thread = (item_at all_items i).thread; position = (item_at all_items i).position }
+      abbrev event_of_first : MemoryEvent
+      event_of_first = record { thread = (item_at all_items i).thread; position = (item_at all_items i).position }
 
       -- The second item's event.
-      abbrev ek : MemoryEvent
-      ek = record { thread = (item_at all_items k).thread; position = (item_at all_items k).position }
+      abbrev event_of_second : MemoryEvent
+      event_of_second = record { thread = (item_at all_items k).thread; position = (item_at all_items k).position }
 
       -- The first item has the lower slot in its thread.
       slot_increases : (b c : Bool)
           → (item_at all_items i).is_drain ≡ b
           → (item_at all_items k).is_drain ≡ c
-          → item_slot b ei.position < item_slot c ek.position
+          → item_slot b event_of_first.position < item_slot c event_of_second.position
       slot_increases b c f g =
           let up : thread_rank (item_at all_items i) < thread_rank (item_at all_items k) =
           thread_rank-increasing x86_language test.threads x.paths (JumpsForward-thread x86_language test well_scoped)
-          candidate_paths_are_assignment i k less l same in
-          omega (arith, up, ap (λ d. item_slot d ei.position) f, ap (λ d. item_slot d ek.position) g)
+          IsPathAssignment-of_candidate i k less l same in
+          omega (arith, up, ap (λ d. item_slot d event_of_first.position) f, ap (λ d. item_slot d event_of_second.position) g)
 
       -- If their positions differ, their events are in program order.
-      Po-of_items : ei.position < ek.position → Po x ei ek
-      Po-of_items up =
-          record { first_event = IsEvent-of_item i li; second_event = IsEvent-of_item k l; same_thread = same; position_lt = up }
+      Po-of_items : event_of_first.position < event_of_second.position → Po x event_of_first event_of_second
+      Po-of_items up = record {
+        first_event = IsEvent-of_item i first_in_range;
+        second_event = IsEvent-of_item k l;
+        same_thread = same;
+        position_lt = up;
+      }
 
       -- If the second one writes, their order is preserved.
-      Ppo-to_write : ei.position < ek.position → operation_is x86_language test writes ek ≡ true → Ppo x86_language test x ei ek
+      Ppo-to_write : event_of_first.position < event_of_second.position
+          → operation_is x86_language test writes event_of_second ≡ true
+          → Ppo x86_language test x event_of_first event_of_second
       Ppo-to_write up w = record {
         po = Po-of_items up;
         is_preserved =
-            or_right (operation_is x86_language test reads ei) _ (or_left (operation_is x86_language test writes ek) _ w);
+            or_right (operation_is x86_language test reads event_of_first) _
+            (or_left (operation_is x86_language test writes event_of_second) _ w);
       }
 
       -- By whether each of the two items is a drain.
       time_increases-by_kinds : (b c : Bool)
           → (item_at all_items i).is_drain ≡ b
           → (item_at all_items k).is_drain ≡ c
-          → time_of b ei < time_of c ek
-      time_increases-by_kinds false false f g = timed.po ei ek (Po-of_items (omega (arith, slot_increases false false f g)))
-      time_increases-by_kinds false true f g = elim (cases_eq ei.position ek.position) [
+          → time_of b event_of_first < time_of c event_of_second
+      time_increases-by_kinds false false f g =
+          timed.po event_of_first event_of_second (Po-of_items (omega (arith, slot_increases false false f g)))
+      time_increases-by_kinds false true f g = elim (cases_eq event_of_first.position event_of_second.position) [
         | inl same_position ↦
-            (let e : ei ≡ ek = ap₂ (λ t j. record { thread = t; position = j }) same same_position in
-            omega (arith, ap doneT e, timed.later ek (IsEvent-of_item k l) (is_store-of_drain k l g)))
+            (let e : event_of_first ≡ event_of_second = ap₂ (λ t j. record { thread = t; position = j }) same same_position in
+            omega (arith, ap doneT e, timed.later event_of_second (IsEvent-of_item k l) (is_store-of_drain k l g)))
         | inr positions_differ ↦
-            (let up : ei.position < ek.position = omega (arith, slot_increases false true f g, positions_differ) in
-            omega (arith, timed.po ei ek (Po-of_items up), timed.later ek (IsEvent-of_item k l) (is_store-of_drain k l g)))
+            (let up : event_of_first.position < event_of_second.position =
+            omega (arith, slot_increases false true f g, positions_differ) in
+            omega (
+              arith,
+              timed.po event_of_first event_of_second (Po-of_items up),
+              timed.later event_of_second (IsEvent-of_item k l) (is_store-of_drain k l g),
+            ))
       ]
       time_increases-by_kinds true true f g =
-          timed.ppo ei ek
+          timed.ppo event_of_first event_of_second
           (Ppo-to_write (omega (arith, slot_increases true true f g))
           (operation_is-of_item writes k l
           ∙ store_kind (x86_operation (IsItemOnPath-of_member x86_language test.threads x.paths k l).statement)
           (sym (operation_is-of_item is_store k l) ∙ is_store-of_drain k l g)))
       time_increases-by_kinds true false f g =
-          let up : ei.position < ek.position = omega (arith, slot_increases true false f g) in
+          let up : event_of_first.position < event_of_second.position = omega (arith, slot_increases true false f g) in
           let op = x86_operation (IsItemOnPath-of_member x86_language test.threads x.paths k l).statement in
           let waiting : needs_empty_buffer (x86_operation (IsItemOnPath-of_member x86_language test.threads x.paths k
           l).statement)
@@ -186,18 +199,18 @@ module _ {test : X86Test} (well_scoped : IsWellScopedProgram test) {x : Executio
           ] in
           let kinds =
           waits_kind (x86_operation (IsItemOnPath-of_member x86_language test.threads x.paths k l).statement) waiting in
-          let late : reachedT ei < reachedT ek = timed.ppo ei ek (elim kinds.1 [
+          let late : reachedT event_of_first < reachedT event_of_second = timed.ppo event_of_first event_of_second (elim kinds.1 [
             | inl fence ↦ record {
               po = Po-of_items up;
               is_preserved =
-                  or_right (operation_is x86_language test reads ei) _
-                  (or_right (operation_is x86_language test writes ek) _
-                  (or_right (operation_is x86_language test operations.is_fence ei) _
+                  or_right (operation_is x86_language test reads event_of_first) _
+                  (or_right (operation_is x86_language test writes event_of_second) _
+                  (or_right (operation_is x86_language test operations.is_fence event_of_first) _
                   (operation_is-of_item operations.is_fence k l ∙ fence)));
             }
             | inr w ↦ Ppo-to_write up (operation_is-of_item writes k l ∙ w)
           ]) in
-          omega (arith, late, timed.at_once ek (operation_is-of_item is_store k l ∙ kinds.0))
+          omega (arith, late, timed.at_once event_of_second (operation_is-of_item is_store k l ∙ kinds.0))
 
       -- Of two items that a constraint orders, the first has the earlier time.
       time_increases : time (item_at all_items i) < time (item_at all_items k)
@@ -216,7 +229,7 @@ module _ {test : X86Test} (well_scoped : IsWellScopedProgram test) {x : Executio
     abbrev pub kept_order : KeptOrder test x.paths
     kept_order = record {
       well_scoped = well_scoped;
-      assignment = candidate_paths_are_assignment;
+      assignment = IsPathAssignment-of_candidate;
       order = order;
       keeps = IsLinearExtension-by_time;
     }
@@ -255,7 +268,7 @@ module _ {test : X86Test} (well_scoped : IsWellScopedProgram test) {x : Executio
     module _ (r : MemoryEvent) (l : ℕ) (reading : Reads x86_language test x r l) where
       -- The read's step is one of the items.
       r_step : Placed kept_order (step_of kept_order r)
-      r_step = step_placed kept_order r reading.is_event
+      r_step = Placed-step kept_order r reading.is_event
 
       -- A read reaches memory when it is done, by the times.
       read_reached_is_done : reachedT r ≡ doneT r
@@ -279,7 +292,7 @@ module _ {test : X86Test} (well_scoped : IsWellScopedProgram test) {x : Executio
         | inr (inr more) ↦ absurd (omega (
           arith,
           early,
-          turn_increases-time (step_of kept_order r) (point_of kept_order w) r_step (point_placed kept_order w is_event)
+          turn_increases-time (step_of kept_order r) (point_of kept_order w) r_step (Placed-point kept_order w is_event)
               (omega (arith, more, point_time w)),
         ))
       ]
@@ -291,7 +304,7 @@ module _ {test : X86Test} (well_scoped : IsWellScopedProgram test) {x : Executio
           → IsBefore x done_index reached_index w r
       IsBefore-of_times w is_event (inr po) = inr po
       IsBefore-of_times w is_event (inl early) =
-          inl (turn_increases-time (point_of kept_order w) (step_of kept_order r) (point_placed kept_order w is_event) r_step
+          inl (turn_increases-time (point_of kept_order w) (step_of kept_order r) (Placed-point kept_order w is_event) r_step
           (omega (arith, early, point_time w)))
 
       -- Of two events, one that reaches memory no later by the times does so by the indices.
@@ -304,17 +317,17 @@ module _ {test : X86Test} (well_scoped : IsWellScopedProgram test) {x : Executio
         | inl same ↦ omega (arith, ap reached_index (timed.apart w v iw iv same))
         | inr ne ↦
             (let up : reached_index w < reached_index v =
-            turn_increases-time (point_of kept_order w) (point_of kept_order v) (point_placed kept_order w iw)
-            (point_placed kept_order v iv) (omega (arith, le, ne, point_time w, point_time v)) in
+            turn_increases-time (point_of kept_order w) (point_of kept_order v) (Placed-point kept_order w iw)
+            (Placed-point kept_order v iv) (omega (arith, le, ne, point_time w, point_time v)) in
             omega (arith, up))
       ]
 
       -- The newest write by the times is the newest by the indices.
-      pub newest_placed : (q : Option MemoryEvent)
+      pub IsNewest-placed : (q : Option MemoryEvent)
           → IsNewest test x doneT reachedT r l q
           → IsNewest test x done_index reached_index r l q
-      newest_placed None new = λ w writing before. new w writing (IsBefore-of_indices w writing.is_event before)
-      newest_placed (Some v) new = record {
+      IsNewest-placed None new = λ w writing before. new w writing (IsBefore-of_indices w writing.is_event before)
+      IsNewest-placed (Some v) new = record {
         write = new.write;
         is_before = IsBefore-of_times v new.write.is_event new.is_before;
         latest = λ w writing before.
@@ -329,5 +342,5 @@ module _ {test : X86Test} (well_scoped : IsWellScopedProgram test) {x : Executio
         → reachedT w < reachedT v
         → reached_index w < reached_index v
     reached_lt-of_times w v iw iv less =
-        turn_increases-time (point_of kept_order w) (point_of kept_order v) (point_placed kept_order w iw)
-        (point_placed kept_order v iv) (omega (arith, less, point_time w, point_time v))
+        turn_increases-time (point_of kept_order w) (point_of kept_order v) (Placed-point kept_order w iw)
+        (Placed-point kept_order v iv) (omega (arith, less, point_time w, point_time v))

@@ -42,10 +42,10 @@ module _ {test : X86Test} {x : Execution} {done reached : MemoryEvent → ℕ} (
       → ForSome q (λ v. x.co v < x.co w)
       → IsBefore x done reached w r
       → ⊥
-  not-newer_than_source r w l None there newest behind before = newest w there before
-  not-newer_than_source r w l (Some v) there newest behind before =
+  not-newer_than_source r w l None there newest source_before before = newest w there before
+  not-newer_than_source r w l (Some v) there newest source_before before =
       let up : reached v < reached w =
-      timed.co v w (record { on_location = l; first_write = newest.write; second_write = there; co_lt = behind v refl }) in
+      timed.co v w (record { on_location = l; first_write = newest.write; second_write = there; co_lt = source_before v refl }) in
       omega (arith, up, newest.latest w there before)
 
   -- Along from-reads events reach memory later and later.
@@ -248,11 +248,14 @@ module _ {test : X86Test} {x : Execution} {done reached : MemoryEvent → ℕ} (
           → IsNewest test x done reached r fr.on_location q
           → ForSome q (λ v. x.co v < x.co w)
           → source q ≤ level width (reached w)
-      source_at_most-newer_in_co None newest behind = omega arith
-      source_at_most-newer_in_co (Some v) newest behind =
-          let up : reached v < reached w =
-          timed.co v w
-          (record { on_location = fr.on_location; first_write = newest.write; second_write = fr.write; co_lt = behind v refl }) in
+      source_at_most-newer_in_co None newest source_before = omega arith
+      source_at_most-newer_in_co (Some v) newest source_before =
+          let up : reached v < reached w = timed.co v w (record {
+            on_location = fr.on_location;
+            first_write = newest.write;
+            second_write = fr.write;
+            co_lt = source_before v refl;
+          }) in
           level-le width (suc (reached v)) (reached w) (omega (arith, up))
 
   -- The axiom of coherence holds.

@@ -440,7 +440,7 @@ module _ {test : X86Test} {x : Execution} {o : FinalState} (candidate : IsCandid
         → IsBefore x done reached w r
         → ForSome (x.rf r) (λ v. x.co v < x.co w)
         → ⊥
-    not-newer_than_read w writing before behind = elim (cases_eq r.thread w.thread) [
+    not-newer_than_read w writing before source_before = elim (cases_eq r.thread w.thread) [
       | inl same_thread ↦ elim (cases_eq r.position w.position) [
         | inl same_position ↦ not-itself (ap₂ event same_thread same_position)
         | inr positions_differ ↦ not-another (λ (e : r ≡ w). positions_differ (ap (λ (z : MemoryEvent). z.position) e))
@@ -459,7 +459,7 @@ module _ {test : X86Test} {x : Execution} {o : FinalState} (candidate : IsCandid
         not-another : r ≢ w → ⊥
         not-another ne =
             let fr : Fr x86_language test x r w =
-            record { on_location = l; read = reading; write = writing; events_differ = ne; source_before = behind } in
+            record { on_location = l; read = reading; write = writing; events_differ = ne; source_before = source_before } in
             let own_w : IsReachedAtOwnRank w = IsReachedAtOwnRank-of_write w writing.is_event writing.is_write in
             elim before [
               | inl early ↦ omega (

@@ -29,7 +29,7 @@ use Rattle.lw_axiomatic.proofs.StepCases.{StepCase, thread_of, word_for, word_fo
 use Rattle.lw_axiomatic.proofs.Paths.{IsFlowPathFrom-ThreadExecutes, state_after-unread, writes_unread}
 use Rattle.lw_axiomatic.proofs.Indices.{number_in_order, order_length, KeptOrder, items, item_numbered, turn}
 use Rattle.lw_axiomatic.proofs.Indices.{turn-of_number, done, reached, forward, Placed}
-use Rattle.lw_axiomatic.proofs.Indices.{operation_is-of_instruction, step_placed, point_placed}
+use Rattle.lw_axiomatic.proofs.Indices.{operation_is-of_instruction, Placed-step, Placed-point}
 use Rattle.lw_axiomatic.proofs.Indices.{turn-injective, turn_in_range, turn_increases-AreOrdered}
 use Rattle.lw_axiomatic.proofs.Indices.{Contains-IsMember}
 use Rattle.lw_axiomatic.proofs.Prefixes.{Written, LastBefore, PrefixInvariant, Turn, Agrees}
@@ -121,7 +121,7 @@ module _ {test : X86Test} {x : Execution} {o : FinalState} (candidate : IsCandid
         → (f ≡ item_event) × ((nth_item now_at.index).is_drain ≡ false)
     done_now-unique f is_event now =
         let same : item f.thread f.position false ≡ nth_item now_at.index =
-        turn-injective given (item f.thread f.position false) (nth_item now_at.index) (step_placed given f is_event)
+        turn-injective given (item f.thread f.position false) (nth_item now_at.index) (Placed-step given f is_event)
         Placed-of_item (now ∙ sym item_turn) in
         (ap (λ (a : Item). event a.thread a.position) same, sym (ap (λ (a : Item). a.is_drain) same))
 
@@ -132,8 +132,8 @@ module _ {test : X86Test} {x : Execution} {o : FinalState} (candidate : IsCandid
 
     module _ (p : Processor) (was : slice_get s.processors item_thread ≡ Some p) where
       -- The processor's buffer holds the stores that wait.
-      Holds-of_processor : HoldsStores (thread_code test.threads item_thread) (at_state.pending item_thread) p
-      Holds-of_processor = at_state.inv.hold item_thread p was
+      HoldsStores-of_processor : HoldsStores (thread_code test.threads item_thread) (at_state.pending item_thread) p
+      HoldsStores-of_processor = at_state.inv.hold item_thread p was
 
       -- The processor's thread has the rest of its path ahead.
       AheadOf-of_processor : AheadOf item_thread k p
@@ -152,11 +152,11 @@ module _ {test : X86Test} {x : Execution} {o : FinalState} (candidate : IsCandid
       transition-of_drain f =
           let h =
           DrainsOldest-at_turn test.threads (forward given) x.paths given.assignment given.order given.keeps k p.position
-          now_at.index at_state.pending at_state.inv.waiting Holds-of_processor.climbs now_at.below now_at.index_is f in
+          now_at.index at_state.pending at_state.inv.waiting HoldsStores-of_processor.climbs now_at.below now_at.index_is f in
           let d =
           drain_does p.buffer h.0 p s.memory
           (subst (λ (ws : List ℕ). BufferHolds (thread_code test.threads item_thread) ws p.buffer) h.1
-          Holds-of_processor.waits) in (
+          HoldsStores-of_processor.waits) in (
             _,
             record {
               is_at_position = tt;
@@ -184,7 +184,7 @@ module _ {test : X86Test} {x : Execution} {o : FinalState} (candidate : IsCandid
           let less : suc g ≤ item_position = IsAscendingFrom-lower_bound (suc g) item_position rest up.1 h in
           let sooner : done_index (event item_thread g) < turn given (nth_item now_at.index) =
           turn_increases-AreOrdered given (item item_thread g false) (nth_item now_at.index)
-          (step_placed given (event item_thread g) (on g (inl refl))) Placed-of_item refl
+          (Placed-step given (event item_thread g) (on g (inl refl))) Placed-of_item refl
           (item_slot-increasing false (nth_item now_at.index).is_drain g item_position (omega (arith, less)))
           (λ d. absurd (true≢false (sym d))) in
           absurd (omega (arith, sooner, item_turn, later g (inl refl)))
@@ -214,10 +214,10 @@ module _ {test : X86Test} {x : Execution} {o : FinalState} (candidate : IsCandid
           → needs_empty_buffer (x86_operation item_on_path.statement) ≡ true
           → p.buffer ≡ []
       buffer_empty-if_waiting f w =
-          no_entry-if_none_waits (at_state.pending item_thread) p.buffer Holds-of_processor.waits (λ v waiting.
+          no_entry-if_none_waits (at_state.pending item_thread) p.buffer HoldsStores-of_processor.waits (λ v waiting.
           (let c : IsDrainedLater _ _ _ _ _ k item_thread v = at_state.inv.waiting.coming item_thread v waiting in
           let low : v < p.position =
-          (IsAscendingBetween-member 0 p.position v (at_state.pending item_thread) Holds-of_processor.climbs waiting).1 in
+          (IsAscendingBetween-member 0 p.position v (at_state.pending item_thread) HoldsStores-of_processor.climbs waiting).1 in
           let sooner : turn given (nth_item c.index) < turn given (nth_item now_at.index) =
           turn_increases-AreOrdered given (nth_item c.index) (nth_item now_at.index)
           (record { index = c.index; below = c.below; item_is = refl; index_is = turn-of_number given c.index c.below })
@@ -454,7 +454,7 @@ module _ {test : X86Test} {x : Execution} {o : FinalState} (candidate : IsCandid
     -- After the item the rest of its path is ahead of each thread.
     AheadOf-after_item : (u : ℕ) (q : Processor) → slice_get next_state.processors u ≡ Some q → AheadOf u (suc k) q
     AheadOf-after_item u q processor_at =
-        prefixes.after_set (λ u q. AheadOf u (suc k) q) s.processors item_thread item_step.old item_step.new item_step.was
+        prefixes.AtEach-after_set (λ u q. AheadOf u (suc k) q) s.processors item_thread item_step.old item_step.new item_step.was
         (λ v p there ne.
         AheadOf-unchanged_thread v p p (at_state.ahead v p there) refl
         (λ h on now. ne (sym (ap (λ (z : MemoryEvent). z.thread) (done_now-unique (event v h) on now).0)))) AheadOf-own_thread u q
@@ -552,7 +552,7 @@ module _ {test : X86Test} {x : Execution} {o : FinalState} (candidate : IsCandid
     no_rest_ahead t p a (h ∷ rest) same =
         let is_member : IsMember h a.rest = subst (IsMember h) (sym same) (inl refl) in
         let below : done_index (event t h) < length all_items =
-        turn_in_range given (item t h false) (step_placed given (event t h) (a.on_path h is_member)) in
+        turn_in_range given (item t h false) (Placed-step given (event t h) (a.on_path h is_member)) in
         absurd (omega (arith, below, a.later h is_member, order_length given))
 
     -- At the end of the run each thread is at its end, with the outcome's registers.
@@ -607,7 +607,7 @@ module _ {test : X86Test} {x : Execution} {o : FinalState} (candidate : IsCandid
 
     -- Each event reaches memory in the order.
     reached_below : (e : MemoryEvent) → IsEvent x e → reached given e < length given.order
-    reached_below e is_event = omega (arith, turn_in_range given _ (point_placed given e is_event), order_length given)
+    reached_below e is_event = omega (arith, turn_in_range given _ (Placed-point given e is_event), order_length given)
 
     -- The last write to a location in coherence order is the last in the order, so both give the same word.
     words_agree : (l v w : ℕ) → IsLast x86_language test x l v → LastBefore x given (length given.order) l w → v ≡ w

@@ -27,7 +27,7 @@ use Rattle.lw_axiomatic.proofs.Paths.{IsFlowPathFrom-ThreadExecutes, state_after
 use Rattle.lw_axiomatic.proofs.Indices.{in_list}
 use Rattle.lw_axiomatic.proofs.Prefixes.{store_writes}
 use Rattle.lw_axiomatic.proofs.StepStates.{read_value-location_of}
-use Rattle.lw_axiomatic.proofs.EventKinds.{reads_located}
+use Rattle.lw_axiomatic.proofs.EventKinds.{location_of-if_reads}
 
 -- ---- how many events are ahead
 
@@ -101,7 +101,7 @@ module _ {S : Type 0} {language : Language S} {test : Test S} (well_scoped : IsW
         → slice_get s.threads t ≡ Some th
         → ThreadExecutesTo language x t (thread_code test.threads t) (thread_code rest t ++ thread_code tails t) th o
     pub among : (e : MemoryEvent) → IsAhead rest e → IsIn e
-    pub behind : (e f : MemoryEvent) → IsDone rest e → IsAhead rest f → rank e ≤ rank f
+    pub done_before_ahead : (e f : MemoryEvent) → IsDone rest e → IsAhead rest f → rank e ≤ rank f
     pub memory : (l : ℕ) → LastDone rest l (slice_index s.words l)
 
   -- The event that is done next.
@@ -263,7 +263,7 @@ module _ {S : Type 0} {language : Language S} {test : Test S} (well_scoped : IsW
       none_newer f done fr = omega (
         arith,
         are.increases next_event f IsIn-next_event done.0 (inr (inr (inr fr))),
-        at_state.behind f next_event done IsAhead-next_event,
+        at_state.done_before_ahead f next_event done IsAhead-next_event,
       )
 
       -- The write that it reads from is done.
@@ -313,7 +313,7 @@ module _ {S : Type 0} {language : Language S} {test : Test S} (well_scoped : IsW
     -- The next event reads the word that the step finds.
     read_value_is_read : reads op ≡ true → x.read next_event ≡ read_value op s.words
     read_value_is_read r =
-        let l = reads_located op r in
+        let l = location_of-if_reads op r in
         let reading : Reads language test x next_event l.0 = record {
           is_event = is_event-next;
           location_is = event_location well_scoped next_step at_state.good ∙ l.1;
@@ -376,7 +376,7 @@ module _ {S : Type 0} {language : Language S} {test : Test S} (well_scoped : IsW
     rank_at_most-done_and_ahead : (f g : MemoryEvent) → IsDone rest_after f → IsAhead rest_after g → rank f ≤ rank g
     rank_at_most-done_and_ahead f g done a = elim (IsDone-after_step_inv f done) [
       | inl same ↦ omega (arith, ap rank same, next.least g (IsAhead-before_step g a))
-      | inr old ↦ at_state.behind f g old (IsAhead-before_step g a)
+      | inr old ↦ at_state.done_before_ahead f g old (IsAhead-before_step g a)
     ]
 
     -- Each location has the word of the last write that is done.
@@ -398,7 +398,7 @@ module _ {S : Type 0} {language : Language S} {test : Test S} (well_scoped : IsW
                       arith,
                       are.increases next_event f IsIn-next_event old.0
                           (inr (inr (inl (record { on_location = l; first_write = writing; second_write = wf; co_lt = less })))),
-                      at_state.behind f next_event old IsAhead-next_event,
+                      at_state.done_before_ahead f next_event old IsAhead-next_event,
                     ))
                     | inr ge ↦ ge
                   ]
@@ -442,7 +442,7 @@ module _ {S : Type 0} {language : Language S} {test : Test S} (well_scoped : IsW
       good = IsGood-next well_scoped next_step at_state.good;
       threads = threads_execute_rest;
       among = λ f a. at_state.among f (IsAhead-before_step f a);
-      behind = rank_at_most-done_and_ahead;
+      done_before_ahead = rank_at_most-done_and_ahead;
       memory = LastDone-after_step;
     }
 
@@ -616,7 +616,7 @@ module _ {S : Type 0} {language : Language S} {test : Test S} (well_scoped : IsW
           regs_are = goes.regs_are;
         });
     among = λ e a. a;
-    behind = λ e f done a. absurd (done.1 done.0);
+    done_before_ahead = λ e f done a. absurd (done.1 done.0);
     memory = λ l. inl ((λ e writing done. done.1 done.0), refl);
   }
 

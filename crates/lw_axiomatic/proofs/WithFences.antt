@@ -16,7 +16,7 @@ use Rattle.lw_axiomatic.proofs.Common.{retarget_to_blocks, IsSuccessor, ◌∙�
 use Rattle.lw_axiomatic.proofs.Common.{same_Some, slice_get, IsInsertedAt, at_next, Mfence}
 use Rattle.lw_axiomatic.proofs.EventLists.{event}
 use Rattle.lw_axiomatic.proofs.Paths.{IsSuccessor-state_after}
-use Rattle.lw_axiomatic.proofs.Inserted.{IsInsertedFence, IsKeptAt, inserted_or_kept}
+use Rattle.lw_axiomatic.proofs.Inserted.{IsInsertedFence, IsKeptAt, IsInsertedFence-or_kept}
 use Rattle.lw_axiomatic.proofs.Inserted.{not-IsKeptAt-if_inserted, block-in_range, kept_index}
 use Rattle.lw_axiomatic.proofs.Inserted.{kept_index-kept, kept_index-block, state_at_block}
 use Rattle.lw_axiomatic.proofs.Inserted.{kind-retarget_to_blocks, location-retarget_to_blocks}
@@ -126,11 +126,11 @@ module _ {test fenced : X86Test} (fencing : IsFencedTest test fenced) (x : Execu
   Route path s end = (route : List ℕ) × IsRoute path s end route
 
   -- A thread at an inserted MFENCE has a route if it has one from the next instruction.
-  route-pass_fence : (path : List ℕ) (s end : ThreadState)
+  Route-pass_fence : (path : List ℕ) (s end : ThreadState)
       → IsInsertedFence inserted s.position
       → Route path (at_next s s.regs s.zero_flag) end
       → Route path s end
-  route-pass_fence path s end extra (route, rest) = (
+  Route-pass_fence path s end extra (route, rest) = (
     s.position ∷ route,
     record {
       last = rest.last;
@@ -158,7 +158,7 @@ module _ {test fenced : X86Test} (fencing : IsFencedTest test fenced) (x : Execu
   IsPastFences s = IsKeptAt inserted s.position ⊎ (s.position ≡ length longer)
 
   -- A thread has a route if it has one from where it is past the inserted MFENCEs that are next.
-  route-past_fences : (path : List ℕ) (end : ThreadState) (fuel : ℕ) (s : ThreadState)
+  Route-past_fences : (path : List ℕ) (end : ThreadState) (fuel : ℕ) (s : ThreadState)
       → length longer ≤ s.position + fuel
       → s.position ≤ length longer
       → ThreadExecutes x86_language x t code path (state_in_longer s) end
@@ -167,14 +167,14 @@ module _ {test fenced : X86Test} (fencing : IsFencedTest test fenced) (x : Execu
       → IsPastFences r
       → Route path r end)
       → Route path s end
-  route-past_fences path end zero s enough within executes onward = onward s executes (inr (omega arith))
-  route-past_fences path end (suc n) s enough within executes onward = elim (cases_lt s.position (length longer)) [
+  Route-past_fences path end zero s enough within executes onward = onward s executes (inr (omega arith))
+  Route-past_fences path end (suc n) s enough within executes onward = elim (cases_lt s.position (length longer)) [
     | inr past ↦ onward s executes (inr (omega arith))
-    | inl before ↦ elim (inserted_or_kept inserted s.position before) [
+    | inl before ↦ elim (IsInsertedFence-or_kept inserted s.position before) [
       | inr kept ↦ onward s executes (inl kept)
       | inl extra ↦
-          route-pass_fence path s end extra
-          (route-past_fences path end n (at_next s s.regs s.zero_flag) (omega arith) (omega arith)
+          Route-pass_fence path s end extra
+          (Route-past_fences path end n (at_next s s.regs s.zero_flag) (omega arith) (omega arith)
           (subst (λ (r : ThreadState). ThreadExecutes x86_language x t code path r end)
           (ap (λ p. record s { position = p }) (sym extra.inserted)) executes) onward)
     ]
@@ -187,7 +187,7 @@ module _ {test fenced : X86Test} (fencing : IsFencedTest test fenced) (x : Execu
       × ThreadExecutes x86_language x t code path (state_after (x86_operation i) (state_in_longer r) (x.read (event t j))) end
 
   -- A thread at an instruction of its path has a route if it has one after that instruction.
-  route-take_step : {locs : ℕ} (well_scoped : IsWellScopedThread x86_language locs longer) (j : ℕ) (path : List ℕ)
+  Route-take_step : {locs : ℕ} (well_scoped : IsWellScopedThread x86_language locs longer) (j : ℕ) (path : List ℕ)
       (r end : ThreadState) (kept : IsKeptAt inserted r.position)
       → inserted.block r.position ≡ j
       → DoesStep path r end (inserted.block r.position) (retarget_to_blocks inserted.block kept.instr)
@@ -196,7 +196,7 @@ module _ {test fenced : X86Test} (fencing : IsFencedTest test fenced) (x : Execu
       → ThreadExecutes x86_language x t code path (state_in_longer s) end
       → Route path s end)
       → Route (j ∷ path) r end
-  route-take_step well_scoped j path r end kept number did onward =
+  Route-take_step well_scoped j path r end kept number did onward =
       Route-cons (onward next next_within
       (subst (λ (s : ThreadState). ThreadExecutes x86_language x t code path s end)
       (state_after-retarget_to_blocks inserted.block kept.instr r word_read kept.ends.1) did.1))
@@ -258,12 +258,12 @@ module _ {test fenced : X86Test} (fencing : IsFencedTest test fenced) (x : Execu
       )
 
   -- A thread that goes along a path of the shorter code has a route through the longer one.
-  pub route-exists : {locs : ℕ} (well_scoped : IsWellScopedThread x86_language locs longer) (path : List ℕ) (s end : ThreadState)
+  pub Route-exists : {locs : ℕ} (well_scoped : IsWellScopedThread x86_language locs longer) (path : List ℕ) (s end : ThreadState)
       → s.position ≤ length longer
       → ThreadExecutes x86_language x t code path (state_in_longer s) end
       → Route path s end
-  route-exists well_scoped [] s end within executes =
-      route-past_fences [] end (length longer) s (omega arith) within executes (λ r ended stands. elim stands [
+  Route-exists well_scoped [] s end within executes =
+      Route-past_fences [] end (length longer) s (omega arith) within executes (λ r ended stands. elim stands [
         | inl kept ↦ absurd (omega (arith, block-in_range inserted r.position kept, ended.0))
         | inr last ↦ (
           [],
@@ -276,8 +276,8 @@ module _ {test fenced : X86Test} (fencing : IsFencedTest test fenced) (x : Execu
           },
         )
       ])
-  route-exists well_scoped (j ∷ path) s end within executes =
-      route-past_fences (j ∷ path) end (length longer) s (omega arith) within executes (λ r onward stands. elim stands [
+  Route-exists well_scoped (j ∷ path) s end within executes =
+      Route-past_fences (j ∷ path) end (length longer) s (omega arith) within executes (λ r onward stands. elim stands [
         | inl kept ↦
             (let number : inserted.block r.position ≡ j = onward.position_is in
             let same : onward.statement ≡ retarget_to_blocks inserted.block kept.instr =
@@ -285,9 +285,9 @@ module _ {test fenced : X86Test} (fencing : IsFencedTest test fenced) (x : Execu
             (sym onward.statement_at ∙ ap (slice_get code) (sym number) ∙ kept.ends.0) in
             let here : DoesStep path r end j (retarget_to_blocks inserted.block kept.instr) =
             subst (DoesStep path r end j) same (onward.written_is, onward.rest) in
-            route-take_step well_scoped j path r end kept number
+            Route-take_step well_scoped j path r end kept number
             (subst (λ k. DoesStep path r end k (retarget_to_blocks inserted.block kept.instr)) (sym number) here)
-            (λ u in_range going. route-exists well_scoped path u end in_range going))
+            (λ u in_range going. Route-exists well_scoped path u end in_range going))
         | inr last ↦ absurd (omega (
           arith,
           inserted.last r.position (omega (arith, last)),
@@ -320,11 +320,11 @@ module _ {test fenced : X86Test} (fencing : IsFencedTest test fenced) where
       ∙ sym (ap (λ i. option_and_then location_of (option_map x86_operation i)) kept.ends.0)
 
   -- An event that accesses a location is at an instruction of both codes.
-  pub is_kept-located : (e : MemoryEvent) (l : ℕ)
+  pub IsKeptAt-located : (e : MemoryEvent) (l : ℕ)
       → e.position < length (thread_code fenced.threads e.thread)
       → location x86_language fenced e ≡ Some l
       → IsKeptAt (code_at fencing e.thread) e.position
-  is_kept-located e l in_range located = elim (inserted_or_kept (code_at fencing e.thread) e.position in_range) [
+  IsKeptAt-located e l in_range located = elim (IsInsertedFence-or_kept (code_at fencing e.thread) e.position in_range) [
     | inr kept ↦ kept
     | inl extra ↦
         absurd (none-some l (sym (ap (λ i. option_and_then location_of (option_map x86_operation i)) extra.fence) ∙ located))
@@ -373,7 +373,7 @@ module _ {test fenced : X86Test} (fencing : IsFencedTest test fenced) (well_scop
       let executes = candidate.threads t before in
       let s = first_state (slice_index_or test.head.init_regs t []) in
       let r =
-      route-exists fencing x t thread_ok (thread_code x.paths t) s executes.end (omega arith)
+      Route-exists fencing x t thread_ok (thread_code x.paths t) s executes.end (omega arith)
       (subst (λ p.
       ThreadExecutes x86_language x t (thread_code test.threads t) (thread_code x.paths t) (record s { position = p })
       executes.end) (sym (code_at fencing t).first) executes.executes) in
@@ -418,18 +418,18 @@ module _ {test fenced : X86Test} (fencing : IsFencedTest test fenced) (well_scop
   IsEvent-event_with e among = (routes.2 e.thread (event_thread_in_range candidate e among)).is_route.passes_path e.position among
 
   -- An event of the execution that accesses a location is at an instruction of both codes.
-  pub is_kept-of_event : (e : MemoryEvent) (l : ℕ)
+  pub IsKeptAt-of_event : (e : MemoryEvent) (l : ℕ)
       → IsEvent with_fences e
       → location x86_language fenced e ≡ Some l
       → IsKeptAt (code_at fencing e.thread) e.position
-  is_kept-of_event e l among located = is_kept-located fencing e l (position-in_range e among) located
+  IsKeptAt-of_event e l among located = IsKeptAt-located fencing e l (position-in_range e among) located
 
   -- An event that reads a location reads it in the shorter test.
   pub Reads-event_without : (e : MemoryEvent) (l : ℕ)
       → Reads x86_language fenced with_fences e l
       → Reads x86_language test x (event_without fencing e) l
   Reads-event_without e l reading =
-      let kept = is_kept-of_event e l reading.is_event reading.location_is in
+      let kept = IsKeptAt-of_event e l reading.is_event reading.location_is in
       record {
         is_event = IsEvent-event_without e reading.is_event kept;
         location_is = sym (location-event_without fencing e kept) ∙ reading.location_is;
@@ -441,7 +441,7 @@ module _ {test fenced : X86Test} (fencing : IsFencedTest test fenced) (well_scop
       → Writes x86_language fenced with_fences e l
       → Writes x86_language test x (event_without fencing e) l
   Writes-event_without e l writing =
-      let kept = is_kept-of_event e l writing.is_event writing.location_is in
+      let kept = IsKeptAt-of_event e l writing.is_event writing.location_is in
       record {
         is_event = IsEvent-event_without e writing.is_event kept;
         location_is = sym (location-event_without fencing e kept) ∙ writing.location_is;
@@ -498,9 +498,9 @@ module _ {test fenced : X86Test} (fencing : IsFencedTest test fenced) (well_scop
       let one : event_without fencing w ≡ event_without fencing v =
       candidate.co (event_without fencing w) (event_without fencing v) l (Writes-event_without w l writing)
       (Writes-event_without v l also) same in
-      sym (event_with-event_without fencing w (is_kept-of_event w l writing.is_event writing.location_is))
+      sym (event_with-event_without fencing w (IsKeptAt-of_event w l writing.is_event writing.location_is))
       ∙ ap (event_with fencing) one
-      ∙ event_with-event_without fencing v (is_kept-of_event v l also.is_event also.location_is)
+      ∙ event_with-event_without fencing v (IsKeptAt-of_event v l also.is_event also.location_is)
 
   -- The last words are those of the outcome.
   IsLast-with_fences : (l : ℕ) → l < length fenced.head.locs → IsLast x86_language fenced with_fences l (slice_index o.words l)

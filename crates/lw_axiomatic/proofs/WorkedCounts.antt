@@ -11,11 +11,11 @@ use Rattle.lw_axiomatic.proofs.Common.{spin_lock, wrapping_sum}
 use Rattle.lw_axiomatic.proofs.Anchored.{Po-Rf_in_thread}
 use Rattle.lw_axiomatic.proofs.CoherenceLaws.{Co_total-of_writes}
 use Rattle.lw_axiomatic.proofs.EventLists.{event}
-use Rattle.lw_axiomatic.proofs.Locks.{IsOverBefore-total, ordered-sections}
+use Rattle.lw_axiomatic.proofs.Locks.{IsOverBefore-total, IsOrderedBefore-sections}
 use Rattle.lw_axiomatic.proofs.WorkedLocks.{EntersSection, SpinLockRun-of_thread, IsEvent-of_inside}
-use Rattle.lw_axiomatic.proofs.WorkedLocks.{event_in_indices_of, kind_at, location_at, Acquires-of_inside}
-use Rattle.lw_axiomatic.proofs.WorkedLocks.{IsUsedAsLock-lock, lock_write_positions, thread_in_range-of_event}
-use Rattle.lw_axiomatic.proofs.WorkedLocks.{inside_path}
+use Rattle.lw_axiomatic.proofs.WorkedLocks.{Contains-indices_of_event, kind_at, location_at}
+use Rattle.lw_axiomatic.proofs.WorkedLocks.{Acquires-of_inside, IsUsedAsLock-lock, lock_write_positions}
+use Rattle.lw_axiomatic.proofs.WorkedLocks.{thread_in_range-of_event, inside_path}
 
 module _ {x : Execution} {o : FinalState} (candidate : IsCandidate x86_language (spin_lock 2) x o)
     (axioms : SatisfiesAxioms (spin_lock 2) x) where
@@ -91,7 +91,7 @@ module _ {x : Execution} {o : FinalState} (candidate : IsCandidate x86_language 
     Writes-of_count w writing =
         let ten : w.position ≡ 10 =
         Contains-singleton 10 w.position
-        (event_in_indices_of 2 candidate writes 0 w writing.is_event writing.is_write writing.location_is) in
+        (Contains-indices_of_event 2 candidate writes 0 w writing.is_event writing.is_write writing.location_is) in
         let is : w ≡ event w.thread 10 = ap (event w.thread) ten in
         elim (cases_eq w.thread a) [
           | inl same_thread ↦ inl (is ∙ ap (λ t. event t 10) same_thread)
@@ -157,7 +157,7 @@ module _ {x : Execution} {o : FinalState} (candidate : IsCandidate x86_language 
           position_lt = omega arith;
         } in
         let acquired = Acquires-of_inside 2 candidate b both.second both.b_inside in
-        ordered-sections test x 1 (event a 4) (event b 4) u (event a 10) (event b 8) acquired releases over.2 before after
+        IsOrderedBefore-sections test x 1 (event a 4) (event b 4) u (event a 10) (event b 8) acquired releases over.2 before after
         ghb_rank axioms.happens_before.increases
 
     -- Thread a loads 0.

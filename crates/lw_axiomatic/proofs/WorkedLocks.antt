@@ -98,20 +98,20 @@ Contains-indices_of test (h ∷ code) k (suc j) m i found_at passes same =
     ]
 
 -- An instruction of this kind, on this location, is at one of their indices.
-indices_of-contains : (kind : Operation → Bool) (l j : ℕ) (code : List Instr)
+Contains-indices_of_kind : (kind : Operation → Bool) (l j : ℕ) (code : List Instr)
     → option_map_or kind (option_map x86_operation (slice_get code j)) false ≡ true
     → option_and_then location_of (option_map x86_operation (slice_get code j)) ≡ Some l
     → Contains (indices_of (is_kind_on kind l) code 0) j
-indices_of-contains kind l j code has_kind location_is = contains-of_instruction (slice_get code j) refl has_kind location_is
+Contains-indices_of_kind kind l j code has_kind location_is = Contains-of_instruction (slice_get code j) refl has_kind location_is
   where
     -- By the instruction at the index.
-    contains-of_instruction : (q : Option Instr)
+    Contains-of_instruction : (q : Option Instr)
         → slice_get code j ≡ q
         → option_map_or kind (option_map x86_operation q) false ≡ true
         → option_and_then location_of (option_map x86_operation q) ≡ Some l
         → Contains (indices_of (is_kind_on kind l) code 0) j
-    contains-of_instruction None found_at has_kind location_is = absurd (true≢false (sym has_kind))
-    contains-of_instruction (Some i) found_at has_kind location_is =
+    Contains-of_instruction None found_at has_kind location_is = absurd (true≢false (sym has_kind))
+    Contains-of_instruction (Some i) found_at has_kind location_is =
         Contains-indices_of (is_kind_on kind l) code 0 j j i found_at
         (and_from (kind (x86_operation i)) _ has_kind
         (ap (λ q. option_map_or (λ k. k == l) q false) location_is ∙ eq-eqb l l refl)) (omega arith)
@@ -342,14 +342,14 @@ module _ (n : ℕ) {x : Execution} {o : FinalState} (candidate : IsCandidate x86
   IsEvent-of_inside t j entered is_member = subst (λ (path : List ℕ). Contains path j) (sym entered.path_is) is_member
 
   -- An event of this kind, on this location, is at one of the indices of such instructions.
-  pub event_in_indices_of : (kind : Operation → Bool) (l : ℕ) (e : MemoryEvent)
+  pub Contains-indices_of_event : (kind : Operation → Bool) (l : ℕ) (e : MemoryEvent)
       → IsEvent x e
       → operation_is x86_language test kind e ≡ true
       → location x86_language test e ≡ Some l
       → Contains (indices_of (is_kind_on kind l) spin_lock_code 0) e.position
-  event_in_indices_of kind l e is_event is location_is =
+  Contains-indices_of_event kind l e is_event is location_is =
       let code = code_is e.thread (thread_in_range-of_event e is_event) in
-      indices_of-contains kind l e.position spin_lock_code
+      Contains-indices_of_kind kind l e.position spin_lock_code
       (subst (λ (c : List Instr). option_map_or kind (option_map x86_operation (slice_get c e.position)) false ≡ true) code is)
       (subst (λ (c : List Instr). option_and_then location_of (option_map x86_operation (slice_get c e.position)) ≡ Some l) code
       location_is)
@@ -385,19 +385,19 @@ module _ (n : ℕ) {x : Execution} {o : FinalState} (candidate : IsCandidate x86
   -- A write of the lock is by XCHG or by the last store.
   pub lock_write_positions : (e : MemoryEvent) → Writes x86_language test x e 1 → (e.position ≡ 4) ⊎ (e.position ≡ 11)
   lock_write_positions e writing =
-      Contains-pair 4 11 e.position (event_in_indices_of writes 1 e writing.is_event writing.is_write writing.location_is)
+      Contains-pair 4 11 e.position (Contains-indices_of_event writes 1 e writing.is_event writing.is_write writing.location_is)
 
   -- The location is used as a lock.
   pub IsUsedAsLock-lock : IsUsedAsLock test x 1
   IsUsedAsLock-lock = record {
     taken = λ r writing locked zero.
         (let four : r.position ≡ 4 =
-        Contains-singleton 4 r.position (event_in_indices_of is_locked 1 r writing.is_event locked writing.location_is) in
+        Contains-singleton 4 r.position (Contains-indices_of_event is_locked 1 r writing.is_event locked writing.location_is) in
         let same : r ≡ event r.thread 4 = ap (event r.thread) four in
         omega (arith, ap x.written same, zero, lock_write_is_one r.thread (subst (IsEvent x) same writing.is_event)));
     released = λ u writing store.
         (let last : u.position ≡ 11 =
-        Contains-singleton 11 u.position (event_in_indices_of is_store 1 u writing.is_event store writing.location_is) in
+        Contains-singleton 11 u.position (Contains-indices_of_event is_store 1 u writing.is_event store writing.location_is) in
         let same : u ≡ event u.thread 11 = ap (event u.thread) last in
         let entered = EntersSection-releases u.thread (subst (IsEvent x) same writing.is_event) in (
           event u.thread 4,

@@ -11,8 +11,8 @@ abbrev race_start : Interleaved
 race_start = start x86_language store_buffering_in_x86
 
 -- Store buffering has a triangular race.
-pub store_buffering_has_race : HasTriangularRace store_buffering_in_x86
-store_buffering_has_race = record {
+pub HasTriangularRace-store_buffering : HasTriangularRace store_buffering_in_x86
+HasTriangularRace-store_buffering = record {
   q = 0;
   p = 1;
   threads_differ = λ e. omega (arith, e);

@@ -42,18 +42,20 @@ module _ (left_out : CanBeLeftOut) where
       → i < index
       → index < j
       → HasOtherFence (IsFencedCode-of_thread t within) path i j ⊎ IsLocationOnlyWrittenBy own_loads_fenced t load
-  HasOtherFence-of_thread zero within path i index zero load on before behind = absurd (omega arith)
-  HasOtherFence-of_thread zero within path i index (suc zero) load on before behind = absurd (omega arith)
-  HasOtherFence-of_thread zero within path i index (suc (suc zero)) load on before behind =
+  HasOtherFence-of_thread zero within path i index zero load on after_store before_load = absurd (omega arith)
+  HasOtherFence-of_thread zero within path i index (suc zero) load on after_store before_load = absurd (omega arith)
+  HasOtherFence-of_thread zero within path i index (suc (suc zero)) load on after_store before_load =
       inr (subst (IsLocationOnlyWrittenBy own_loads_fenced 0) (same_Some (instr.Load 0 0) load on.load_at)
       IsLocationOnlyWrittenBy-first_thread)
-  HasOtherFence-of_thread zero within path i index (suc (suc (suc j))) load on before behind = absurd (none-some load on.load_at)
-  HasOtherFence-of_thread (suc zero) within path i index zero load on before behind = absurd (omega arith)
-  HasOtherFence-of_thread (suc zero) within path i index (suc zero) load on before behind = absurd (omega arith)
-  HasOtherFence-of_thread (suc zero) within path i index (suc (suc j)) load on before behind = absurd (none-some load on.load_at)
-  HasOtherFence-of_thread (suc (suc t)) within path i index j load on before behind = absurd (omega arith)
+  HasOtherFence-of_thread zero within path i index (suc (suc (suc j))) load on after_store before_load =
+      absurd (none-some load on.load_at)
+  HasOtherFence-of_thread (suc zero) within path i index zero load on after_store before_load = absurd (omega arith)
+  HasOtherFence-of_thread (suc zero) within path i index (suc zero) load on after_store before_load = absurd (omega arith)
+  HasOtherFence-of_thread (suc zero) within path i index (suc (suc j)) load on after_store before_load =
+      absurd (none-some load on.load_at)
+  HasOtherFence-of_thread (suc (suc t)) within path i index j load on after_store before_load = absurd (omega arith)
 
   -- All fences of the test are spare.
   pub AreSpare-own_loads : AreSpare own_loads own_loads_fenced IsFencedTest-own_loads
-  AreSpare-own_loads t within path i index j load on among before behind at =
-      HasOtherFence-of_thread t within path i index j load on before behind
+  AreSpare-own_loads t within path i index j load on among after_store before_load at =
+      HasOtherFence-of_thread t within path i index j load on after_store before_load

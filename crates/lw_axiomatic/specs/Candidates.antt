@@ -12,8 +12,8 @@ use Rattle.lw_axiomatic.specs.ThreadStates.{ThreadState, first_state, state_afte
 use Rattle.lw_axiomatic.specs.Executions.{MemoryEvent, Execution, Reads, Writes}
 
 module _ {S : Type 0} (language : Language S) where
-  -- The event e executes the statement at its position in `code`, in the state s; it writes the word that the execution says; and what
-  -- follows holds of the state after it, with the word that the execution says it reads.
+  -- The event e executes the statement at its position in `code`, in the state s. If it writes, it writes the word that the execution says;
+  -- and `Follows` holds of the state after it, with the word that the execution says it reads.
   pub record ExecutesStep (x : Execution) (e : MemoryEvent) (code : List S) (s : ThreadState) (Follows : ThreadState → Type 0) : Type 0 where
     pub position_is : s.position ≡ e.position
     pub statement : S

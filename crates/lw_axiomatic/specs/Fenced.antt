@@ -1,4 +1,5 @@
--- Fences between stores and loads, in an execution and in a code.
+-- Fences between stores and loads, in an execution and in a code. A *fence between* is an MFENCE or a locked instruction: it needs an empty
+-- store buffer.
 use Rattle.std.specs.Prelude.{◌≡◌, ◌≢◌, ℕ, ◌<◌, ◌⊎◌, true, None, Some, List, Contains, slice_get}
 use Rattle.lw_base.specs.Threads.{thread_code}
 use Rattle.lw_litmus.specs.declared.instr.Instr.{Instr}
@@ -51,12 +52,12 @@ module _ (test : X86Test) (x : Execution) where
 -- ---- On the paths of a code.
 
 module _ (code : List Instr) (path : List ℕ) (i j : ℕ) where
-  -- On this path there is a store at i, and this load later at j.
+  -- The path is a flow path of the code, with a store at the position i, and this load later, at j.
   pub record AreOnPath (load : Instr) : Type 0 where
     pub path_is : IsFlowPathFrom x86_language code 0 path
-    pub on_path : Contains path i
-    pub also_on : Contains path j
-    pub less : i < j
+    pub store_on_path : Contains path i
+    pub load_on_path : Contains path j
+    pub position_lt : i < j
     pub store : Instr
     pub store_at : slice_get code i ≡ Some store
     pub load_at : slice_get code j ≡ Some load
@@ -65,12 +66,12 @@ module _ (code : List Instr) (path : List ℕ) (i j : ℕ) where
 
   -- Between the positions i and j of the path there is an instruction that needs an empty store buffer.
   pub record HasFenceOnPath : Type 0 where
-    pub index_in : ℕ
-    pub on_path : Contains path index_in
-    pub behind : i < index_in
-    pub before : index_in < j
+    pub fence_index : ℕ
+    pub on_path : Contains path fence_index
+    pub after_first : i < fence_index
+    pub before_second : fence_index < j
     pub fence : Instr
-    pub at : slice_get code index_in ≡ Some fence
+    pub fence_at : slice_get code fence_index ≡ Some fence
     pub fence_waits : needs_empty_buffer (x86_operation fence) ≡ true
 
 -- No thread except t has an instruction that writes the location of this load of t.

@@ -16,11 +16,11 @@ pub record Interleaved : Type 0 where
   pub threads : List ThreadState
   pub words : List ℕ
 
--- The word that an operation finds at its location.
+-- The word that an operation finds at its location; 0 if it accesses none.
 abbrev pub read_value : Operation → List ℕ → ℕ
 read_value o words = word_or_zero (location_of o) words
 
--- The memory after an operation of a thread with these registers.
+-- The memory after an operation of a thread with these registers; unchanged if the operation writes nothing.
 abbrev pub words_after : Operation → List ℕ → List ℕ → List ℕ
 words_after o regs words = apply_change_if_some (location_of o) (written_change o regs) words
 

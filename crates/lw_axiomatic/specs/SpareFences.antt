@@ -13,7 +13,7 @@ module _ {code fenced : List Instr} (inserted : IsFencedCode code fenced) where
 
   -- Between the indices i and j of the path there is an instruction that needs an empty store buffer, and that `code` has too.
   abbrev pub HasOtherFence : List ℕ → ℕ → ℕ → Type 0
-  HasOtherFence path i j = (f : HasFenceOnPath fenced path i j) × (IsInsertedAt f.index_in → ⊥)
+  HasOtherFence path i j = (f : HasFenceOnPath fenced path i j) × (IsInsertedAt f.fence_index → ⊥)
 
 -- The MFENCEs of `fenced` that `test` does not have are spare. On each path, between a store and a later load that such an MFENCE
 -- separates, there is another fence or a locked instruction, which `test` has too, or no instruction of another thread writes the location

@@ -12,7 +12,7 @@ use Rattle.lw_axiomatic.specs.Executions.{MemoryEvent, Execution, IsEvent, Reads
 use Rattle.lw_axiomatic.specs.Candidates.{IsCandidate}
 use Rattle.lw_axiomatic.specs.Axioms.{Acyclic}
 
--- The read or, second, the write of a locked instruction; any other event itself.
+-- A half of an event: of a locked instruction its read, or, if `is_second` is set, its write; of any other event the event itself.
 pub record Half : Type 0 where
   pub event : MemoryEvent
   pub is_second : Bool
@@ -82,13 +82,13 @@ module _ (test : X86Test) (x : Execution) where
   writes_last h = operation_is x86_language test operations.writes h.event && (not (operation_is x86_language test is_locked h.event) || h.is_second)
 
   -- Tests whether a half is ordered with all others of its thread: a fence, or a half of a locked instruction.
-  abbrev pub holds_all : Half → Bool
-  holds_all h = operation_is x86_language test is_fence h.event || operation_is x86_language test is_locked h.event
+  abbrev pub is_ordered_with_all : Half → Bool
+  is_ordered_with_all h = operation_is x86_language test is_fence h.event || operation_is x86_language test is_locked h.event
 
   -- Preserved program order of halves: the first reads, the second writes, or one is a fence or a half of a locked instruction.
   pub record HalvesPpo (a b : Half) : Type 0 where
     pub po : HalvesPo a b
-    pub is_preserved : (reads_first a || (writes_last b || (holds_all a || holds_all b))) ≡ true
+    pub is_preserved : (reads_first a || (writes_last b || (is_ordered_with_all a || is_ordered_with_all b))) ≡ true
 
   -- The halves are of two threads.
   abbrev pub AreOfTwoThreads : Half → Half → Type 0

@@ -14,8 +14,8 @@ ghost use Rattle.lw_litmus.specs.Programs.{x86_language};
 ghost use Rattle.lw_litmus.specs.Sources.{source_language};
 ghost use Rattle.lw_litmus.specs.Tests.{SourceTest, X86Test};
 
-/// States that the relations of an axiom are acyclic if and only if some numbering of the events increases along
-/// them.
+/// States that the relations of an axiom have no cycle together, as herd requires, if and only if some numbering of the events
+/// increases along them, as the definitions require (`Acyclic`).
 pub fn acyclic_relations_have_no_cycle()
     ensures coherence { (test : X86Test) (x : Execution) → Coherence test x ↔ HasNoCycle (OnOneLocation test x) }
     ensures happens_before { (test : X86Test) (x : Execution)
@@ -34,8 +34,8 @@ pub fn locked_instructions_can_be_two_events()
     ensures outcomes { (test : X86Test) (o : FinalState) → IsAllowed test o ↔ IsAllowedBySplitAxioms test o }
 {}
 
-/// States that coherence order by ranks is a total order of each location's writes, and that each such order has
-/// ranks.
+/// States that coherence order, which a candidate execution has by ranks, is a total order of each location's writes, as in herd,
+/// and that each such order has ranks.
 pub fn coherence_ranks_are_total_orders()
     ensures orders { (test : X86Test) (x : Execution) (o : FinalState) → IsCandidate x86_language test x o
         → IsCoherenceOrder x86_language test x (λ w v. nat_lt (x.co w) (x.co v)) }

@@ -28,8 +28,8 @@ use lw_finals::x86_outcomes_are_those_of_path_assignments;
 use lw_tso_caches::outcomes_over_caches_are_flat;
 
 /// States the theorem: the outcomes of an x86 test on the machine, with store buffers over flat memory, are exactly
-/// those that the axioms allow, for any number of threads, locations and instructions. The same holds over caches of
-/// each protocol that the test fits, empty at the start, with evictions at any time.
+/// those that the axioms allow, for any number of threads, locations and instructions. The same holds of a test that fits
+/// the caches over those of each protocol, empty at the start, with evictions at any time.
 pub fn the_machine_is_what_the_axioms_allow()
     ensures flat_memory { (test : X86Test) (o : FinalState) → IsWellScopedProgram test
         → IsMachineOutcome flat_memory test test.head.init_words o ↔ IsAllowed test o }
@@ -41,8 +41,8 @@ pub fn the_machine_is_what_the_axioms_allow()
 }
 
 /// States that the outcomes of a source test, by interleaving on one memory, are exactly those that the axioms of
-/// x86-TSO allow its compiled program. In `starts`, each thread has a list of the indices at which its statements
-/// start among its instructions.
+/// x86-TSO allow its compiled program. In `starts`, each thread has a list: the indices at which its statements start
+/// among its instructions, and at the end the number of these.
 pub fn compiled_programs_are_what_the_axioms_allow()
     ensures { (test : SourceTest) (program : X86Test) (starts : List (List ℕ)) (o : FinalState) → IsWellScopedSource test
         → IsCompiled test program starts → SourceOutcome test o ↔ IsAllowed program o }
@@ -62,8 +62,8 @@ pub fn interleaving_outcomes_are_sequential()
 
 /// States that `lw states` prints, of the text of a test within the limits of lists, exactly the report of the
 /// outcomes that the axioms allow: those of an x86 test itself, and those of a source test's compiled program, which
-/// are the outcomes of the source test's sequentially consistent executions. In `starts`, each thread has a list of
-/// the indices at which its statements start among its instructions.
+/// are the outcomes of the source test's sequentially consistent executions. In `starts`, each thread has a list: the
+/// indices at which its statements start among its instructions, and at the end the number of these.
 pub fn states_prints_what_the_axioms_allow()
     ensures x86 { (text made : Bytes) (test : X86Test) → HasTest text (Of_x86 test)
         → IsOutputOf IsStatesReport text made ↔ (IsWithinListLimits (Of_x86 test) × IsReport test.head (IsAllowed test) Exact made) }

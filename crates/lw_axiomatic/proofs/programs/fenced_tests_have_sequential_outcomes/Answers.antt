@@ -3,7 +3,7 @@
 -- direction holds of every test. On the machine both sides are exchanged by the laws of the axioms and of
 -- interleaving.
 use Rattle.lw_axiomatic.proofs.FencedTests.{IsFenced-IsFencedInAllThreads}
-use Rattle.lw_axiomatic.proofs.Sequenced.{fenced_where_overwritten-from_fenced}
+use Rattle.lw_axiomatic.proofs.Sequenced.{IsFencedWhereOverwritten-IsFenced}
 use Rattle.lw_axiomatic.proofs.programs.fenced_tests_have_sequential_outcomes.Goals as goal
 
 pub returns : goal.returns
@@ -11,7 +11,7 @@ returns c = record {
   axioms = λ test o fenced. (
     λ a.
         c.executions_fenced_where_overwritten_are_sequential.ensures.outcomes test o
-        (λ x candidate axioms. fenced_where_overwritten-from_fenced test x (IsFenced-IsFencedInAllThreads candidate fenced)) a,
+        (λ x candidate axioms. IsFencedWhereOverwritten-IsFenced test x (IsFenced-IsFencedInAllThreads candidate fenced)) a,
     λ s. c.sequential_outcomes_are_allowed.ensures.outcomes test o s,
   );
   flat_memory = λ test o well_scoped fenced.
@@ -19,7 +19,7 @@ returns c = record {
       let same = c.interleaving_outcomes_are_sequential.ensures.x86 test o well_scoped in (
         λ run.
             same.1 (c.executions_fenced_where_overwritten_are_sequential.ensures.outcomes test o
-            (λ x candidate axioms. fenced_where_overwritten-from_fenced test x (IsFenced-IsFencedInAllThreads candidate fenced))
+            (λ x candidate axioms. IsFencedWhereOverwritten-IsFenced test x (IsFenced-IsFencedInAllThreads candidate fenced))
             (machine.0 run)),
         λ run. machine.1 (c.sequential_outcomes_are_allowed.ensures.outcomes test o (same.0 run)),
       );

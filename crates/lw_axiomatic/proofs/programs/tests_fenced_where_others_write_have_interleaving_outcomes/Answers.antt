@@ -2,7 +2,7 @@
 -- interleaving. Its executions are fenced where shared, so fenced where overwritten, and such executions are
 -- sequentially consistent.
 use Rattle.lw_axiomatic.proofs.FencedTests.{IsFencedWhereShared-IsFencedWhereOthersWrite}
-use Rattle.lw_axiomatic.proofs.Sequenced.{fenced_where_overwritten-from_shared}
+use Rattle.lw_axiomatic.proofs.Sequenced.{IsFencedWhereOverwritten-IsFencedWhereShared}
 use Rattle.lw_axiomatic.proofs.programs.tests_fenced_where_others_write_have_interleaving_outcomes.Goals as goal
 
 pub returns : goal.returns
@@ -10,7 +10,7 @@ returns c = record {
   axioms = λ test o fenced. (
     λ a.
         c.executions_fenced_where_overwritten_are_sequential.ensures.outcomes test o (λ x candidate axioms.
-        fenced_where_overwritten-from_shared test x (IsFencedWhereShared-IsFencedWhereOthersWrite candidate fenced)) a,
+        IsFencedWhereOverwritten-IsFencedWhereShared test x (IsFencedWhereShared-IsFencedWhereOthersWrite candidate fenced)) a,
     λ s. c.sequential_outcomes_are_allowed.ensures.outcomes test o s,
   );
   flat_memory = λ test o well_scoped fenced.
@@ -18,7 +18,7 @@ returns c = record {
       let same = c.interleaving_outcomes_are_sequential.ensures.x86 test o well_scoped in (
         λ run.
             same.1 (c.executions_fenced_where_overwritten_are_sequential.ensures.outcomes test o (λ x candidate axioms.
-            fenced_where_overwritten-from_shared test x (IsFencedWhereShared-IsFencedWhereOthersWrite candidate fenced))
+            IsFencedWhereOverwritten-IsFencedWhereShared test x (IsFencedWhereShared-IsFencedWhereOthersWrite candidate fenced))
             (machine.0 run)),
         λ run. machine.1 (c.sequential_outcomes_are_allowed.ensures.outcomes test o (same.0 run)),
       );
