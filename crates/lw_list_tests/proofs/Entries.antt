@@ -1,4 +1,4 @@
--- The outcomes of a list whose entries are of a test. The tests of verdicts use this.
+-- The outcomes of a list, if its entries are of a test. The proofs of the tests of verdicts use this.
 use Rattle.lw_outcome_map.specs.Listings.{OutcomeEntries}
 use Rattle.std.proofs.Common.{◌≡◌, ℕ, List, zero, suc, Some, [], ◌∷◌, length, subst, slice_get, arith, All}
 use Rattle.std.proofs.lemmas.Option.{same_Some, slice_get_within}
@@ -29,7 +29,7 @@ outcomes_of_test head entries are =
     (All-weaker (IsListedOutcome head) (λ (e : FinalState × List Event). HasOutcomeShape head.threads (length head.locs) e.0)
     (λ e is. is.outcome) entries are)
 
--- There is none in an empty list.
+-- An empty list has no outcomes, so all of its outcomes have the test's threads and locations.
 pub outcomes_of-empty : (head : TestHead) (entries : OutcomeEntries)
     → length entries ≡ 0
     → All (HasOutcomeShape head.threads (length head.locs)) (outcomes_of entries)

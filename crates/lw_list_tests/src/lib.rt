@@ -1,7 +1,7 @@
-//! Tests of complete lists and of what is told of them: worked lists, the limits, lists where memory is refused, and verdicts.
+//! Tests of complete lists and of the reports of them: worked lists, the limits, lists where memory is refused, and verdicts.
 //!
-//! It names the lists, the reports of them and what these stand on, and lw_test_reader. Whole reports and lists of schedules stand
-//! in the folder `tables`.
+//! It names the crates of the lists and of the reports, the crates that these use, and lw_test_reader. The folder `tables` has whole
+//! reports and lists of schedules.
 #![tactic(auto)]
 
 #[cfg(test)]

@@ -27,14 +27,15 @@ fn outcome_of(alloc: Global, head: &Head, words: &str) -> Option<Outcome> {
     let words = Sequence::from_slice(alloc, memory.get(..head.locs.len())?).ok()?;
     Some(Outcome { regs, words })
 }
-/// Returns whether the listing has this outcome at this index, and finds it there.
+
+/// Returns whether the listing has this outcome at this index, and `find` returns the index.
 fn has_outcome(listing: &Listing, place: usize, outcome: &Outcome) -> bool {
     place < listing.len()
         && *listing.outcome(place) == *outcome
         && listing.find(outcome) == Some(place)
 }
 
-/// Returns whether the listing has the outcome that these words spell at this index.
+/// Returns whether the listing has the outcome that these words spell at this index, and `find` returns the index.
 fn is_found(
     alloc: Global,
     head: &Head,
@@ -60,8 +61,8 @@ fn has_schedule(
     }
 }
 
-/// Returns whether the listing has the entry at this index: an outcome, which is found there, and after ` by ` its
-/// schedule.
+/// Returns whether the listing has the entry at this index. An entry is an outcome, which `find` must find there, and after ` by ` its
+/// schedule, if that is tested.
 fn is_entry(
     alloc: Global,
     head: &Head,
@@ -100,9 +101,15 @@ fn are_missing(alloc: Global, head: &Head, listing: &Listing, outcomes: &str) ->
     Some(true)
 }
 
-/// Returns whether the listing is as a line says: its entries, and after ` but not ` what is not listed.
-fn is_told(alloc: Global, head: &Head, listing: &Listing, told: &str) -> Option<bool> {
-    let (entries, missing) = told.split_once(" but not ")?;
+/// Returns whether a listing is as a line says: it has the entries before ` but not ` and no others, in this order, and none of the
+/// outcomes after it.
+fn has_entries_of_line(
+    alloc: Global,
+    head: &Head,
+    listing: &Listing,
+    expected: &str,
+) -> Option<bool> {
+    let (entries, missing) = expected.split_once(" but not ")?;
     Some(are_entries(alloc, head, listing, entries)? && are_missing(alloc, head, listing, missing)?)
 }
 
@@ -119,7 +126,7 @@ fn has_outcomes_of(list: &OutcomeList, listing: &Listing) -> bool {
     true
 }
 
-/// Returns whether the list of a test without schedules has the outcomes of a listing.
+/// Returns whether the list that is made of a test without schedules has the outcomes of a listing, in the same order.
 fn is_listed_without_schedules(alloc: Global, source: &Source, listing: &Listing) -> bool {
     match list_source_outcomes(alloc, source) {
         Ok(list) => has_outcomes_of(&list, listing),
@@ -127,11 +134,11 @@ fn is_listed_without_schedules(alloc: Global, source: &Source, listing: &Listing
     }
 }
 
-/// Returns whether the list of a test is as a line says, with schedules and without.
-fn is_listed(alloc: Global, source: &Source, told: &str) -> bool {
+/// Returns whether the list of a test with schedules is as a line says, and the list without them has the same outcomes.
+fn is_listed(alloc: Global, source: &Source, expected: &str) -> bool {
     match list_source(alloc, source) {
         Ok(listing) => {
-            is_told(alloc, &source.head, &listing, told) == Some(true)
+            has_entries_of_line(alloc, &source.head, &listing, expected) == Some(true)
                 && is_listed_without_schedules(alloc, source, &listing)
         }
         Err(_) => false,
@@ -154,11 +161,11 @@ SRC FA { 0:r1=1; 1:r1=1; } P0|P1; r0 := fetchadd x r1 | r0 := fetchadd x r1; loc
 SRC NONE { 0:r5=7; x=9; } P0|P1; exists (true) => 0:r5=7 x=9 but not x=9, 1:r5=7 x=9
 ";
 
-/// Returns whether the list of the line's test is as the line says.
+/// Returns whether the lists of a line's test are as the line says.
 fn holds(alloc: Global, line: &str) -> bool {
-    let (text, told) = line.split_once(" => ").unwrap_or((line, ""));
+    let (text, expected) = line.split_once(" => ").unwrap_or((line, ""));
     match source_of(alloc, text) {
-        Some(source) => is_listed(alloc, &source, told),
+        Some(source) => is_listed(alloc, &source, expected),
         None => false,
     }
 }

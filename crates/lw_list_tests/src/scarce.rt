@@ -1,4 +1,4 @@
-//! Making lists while memory is refused, each growth in turn.
+//! Lists that are made while memory is refused, each growth in turn.
 use lw_finals::{list_source, list_source_outcomes, list_x86, list_x86_outcomes};
 use lw_outcome_map::{Listing, OutcomeList};
 use lw_paths::ListFault;
@@ -9,11 +9,11 @@ use std::alloc::Allocator;
 const STORE_BUFFERING: &str =
     "SRC SB {} P0|P1; x := 1 | y := 1; r0 := y | r0 := x; exists (0:r0=0 /\\ 1:r0=0)";
 
-/// The same in x86 instructions.
+/// Store buffering in x86 instructions.
 const X86_STORE_BUFFERING: &str =
     "X86 SB {} P0|P1; MOV [x],$1 | MOV [y],$1; MOV EAX,[y] | MOV EAX,[x]; exists (0:EAX=0 /\\ 1:EAX=0)";
 
-/// Returns whether two lists have the same entries.
+/// Returns whether two lists have the same entries, in the same order.
 fn are_same<A: Allocator>(listing: &Listing<A>, other: &Listing<A>) -> bool {
     if listing.len() != other.len() {
         return false;
@@ -29,8 +29,9 @@ fn are_same<A: Allocator>(listing: &Listing<A>, other: &Listing<A>) -> bool {
     true
 }
 
-/// Makes a list, and compares it, if it is whole, with the one that is made of the same test afterwards.
-fn listed<A: Allocator>(
+/// Compares a list that was made while memory was refused with the whole list of the same test. Returns `Whole` if they are the same,
+/// `Refused` if the first was not made because memory ran out, and `None` otherwise.
+fn compare_lists<A: Allocator>(
     listing: Result<Listing<A>, ListFault>,
     whole: Result<Listing<A>, ListFault>,
 ) -> Option<Made> {
@@ -41,7 +42,7 @@ fn listed<A: Allocator>(
     }
 }
 
-/// Returns whether two lists without schedules have the same outcomes.
+/// Returns whether two lists without schedules have the same outcomes, in the same order.
 fn are_same_outcomes<A: Allocator>(list: &OutcomeList<A>, other: &OutcomeList<A>) -> bool {
     if list.len() != other.len() {
         return false;
@@ -54,8 +55,9 @@ fn are_same_outcomes<A: Allocator>(list: &OutcomeList<A>, other: &OutcomeList<A>
     true
 }
 
-/// Makes a list without schedules, and compares it, if it is whole, with the one that is made of the same test afterwards.
-fn outcomes_listed<A: Allocator>(
+/// Compares a list without schedules that was made while memory was refused with the whole one of the same test. Returns `Whole` if they
+/// are the same, `Refused` if the first was not made because memory ran out, and `None` otherwise.
+fn compare_outcome_lists<A: Allocator>(
     list: Result<OutcomeList<A>, ListFault>,
     whole: Result<OutcomeList<A>, ListFault>,
 ) -> Option<Made> {
@@ -72,7 +74,7 @@ struct SourceList;
 impl MadeByAllocator for SourceList {
     fn make<'a>(&self, ample: &'a Refusing, scarce: &'a Refusing) -> Option<Made> {
         let source = source_of(ample, STORE_BUFFERING)?;
-        listed(list_source(scarce, &source), list_source(ample, &source))
+        compare_lists(list_source(scarce, &source), list_source(ample, &source))
     }
 }
 
@@ -82,7 +84,7 @@ struct X86List;
 impl MadeByAllocator for X86List {
     fn make<'a>(&self, ample: &'a Refusing, scarce: &'a Refusing) -> Option<Made> {
         let program = program_of(ample, X86_STORE_BUFFERING)?;
-        listed(list_x86(scarce, &program), list_x86(ample, &program))
+        compare_lists(list_x86(scarce, &program), list_x86(ample, &program))
     }
 }
 
@@ -92,7 +94,7 @@ struct SourceOutcomes;
 impl MadeByAllocator for SourceOutcomes {
     fn make<'a>(&self, ample: &'a Refusing, scarce: &'a Refusing) -> Option<Made> {
         let source = source_of(ample, STORE_BUFFERING)?;
-        outcomes_listed(
+        compare_outcome_lists(
             list_source_outcomes(scarce, &source),
             list_source_outcomes(ample, &source),
         )
@@ -105,7 +107,7 @@ struct X86Outcomes;
 impl MadeByAllocator for X86Outcomes {
     fn make<'a>(&self, ample: &'a Refusing, scarce: &'a Refusing) -> Option<Made> {
         let program = program_of(ample, X86_STORE_BUFFERING)?;
-        outcomes_listed(
+        compare_outcome_lists(
             list_x86_outcomes(scarce, &program),
             list_x86_outcomes(ample, &program),
         )

@@ -8,10 +8,10 @@ use lw_text::{TextCause, TextFault};
 use std::alloc::Global;
 use std::test::Fail;
 
-/// Returns whether the fault's line and status are these.
-fn is_told(alloc: Global, fault: BenchFault, line: &str, status: u8) -> bool {
+/// Returns whether a fault has this line and this exit status.
+fn has_line_and_status(alloc: Global, fault: BenchFault, line: &str, status: u8) -> bool {
     match fault_line(alloc, &fault) {
-        Ok(told) => told.as_str() == line && status_of(&fault) == status,
+        Ok(text) => text.as_str() == line && status_of(&fault) == status,
         Err(_) => false,
     }
 }
@@ -33,7 +33,7 @@ fn lines_of_faults(rt: HostRuntime) {
             3,
         ),
     ] {
-        assert!(rt; is_told(rt.alloc(), fault, line, status), "{line}");
+        assert!(rt; has_line_and_status(rt.alloc(), fault, line, status), "{line}");
     }
 }
 
@@ -64,7 +64,7 @@ fn statuses(rt: HostRuntime) {
     }
 }
 
-/// Lines of words, separated by commas, that are no command.
+/// Lists of words that are no command: one on each line, with commas between its words.
 const OTHER_WORDS: &str = "
 compile,P0
 compile,
@@ -81,7 +81,7 @@ replay,P0,--protocol=mesi
 replay,--protocol,moesi,P0
 replay,P0,--protocol,moesi,P0";
 
-/// Returns whether the words are a replay by this schedule, over this protocol.
+/// Returns whether the words are the command to replay by this schedule, over this protocol.
 fn is_replay(words: &[&str], by: &str, over: Protocol) -> bool {
     match command_of(words) {
         Some(Task::Replay(schedule, protocol)) => schedule == by && protocol == over,

@@ -1,4 +1,4 @@
-//! Readers and writers that transfer little at a time, and that fail as told, or never end.
+//! Readers and writers that transfer one byte in each call. A call that the test chooses fails, or the input never ends.
 use std::io::{self, ErrorKind, Read, Write};
 
 /// A reader of a text: one byte in each call, and one of its calls may fail.
@@ -17,7 +17,8 @@ impl<'a> Tape<'a> {
         Tape::failing(text, 0, ErrorKind::Other)
     }
 
-    /// Creates a reader whose call with this number fails with this error, or none if it is 0.
+    /// Creates a reader whose call with the number `failing` fails with this error. The first call has number 1, so none fails if
+    /// `failing` is 0.
     pub(crate) fn failing(text: &'a [u8], failing: usize, error: ErrorKind) -> Self {
         Tape {
             text,
@@ -82,7 +83,8 @@ impl Sheet {
         Sheet::failing(0, None)
     }
 
-    /// Creates a writer whose call with this number fails, with this error or by writing nothing, or none if it is 0.
+    /// Creates a writer whose call with the number `failing` fails, with this error or, if there is none, by writing nothing. The first
+    /// call has number 1, so none fails if `failing` is 0.
     pub(crate) fn failing(failing: usize, error: Option<ErrorKind>) -> Self {
         Sheet {
             bytes: [0; 4096],
@@ -93,7 +95,7 @@ impl Sheet {
         }
     }
 
-    /// Returns whether the sheet has this text.
+    /// Returns whether this text was written, and nothing else.
     pub(crate) fn is(&self, text: &str) -> bool {
         self.len == text.len()
             && text

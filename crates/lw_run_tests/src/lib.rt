@@ -1,8 +1,8 @@
 //! Tests of the runs of the workbench: worked examples of each run, runs between devices that give and take little and fail, where
 //! memory is refused, and faults, words and statuses as values.
 //!
-//! It names lw_bench, the types that its calls take and answer, and lw_test_reader. What else the program writes of texts and
-//! schedules stands in the folder `tables`.
+//! It names lw_bench, the types of its calls' parameters and results, and lw_test_reader. The folder `tables` has more examples of
+//! what the program writes of texts and schedules.
 #![tactic(auto)]
 
 #[cfg(test)]

@@ -15,31 +15,31 @@ use std::io::ErrorKind;
 const STORE_BUFFERING: &str =
     "SRC SB\n{}\n P0 | P1 ;\n x := 1 | y := 1 ;\n r0 := y | r0 := x ;\nexists (0:r0=0 /\\ 1:r0=0)\n";
 
-/// The page of its replay by `P0 P0 P1 P1`.
+/// The page of the replay of store buffering by `P0 P0 P1 P1`.
 const STORE_BUFFERING_PAGE: &str =
     "Test SB\nSteps 4\nEnd Final\nP0 at 2 r0=0 r1=0 r2=0 r3=0 r4=0 r5=0\nP1 at 2 r0=1 r1=0 r2=0 r3=0 r4=0 r5=0\nMemory x=1 y=1\n";
 
-/// Its report.
+/// The report of store buffering.
 const STORE_BUFFERING_REPORT: &str =
     "Test SB Allowed\nStates 3\n0:r0=0; 1:r0=1;\n0:r0=1; 1:r0=0;\n0:r0=1; 1:r0=1;\nNo\nPositive: 0 Negative: 3\nCondition exists (0:r0=0 /\\ 1:r0=0)\nObservation SB Never 0 3\n";
 
-/// Its list of schedules.
+/// The list of schedules of store buffering.
 const STORE_BUFFERING_SCHEDULES: &str =
     "Test SB\nStates 3\n0:r0=0; 1:r0=1;\n P0 D0 P0 P0 P1 D1 P1 P1\n0:r0=1; 1:r0=0;\n P1 D1 P1 P1 P0 D0 P0 P0\n0:r0=1; 1:r0=1;\n P0 D0 P1 D1 P0 P0 P1 P1\n";
 
-/// The same in x86 instructions.
+/// Store buffering in x86 instructions.
 const X86_STORE_BUFFERING: &str =
     "X86 SB\n{}\n P0 | P1 ;\n MOV [x],$1 | MOV [y],$1 ;\n MOV EAX,[y] | MOV EAX,[x] ;\nexists (0:EAX=0 /\\ 1:EAX=0)\n";
 
-/// Its report.
+/// The report of the x86 test.
 const X86_STORE_BUFFERING_REPORT: &str =
     "Test SB Allowed\nStates 4\n0:EAX=0; 1:EAX=0;\n0:EAX=0; 1:EAX=1;\n0:EAX=1; 1:EAX=0;\n0:EAX=1; 1:EAX=1;\nOk\nPositive: 1 Negative: 3\nCondition exists (0:EAX=0 /\\ 1:EAX=0)\nObservation SB Sometimes 1 3\n";
 
-/// Its list of schedules.
+/// The list of schedules of the x86 test.
 const X86_STORE_BUFFERING_SCHEDULES: &str =
     "Test SB\nStates 4\n0:EAX=0; 1:EAX=0;\n P0 P0 P1 D1 P1 D0\n0:EAX=0; 1:EAX=1;\n P0 D0 P0 P1 D1 P1\n0:EAX=1; 1:EAX=0;\n P0 P1 D1 P0 P1 D0\n0:EAX=1; 1:EAX=1;\n P0 D0 P1 D1 P0 P1\n";
 
-/// The compiled program of store buffering.
+/// The text of the compiled store buffering.
 const STORE_BUFFERING_COMPILED: &str =
     "X86 SB\n{\n x=0;\n y=0;\n}\n P0 | P1 ;\n MOV [x],$1 | MOV [y],$1 ;\n MFENCE | MFENCE ;\n MOV EAX,[y] | MOV EAX,[x] ;\nexists (0:EAX=0 /\\ 1:EAX=0)\n";
 
@@ -79,20 +79,20 @@ pub(crate) const RUNS: [(Task<'static>, &'static str, &'static str); 8] = [
     ),
 ];
 
-/// The answer of a task, the number of its reads, and what it has written.
+/// What a task returned, the number of its reads, and the sheet that it wrote to.
 #[derive(Drop)]
-struct Ran {
+struct RunResult {
     result: Result<u8, BenchFault>,
     reads: usize,
     sheet: Sheet,
 }
 
-/// Carries out a task between a reader and a writer that transfer one byte at a time.
-fn run_between(alloc: Global, task: Task<'_>, tape: Tape<'_>, sheet: Sheet) -> Ran {
+/// Carries out a task between a reader and a writer that transfer one byte in each call.
+fn run_between(alloc: Global, task: Task<'_>, tape: Tape<'_>, sheet: Sheet) -> RunResult {
     let mut reader = FromRead::new(tape);
     let mut writer = ToWrite::new(sheet);
     let result = carry_out(alloc, task, &mut reader, &mut writer);
-    Ran {
+    RunResult {
         result,
         reads: reader.reader.calls,
         sheet: writer.writer,
@@ -103,13 +103,13 @@ fn run_between(alloc: Global, task: Task<'_>, tape: Tape<'_>, sheet: Sheet) -> R
 #[test]
 fn byte_by_byte(rt: HostRuntime) {
     for (task, text, written) in RUNS {
-        let ran = run_between(rt.alloc(), task, Tape::new(text.as_bytes()), Sheet::new());
-        assert!(rt; matches!(ran.result, Ok(0)) && ran.sheet.is(written));
-        assert!(rt; ran.reads == text.len().saturating_add(1) && ran.sheet.calls == written.len());
+        let run = run_between(rt.alloc(), task, Tape::new(text.as_bytes()), Sheet::new());
+        assert!(rt; matches!(run.result, Ok(0)) && run.sheet.is(written));
+        assert!(rt; run.reads == text.len().saturating_add(1) && run.sheet.calls == written.len());
     }
 }
 
-/// Carries out a task by the call of its own. A replay must end in a final state.
+/// Carries out a task by the function that is named after it. A replay that does not end in a final state counts as a fault.
 pub(crate) fn run_by_name<R: ByteReader, W: ByteWriter, A: Allocator + Copy>(
     alloc: A,
     task: Task<'_>,
@@ -132,7 +132,7 @@ pub(crate) fn run_by_name<R: ByteReader, W: ByteWriter, A: Allocator + Copy>(
     }
 }
 
-/// Each run by its own call writes what its task does.
+/// The function that is named after a task writes what `carry_out` writes for it.
 #[test]
 fn runs_by_their_names(rt: HostRuntime) {
     for (task, text, written) in RUNS {
@@ -143,7 +143,7 @@ fn runs_by_their_names(rt: HostRuntime) {
     }
 }
 
-/// On bytes in memory each task renders what its run writes.
+/// Of a text in memory `answer` returns what `carry_out` writes.
 #[test]
 fn answers_in_memory(rt: HostRuntime) {
     for (task, text, written) in RUNS {
@@ -155,8 +155,7 @@ fn answers_in_memory(rt: HostRuntime) {
     }
 }
 
-/// Whichever read fails, with any error, the failure is reported, nothing is written, and the reader is not called
-/// again.
+/// Whichever read fails, with any error, the run returns the fault `Read`, writes nothing, and does not call the reader again.
 #[test]
 fn each_read_fails(rt: HostRuntime) {
     for (task, text, _) in RUNS {
@@ -167,16 +166,15 @@ fn each_read_fails(rt: HostRuntime) {
                 ErrorKind::Other,
             ] {
                 let tape = Tape::failing(text.as_bytes(), failing, error);
-                let ran = run_between(rt.alloc(), task, tape, Sheet::new());
-                let is_told = matches!(ran.result, Err(BenchFault::Read));
-                assert!(rt; is_told && ran.reads == failing && ran.sheet.calls == 0);
+                let run = run_between(rt.alloc(), task, tape, Sheet::new());
+                let is_reported = matches!(run.result, Err(BenchFault::Read));
+                assert!(rt; is_reported && run.reads == failing && run.sheet.calls == 0);
             }
         }
     }
 }
 
-/// Whichever write fails, with an error or by writing nothing, the failure is reported, and the writer is not called
-/// again.
+/// Whichever write fails, with an error or by writing nothing, the run returns the fault `Write`, and does not call the writer again.
 #[test]
 fn each_write_fails(rt: HostRuntime) {
     for (task, text, written) in RUNS {
@@ -187,15 +185,15 @@ fn each_write_fails(rt: HostRuntime) {
                 Some(ErrorKind::BrokenPipe),
             ] {
                 let sheet = Sheet::failing(failing, error);
-                let ran = run_between(rt.alloc(), task, Tape::new(text.as_bytes()), sheet);
-                let is_told = matches!(ran.result, Err(BenchFault::Write));
-                assert!(rt; is_told && ran.sheet.calls == failing);
+                let run = run_between(rt.alloc(), task, Tape::new(text.as_bytes()), sheet);
+                let is_reported = matches!(run.result, Err(BenchFault::Write));
+                assert!(rt; is_reported && run.sheet.calls == failing);
             }
         }
     }
 }
 
-/// Returns the answer of a task to an input that never ends, and the numbers of its reads and writes.
+/// Returns what a task returns for an input that never ends, and the numbers of its reads and writes.
 fn run_endlessly(alloc: Global, task: Task<'_>) -> (Result<u8, BenchFault>, usize, usize) {
     let mut reader = FromRead::new(Endless { calls: 0 });
     let mut writer = ToWrite::new(Sheet::new());
@@ -219,11 +217,11 @@ fn endless_input(rt: HostRuntime) {
     }
 }
 
-/// Returns the answer of a replay by a schedule, and the number of its writes.
-fn replayed(alloc: Global, text: &[u8], schedule: &str) -> (Result<u8, BenchFault>, usize) {
+/// Returns what a replay by a schedule returns, and the number of its writes.
+fn replay_between(alloc: Global, text: &[u8], schedule: &str) -> (Result<u8, BenchFault>, usize) {
     let task = Task::Replay(schedule, Protocol::Mesi);
-    let ran = run_between(alloc, task, Tape::new(text), Sheet::new());
-    (ran.result, ran.sheet.calls)
+    let run = run_between(alloc, task, Tape::new(text), Sheet::new());
+    (run.result, run.sheet.calls)
 }
 
 /// A text that is cut off is rejected as a text, at an offset in it, unless only the last line end is gone.
@@ -232,12 +230,12 @@ fn prefixes(rt: HostRuntime) {
     let text = STORE_BUFFERING.as_bytes();
     for len in 0..86usize {
         let (front, _rest) = text.split_at(len);
-        let (result, writes) = replayed(rt.alloc(), front, "");
+        let (result, writes) = replay_between(rt.alloc(), front, "");
         assert!(rt;
             matches!(result, Err(BenchFault::Text(fault)) if fault.at <= len) && writes == 0
         );
     }
     let (front, _rest) = text.split_at(86);
-    assert!(rt; matches!(replayed(rt.alloc(), front, "").0, Ok(1)));
-    assert!(rt; matches!(replayed(rt.alloc(), text, "P0 P0 P1 P1").0, Ok(0)));
+    assert!(rt; matches!(replay_between(rt.alloc(), front, "").0, Ok(1)));
+    assert!(rt; matches!(replay_between(rt.alloc(), text, "P0 P0 P1 P1").0, Ok(0)));
 }

@@ -4,7 +4,7 @@ use crate::runs::{RUNS, run_by_name};
 use lw_bench::{BenchFault, FromRead, Task, ToWrite, answer, carry_out};
 use lw_test_reader::{Made, MadeByAllocator, Refusing, refusals};
 
-/// A task, its text, and its output.
+/// A task, its text, and its whole output.
 #[derive(Clone, Copy)]
 struct Run {
     task: Task<'static>,
@@ -12,8 +12,9 @@ struct Run {
     written: &'static str,
 }
 
-/// Returns the result of a run.
-fn ran(outcome: Result<(), BenchFault>, sheet: &Sheet, written: &str) -> Option<Made> {
+/// Returns how a run ended: `Whole` if its whole output was written, `Refused` if memory ran out and nothing was written, and `None` if
+/// it did anything else.
+fn result_of_run(outcome: Result<(), BenchFault>, sheet: &Sheet, written: &str) -> Option<Made> {
     match outcome {
         Ok(()) if sheet.is(written) => Some(Made::Whole),
         Err(BenchFault::Memory) if sheet.calls == 0 => Some(Made::Refused),
@@ -21,7 +22,7 @@ fn ran(outcome: Result<(), BenchFault>, sheet: &Sheet, written: &str) -> Option<
     }
 }
 
-/// Runs by the call that carries out every task.
+/// Runs the task by `carry_out`.
 #[derive(Clone, Copy)]
 struct CarriedOut(Run);
 
@@ -35,11 +36,11 @@ impl MadeByAllocator for CarriedOut {
         let mut reader = FromRead::new(Tape::new(text.as_bytes()));
         let mut writer = ToWrite::new(Sheet::new());
         let result = carry_out(scarce, task, &mut reader, &mut writer);
-        ran(result.map(|_| ()), &writer.writer, written)
+        result_of_run(result.map(|_| ()), &writer.writer, written)
     }
 }
 
-/// Runs by the task's own call.
+/// Runs the task by the function that is named after it.
 #[derive(Clone, Copy)]
 struct ByName(Run);
 
@@ -53,11 +54,11 @@ impl MadeByAllocator for ByName {
         let mut reader = FromRead::new(Tape::new(text.as_bytes()));
         let mut writer = ToWrite::new(Sheet::new());
         let result = run_by_name(scarce, task, &mut reader, &mut writer);
-        ran(result, &writer.writer, written)
+        result_of_run(result, &writer.writer, written)
     }
 }
 
-/// Renders the output as a value.
+/// Makes the output by `answer`, which returns it.
 #[derive(Clone, Copy)]
 struct Answered(Run);
 

@@ -1,6 +1,6 @@
-//! Worked examples of all runs, typed in: a line each, with the words of a task, a test, and what is written of it or the line of its
-//! fault, with ` => ` between them. The words are those of a command, or the schedule of a replay, behind which may stand the
-//! protocol. In each a `$` stands for a line end, an `@` for the dollar sign, and `<3 ab>` for `ababab`.
+//! Worked examples of all runs, typed in. A line each: the words of a task, the text of a test, and what the task writes or the line
+//! of its fault, with ` => ` between them. The words are those of a command, or the schedule of a replay, followed by its protocol
+//! unless that is the default one. In all three a `$` spells a line end, an `@` spells the dollar sign, and `<3 ab>` spells `ababab`.
 use crate::devices::{Sheet, Tape};
 use crate::spelling::spelled;
 use lw_bench::{FromRead, Protocol, Task, ToWrite, carry_out, fault_line};
@@ -79,7 +79,8 @@ P0 Q1 => SRC SB${}$ P0 | P1 ;$ x := 1 | y := 1 ;$ r0 := y | r0 := x ;$exists (0:
 P0 P0 P0 P0 P0 => SRC SUMS${ 0:r0=2; 0:r1=3; 0:r3=4294967295; }$ P0 ;$ r1 := r0 + r1 ;$ r1 := r1 + r1 ;$ r2 := r0 + r1 ;$ r3 := r3 + 1 ;$ r4 := swap x r1 ;$locations [0:r1; 0:r2; 0:r3; 0:r4;]$exists (x=10)$ => Test SUMS$Steps 5$End Final$P0 at 5 r0=2 r1=10 r2=12 r3=0 r4=0 r5=0$Memory x=10$
 ";
 
-/// Replays of x86 tests: store buffering, with and without fences, forwarding, a line that two processors share by both protocols, the most stores, and locked instructions.
+/// Replays of x86 tests: store buffering with fences and without, forwarding, a line that two processors share by both protocols, the
+/// most stores, and locked instructions.
 const X86_PAGES: &str = "
 P0 P0 P1 P1 D0 D1 => X86 SB${}$ P0 | P1 ;$ MOV [x],@1 | MOV [y],@1 ;$ MOV EAX,[y] | MOV EAX,[x] ;$exists (0:EAX=0 /\\ 1:EAX=0)$ => Test SB$Steps 6$End Final$P0 at 2 EAX=0 EBX=0 ECX=0 EDX=0 ESI=0 EDI=0$P0 buffer$P0 lines x=M y=I$P1 at 2 EAX=0 EBX=0 ECX=0 EDX=0 ESI=0 EDI=0$P1 buffer$P1 lines x=I y=M$Memory x=0 y=0$Content x=1 y=1$
 P0 P0 P1 P1 D0 D1 => X86 SB${$ x=0;$ y=0;$}$ P0 | P1 ;$ MOV [x],@1 | MOV [y],@1 ;$ MFENCE | MFENCE ;$ MOV EAX,[y] | MOV EAX,[x] ;$exists (0:EAX=0 /\\ 1:EAX=0)$ => Test SB$Steps 1$End Stopped at 1 by 4 FenceWaits$P0 at 1 EAX=0 EBX=0 ECX=0 EDX=0 ESI=0 EDI=0$P0 buffer x=1$P0 lines x=I y=I$P1 at 0 EAX=0 EBX=0 ECX=0 EDX=0 ESI=0 EDI=0$P1 buffer$P1 lines x=I y=I$Memory x=0 y=0$Content x=0 y=0$
@@ -141,7 +142,8 @@ fn task_of(words: &str) -> Task<'_> {
     }
 }
 
-/// Returns the exit status of a task with this output: of a replay's page whether it ended in a final state.
+/// Returns the exit status of a task with this output: 1 if the output is the page of a replay that does not end in a final state,
+/// and 0 otherwise.
 fn status_beside(written: &str) -> u8 {
     match written.lines().nth(2) {
         Some(line) if line.starts_with("End ") && line != "End Final" => 1,
@@ -149,51 +151,51 @@ fn status_beside(written: &str) -> u8 {
     }
 }
 
-/// Returns whether the task writes this for the text, with its exit status, or its fault is reported like this and
-/// nothing is written.
-fn writes(alloc: Global, task: Task<'_>, text: &[u8], told: &str) -> bool {
+/// Returns whether the task writes the expected output of the text and returns its exit status, or fails with the expected line and
+/// writes nothing.
+fn writes(alloc: Global, task: Task<'_>, text: &[u8], expected: &str) -> bool {
     let mut reader = FromRead::new(Tape::new(text));
     let mut writer = ToWrite::new(Sheet::new());
     match carry_out(alloc, task, &mut reader, &mut writer) {
-        Ok(status) => status == status_beside(told) && writer.writer.is(told),
+        Ok(status) => status == status_beside(expected) && writer.writer.is(expected),
         Err(fault) => match fault_line(alloc, &fault) {
-            Ok(line) => line.as_str() == told && writer.writer.calls == 0,
+            Ok(line) => line.as_str() == expected && writer.writer.calls == 0,
             Err(_) => false,
         },
     }
 }
 
-/// Returns whether this holds of the words of a line.
-fn holds(alloc: Global, words: &str, text: &str, told: &str) -> bool {
+/// Returns whether the task that a line's words name does of the line's text what the line expects.
+fn holds(alloc: Global, words: &str, text: &str, expected: &str) -> bool {
     match (
         spelled(alloc, words),
         spelled(alloc, text),
-        spelled(alloc, told),
+        spelled(alloc, expected),
     ) {
-        (Ok(words), Ok(text), Ok(told)) => {
+        (Ok(words), Ok(text), Ok(expected)) => {
             writes(
                 alloc,
                 task_of(words.as_str()),
                 text.as_bytes(),
-                told.as_str(),
+                expected.as_str(),
             )
         }
         _ => false,
     }
 }
 
-/// Returns whether a line of a table holds.
+/// Returns whether a line of a table has its three parts, and its task does what it expects.
 fn is_right(alloc: Global, line: &str) -> bool {
     let Some((words, rest)) = line.split_once(" => ") else {
         return false;
     };
     match rest.split_once(" => ") {
-        Some((text, told)) => holds(alloc, words, text, told),
+        Some((text, expected)) => holds(alloc, words, text, expected),
         None => false,
     }
 }
 
-/// Returns the first line of a table that does not hold.
+/// Returns the first line of a table that is wrong.
 fn first_wrong(alloc: Global, table: &str) -> Option<&str> {
     for line in table.split('\n') {
         if !line.is_empty() && !is_right(alloc, line) {

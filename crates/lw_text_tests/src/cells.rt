@@ -5,13 +5,13 @@ use lw_text::{Cell, Frame, Token, read_frame};
 /// Two threads of two rows. One cell of each thread is empty.
 const TWO_ROWS: &str = "SRC A {} P0|P1; L: x := 1 | ; | r0 := y; exists (true)";
 
-/// Returns whether a token has the text before the `@`, and the offset after it.
+/// Returns whether a token is as spelled: its text, `@`, and its offset.
 fn is_token(token: &Token<'_>, spelled: &str) -> Option<bool> {
     let (text, place) = spelled.split_once('@')?;
     Some(token.text == text && token.at == place.parse::<usize>().ok()?)
 }
 
-/// Returns whether a cell has these tokens, which are separated by blanks.
+/// Returns whether a cell has the spelled tokens, which are separated by blanks.
 fn has_tokens(cell: &Cell<'_>, spelled: &str) -> bool {
     let tokens = cell.tokens.as_slice();
     for (token, word) in tokens.iter().zip(spelled.split(' ')) {
@@ -22,7 +22,7 @@ fn has_tokens(cell: &Cell<'_>, spelled: &str) -> bool {
     tokens.len() == spelled.split(' ').count()
 }
 
-/// Returns whether a thread has two cells: one with these tokens, and an empty one, with these ends.
+/// Returns whether two cells are there, the first with the spelled tokens and the second empty, with these ends.
 fn are_cells(
     filled: Option<&Cell<'_>>,
     empty: Option<&Cell<'_>>,
@@ -39,7 +39,7 @@ fn are_cells(
     }
 }
 
-/// Returns whether these are the cells of the text.
+/// Returns whether a frame has the cells of `TWO_ROWS`.
 fn has_two_rows(frame: &Frame<'_>) -> bool {
     let [p0, p1, ..] = Cpu::all();
     if frame.head().threads != 2 {

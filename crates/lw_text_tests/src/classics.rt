@@ -1,4 +1,4 @@
-//! The texts of three examples, which are read as the values of lw_bench's theorems of classic tests, in
+//! The texts of three examples are read as the tests of lw_bench's theorems of classic tests, which are values in
 //! lw_bench/specs/Classics.antt.
 use lw_base::{Arch, Cpu, Head, Loc, Operand, Prop, Quant, Reg, Word};
 use lw_source::{Source, Stmt};
@@ -44,7 +44,7 @@ const MESSAGE_PASSING_IN_X86: &str = "X86 MP-x86
 ~exists (1:EAX=1 /\\ 1:EBX=0)
 ";
 
-/// A register of a thread, with a word.
+/// A thread, one of its registers, and the word that an atom says the register has.
 type Atom = (Cpu, Reg, Word);
 
 /// Returns whether a head has this name and language, two threads, the locations x and y, all 0, and lists nothing.
@@ -59,7 +59,7 @@ fn has_begin(head: &Head, name: &str, arch: Arch) -> bool {
     is_named && has_names && is_zero && head.listed.is_empty()
 }
 
-/// Returns whether a proposition is an atom.
+/// Returns whether a proposition is this atom.
 fn is_atom(prop: &Prop, atom: Atom) -> bool {
     match prop {
         Prop::RegIs(cpu, reg, word) => (*cpu, *reg, *word) == atom,
@@ -67,7 +67,7 @@ fn is_atom(prop: &Prop, atom: Atom) -> bool {
     }
 }
 
-/// Returns whether a head's condition has both atoms and this quantifier.
+/// Returns whether a head's condition has this quantifier and joins these two atoms by `/\`.
 fn asks(head: &Head, quant: Quant, first: Atom, second: Atom) -> bool {
     match &head.prop {
         Prop::Both(left, right) => {
@@ -93,22 +93,24 @@ fn has_instructions(program: &Program, first: &[Instr], second: &[Instr]) -> boo
     }
 }
 
-/// Returns a store of 1, as a statement.
-fn stored(loc: Loc) -> Stmt {
+/// Returns a statement that stores 1.
+fn store_statement(loc: Loc) -> Stmt {
     let val = Operand::Number(1);
     Stmt::Store { loc, val }
 }
 
-fn loaded(dst: Reg, loc: Loc) -> Stmt {
+/// Returns a statement that loads.
+fn load_statement(dst: Reg, loc: Loc) -> Stmt {
     Stmt::Load { dst, loc }
 }
 
-/// Returns a store of 1, as an instruction.
+/// Returns an instruction that stores 1.
 fn store(loc: Loc) -> Instr {
     let val = Operand::Number(1);
     Instr::Store { loc, val }
 }
 
+/// Returns an instruction that loads.
 fn load(reg: Reg, loc: Loc) -> Instr {
     Instr::Load { reg, loc }
 }
@@ -116,8 +118,8 @@ fn load(reg: Reg, loc: Loc) -> Instr {
 /// Returns whether a source test is store buffering.
 fn is_store_buffering(source: &Source) -> bool {
     let ([p0, p1, ..], [r0, ..], [x, y, ..]) = (Cpu::all(), Reg::all(), Loc::all());
-    let first = [stored(x), loaded(r0, y)];
-    let second = [stored(y), loaded(r0, x)];
+    let first = [store_statement(x), load_statement(r0, y)];
+    let second = [store_statement(y), load_statement(r0, x)];
     has_begin(&source.head, "SB", Arch::Source)
         && asks(&source.head, Quant::Exists, (p0, r0, 0), (p1, r0, 0))
         && has_statements(source, &first, &second)
@@ -151,7 +153,7 @@ fn is_source(alloc: Global, text: &str) -> bool {
     }
 }
 
-/// Returns whether the texts of x86 tests are those tests.
+/// Returns whether the two texts of x86 tests are store buffering and message passing.
 fn are_programs(alloc: Global) -> bool {
     let is_buffering = match program_of(alloc, STORE_BUFFERING_IN_X86) {
         Some(program) => is_store_buffering_in_x86(&program),

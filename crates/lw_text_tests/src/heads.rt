@@ -3,7 +3,7 @@ use lw_base::write_condition;
 use lw_text::{Frame, read_frame};
 use std::alloc::Global;
 
-/// Tests, and the printed form of their conditions: parentheses appear only where they are needed.
+/// Tests, and after ` => ` the printed form of their conditions, which has parentheses only where they are needed.
 const CONDITIONS: &str = "
 SRC A {} P0|P1; exists ((x=1 \\/ y=1) /\\ not (z=1 /\\ x=2)) => exists ((x=1 \\/ y=1) /\\ ~(z=1 /\\ x=2))
 SRC A {} P0|P1; forall ((x=1 \\/ y=1) \\/ z=1) => forall (x=1 \\/ y=1 \\/ z=1)
@@ -39,7 +39,7 @@ fn is_printed(alloc: Global, frame: &Frame<'_>, printed: &str) -> bool {
     }
 }
 
-/// Returns whether the condition of the test of the text is printed like this.
+/// Returns whether a text has a frame whose condition is printed like this.
 fn has_condition(alloc: Global, text: &str, printed: &str) -> bool {
     match read_frame(alloc, text.as_bytes()) {
         Ok(frame) => is_printed(alloc, &frame, printed),

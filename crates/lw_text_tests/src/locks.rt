@@ -1,4 +1,4 @@
-//! The text of the spin lock, which is read as the value of lw_axiomatic's worked law, in lw_axiomatic/specs/Examples.antt.
+//! The text of the spin lock is read as the test of lw_axiomatic's worked law, which is a value in lw_axiomatic/specs/Examples.antt.
 use lw_base::{Arch, Cpu, Head, Loc, Operand, Prop, Quant, Reg};
 use lw_test_reader::program_of;
 use lw_x86::{Instr, Program};
@@ -28,27 +28,32 @@ const SPIN_LOCK: &str = "X86 SpinLock-x86
 ~exists (0:ESI=1 /\\ 1:ESI=1 /\\ n=1)
 ";
 
-/// The instructions of the spin lock, of their operands.
+/// Returns an instruction that loads.
 fn load(reg: Reg, loc: Loc) -> Instr {
     Instr::Load { reg, loc }
 }
 
+/// Returns an instruction that stores.
 fn store(loc: Loc, val: Operand) -> Instr {
     Instr::Store { loc, val }
 }
 
+/// Returns an instruction that sets a register.
 fn set(reg: Reg, val: Operand) -> Instr {
     Instr::Set { reg, val }
 }
 
+/// Returns an instruction that adds to a register.
 fn add(reg: Reg, val: Operand) -> Instr {
     Instr::Add { reg, val }
 }
 
+/// Returns an instruction that compares a register.
 fn compare(reg: Reg, val: Operand) -> Instr {
     Instr::Cmp { reg, val }
 }
 
+/// Returns an instruction that exchanges a register and a location.
 fn exchange(loc: Loc, reg: Reg) -> Instr {
     Instr::Xchg { loc, reg }
 }
@@ -99,7 +104,7 @@ fn is_counted_once(prop: &Prop) -> bool {
     }
 }
 
-/// Returns whether a head asks for no state in which both threads were inside and n is 1.
+/// Returns whether a head's condition is that no state has both threads inside and n at 1, so that an addition was lost.
 fn asks_for_a_lost_one(head: &Head) -> bool {
     match &head.prop {
         Prop::Both(left, right) => {

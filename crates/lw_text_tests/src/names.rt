@@ -4,7 +4,7 @@ ghost use Rattle.std.specs.Prelude.{◌≡◌, []};
 use lw_base::{Arch, LocNames, Reg, is_location_name, is_name, reg_from_name, reg_name};
 use std::alloc::{AllocError, Allocator};
 
-/// Names of locations, of which the last has 32 bytes.
+/// Names of locations. The last has 32 bytes, the most that a name may have.
 const LOCATIONS: &str =
     "x,_,x1,r,rx,r0x,R0,If,NOT,eip,ax,eaxx,goto_,a2345678901234567890123456789012";
 
@@ -12,10 +12,11 @@ const LOCATIONS: &str =
 const RESERVED: &str =
     "r0,r17,r00,if,goto,swap,fetchadd,exists,forall,locations,filter,true,false,not,eax,EAX,eBp,ebx,Ecx,eDX,ESi,edI,ESP";
 
-/// Texts that are no names, the empty one among them.
+/// Texts that are no names. One is empty, and the last has 33 bytes.
 const NO_NAMES: &str = "1x,,9,x-y,x y,x:,[x],\u{e9},a23456789012345678901234567890123";
 
-/// Returns the first word for which it is wrong that it is a name, or that it is a name of a location, as stated.
+/// Returns the first of these words, separated by commas, for which `is_name` does not return `is_of_a_name`, or `is_location_name` does
+/// not return `is_of_a_location`.
 fn first_other(words: &str, is_of_a_name: bool, is_of_a_location: bool) -> Option<&str> {
     words.split(',').find(|word| {
         is_name(word) != is_of_a_name || is_location_name(word) != is_of_a_location
@@ -32,7 +33,7 @@ fn names_of_locations(rt: HostRuntime) {
     assert!(rt; matches!(others, (None, None, None)), "{others:?}");
 }
 
-/// Inserts the names of a text into a table, and returns their number.
+/// Inserts those of the words that are names of locations into a table, and returns the number of names that it then has.
 fn grow<A: Allocator + Copy>(names: &mut LocNames<A>, words: &str) -> Result<usize, AllocError> {
     for word in words.split(' ') {
         if is_location_name(word) {
@@ -42,7 +43,7 @@ fn grow<A: Allocator + Copy>(names: &mut LocNames<A>, words: &str) -> Result<usi
     Ok(names.len())
 }
 
-/// Returns whether these are the names of the table, in their order.
+/// Returns whether the table has these names first, in this order.
 fn are_named<A: Allocator>(names: &LocNames<A>, words: &str) -> bool {
     for (place, word) in words.split(' ').enumerate() {
         if !matches!(names.find(word), Some(loc) if loc.index() == place) {
@@ -52,7 +53,7 @@ fn are_named<A: Allocator>(names: &LocNames<A>, words: &str) -> bool {
     true
 }
 
-/// Returns whether an empty table accepts a name as its first.
+/// Returns whether an empty table gives the first name that is added the index 0.
 fn takes_first<A: Allocator + Copy>(names: &mut LocNames<A>) -> bool
     requires { names.old ≡ [] }
 {
@@ -83,7 +84,7 @@ fn are_registers(arch: Arch, names: &str) -> bool {
     true
 }
 
-/// Returns whether a register has this name in the source language, and that in x86.
+/// Returns whether a register has the name `source` in the source language and the name `x86` in x86.
 fn has_names(reg: Reg, source: &str, x86: &str) -> bool {
     reg_name(Arch::Source, reg) == source && reg_name(Arch::X86, reg) == x86
 }

@@ -1,4 +1,4 @@
-//! Canonical texts of x86 tests, and reading them back.
+//! The canonical text of an x86 test, and reading it back.
 use lw_test_reader::program_of;
 use lw_x86::{Program, write_program};
 use std::alloc::Global;
@@ -7,11 +7,11 @@ use std::alloc::Global;
 const LENIENT: &str =
     "X86 Lenient\n{ [y]=0x10; 1:EbX=7; 0:EAX=0 }\n P0 | P1 ;\n mov eax,0x10 | lock xchg Ebx,[x] ;\n cmp EAX,16 | je END ;\n jne Skip | MOV [y],ebx ;\n lock xadd [x],eax | END: ;\n Skip: Again: mfence | ;\nlocations [x; 1:EBX; x]\nexists ([x]=1 /\\ (y=2 /\\ not true))\n";
 
-/// Its canonical text.
+/// The canonical text of `LENIENT`.
 const CANONICAL: &str =
     "X86 Lenient\n{\n 1:EBX=7;\n y=16;\n x=0;\n}\n P0 | P1 ;\n MOV EAX,$16 | XCHG [x],EBX ;\n CMP EAX,$16 | JE L3 ;\n JNE L4 | MOV [y],EBX ;\n LOCK XADD [x],EAX | L3: ;\n L4: MFENCE |  ;\nlocations [1:EBX; x;]\nexists (x=1 /\\ (y=2 /\\ ~true))\n";
 
-/// Returns whether the canonical text of a program is the one above.
+/// Returns whether the canonical text of a program is `CANONICAL`.
 fn is_written(alloc: Global, program: &Program) -> bool {
     match write_program(alloc, program) {
         Ok(text) => text.as_str() == CANONICAL,
@@ -19,7 +19,7 @@ fn is_written(alloc: Global, program: &Program) -> bool {
     }
 }
 
-/// Returns whether the canonical text of the test of the text is the one above.
+/// Returns whether a text is read as a program whose canonical text is `CANONICAL`.
 fn has_canonical(alloc: Global, text: &str) -> bool {
     match program_of(alloc, text) {
         Some(program) => is_written(alloc, &program),

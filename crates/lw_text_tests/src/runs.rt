@@ -21,8 +21,8 @@ fn has_outcome(run: &SourceRun<'_>) -> bool {
     }
 }
 
-/// Returns whether `reg` and `word` give the same state of two threads and two locations: 1 in each location and in the first register of the
-/// first thread, 0 in its second register and in the first register of the second thread.
+/// Returns whether `reg` and `word` give the same state of two threads and two locations: 1 in each location and in the first register
+/// of the first thread, 0 in its second register and in the first register of the second thread.
 fn has_same_words(run: &SourceRun<'_>) -> bool
     requires threads { length run.now.state.threads ≡ 2 }
     requires words { length run.now.state.words ≡ 2 }
@@ -33,7 +33,7 @@ fn has_same_words(run: &SourceRun<'_>) -> bool
 }
 
 /// Returns whether these steps are all carried out, do not end the run, and reach the state of `has_outcome`.
-fn steps_reach_it(alloc: Global, source: &Source, steps: [Cpu; 3]) -> bool {
+fn steps_reach_outcome(alloc: Global, source: &Source, steps: [Cpu; 3]) -> bool {
     match SourceRun::new(alloc, source) {
         Ok(mut run) => {
             let replay = run.run(&steps.map(Event::Step));
@@ -52,7 +52,7 @@ fn steps_reach_it(alloc: Global, source: &Source, steps: [Cpu; 3]) -> bool {
 fn outcome_of_a_run(rt: HostRuntime) {
     let [p0, p1, ..] = Cpu::all();
     let is_reached = match source_of(rt.alloc(), STORE_BUFFERING) {
-        Some(source) => steps_reach_it(rt.alloc(), &source, [p0, p1, p0]),
+        Some(source) => steps_reach_outcome(rt.alloc(), &source, [p0, p1, p0]),
         None => false,
     };
     assert!(rt; is_reached);

@@ -1,4 +1,4 @@
-//! Reading frames and tests while memory is refused, each growth in turn.
+//! Frames and tests that are read while memory is refused, each growth in turn.
 use lw_base::{Arch, CellCause, CellFault};
 use lw_source::read_source;
 use lw_test_reader::{Made, MadeByAllocator, Refusing, refusals};
@@ -10,11 +10,11 @@ use std::alloc::Allocator;
 const STORE_BUFFERING: &str =
     "SRC SB {x=5; 0:r1=7} P0|P1; x := 1 | y := 1; goto E | L: r0 := x; E: r0 := y |; locations [z] exists (0:r0=0 /\\ 1:r0=0)";
 
-/// The same in x86 instructions.
+/// Store buffering in x86 instructions, with labels.
 const X86_STORE_BUFFERING: &str =
     "X86 SB {x=5; 0:EBX=7} P0|P1; MOV [x],1 | MOV [y],1; JMP E | L: MOV EAX,[x]; E: MOV EAX,[y] |; locations [z] exists (0:EAX=0)";
 
-/// Reads the frame of the first.
+/// Reads the frame of store buffering.
 struct ReadFrame;
 
 /// Returns whether a frame has two threads and two locations.
@@ -22,7 +22,7 @@ fn is_whole<A: Allocator>(frame: &Frame<A>) -> bool {
     frame.head.threads == 2 && frame.head.locs.len() == 2
 }
 
-/// Returns the result of a text that is rejected.
+/// Returns `Refused` if a text was rejected because memory ran out, and `None` if for another cause.
 fn refused_text(fault: TextFault) -> Option<Made> {
     if fault.cause == TextCause::Memory && fault.at == 0 {
         return Some(Made::Refused);
@@ -39,7 +39,7 @@ impl MadeByAllocator for ReadFrame {
     }
 }
 
-/// Returns the result of a test whose cells are rejected.
+/// Returns `Refused` if cells were rejected because memory ran out, and `None` if for another cause.
 fn refused(fault: CellFault) -> Option<Made> {
     if fault.cause == CellCause::Memory && fault.at == 0 {
         return Some(Made::Refused);
@@ -47,7 +47,8 @@ fn refused(fault: CellFault) -> Option<Made> {
     None
 }
 
-/// Reads the source test of a frame, and compares it with the test of an equal frame.
+/// Reads the source test of a frame while memory is refused, and compares it with the one of an equal frame, which is read with all
+/// memory.
 fn source_by<A: Allocator + Copy>(
     ample: A,
     scarce: A,
@@ -66,7 +67,7 @@ fn source_by<A: Allocator + Copy>(
     }
 }
 
-/// Reads the source test of the first.
+/// Reads the source test of store buffering.
 struct ReadSource;
 
 impl MadeByAllocator for ReadSource {
@@ -79,7 +80,7 @@ impl MadeByAllocator for ReadSource {
     }
 }
 
-/// Reads the x86 test of a frame, and compares it with the test of an equal frame.
+/// Reads the x86 test of a frame while memory is refused, and compares it with the one of an equal frame, which is read with all memory.
 fn program_by<A: Allocator + Copy>(
     ample: A,
     scarce: A,
@@ -100,7 +101,7 @@ fn program_by<A: Allocator + Copy>(
     }
 }
 
-/// Reads the x86 test of the second.
+/// Reads the x86 test of store buffering.
 struct ReadProgram;
 
 impl MadeByAllocator for ReadProgram {

@@ -1,4 +1,4 @@
-//! Outcomes: their order, and as keys; and lists and texts in the memory of a `Vec` and a `String`.
+//! The order of outcomes, outcomes as keys of a set, and lists and texts in the memory of a `Vec` and a `String`.
 use lw_base::{Outcome, Sequence, Text, Word};
 use std::alloc::{AllocError, Global};
 use std::collections::HashSet;
@@ -31,8 +31,8 @@ fn outcome_of(alloc: Global, spelled: &str) -> Result<Outcome, AllocError> {
     Ok(Outcome { regs, words })
 }
 
-/// Pairs of outcomes, the first of which is less: a shorter list of registers, the first thread before the second,
-/// registers before words, words in order.
+/// Pairs of outcomes of which the first is less. A list of registers or of words is less than a longer one that starts with it. Registers
+/// are compared before words, and the first thread's registers before the second's.
 const UPWARDS: &str = "
 /9 < 000000/9 9
 000000/9 9 < 000000 000000/
