@@ -108,7 +108,7 @@ pub use Rattle.lw_axiomatic.specs.Fenced.{IsAtomic, IsFenced, IsFencedInAllThrea
 pub use Rattle.lw_axiomatic.specs.Fenced.{IsFencedWhereOverwritten, IsFencedWhereShared}
 pub use Rattle.lw_axiomatic.specs.Fenced.{IsLocationOnlyWrittenBy, IsOfOneThread}
 pub use Rattle.lw_axiomatic.specs.Interleavings.{Interleaved, InterleavedRunsTo, InterleavingOutcome, IsEnd}
-pub use Rattle.lw_axiomatic.specs.Interleavings.{IsStep, after, read_value, start, words_after}
+pub use Rattle.lw_axiomatic.specs.Interleavings.{IsStep, interleaved_after, read_value, start, words_after}
 pub use Rattle.lw_axiomatic.specs.Locks.{Acquires, IsOrderedBefore, IsOverBefore, IsUsedAsLock, Releases}
 pub use Rattle.lw_axiomatic.specs.Races.{HasTriangularRace, IsNext, RunsToWithoutBarrier}
 pub use Rattle.lw_axiomatic.specs.Sequential.{IsScOutcome, IsSequentiallyConsistent, ScOrder}

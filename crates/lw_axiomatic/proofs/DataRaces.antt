@@ -28,10 +28,10 @@ module _ (test : X86Test) where
   IsNext-plain l t s load = record {
     thread = load.thread;
     instruction = load.instruction;
-    was = load.was;
-    at = load.at;
+    thread_at = load.thread_at;
+    instruction_at = load.instruction_at;
     has_kind = or_left (is_load (x86_operation load.instruction)) (is_store (x86_operation load.instruction)) load.has_kind;
-    on = load.on;
+    location_is = load.location_is;
   }
 
   -- The load and the write at the end of a triangular race are a data race.

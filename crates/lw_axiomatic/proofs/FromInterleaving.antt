@@ -224,20 +224,20 @@ module _ {S : Type 0} {language : Language S} {test : Test S} (well_scoped : IsW
 
     -- The kind of the first event is that of its operation.
     pub event_kind : (q : Operation → Bool) → operation_is language test q step_event ≡ q op
-    event_kind q = ap (λ o. option_map_or q (option_map language.operation_of o) false) step.at
+    event_kind q = ap (λ o. option_map_or q (option_map language.operation_of o) false) step.statement_at
 
     -- The location of the first event is that of its operation.
     pub event_location : location language test step_event ≡ location_of op
-    event_location = ap (λ o. option_and_then location_of (option_map language.operation_of o)) step.at
+    event_location = ap (λ o. option_and_then location_of (option_map language.operation_of o)) step.statement_at
 
     -- The thread of the first event is one of the test.
     thread_in_range : t < length test.threads
-    thread_in_range = omega (arith, slice_get_within s.threads t step.thread step.was, good.thread_count)
+    thread_in_range = omega (arith, slice_get_within s.threads t step.thread step.thread_at, good.thread_count)
 
     -- After the step its thread is the next state of it.
     pub get-next_thread : slice_get mid.threads t ≡ Some next
     get-next_thread =
-        ap (λ (z : Interleaved). slice_get z.threads t) step.state_is ∙ get-set_same s.threads t next step.thread step.was
+        ap (λ (z : Interleaved). slice_get z.threads t) step.state_is ∙ get-set_same s.threads t next step.thread step.thread_at
 
     -- The other threads are unchanged.
     pub others_unchanged : (u : ℕ) → t ≢ u → slice_get mid.threads u ≡ slice_get s.threads u
@@ -248,7 +248,7 @@ module _ {S : Type 0} {language : Language S} {test : Test S} (well_scoped : IsW
     next_position_later =
         IsFlowSuccessor-in_range language (thread_code test.threads t) step_position next.position
         (JumpsForward-thread language test well_scoped t)
-        (subst (λ (o : Option S). IsFlowSuccessor language o step_position next.position) (sym step.at)
+        (subst (λ (o : Option S). IsFlowSuccessor language o step_position next.position) (sym step.statement_at)
         (IsSuccessor-state_after op step.thread word_found))
 
     -- The location of the operation is in range.
@@ -258,9 +258,9 @@ module _ {S : Type 0} {language : Language S} {test : Test S} (well_scoped : IsW
         All-get_or (IsWellScopedThread language (length test.head.locs)) test.threads t [] thread_in_range well_scoped.code in
         let statement : IsWellFormedStatement language (length test.head.locs) step.statement =
         subst (IsWellFormedStatement language (length test.head.locs))
-        (get_or_from_slice_get (thread_code test.threads t) step_position step.statement step.statement step.at)
+        (get_or_from_slice_get (thread_code test.threads t) step_position step.statement step.statement step.statement_at)
         (thread.statements_formed step_position step.statement
-        (slice_get_within (thread_code test.threads t) step_position step.statement step.at)) in
+        (slice_get_within (thread_code test.threads t) step_position step.statement step.statement_at)) in
         omega (arith, statement.0 l location_is, good.size)
 
     -- The words after the step are those that the operation leaves.
@@ -313,7 +313,7 @@ module _ {S : Type 0} {language : Language S} {test : Test S} (well_scoped : IsW
             (let is_next : next ≡ th =
             same_Some next th (sym get-next_thread ∙ subst (λ k. slice_get mid.threads k ≡ Some th) (sym same_thread) at) in
             ap (λ (z : ThreadState). length z.regs) (sym is_next)
-            ∙ (state_after-register_count op step.thread word_found ∙ good.register_counts t step.thread step.was))
+            ∙ (state_after-register_count op step.thread word_found ∙ good.register_counts t step.thread step.thread_at))
         | inr threads_differ ↦ good.register_counts u th (sym (others_unchanged u threads_differ) ∙ at)
       ];
     }
@@ -560,7 +560,7 @@ module _ {S : Type 0} {language : Language S} {test : Test S} (well_scoped : IsW
             executes = record {
               position_is = refl;
               statement = step.statement;
-              statement_at = step.at;
+              statement_at = step.statement_at;
               written_is = (λ w. written_first ∙ ap (word_written op step.thread.regs) (sym read_first));
               rest =
                   subst (λ (z : ThreadState).
@@ -582,7 +582,8 @@ module _ {S : Type 0} {language : Language S} {test : Test S} (well_scoped : IsW
       ThreadExecutesTo-each_thread u th thread_at = elim (cases_eq t u) [
         | inl same_thread ↦
             (let is_own : step.thread ≡ th =
-            same_Some step.thread th (sym step.was ∙ subst (λ k. slice_get s.threads k ≡ Some th) (sym same_thread) thread_at) in
+            same_Some step.thread th
+            (sym step.thread_at ∙ subst (λ k. slice_get s.threads k ≡ Some th) (sym same_thread) thread_at) in
             let own = ThreadExecutesTo-own_thread in
             subst (λ k.
             ThreadExecutesTo language whole_execution k (thread_code test.threads k) (thread_code whole_execution.paths k) th o)

@@ -442,10 +442,11 @@ module _ {test : X86Test} (well_scoped : IsWellScopedProgram test) {x : Executio
         record {
           thread = th.0;
           instruction = executes.statement;
-          was = th.1;
-          at = ap (slice_get (thread_code test.threads e.thread)) executes.position_is ∙ executes.statement_at;
+          thread_at = th.1;
+          instruction_at = ap (slice_get (thread_code test.threads e.thread)) executes.position_is ∙ executes.statement_at;
           has_kind = sym (ap (λ o. option_map_or kind (option_map x86_operation o) false) executes.statement_at) ∙ is;
-          on = sym (ap (λ o. option_and_then location_of (option_map x86_operation o)) executes.statement_at) ∙ location_is;
+          location_is =
+              sym (ap (λ o. option_and_then location_of (option_map x86_operation o)) executes.statement_at) ∙ location_is;
         }
       where
         -- At the end of the run nothing is left of the fronts.
@@ -556,7 +557,8 @@ module _ {test : X86Test} (well_scoped : IsWellScopedProgram test) {x : Executio
     statement_at_store : slice_get (thread_code test.threads late_read.thread) Stored-of_read.position
         ≡ Some Split-of_walk.step.statement
     statement_at_store =
-        ap (slice_get (thread_code test.threads late_read.thread)) (sym Split-of_walk.position_is) ∙ Split-of_walk.step.at
+        ap (slice_get (thread_code test.threads late_read.thread)) (sym Split-of_walk.position_is)
+        ∙ Split-of_walk.step.statement_at
 
     -- The test has a triangular race.
     HasTriangularRace-of_late_read : HasTriangularRace test

@@ -75,7 +75,7 @@ module _ {test : X86Test} (well_scoped : IsWellScopedProgram test) {x : Executio
     step,
     λ own.
         sym (ap (λ o. option_map_or needs_empty_buffer (option_map x86_operation o) false)
-        (ap (slice_get (thread_code test.threads f.thread)) (sym at) ∙ step.at))
+        (ap (slice_get (thread_code test.threads f.thread)) (sym at) ∙ step.statement_at))
         ∙ each f (Contains-head f f events refl) own,
     RunsToWithoutBarrier-Runs q events next last ran (λ g there. each g (Contains-tail f g events there)),
   )

@@ -11,8 +11,8 @@ use Rattle.lw_axiomatic.proofs.Common.{StepEffect-of_step, State, SourceRunsTo, 
 use Rattle.lw_axiomatic.proofs.Common.{initial_thread, is_source_final, source_outcome, source_step}
 use Rattle.lw_axiomatic.proofs.Common.{thread_step, state_after_step, thread_after, Thread, Stmt}
 use Rattle.lw_axiomatic.proofs.Common.{source_language, source_operation, SourceTest, Interleaved, read_value}
-use Rattle.lw_axiomatic.proofs.Common.{words_after, after, IsStep, InterleavedRunsTo, IsEnd, start}
-use Rattle.lw_axiomatic.proofs.Common.{InterleavingOutcome, ThreadState, first_state, state_after}
+use Rattle.lw_axiomatic.proofs.Common.{words_after, interleaved_after, IsStep, InterleavedRunsTo, IsEnd}
+use Rattle.lw_axiomatic.proofs.Common.{start, InterleavingOutcome, ThreadState, first_state, state_after}
 use Rattle.lw_interleaving.proofs.api.Commutation as source_steps
 use Rattle.lw_interleaving.specs.Statements as statements
 use Rattle.lw_litmus.specs.declared.stmt.Stmt.TheVariants as stmt
@@ -45,10 +45,10 @@ words_after-without_flag : (i : Stmt) (th : ThreadState) (m : List ℕ)
 words_after-without_flag i th m = refl
 
 -- A step reaches the same state with zero flags and without.
-without_flags-after : (i : Stmt) (t : ℕ) (th : ThreadState) (s : Interleaved)
-    → without_flags (after t th (source_operation i) s)
+without_flags-interleaved_after : (i : Stmt) (t : ℕ) (th : ThreadState) (s : Interleaved)
+    → without_flags (interleaved_after t th (source_operation i) s)
     ≡ source_steps.state_after t (without_flag th) (source_operation i) (without_flags s)
-without_flags-after i t th s =
+without_flags-interleaved_after i t th s =
     ap₂ (λ threads words. record { threads = threads; words = words })
     (map-set without_flag s.threads t (state_after (source_operation i) th (read_value (source_operation i) s.words))
     ∙ ap (slice_set (map without_flag s.threads) t) (without_flag-state_after i th s.words))
@@ -60,11 +60,11 @@ module _ (program : List (List Stmt)) where
       → IsStep source_language program t s mid
       → source_step program t (without_flags s) ≡ Ok (without_flags mid)
   source_step-IsStep t s mid d =
-      let was : slice_get (map without_flag s.threads) t ≡ Some (without_flag d.thread) =
-      slice_get-map without_flag s.threads t ∙ ap (option_map without_flag) d.was in
-      ap (thread_step program t (without_flags s)) was
-      ∙ (ap (state_after_step t (without_flag d.thread) (without_flags s)) d.at
-      ∙ ap Ok (sym (ap without_flags d.state_is ∙ without_flags-after d.statement t d.thread s)))
+      let thread_at : slice_get (map without_flag s.threads) t ≡ Some (without_flag d.thread) =
+      slice_get-map without_flag s.threads t ∙ ap (option_map without_flag) d.thread_at in
+      ap (thread_step program t (without_flags s)) thread_at
+      ∙ (ap (state_after_step t (without_flag d.thread) (without_flags s)) d.statement_at
+      ∙ ap Ok (sym (ap without_flags d.state_is ∙ without_flags-interleaved_after d.statement t d.thread s)))
 
   -- A step of the source's small-step semantics is a step by interleaving.
   IsStep-source_step : (t : ℕ) (s : Interleaved) (mid : State)
@@ -73,15 +73,15 @@ module _ (program : List (List Stmt)) where
   IsStep-source_step t s mid e =
       let d : StepEffect program t (without_flags s) mid = StepEffect-of_step program t (without_flags s) mid e in
       let mapped = get-map without_flag s.threads t d.thread d.was in (
-        after t mapped.0 (source_operation d.stmt) s,
+        interleaved_after t mapped.0 (source_operation d.stmt) s,
         record {
           thread = mapped.0;
           statement = d.stmt;
-          was = mapped.1;
-          at = ap (λ (th : Thread). slice_get (thread_code program t) th.position) (sym mapped.2) ∙ d.at;
+          thread_at = mapped.1;
+          statement_at = ap (λ (th : Thread). slice_get (thread_code program t) th.position) (sym mapped.2) ∙ d.at;
           state_is = refl;
         },
-        without_flags-after d.stmt t mapped.0 s
+        without_flags-interleaved_after d.stmt t mapped.0 s
             ∙ (ap (λ th. source_steps.state_after t th (source_operation d.stmt) (without_flags s)) (sym mapped.2)
             ∙ sym d.state_is),
       )

@@ -14,7 +14,7 @@ use Rattle.lw_axiomatic.proofs.Common.{Contains-tail, Contains-cons, IsAscending
 use Rattle.lw_axiomatic.proofs.Common.{IsAscendingFrom-lower_bound, IsAscendingFrom-flow_path, Operation}
 use Rattle.lw_axiomatic.proofs.Common.{Language, writes, Test, ThreadExecutes, IsReadFrom, IsCandidate}
 use Rattle.lw_axiomatic.proofs.Common.{MemoryEvent, Execution, IsEvent, reads, operation_is, location, Reads}
-use Rattle.lw_axiomatic.proofs.Common.{Writes, Rf, Fr, Interleaved, read_value, after, IsStep}
+use Rattle.lw_axiomatic.proofs.Common.{Writes, Rf, Fr, Interleaved, read_value, interleaved_after, IsStep}
 use Rattle.lw_axiomatic.proofs.Common.{InterleavedRunsTo, start, ScOrder, JumpsForward-thread, ThreadState}
 use Rattle.lw_axiomatic.proofs.Common.{first_state, state_after, word_written}
 use Rattle.lw_axiomatic.proofs.EventLists.{event, IsFirst, first_of_paths_or_empty}
@@ -108,7 +108,7 @@ module _ {S : Type 0} {language : Language S} {test : Test S} (well_scoped : IsW
   record NextEvent (rest : List (List ℕ)) (s : Interleaved) : Type 0 where
     thread : ℕ
     state : ThreadState
-    was : slice_get s.threads thread ≡ Some state
+    thread_at : slice_get s.threads thread ≡ Some state
     more : List ℕ
     path_is : thread_code rest thread ≡ state.position ∷ more
     least : (f : MemoryEvent) → IsAhead rest f → rank (event thread state.position) ≤ rank f
@@ -148,7 +148,7 @@ module _ {S : Type 0} {language : Language S} {test : Test S} (well_scoped : IsW
 
     -- Where its thread ends.
     abbrev end : ThreadState
-    end = (at_state.threads next_thread th next.was).end
+    end = (at_state.threads next_thread th next.thread_at).end
 
     -- The next event's thread executes the next position and the rest.
     next_thread_executes : ThreadExecutes language x next_thread (thread_code test.threads next_thread)
@@ -156,7 +156,7 @@ module _ {S : Type 0} {language : Language S} {test : Test S} (well_scoped : IsW
     next_thread_executes =
         subst (λ (path : List ℕ).
         ThreadExecutes language x next_thread (thread_code test.threads next_thread) (path ++ thread_code tails next_thread) th
-        end) next.path_is (at_state.threads next_thread th next.was).executes
+        end) next.path_is (at_state.threads next_thread th next.thread_at).executes
 
     -- The next statement.
     abbrev next_statement : S
@@ -168,15 +168,15 @@ module _ {S : Type 0} {language : Language S} {test : Test S} (well_scoped : IsW
 
     -- The state after it.
     abbrev mid : Interleaved
-    mid = after next_thread th op s
+    mid = interleaved_after next_thread th op s
 
     -- What the step does.
     abbrev next_step : IsStep language test.threads next_thread s mid
     next_step = record {
       thread = th;
       statement = next_statement;
-      was = next.was;
-      at = next_thread_executes.statement_at;
+      thread_at = next.thread_at;
+      statement_at = next_thread_executes.statement_at;
       state_is = refl;
     }
 
@@ -187,7 +187,7 @@ module _ {S : Type 0} {language : Language S} {test : Test S} (well_scoped : IsW
     -- The thread is one of those with a path.
     thread_in_range : next_thread < length rest
     thread_in_range =
-        omega (arith, slice_get_within s.threads next_thread th next.was, at_state.good.thread_count, at_state.path_count)
+        omega (arith, slice_get_within s.threads next_thread th next.thread_at, at_state.good.thread_count, at_state.path_count)
 
     -- After the step the next event's thread has one position fewer ahead.
     own_path : thread_code rest_after next_thread ≡ more
@@ -359,7 +359,7 @@ module _ {S : Type 0} {language : Language S} {test : Test S} (well_scoped : IsW
           end) (state_after_next ∙ next_is) next_thread_executes.rest) in
           subst
           (λ k. ThreadExecutesTo language x k (thread_code test.threads k) (thread_code rest_after k ++ thread_code tails k) q o)
-          same (record { end = end; executes = own; regs_are = (at_state.threads next_thread th next.was).regs_are }))
+          same (record { end = end; executes = own; regs_are = (at_state.threads next_thread th next.thread_at).regs_are }))
       | inr ne ↦
           (let old = at_state.threads u q (sym (others_unchanged well_scoped next_step at_state.good u ne) ∙ thread_at) in
           record {
@@ -532,7 +532,7 @@ module _ {S : Type 0} {language : Language S} {test : Test S} (well_scoped : IsW
       record {
         thread = e.thread;
         state = found.0;
-        was = found.1;
+        thread_at = found.1;
         more = head.0;
         path_is = head.1;
         least = λ f a. omega (arith, ap (λ j. rank (event e.thread j)) head.2, first.least f a);

@@ -20,15 +20,15 @@ HasTriangularRace-store_buffering = record {
   first = race_start;
   reached = refl;
   stored = _;
-  store = record { thread = _; statement = _; was = refl; at = refl; state_is = refl };
+  store = record { thread = _; statement = _; thread_at = refl; statement_at = refl; state_is = refl };
   stores = refl;
   since = [];
   now = _;
   quiet = refl;
   l = 1;
   apart = λ e. (let bad : 0 ≡ 1 = same_Some 0 1 e in omega (arith, bad));
-  loads = record { thread = _; instruction = _; was = refl; at = refl; has_kind = refl; on = refl };
-  written = record { thread = _; instruction = _; was = refl; at = refl; has_kind = refl; on = refl };
+  loads = record { thread = _; instruction = _; thread_at = refl; instruction_at = refl; has_kind = refl; location_is = refl };
+  written = record { thread = _; instruction = _; thread_at = refl; instruction_at = refl; has_kind = refl; location_is = refl };
 }
 
 -- In message passing the first thread has no load.
@@ -57,8 +57,8 @@ no_store_in_second_thread (suc t) j i found_at store = none-some i found_at
 -- Message passing has no triangular race.
 pub message_passing_has_no_race : HasTriangularRace message_passing_in_x86 → ⊥
 message_passing_has_no_race race =
-    no_store_and_load_in_thread race.q race.store.thread.position race.store.statement race.store.at race.stores
-    race.loads.thread.position race.loads.instruction race.loads.at race.loads.has_kind
+    no_store_and_load_in_thread race.q race.store.thread.position race.store.statement race.store.statement_at race.stores
+    race.loads.thread.position race.loads.instruction race.loads.instruction_at race.loads.has_kind
   where
     -- In message passing no thread has both a store and a load: thread 0 has no load, and the other no store.
     no_store_and_load_in_thread : (q j : ℕ) (i : Instr)

@@ -24,21 +24,21 @@ read_value o words = word_or_zero (location_of o) words
 abbrev pub words_after : Operation → List ℕ → List ℕ → List ℕ
 words_after o regs words = apply_change_if_some (location_of o) (written_change o regs) words
 
--- The state after an operation of thread t.
-abbrev pub after : ℕ → ThreadState → Operation → Interleaved → Interleaved
-after t th o s = record {
+-- The state after thread t, whose own state is th, has done an operation in the state s.
+abbrev pub interleaved_after : ℕ → ThreadState → Operation → Interleaved → Interleaved
+interleaved_after t th o s = record {
   threads = slice_set s.threads t (state_after o th (read_value o s.words));
   words = words_after o th.regs s.words;
 }
 
 module _ {S : Type 0} (language : Language S) where
-  -- Thread t executes its next statement.
+  -- Thread t, whose state is `thread`, executes its next statement in the state s, and leaves the state `next`.
   pub record IsStep (program : List (List S)) (t : ℕ) (s next : Interleaved) : Type 0 where
     pub thread : ThreadState
     pub statement : S
-    pub was : slice_get s.threads t ≡ Some thread
-    pub at : slice_get (thread_code program t) thread.position ≡ Some statement
-    pub state_is : next ≡ after t thread (language.operation_of statement) s
+    pub thread_at : slice_get s.threads t ≡ Some thread
+    pub statement_at : slice_get (thread_code program t) thread.position ≡ Some statement
+    pub state_is : next ≡ interleaved_after t thread (language.operation_of statement) s
 
   -- The threads of the order execute a step each, in sequence.
   abbrev pub InterleavedRunsTo : List (List S) → List ℕ → Interleaved → Interleaved → Type 0

@@ -18,14 +18,14 @@ module _ (test : X86Test) where
       (mid : Interleaved) × (step : IsStep x86_language test.threads t s mid)
       × (t ≡ q → needs_empty_buffer (x86_operation step.statement) ≡ false) × RunsToWithoutBarrier q order mid end
 
-  -- The next instruction of thread t passes the test, and is on this location.
+  -- In the state s the next instruction of thread t has this kind and accesses the location l.
   pub record IsNext (kind : Operation → Bool) (l t : ℕ) (s : Interleaved) : Type 0 where
     pub thread : ThreadState
     pub instruction : Instr
-    pub was : slice_get s.threads t ≡ Some thread
-    pub at : slice_get (thread_code test.threads t) thread.position ≡ Some instruction
+    pub thread_at : slice_get s.threads t ≡ Some thread
+    pub instruction_at : slice_get (thread_code test.threads t) thread.position ≡ Some instruction
     pub has_kind : kind (x86_operation instruction) ≡ true
-    pub on : location_of (x86_operation instruction) ≡ Some l
+    pub location_is : location_of (x86_operation instruction) ≡ Some l
 
   -- In some run by interleaving, thread q has executed a store, and since then no fence and no locked instruction; and now its next
   -- instruction is a load of another location, which the next instruction of another thread p writes.
