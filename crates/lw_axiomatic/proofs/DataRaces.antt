@@ -40,12 +40,15 @@ module _ (test : X86Test) where
     q = race.q;
     p = race.p;
     threads_differ = race.threads_differ;
-    before = race.before ++ race.q ∷ race.since;
-    now = race.now;
-    reached =
-        InterleavedRunsTo-append race.before (race.q ∷ race.since) _ race.first race.now race.reached
-        (race.stored, race.store, InterleavedRunsTo-without_barrier race.q race.since race.stored race.now race.quiet);
+    order_before = race.order_before ++ race.q ∷ race.order_since;
+    state_now = race.state_now;
+    run_before =
+        InterleavedRunsTo-append race.order_before (race.q ∷ race.order_since) _ race.state_before race.state_now race.run_before (
+          race.state_after_store,
+          race.store,
+          InterleavedRunsTo-without_barrier race.q race.order_since race.state_after_store race.state_now race.run_since,
+        );
     l = race.l;
-    accesses = IsNext-plain race.l race.q race.now race.loads;
-    written = race.written;
+    access_is_next = IsNext-plain race.l race.q race.state_now race.load_is_next;
+    write_is_next = race.write_is_next;
   }

@@ -497,12 +497,12 @@ module _ {test : X86Test} (well_scoped : IsWellScopedProgram test) {x : Executio
 
     -- Since then the read's thread has done nothing that waits for an empty buffer.
     quiet_since : (h : MemoryEvent)
-        → Contains Split-of_walk.since h
+        → Contains Split-of_walk.events_since h
         → h.thread ≡ late_read.thread
         → operation_is x86_language test needs_empty_buffer h ≡ false
     quiet_since h c_h same_thread =
-        let is = IsIn-inv h (walk_of_fronts.all_ahead h (Split-of_walk.among h c_h)) in
-        let later : rank earlier_store ≤ rank h = Split-of_walk.later h c_h in
+        let is = IsIn-inv h (walk_of_fronts.all_ahead h (Split-of_walk.since_among_events h c_h)) in
+        let later : rank earlier_store ≤ rank h = Split-of_walk.since_rank_at_least h c_h in
         let before : h.position < late_read.position = elim (passes-inv h.thread h.position is.1) [
           | inr own_h ↦ own_h.1
           | inl early ↦ elim (cases_order h.position late_read.position) [
@@ -566,22 +566,23 @@ module _ {test : X86Test} (well_scoped : IsWellScopedProgram test) {x : Executio
       q = late_read.thread;
       p = late_write.thread;
       threads_differ = λ one. threads_differ (sym one);
-      before = Split-of_walk.before;
-      first = Split-of_walk.first;
-      reached = Split-of_walk.reached;
-      stored = Split-of_walk.mid;
+      order_before = Split-of_walk.order_before;
+      state_before = Split-of_walk.state_before;
+      run_before = Split-of_walk.run_before;
+      state_after_store = Split-of_walk.state_after_step;
       store = Split-of_walk.step;
       stores =
           sym (ap (λ o. option_map_or is_store (option_map x86_operation o) false) statement_at_store) ∙ Stored-of_read.store;
-      since = map (λ (e : MemoryEvent). e.thread) Split-of_walk.since;
-      now = walk_of_fronts.end;
-      quiet =
-          RunsToWithoutBarrier-Runs well_scoped candidate AreFronts-of_passes late_read.thread Split-of_walk.since
-          Split-of_walk.mid walk_of_fronts.end Split-of_walk.ran quiet_since;
+      order_since = map (λ (e : MemoryEvent). e.thread) Split-of_walk.events_since;
+      state_now = walk_of_fronts.end;
+      run_since =
+          RunsToWithoutBarrier-Runs well_scoped candidate AreFronts-of_passes late_read.thread Split-of_walk.events_since
+          Split-of_walk.state_after_step walk_of_fronts.end Split-of_walk.run_since quiet_since;
       l = raced_location;
-      apart = λ same. location_ne (ap (λ o. option_and_then location_of (option_map x86_operation o)) statement_at_store ∙ same);
-      loads = IsNext-load;
-      written = IsNext-write;
+      locations_differ =
+          λ same. location_ne (ap (λ o. option_and_then location_of (option_map x86_operation o)) statement_at_store ∙ same);
+      load_is_next = IsNext-load;
+      write_is_next = IsNext-write;
     }
 
   -- ---- one or the other

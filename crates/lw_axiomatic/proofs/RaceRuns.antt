@@ -16,18 +16,19 @@ module _ {test : X86Test} (well_scoped : IsWellScopedProgram test) {x : Executio
   abbrev Runs : List MemoryEvent → Interleaved → Interleaved → Type 0
   Runs = RanBy well_scoped candidate are
 
-  -- A run, split at one of its events: the steps before it, its own step, and the events since.
+  -- A run from s to `end` that does `events`, split at the event e: the steps before e, the step of e, and the events since. These have no
+  -- lower ranks than e.
   pub record Split (events : List MemoryEvent) (s end : Interleaved) (e : MemoryEvent) : Type 0 where
-    pub before : List ℕ
-    pub first : Interleaved
-    pub reached : InterleavedRunsTo x86_language test.threads before s first
-    pub mid : Interleaved
-    pub step : IsStep x86_language test.threads e.thread first mid
+    pub order_before : List ℕ
+    pub state_before : Interleaved
+    pub run_before : InterleavedRunsTo x86_language test.threads order_before s state_before
+    pub state_after_step : Interleaved
+    pub step : IsStep x86_language test.threads e.thread state_before state_after_step
     pub position_is : step.thread.position ≡ e.position
-    pub since : List MemoryEvent
-    pub ran : Runs since mid end
-    pub later : (f : MemoryEvent) → Contains since f → rank e ≤ rank f
-    pub among : (f : MemoryEvent) → Contains since f → Contains events f
+    pub events_since : List MemoryEvent
+    pub run_since : Runs events_since state_after_step end
+    pub since_rank_at_least : (f : MemoryEvent) → Contains events_since f → rank e ≤ rank f
+    pub since_among_events : (f : MemoryEvent) → Contains events_since f → Contains events f
 
   -- A run can be split at each of its events.
   pub Split-of_run : (events : List MemoryEvent) (s end : Interleaved) (e : MemoryEvent)
@@ -37,30 +38,30 @@ module _ {test : X86Test} (well_scoped : IsWellScopedProgram test) {x : Executio
   Split-of_run [] s end e ran is_member = absurd (not-Contains-nil e is_member)
   Split-of_run (f ∷ events) s last e (next, step, at, least, ran) is_member = elim (Contains-cons f e events is_member) [
     | inl is_head ↦ subst (Split (f ∷ events) s last) is_head (record {
-      before = [];
-      first = s;
-      reached = refl;
-      mid = next;
+      order_before = [];
+      state_before = s;
+      run_before = refl;
+      state_after_step = next;
       step = step;
       position_is = at;
-      since = events;
-      ran = ran;
-      later = least;
-      among = λ g there. Contains-tail f g events there;
+      events_since = events;
+      run_since = ran;
+      since_rank_at_least = least;
+      since_among_events = λ g there. Contains-tail f g events there;
     })
     | inr in_tail ↦
         (let more : Split events next last e = Split-of_run events next last e ran in_tail in
         record {
-          before = f.thread ∷ more.before;
-          first = more.first;
-          reached = (next, step, more.reached);
-          mid = more.mid;
+          order_before = f.thread ∷ more.order_before;
+          state_before = more.state_before;
+          run_before = (next, step, more.run_before);
+          state_after_step = more.state_after_step;
           step = more.step;
           position_is = more.position_is;
-          since = more.since;
-          ran = more.ran;
-          later = more.later;
-          among = λ g there. Contains-tail f g events (more.among g there);
+          events_since = more.events_since;
+          run_since = more.run_since;
+          since_rank_at_least = more.since_rank_at_least;
+          since_among_events = λ g there. Contains-tail f g events (more.since_among_events g there);
         })
   ]
 

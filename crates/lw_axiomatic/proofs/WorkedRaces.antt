@@ -16,19 +16,21 @@ HasTriangularRace-store_buffering = record {
   q = 0;
   p = 1;
   threads_differ = λ e. omega (arith, e);
-  before = [];
-  first = race_start;
-  reached = refl;
-  stored = _;
+  order_before = [];
+  state_before = race_start;
+  run_before = refl;
+  state_after_store = _;
   store = record { thread = _; statement = _; thread_at = refl; statement_at = refl; state_is = refl };
   stores = refl;
-  since = [];
-  now = _;
-  quiet = refl;
+  order_since = [];
+  state_now = _;
+  run_since = refl;
   l = 1;
-  apart = λ e. (let bad : 0 ≡ 1 = same_Some 0 1 e in omega (arith, bad));
-  loads = record { thread = _; instruction = _; thread_at = refl; instruction_at = refl; has_kind = refl; location_is = refl };
-  written = record { thread = _; instruction = _; thread_at = refl; instruction_at = refl; has_kind = refl; location_is = refl };
+  locations_differ = λ e. (let bad : 0 ≡ 1 = same_Some 0 1 e in omega (arith, bad));
+  load_is_next =
+      record { thread = _; instruction = _; thread_at = refl; instruction_at = refl; has_kind = refl; location_is = refl };
+  write_is_next =
+      record { thread = _; instruction = _; thread_at = refl; instruction_at = refl; has_kind = refl; location_is = refl };
 }
 
 -- In message passing the first thread has no load.
@@ -58,7 +60,7 @@ no_store_in_second_thread (suc t) j i found_at store = none-some i found_at
 pub message_passing_has_no_race : HasTriangularRace message_passing_in_x86 → ⊥
 message_passing_has_no_race race =
     no_store_and_load_in_thread race.q race.store.thread.position race.store.statement race.store.statement_at race.stores
-    race.loads.thread.position race.loads.instruction race.loads.instruction_at race.loads.has_kind
+    race.load_is_next.thread.position race.load_is_next.instruction race.load_is_next.instruction_at race.load_is_next.has_kind
   where
     -- In message passing no thread has both a store and a load: thread 0 has no load, and the other no store.
     no_store_and_load_in_thread : (q j : ℕ) (i : Instr)

@@ -19,9 +19,9 @@ pub record HasDataRace (test : X86Test) : Type 0 where
   pub q : ℕ
   pub p : ℕ
   pub threads_differ : p ≢ q
-  pub before : List ℕ
-  pub now : Interleaved
-  pub reached : InterleavedRunsTo x86_language test.threads before (start x86_language test) now
+  pub order_before : List ℕ
+  pub state_now : Interleaved
+  pub run_before : InterleavedRunsTo x86_language test.threads order_before (start x86_language test) state_now
   pub l : ℕ
-  pub accesses : IsNext test is_plain l q now
-  pub written : IsNext test writes l p now
+  pub access_is_next : IsNext test is_plain l q state_now
+  pub write_is_next : IsNext test writes l p state_now

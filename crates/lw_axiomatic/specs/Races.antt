@@ -11,7 +11,7 @@ use Rattle.lw_axiomatic.specs.Interleavings.{Interleaved, IsStep, InterleavedRun
 use Rattle.lw_axiomatic.specs.ThreadStates.{ThreadState}
 
 module _ (test : X86Test) where
-  -- A run in which thread q executes no fence and no locked instruction.
+  -- The threads of the order execute a step each, in sequence, and thread q executes no fence and no locked instruction.
   abbrev pub RunsToWithoutBarrier : ℕ → List ℕ → Interleaved → Interleaved → Type 0
   RunsToWithoutBarrier q [] s end = end ≡ s
   RunsToWithoutBarrier q (t ∷ order) s end =
@@ -33,16 +33,16 @@ module _ (test : X86Test) where
     pub q : ℕ
     pub p : ℕ
     pub threads_differ : p ≢ q
-    pub before : List ℕ
-    pub first : Interleaved
-    pub reached : InterleavedRunsTo x86_language test.threads before (start x86_language test) first
-    pub stored : Interleaved
-    pub store : IsStep x86_language test.threads q first stored
+    pub order_before : List ℕ
+    pub state_before : Interleaved
+    pub run_before : InterleavedRunsTo x86_language test.threads order_before (start x86_language test) state_before
+    pub state_after_store : Interleaved
+    pub store : IsStep x86_language test.threads q state_before state_after_store
     pub stores : is_store (x86_operation store.statement) ≡ true
-    pub since : List ℕ
-    pub now : Interleaved
-    pub quiet : RunsToWithoutBarrier q since stored now
+    pub order_since : List ℕ
+    pub state_now : Interleaved
+    pub run_since : RunsToWithoutBarrier q order_since state_after_store state_now
     pub l : ℕ
-    pub apart : location_of (x86_operation store.statement) ≢ Some l
-    pub loads : IsNext is_load l q now
-    pub written : IsNext writes l p now
+    pub locations_differ : location_of (x86_operation store.statement) ≢ Some l
+    pub load_is_next : IsNext is_load l q state_now
+    pub write_is_next : IsNext writes l p state_now
