@@ -1,6 +1,6 @@
 -- Ranks of the events of an execution that satisfies the axioms, along which all relations of sequential
 -- consistency increase, except from-reads of a load to another thread's write. A rank begins with the
--- greatest number, in global happens-before, of the accesses up to the event in its thread: that number
+-- greatest rank, in global happens-before, of the accesses up to the event in its thread: that rank
 -- anchors the event. The laws of fenced executions (Sequenced), of one fence (SpareFences) and of triangular
 -- races (RaceFree) begin here.
 use Rattle.lw_axiomatic.proofs.Common.{Co, ◌≡◌, ℕ, suc, ◌+◌, ◌<◌, ◌≤◌, ◌⊎◌, ◌||◌, inl, inr, Bool, true, false}
@@ -36,22 +36,22 @@ module _ {test : X86Test} {x : Execution} (axioms : SatisfiesAxioms test x) wher
   abbrev pub ghb_rank : MemoryEvent → ℕ
   ghb_rank = axioms.happens_before.rank
 
-  -- Of two events in preserved program order the second has the greater number in global happens-before.
+  -- Of two events in preserved program order the second has the greater rank in global happens-before.
   ghb_rank_increases-Ppo : (a b : MemoryEvent) → Ppo x86_language test x a b → ghb_rank a < ghb_rank b
   ghb_rank_increases-Ppo a b p = axioms.happens_before.increases a b (inl p)
 
-  -- What follows an event that reads, in its thread, has a greater number in global happens-before.
+  -- What follows an event that reads, in its thread, has a greater rank in global happens-before.
   pub ghb_rank_increases-Po_from_read : (a b : MemoryEvent) → Po x a b → has_kind reads a ≡ true → ghb_rank a < ghb_rank b
   ghb_rank_increases-Po_from_read a b po r =
       ghb_rank_increases-Ppo a b (record { po = po; is_preserved = or_left (has_kind reads a) _ r })
 
-  -- An event that writes has a greater number in global happens-before than what precedes it in its thread.
+  -- An event that writes has a greater rank in global happens-before than what precedes it in its thread.
   ghb_rank_increases-Po_to_write : (a b : MemoryEvent) → Po x a b → has_kind writes b ≡ true → ghb_rank a < ghb_rank b
   ghb_rank_increases-Po_to_write a b po w =
       ghb_rank_increases-Ppo a b
       (record { po = po; is_preserved = or_right (has_kind reads a) _ (or_left (has_kind writes b) _ w) })
 
-  -- If two events are in program order and one is a fence, the second has the greater number in global happens-before.
+  -- If two events are in program order and one is a fence, the second has the greater rank in global happens-before.
   ghb_rank_increases-Po_of_fence : (a b : MemoryEvent)
       → Po x a b
       → (has_kind operations.is_fence a || has_kind operations.is_fence b) ≡ true
@@ -60,7 +60,7 @@ module _ {test : X86Test} {x : Execution} (axioms : SatisfiesAxioms test x) wher
       ghb_rank_increases-Ppo a b
       (record { po = po; is_preserved = or_right (has_kind reads a) _ (or_right (has_kind writes b) _ f) })
 
-  -- An event that waits for an empty store buffer has a greater number in global happens-before than all before it in its thread.
+  -- An event that waits for an empty store buffer has a greater rank in global happens-before than all before it in its thread.
   pub ghb_rank_increases-Po_to_waiting : (a f : MemoryEvent)
       → Po x a f
       → has_kind needs_empty_buffer f ≡ true
@@ -70,7 +70,7 @@ module _ {test : X86Test} {x : Execution} (axioms : SatisfiesAxioms test x) wher
     | inr locked ↦ ghb_rank_increases-Po_to_write a f po locked.1
   ]
 
-  -- An event that waits for an empty store buffer has a lower number in global happens-before than all after it in its thread.
+  -- An event that waits for an empty store buffer has a lower rank in global happens-before than all after it in its thread.
   pub ghb_rank_increases-Po_from_waiting : (f b : MemoryEvent)
       → Po x f b
       → has_kind needs_empty_buffer f ≡ true
@@ -86,11 +86,11 @@ module _ {test : X86Test} {x : Execution} (axioms : SatisfiesAxioms test x) wher
   abbrev pub accesses : MemoryEvent → Bool
   accesses e = has_kind reads e || has_kind writes e
 
-  -- One more than the number of the event of thread t at position j if that is an access, and otherwise 0.
+  -- One more than the rank in global happens-before of the event of thread t at position j if that is an access, and otherwise 0.
   abbrev pub top : ℕ → ℕ → ℕ
   top t j = if accesses (event t j) then suc (ghb_rank (event t j)) else 0
 
-  -- The top of an access is one more than its number.
+  -- The top of an access is one more than its rank in global happens-before.
   pub top_access : (e : MemoryEvent) → accesses e ≡ true → top e.thread e.position ≡ suc (ghb_rank e)
   top_access e a = cond-true (accesses e) (suc (ghb_rank e)) 0 a
 
@@ -127,7 +127,7 @@ module _ {test : X86Test} {x : Execution} (axioms : SatisfiesAxioms test x) wher
     anchor_above (top e.thread) (thread_code x.paths e.thread) e.position e.position is_event (omega arith),
   )
 
-  -- If all accesses before an access in its thread have lower numbers, its anchored number is at most its own top.
+  -- If all accesses before an access in its thread have lower ranks in global happens-before, its anchored number is at most its own top.
   pub anchored_at_most_top : (e : MemoryEvent)
       → IsEvent x e
       → accesses e ≡ true
@@ -154,7 +154,7 @@ module _ {test : X86Test} {x : Execution} (axioms : SatisfiesAxioms test x) wher
         | inr h ↦ omega (arith, top_other (event e.thread k) h)
       ])
 
-  -- The anchored number of a write is at most its own top, since all before it in its thread have lower numbers.
+  -- The anchored number of a write is at most its own top, since all before it in its thread have lower ranks.
   pub anchored_at_most_top-of_write : (w : MemoryEvent) → IsEvent x w → has_kind writes w ≡ true → anchored w ≤ suc (ghb_rank w)
   anchored_at_most_top-of_write w is_event writing =
       anchored_at_most_top w is_event (or_right (has_kind reads w) _ writing)
@@ -168,7 +168,7 @@ module _ {test : X86Test} {x : Execution} (axioms : SatisfiesAxioms test x) wher
   pub is_access-of_write : (e : MemoryEvent) → has_kind writes e ≡ true → accesses e ≡ true
   is_access-of_write e w = or_right (has_kind reads e) _ w
 
-  -- Of a write and an access with a greater number in global happens-before, the access has the greater rank.
+  -- An access with a greater rank in global happens-before than a write has also a greater `rank`.
   rank_increases-write_then_access : (w e : MemoryEvent) (l : ℕ)
       → Writes x86_language test x w l
       → IsEvent x e

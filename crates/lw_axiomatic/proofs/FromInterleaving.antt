@@ -655,7 +655,7 @@ module _ {S : Type 0} {language : Language S} {test : Test S} (well_scoped : IsW
                 (read_other r differ ∙ (is ∙ word_unchanged-elsewhere l not))
           ]
 
-      -- Different writes have different indices in coherence order.
+      -- Different writes have different ranks in coherence order.
       co-injective : (w v : MemoryEvent) (l : ℕ)
           → Writes language test whole_execution w l
           → Writes language test whole_execution v l

@@ -442,7 +442,7 @@ module _ (test : X86Test) (x : Execution) where
       )
     ]
 
-    -- The numbers of the last halves in global happens-before increase along from-reads.
+    -- The ranks of the last halves in global happens-before increase along from-reads.
     ghb_rank_last_increases-Fr : (r w : MemoryEvent)
         → Fr x86_language test x r w
         → ghb_rank (last_half r) < ghb_rank (last_half w)
@@ -456,7 +456,7 @@ module _ (test : X86Test) (x : Execution) where
       )
     ]
 
-    -- The numbers of the last halves in global happens-before increase along preserved program order.
+    -- The ranks of the last halves in global happens-before increase along preserved program order.
     ghb_rank_last_increases-Ppo : (a b : MemoryEvent)
         → Ppo x86_language test x a b
         → ghb_rank (last_half a) < ghb_rank (last_half b)

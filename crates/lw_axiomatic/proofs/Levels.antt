@@ -1,5 +1,5 @@
 -- Numbers in levels of equal size: they order pairs of numbers by the first and then by the second, without a
--- bound on either. Ranks of events are made so: by a number in global happens-before, and among equal ones by
+-- bound on either. Ranks of events are made so: by a rank in global happens-before, and among equal ones by
 -- position or thread.
 use Rattle.lw_axiomatic.proofs.Common.{◌≡◌, ℕ, zero, suc, ◌+◌, ◌<◌, ◌≤◌, inl, inr, List, [], ◌∷◌, length}
 use Rattle.lw_axiomatic.proofs.Common.{refl, ap, arith, cases_order, Instr, thread_code}

@@ -109,7 +109,7 @@ module _ {test : X86Test} (well_scoped : IsWellScopedProgram test) {x : Executio
     abbrev width : ℕ
     width = anchored_by.width axioms
 
-    -- The write's rank is that of its own number.
+    -- The write's rank is at least the level of one more than its rank in global happens-before.
     write_rank_at_least : level width (suc (ghb_rank late_write)) ≤ rank late_write
     write_rank_at_least =
         let up =
@@ -117,7 +117,7 @@ module _ {test : X86Test} (well_scoped : IsWellScopedProgram test) {x : Executio
         (anchored_by.is_access-of_write axioms late_write first_fr.write.is_write) in
         omega (arith, level-le width (suc (ghb_rank late_write)) (anchored_by.anchored axioms late_write) up)
 
-    -- What the read is anchored by is no lower than the write.
+    -- The anchored number of the read is above the write's rank in global happens-before.
     read_anchored_at_least_write : suc (ghb_rank late_write) ≤ anchored_by.anchored axioms late_read
     read_anchored_at_least_write =
         level-below width (suc (ghb_rank late_write)) (anchored_by.anchored axioms late_read) late_read.position
@@ -137,7 +137,7 @@ module _ {test : X86Test} (well_scoped : IsWellScopedProgram test) {x : Executio
 
     -- ---- the store
 
-    -- A store precedes the read b in program order, and its number in global happens-before is at least that of c.
+    -- A store precedes the late read in program order, and its rank in global happens-before is at least that of the late write.
     record Stored : Type 0 where
       position : ℕ
       po : Po x (event late_read.thread position) late_read
@@ -287,8 +287,8 @@ module _ {test : X86Test} (well_scoped : IsWellScopedProgram test) {x : Executio
     passes t j = nat_lt (rank (event t j)) (rank late_write) || ((t == late_read.thread) && nat_lt j late_read.position)
 
     -- An event with a lower rank than the write passes.
-    passes-of_number : (t j : ℕ) → rank (event t j) < rank late_write → passes t j ≡ true
-    passes-of_number t j less =
+    passes-of_lower_rank : (t j : ℕ) → rank (event t j) < rank late_write → passes t j ≡ true
+    passes-of_lower_rank t j less =
         or_left (nat_lt (rank (event t j)) (rank late_write)) _ (lt-ltb (rank (event t j)) (rank late_write) less)
 
     -- What precedes the read in its thread passes.
@@ -316,7 +316,7 @@ module _ {test : X86Test} (well_scoped : IsWellScopedProgram test) {x : Executio
         → passes t j ≡ true
         → passes t h ≡ true
     passes-downward_closed t h j ch cj less p = elim (passes-inv t j p) [
-      | inl early ↦ passes-of_number t h (omega (
+      | inl early ↦ passes-of_lower_rank t h (omega (
         arith,
         rank_increases-Po (event t h) (event t j)
             (record { first_event = ch; second_event = cj; same_thread = refl; position_lt = less }),
@@ -369,7 +369,8 @@ module _ {test : X86Test} (well_scoped : IsWellScopedProgram test) {x : Executio
     IsIn-Rf_closed w r ir rf =
         let is = IsIn-inv r ir in
         IsIn-passes w rf.write.is_event (elim (passes-inv r.thread r.position is.1) [
-          | inl early ↦ passes-of_number w.thread w.position (omega (arith, anchored_by.rank_increases-Rf axioms w r rf, early))
+          | inl early ↦
+              passes-of_lower_rank w.thread w.position (omega (arith, anchored_by.rank_increases-Rf axioms w r rf, early))
           | inr (one, before) ↦ elim (cases_eq w.thread r.thread) [
             | inl same_thread ↦
                 (let po : Po x w r = anchored_by.Po-Rf_in_thread axioms w r rf same_thread in
@@ -387,7 +388,7 @@ module _ {test : X86Test} (well_scoped : IsWellScopedProgram test) {x : Executio
                   ghb_rank_increases-Fr,
                   anchored_by.anchored_at_most_top-of_write axioms w rf.write.is_event rf.write.is_write,
                 ) in
-                passes-of_number w.thread w.position (omega (
+                passes-of_lower_rank w.thread w.position (omega (
                   arith,
                   level-lt width (anchored_by.anchored axioms w) (suc (ghb_rank late_write)) lower,
                   write_rank_at_least,
@@ -477,7 +478,7 @@ module _ {test : X86Test} (well_scoped : IsWellScopedProgram test) {x : Executio
     IsNext-write =
         IsNext-first_not_passing writes late_write first_fr.write.is_event first_fr.write.is_write first_fr.write.location_is
         (passes-false late_write (λ early. omega (arith, early)) (λ own. threads_differ (sym own.0)))
-        (λ h on less. passes-of_number late_write.thread h (rank_increases-Po (event late_write.thread h) late_write
+        (λ h on less. passes-of_lower_rank late_write.thread h (rank_increases-Po (event late_write.thread h) late_write
         (record { first_event = on; second_event = first_fr.write.is_event; same_thread = refl; position_lt = less })))
 
     -- ---- the run from the store on

@@ -1,6 +1,6 @@
 -- Spare MFENCEs can be inserted and no outcome is lost: an execution of the shorter test, without them, that
--- satisfies the axioms satisfies them in the longer test too. An event's rank there is by the greatest
--- number, in global happens-before of the shorter test, of the events that it comes after: by preserved
+-- satisfies the axioms satisfies them in the longer test too. An event's rank there is made from the greatest
+-- rank, in global happens-before of the shorter test, of the events that it comes after: by preserved
 -- program order, and because they are before an inserted MFENCE. The law of spare fences cites it; the other
 -- direction is proved on the machine.
 use Rattle.lw_axiomatic.proofs.Common.{IsWellScopedProgram, max, X86Test, IsFencedTest, Execution, FinalState}
@@ -167,39 +167,39 @@ module _ {test fenced : X86Test} (fencing : IsFencedTest test fenced) (well_scop
   abbrev has_kind : (Operation → Bool) → MemoryEvent → Bool
   has_kind = operation_is x86_language fenced
 
-  -- Returns the number in global happens-before of the event of the shorter test.
-  abbrev number : MemoryEvent → ℕ
-  number e = ghb_rank axioms (event_without fencing e)
+  -- Returns an event's rank in the shorter test: the rank, in its global happens-before, of the event without the inserted MFENCEs.
+  abbrev ghb_rank_without : MemoryEvent → ℕ
+  ghb_rank_without e = ghb_rank axioms (event_without fencing e)
 
-  -- The event is at an inserted MFENCE.
+  -- Tests whether an event is at an inserted MFENCE.
   abbrev is_inserted : MemoryEvent → Bool
   is_inserted e = (code_at fencing e.thread).block (e.position + 1) == (code_at fencing e.thread).block e.position
 
-  -- The event is at another fence, or accesses a location.
+  -- Tests whether an event is at a fence or accesses a location, and is not at an inserted MFENCE.
   abbrev counts : MemoryEvent → Bool
   counts e = not (is_inserted e) && (has_kind reads e || (has_kind writes e || has_kind operations.is_fence e))
 
-  -- Everything later in the thread comes after the event, by preserved program order.
-  abbrev leads : MemoryEvent → Bool
-  leads e = has_kind reads e || has_kind operations.is_fence e
+  -- Tests whether all later events of its thread come after an event by preserved program order: it reads, or it is a fence.
+  abbrev blocks : MemoryEvent → Bool
+  blocks e = has_kind reads e || has_kind operations.is_fence e
 
-  -- Returns one more than the event's number if the event counts, and 0 otherwise.
+  -- Returns one more than the event's rank in the shorter test if the event counts, and 0 otherwise.
   abbrev own : MemoryEvent → ℕ
-  own e = if counts e then suc (number e) else 0
+  own e = if counts e then suc (ghb_rank_without e) else 0
 
-  -- Returns the least number that later events of thread t may have because of the event at position j: above those of all events
-  -- before an inserted MFENCE, or above its own if it leads.
+  -- Returns what the event of thread t at position j requires of the bases of the later ones: an inserted MFENCE requires the greatest `own`
+  -- of the events up to it; another event that blocks, one more than its rank in the shorter test; and any other event 0.
   abbrev top : ℕ → ℕ → ℕ
   top t j =
       if is_inserted (event t j)
       then anchor (λ k. own (event t k)) (thread_code longer_execution.paths t) j
-      else (if leads (event t j) then suc (number (event t j)) else 0)
+      else (if blocks (event t j) then suc (ghb_rank_without (event t j)) else 0)
 
-  -- Returns the least number that an event may have because of the events up to it in its thread.
+  -- Returns the greatest `top` of the events of an event's thread up to the event.
   abbrev base : MemoryEvent → ℕ
   base e = anchor (top e.thread) (thread_code longer_execution.paths e.thread) e.position
 
-  -- Returns the greater of an event's base and its own number.
+  -- Returns the greater of an event's base and its `own`.
   abbrev height : MemoryEvent → ℕ
   height e = max (base e) (own e)
 
@@ -207,17 +207,17 @@ module _ {test fenced : X86Test} (fencing : IsFencedTest test fenced) (well_scop
   abbrev width : ℕ
   width = size fenced.threads
 
-  -- Returns the event's rank: by its height, and then by its position.
+  -- Returns the event's rank in the longer test: by its height, and then by its position.
   abbrev rank : MemoryEvent → ℕ
   rank e = level width (height e) + e.position
 
-  -- An event that counts has one more than its number.
-  own-counting : (e : MemoryEvent) → counts e ≡ true → own e ≡ suc (number e)
-  own-counting e h = cond-true (counts e) (suc (number e)) 0 h
+  -- The `own` of an event that counts is one more than its rank in the shorter test.
+  own-counting : (e : MemoryEvent) → counts e ≡ true → own e ≡ suc (ghb_rank_without e)
+  own-counting e h = cond-true (counts e) (suc (ghb_rank_without e)) 0 h
 
-  -- Any other event has 0.
+  -- The `own` of any other event is 0.
   own-other : (e : MemoryEvent) → counts e ≡ false → own e ≡ 0
-  own-other e h = cond-false (counts e) (suc (number e)) 0 h
+  own-other e h = cond-false (counts e) (suc (ghb_rank_without e)) 0 h
 
   -- An event that counts is not at an inserted MFENCE.
   is_inserted-false_if_counts : (e : MemoryEvent) → counts e ≡ true → is_inserted e ≡ false
@@ -233,23 +233,28 @@ module _ {test fenced : X86Test} (fencing : IsFencedTest test fenced) (well_scop
       → counts e ≡ true
   counts-from_kind e not_at_fence kind = and_from (not (is_inserted e)) _ (ap not not_at_fence) kind
 
-  -- An inserted fence passes on the numbers of all events before it.
+  -- The `top` of an inserted MFENCE is the greatest `own` of the events up to it.
   top-inserted : (t j : ℕ)
       → is_inserted (event t j) ≡ true
       → top t j ≡ anchor (λ k. own (event t k)) (thread_code longer_execution.paths t) j
   top-inserted t j h = cond-true (is_inserted (event t j)) _ _ h
 
-  -- Any other event passes on its own number if it leads, and 0 otherwise.
-  top-kept : (t j : ℕ) → is_inserted (event t j) ≡ false → top t j ≡ (if leads (event t j) then suc (number (event t j)) else 0)
+  -- The `top` of any other event is one more than its rank in the shorter test if it blocks, and 0 otherwise.
+  top-kept : (t j : ℕ)
+      → is_inserted (event t j) ≡ false
+      → top t j ≡ (if blocks (event t j) then suc (ghb_rank_without (event t j)) else 0)
   top-kept t j h = cond-false (is_inserted (event t j)) _ _ h
 
-  -- An event that leads passes on its number.
-  top-leading : (t j : ℕ) → is_inserted (event t j) ≡ false → leads (event t j) ≡ true → top t j ≡ suc (number (event t j))
-  top-leading t j h leading = top-kept t j h ∙ cond-true (leads (event t j)) _ 0 leading
+  -- The `top` of an event that blocks is one more than its rank in the shorter test, if the event is not at an inserted MFENCE.
+  top-blocking : (t j : ℕ)
+      → is_inserted (event t j) ≡ false
+      → blocks (event t j) ≡ true
+      → top t j ≡ suc (ghb_rank_without (event t j))
+  top-blocking t j h blocking = top-kept t j h ∙ cond-true (blocks (event t j)) _ 0 blocking
 
-  -- Any other event passes on nothing.
-  top-other : (t j : ℕ) → is_inserted (event t j) ≡ false → leads (event t j) ≡ false → top t j ≡ 0
-  top-other t j h not_leading = top-kept t j h ∙ cond-false (leads (event t j)) _ 0 not_leading
+  -- The `top` of an event that does not block is 0, if the event is not at an inserted MFENCE.
+  top-other : (t j : ℕ) → is_inserted (event t j) ≡ false → blocks (event t j) ≡ false → top t j ≡ 0
+  top-other t j h not_blocking = top-kept t j h ∙ cond-false (blocks (event t j)) _ 0 not_blocking
 
   -- An event that is not at an inserted MFENCE is at an instruction of both codes.
   IsKeptAt-if_not_inserted : (e : MemoryEvent)
@@ -270,17 +275,17 @@ module _ {test fenced : X86Test} (fencing : IsFencedTest test fenced) (well_scop
     | inl at_fence ↦ absurd (not-IsKeptAt-if_inserted (code_at fencing e.thread) e.position (eqb-true _ _ at_fence) kept)
   ]
 
-  -- ---- Numbers increase along preserved program order.
+  -- ---- Ranks in the shorter test increase along preserved program order.
 
   -- Take two events in program order, neither at an inserted MFENCE. If the first reads, the second writes, or one is a fence, the
-  -- second has the greater number.
-  number-increasing : (a b : MemoryEvent)
+  -- second has the greater rank in the shorter test.
+  ghb_rank_without-increasing : (a b : MemoryEvent)
       → Po longer_execution a b
       → is_inserted a ≡ false
       → is_inserted b ≡ false
       → (has_kind reads a || (has_kind writes b || (has_kind operations.is_fence a || has_kind operations.is_fence b))) ≡ true
-      → number a < number b
-  number-increasing a b po not_a not_b kind =
+      → ghb_rank_without a < ghb_rank_without b
+  ghb_rank_without-increasing a b po not_a not_b kind =
       let kept = IsKeptAt-if_not_inserted a po.first_event not_a in
       let last = IsKeptAt-if_not_inserted b po.second_event not_b in
       let reading = kind-event_without fencing reads (λ c to other. refl) a kept in
@@ -294,39 +299,39 @@ module _ {test fenced : X86Test} (fencing : IsFencedTest test fenced) (well_scop
             ∙ kind;
       }))
 
-  -- An event before a write has a lower number than the write.
-  number-before_write : (a w : MemoryEvent)
+  -- An event before a write has a lower rank in the shorter test than the write.
+  ghb_rank_without-before_write : (a w : MemoryEvent)
       → Po longer_execution a w
       → is_inserted a ≡ false
       → is_inserted w ≡ false
       → has_kind writes w ≡ true
-      → number a < number w
-  number-before_write a w po not_a not_w writing =
-      number-increasing a w po not_a not_w (or_right (has_kind reads a) _ (or_left (has_kind writes w) _ writing))
+      → ghb_rank_without a < ghb_rank_without w
+  ghb_rank_without-before_write a w po not_a not_w writing =
+      ghb_rank_without-increasing a w po not_a not_w (or_right (has_kind reads a) _ (or_left (has_kind writes w) _ writing))
 
-  -- An event after one that leads has a greater number.
-  number-after_leading : (a b : MemoryEvent)
+  -- An event after one that blocks has a greater rank in the shorter test.
+  ghb_rank_without-after_blocking : (a b : MemoryEvent)
       → Po longer_execution a b
       → is_inserted a ≡ false
       → is_inserted b ≡ false
-      → leads a ≡ true
-      → number a < number b
-  number-after_leading a b po not_a not_b leading =
-      number-increasing a b po not_a not_b (elim (or_cases (has_kind reads a) _ leading) [
+      → blocks a ≡ true
+      → ghb_rank_without a < ghb_rank_without b
+  ghb_rank_without-after_blocking a b po not_a not_b blocking =
+      ghb_rank_without-increasing a b po not_a not_b (elim (or_cases (has_kind reads a) _ blocking) [
         | inl reading ↦ or_left (has_kind reads a) _ reading
         | inr fence ↦
             or_right (has_kind reads a) _ (or_right (has_kind writes b) _ (or_left (has_kind operations.is_fence a) _ fence))
       ])
 
-  -- An event's base is at most n, if the numbers of these events are below n: of those up to it that lead, and of those that count and
-  -- are before an inserted MFENCE up to it.
+  -- An event's base is at most n, if these events have ranks below n in the shorter test: those up to it that block, and those that count
+  -- and are before an inserted MFENCE up to it.
   base-least : (e : MemoryEvent) (n : ℕ)
       → ((k : ℕ)
       → IsEvent longer_execution (event e.thread k)
       → k ≤ e.position
       → is_inserted (event e.thread k) ≡ false
-      → leads (event e.thread k) ≡ true
-      → number (event e.thread k) < n)
+      → blocks (event e.thread k) ≡ true
+      → ghb_rank_without (event e.thread k) < n)
       → ((k m : ℕ)
       → IsEvent longer_execution (event e.thread k)
       → k ≤ e.position
@@ -334,9 +339,9 @@ module _ {test fenced : X86Test} (fencing : IsFencedTest test fenced) (well_scop
       → IsEvent longer_execution (event e.thread m)
       → m < k
       → counts (event e.thread m) ≡ true
-      → number (event e.thread m) < n)
+      → ghb_rank_without (event e.thread m) < n)
       → base e ≤ n
-  base-least e n leading fencing =
+  base-least e n blocking fencing =
       anchor_least (top e.thread) (thread_code longer_execution.paths e.thread) e.position n
       (λ k among le. elim (cases_Bool (is_inserted (event e.thread k))) [
         | inl at_fence ↦
@@ -355,18 +360,19 @@ module _ {test fenced : X86Test} (fencing : IsFencedTest test fenced) (well_scop
               ]
             ]) in
             omega (arith, each, top-inserted e.thread k at_fence))
-        | inr not_at_fence ↦ elim (cases_Bool (leads (event e.thread k))) [
-          | inl leads_there ↦
-              omega (arith, top-leading e.thread k not_at_fence leads_there, leading k among le not_at_fence leads_there)
-          | inr not_leading ↦ omega (arith, top-other e.thread k not_at_fence not_leading)
+        | inr not_at_fence ↦ elim (cases_Bool (blocks (event e.thread k))) [
+          | inl blocks_there ↦
+              omega (arith, top-blocking e.thread k not_at_fence blocks_there, blocking k among le not_at_fence blocks_there)
+          | inr not_blocking ↦ omega (arith, top-other e.thread k not_at_fence not_blocking)
         ]
       ])
 
-  -- An event that counts has at least the rank of its number.
-  rank-at_least : (e : MemoryEvent) → counts e ≡ true → level width (suc (number e)) ≤ rank e
-  rank-at_least e counting = omega (arith, level-le width (suc (number e)) (height e) (omega (arith, own-counting e counting)))
+  -- The rank of an event that counts is at least the level of one more than its rank in the shorter test.
+  rank-at_least : (e : MemoryEvent) → counts e ≡ true → level width (suc (ghb_rank_without e)) ≤ rank e
+  rank-at_least e counting =
+      omega (arith, level-le width (suc (ghb_rank_without e)) (height e) (omega (arith, own-counting e counting)))
 
-  -- An event has at most the rank of n, if its base and its own number are at most n.
+  -- The rank of an event is at most the level of n with its position, if its base and its `own` are at most n.
   rank-at_most : (e : MemoryEvent) (n : ℕ) → base e ≤ n → own e ≤ n → rank e ≤ level width n + e.position
   rank-at_most e n by_base by_own = omega (arith, level-le width (height e) n (omega (arith, by_base, by_own)))
 
@@ -386,33 +392,34 @@ module _ {test fenced : X86Test} (fencing : IsFencedTest test fenced) (well_scop
         ]),
       )
 
-  -- A write has a lower rank than an event that counts and has a greater number.
+  -- A write has a lower rank than an event that counts and has a greater rank in the shorter test.
   rank-after_write : (w e : MemoryEvent) (l : ℕ)
       → Writes x86_language fenced longer_execution w l
       → counts e ≡ true
-      → number w < number e
+      → ghb_rank_without w < ghb_rank_without e
       → rank w < rank e
   rank-after_write w e l writing counting less =
       let facts = counts-from_access w l writing.is_event writing.location_is (or_right (has_kind reads w) _ writing.is_write) in
-      let by_base : base w ≤ suc (number w) =
-      base-least w (suc (number w)) (λ k among le not_at_fence leading. elim (cases_lt k w.position) [
+      let by_base : base w ≤ suc (ghb_rank_without w) =
+      base-least w (suc (ghb_rank_without w)) (λ k among le not_at_fence blocking. elim (cases_lt k w.position) [
         | inl before ↦
-            (let order : number (event w.thread k) < number w =
-            number-before_write (event w.thread k) w
+            (let order : ghb_rank_without (event w.thread k) < ghb_rank_without w =
+            ghb_rank_without-before_write (event w.thread k) w
             (record { first_event = among; second_event = writing.is_event; same_thread = refl; position_lt = before })
             not_at_fence facts.0 writing.is_write in
             omega (arith, order))
         | inr same ↦
-            (let one : k ≡ w.position = omega (arith, same, le) in omega (arith, ap (λ j. number (event w.thread j)) one))
+            (let one : k ≡ w.position = omega (arith, same, le) in
+            omega (arith, ap (λ j. ghb_rank_without (event w.thread j)) one))
       ]) (λ k m among le at_fence on before counting_m.
-      (let order : number (event w.thread m) < number w =
-      number-before_write (event w.thread m) w
+      (let order : ghb_rank_without (event w.thread m) < ghb_rank_without w =
+      ghb_rank_without-before_write (event w.thread m) w
       (record { first_event = on; second_event = writing.is_event; same_thread = refl; position_lt = omega (arith, before, le) })
       (is_inserted-false_if_counts (event w.thread m) counting_m) facts.0 writing.is_write in
       omega (arith, order))) in
-      let below : rank w ≤ level width (suc (number w)) + w.position =
-      rank-at_most w (suc (number w)) by_base (omega (arith, own-counting w facts.1)) in
-      let next = level-lt width (suc (number w)) (suc (number e)) (omega (arith, less)) in
+      let below : rank w ≤ level width (suc (ghb_rank_without w)) + w.position =
+      rank-at_most w (suc (ghb_rank_without w)) by_base (omega (arith, own-counting w facts.1)) in
+      let next = level-lt width (suc (ghb_rank_without w)) (suc (ghb_rank_without e)) (omega (arith, less)) in
       omega (arith, below, rank-at_least e counting, next, position_below_size fenced w l writing.location_is)
 
   -- ---- Ranks increase along preserved program order.
@@ -423,7 +430,7 @@ module _ {test fenced : X86Test} (fencing : IsFencedTest test fenced) (well_scop
       anchor_least (top t) (thread_code longer_execution.paths t) i (base (event t j))
       (λ k among up. anchor_above (top t) (thread_code longer_execution.paths t) j k among (omega (arith, le, up)))
 
-  -- Along preserved program order the own numbers do not exceed the later event's number or base.
+  -- Along preserved program order the `own` of the earlier event is at most the height of the later one.
   own-increasing : (t i j : ℕ)
       → Ppo x86_language fenced longer_execution (event t i) (event t j)
       → own (event t i) ≤ max (base (event t j)) (own (event t j))
@@ -437,36 +444,36 @@ module _ {test fenced : X86Test} (fencing : IsFencedTest test fenced) (well_scop
         top-inserted t j at_fence,
         anchor_above (top t) (thread_code longer_execution.paths t) j j ppo.po.second_event (omega arith),
       )
-      | inr not_at_fence ↦ elim (cases_Bool (leads (event t i))) [
-        | inl leading ↦ omega (
+      | inr not_at_fence ↦ elim (cases_Bool (blocks (event t i))) [
+        | inl blocking ↦ omega (
           arith,
           own-counting (event t i) counting,
-          top-leading t i (is_inserted-false_if_counts (event t i) counting) leading,
+          top-blocking t i (is_inserted-false_if_counts (event t i) counting) blocking,
           anchor_above (top t) (thread_code longer_execution.paths t) j i ppo.po.first_event (omega (arith, ppo.po.position_lt)),
         )
-        | inr not_leading ↦
-            (let less : number (event t i) < number (event t j) =
-            number-increasing (event t i) (event t j) ppo.po (is_inserted-false_if_counts (event t i) counting) not_at_fence
-            ppo.is_preserved in
+        | inr not_blocking ↦
+            (let less : ghb_rank_without (event t i) < ghb_rank_without (event t j) =
+            ghb_rank_without-increasing (event t i) (event t j) ppo.po (is_inserted-false_if_counts (event t i) counting)
+            not_at_fence ppo.is_preserved in
             omega (
               arith,
               own-counting (event t i) counting,
               less,
-              own-counting (event t j) (counts-from_kind (event t j) not_at_fence (kind-of_last not_leading)),
+              own-counting (event t j) (counts-from_kind (event t j) not_at_fence (kind-of_last not_blocking)),
             ))
       ]
     ]
   ]
     where
       -- If the earlier event does not lead, the later one is an access or a fence.
-      kind-of_last : leads (event t i) ≡ false
+      kind-of_last : blocks (event t i) ≡ false
           → (has_kind reads (event t j) || (has_kind writes (event t j) || has_kind operations.is_fence (event t j))) ≡ true
-      kind-of_last not_leading = elim (or_cases (has_kind reads (event t i)) _ ppo.is_preserved) [
-        | inl reading ↦ absurd (true≢false (sym (or_left (has_kind reads (event t i)) _ reading) ∙ not_leading))
+      kind-of_last not_blocking = elim (or_cases (has_kind reads (event t i)) _ ppo.is_preserved) [
+        | inl reading ↦ absurd (true≢false (sym (or_left (has_kind reads (event t i)) _ reading) ∙ not_blocking))
         | inr rest ↦ elim (or_cases (has_kind writes (event t j)) _ rest) [
           | inl writing ↦ or_right (has_kind reads (event t j)) _ (or_left (has_kind writes (event t j)) _ writing)
           | inr fences ↦ elim (or_cases (has_kind operations.is_fence (event t i)) _ fences) [
-            | inl fence ↦ absurd (true≢false (sym (or_right (has_kind reads (event t i)) _ fence) ∙ not_leading))
+            | inl fence ↦ absurd (true≢false (sym (or_right (has_kind reads (event t i)) _ fence) ∙ not_blocking))
             | inr fence ↦ or_right (has_kind reads (event t j)) _ (or_right (has_kind writes (event t j)) _ fence)
           ]
         ]
@@ -510,8 +517,8 @@ module _ {test fenced : X86Test} (fencing : IsFencedTest test fenced) (well_scop
             get_or_past fenced.threads t [] (omega (arith, past, fencing.as_many)) in
             absurd (none-some load (sym (ap (λ (code : List Instr). slice_get code j) is_nil) ∙ on.load_at))
 
-    -- A store before an inserted MFENCE has a lower number than each write that comes in from-reads after a load that follows the MFENCE.
-    number-store : (m r w : MemoryEvent) (index l : ℕ)
+    -- A store before an inserted MFENCE has a lower rank in the shorter test than each write that comes in from-reads after a load that follows the MFENCE.
+    ghb_rank_without-store : (m r w : MemoryEvent) (index l : ℕ)
         → AreStoreAndLoad fenced longer_execution m r
         → is_inserted m ≡ false
         → is_inserted r ≡ false
@@ -522,9 +529,9 @@ module _ {test fenced : X86Test} (fencing : IsFencedTest test fenced) (well_scop
         → location x86_language fenced r ≡ Some l
         → Writes x86_language fenced longer_execution w l
         → Fr x86_language fenced longer_execution r w
-        → number r < number w
-        → number m < number w
-    number-store m r w index l pair not_m not_r among after_store before_load at_fence located writing fr less =
+        → ghb_rank_without r < ghb_rank_without w
+        → ghb_rank_without m < ghb_rank_without w
+    ghb_rank_without-store m r w index l pair not_m not_r among after_store before_load at_fence located writing fr less =
         let candidate_z = IsCandidate-with_fences fencing well_scoped candidate in
         let on = AreOnPath-AreStoreAndLoad candidate_z m r pair in
         elim (spare-of_thread m.thread (thread_code longer_execution.paths m.thread) m.position index r.position on.0 on.1 among
@@ -587,7 +594,7 @@ module _ {test fenced : X86Test} (fencing : IsFencedTest test fenced) (well_scop
                           (inr (inr (inr (Fr-event_without fencing well_scoped candidate r w fr)))),
                     )))
               ] in
-              number-before_write m w (record {
+              ghb_rank_without-before_write m w (record {
                 first_event = pair.po.first_event;
                 second_event = writing.is_event;
                 same_thread = pair.po.same_thread ∙ sym same_thread;
@@ -605,19 +612,20 @@ module _ {test fenced : X86Test} (fencing : IsFencedTest test fenced) (well_scop
         let writing : Writes x86_language fenced longer_execution w l = fr.write in
         let facts = counts-from_access r l reading.is_event reading.location_is (or_left (has_kind reads r) _ reading.is_read) in
         let also = counts-from_access w l writing.is_event writing.location_is (or_right (has_kind reads w) _ writing.is_write) in
-        let less : number r < number w =
+        let less : ghb_rank_without r < ghb_rank_without w =
         axioms.happens_before.increases (event_without fencing r) (event_without fencing w)
         (inr (inr (inr (Fr-event_without fencing well_scoped candidate r w fr)))) in
-        let by_base : base r ≤ number w =
-        base-least r (number w) (λ k among le not_at_fence leading. elim (cases_lt k r.position) [
+        let by_base : base r ≤ ghb_rank_without w =
+        base-least r (ghb_rank_without w) (λ k among le not_at_fence blocking. elim (cases_lt k r.position) [
           | inl before ↦
-              (let order : number (event r.thread k) < number r =
-              number-after_leading (event r.thread k) r
+              (let order : ghb_rank_without (event r.thread k) < ghb_rank_without r =
+              ghb_rank_without-after_blocking (event r.thread k) r
               (record { first_event = among; second_event = reading.is_event; same_thread = refl; position_lt = before })
-              not_at_fence facts.0 leading in
+              not_at_fence facts.0 blocking in
               omega (arith, order, less))
           | inr same ↦
-              (let one : k ≡ r.position = omega (arith, same, le) in omega (arith, less, ap (λ j. number (event r.thread j)) one))
+              (let one : k ≡ r.position = omega (arith, same, le) in
+              omega (arith, less, ap (λ j. ghb_rank_without (event r.thread j)) one))
         ]) (λ k m among le at_fence on before counting.
         (let e : MemoryEvent = event r.thread m in
         let not_at_fence : is_inserted e ≡ false = is_inserted-false_if_counts e counting in
@@ -633,39 +641,42 @@ module _ {test fenced : X86Test} (fencing : IsFencedTest test fenced) (well_scop
           same_thread = refl;
           position_lt = omega (arith, before, apart);
         } in
-        elim (cases_Bool (leads e)) [
-          | inl leading ↦
-              (let order : number e < number r = number-after_leading e r po not_at_fence facts.0 leading in
+        elim (cases_Bool (blocks e)) [
+          | inl blocking ↦
+              (let order : ghb_rank_without e < ghb_rank_without r =
+              ghb_rank_without-after_blocking e r po not_at_fence facts.0 blocking in
               omega (arith, order, less))
-          | inr not_leading ↦ elim (write_or_load fenced r l reading.location_is) [
+          | inr not_blocking ↦ elim (write_or_load fenced r l reading.location_is) [
             | inl r_writes ↦
-                (let order : number e < number r = number-before_write e r po not_at_fence facts.0 r_writes in
+                (let order : ghb_rank_without e < ghb_rank_without r =
+                ghb_rank_without-before_write e r po not_at_fence facts.0 r_writes in
                 omega (arith, order, less))
             | inr r_loads ↦
-                number-store e r w k l (record { po = po; store = is_store-from_counts e counting not_leading; load = r_loads })
-                not_at_fence facts.0 among before apart at_fence reading.location_is writing fr less
+                ghb_rank_without-store e r w k l
+                (record { po = po; store = is_store-from_counts e counting not_blocking; load = r_loads }) not_at_fence facts.0
+                among before apart at_fence reading.location_is writing fr less
           ]
         ])) in
-        let below : rank r ≤ level width (number w) + r.position =
-        rank-at_most r (number w) by_base (omega (arith, less, own-counting r facts.1)) in
+        let below : rank r ≤ level width (ghb_rank_without w) + r.position =
+        rank-at_most r (ghb_rank_without w) by_base (omega (arith, less, own-counting r facts.1)) in
         omega (
           arith,
           below,
           rank-at_least w also.1,
-          level-suc width (number w),
+          level-suc width (ghb_rank_without w),
           position_below_size fenced r l reading.location_is,
         )
       where
         -- An event that counts and does not lead is a store.
-        is_store-from_counts : (e : MemoryEvent) → counts e ≡ true → leads e ≡ false → has_kind is_store e ≡ true
-        is_store-from_counts e counting not_leading =
+        is_store-from_counts : (e : MemoryEvent) → counts e ≡ true → blocks e ≡ false → has_kind is_store e ≡ true
+        is_store-from_counts e counting not_blocking =
             elim (or_cases (has_kind reads e) _ (and_parts (not (is_inserted e)) _ counting).1) [
-              | inl reading ↦ absurd (true≢false (sym (or_left (has_kind reads e) _ reading) ∙ not_leading))
+              | inl reading ↦ absurd (true≢false (sym (or_left (has_kind reads e) _ reading) ∙ not_blocking))
               | inr rest ↦ elim (or_cases (has_kind writes e) _ rest) [
-                | inr fence ↦ absurd (true≢false (sym (or_right (has_kind reads e) _ fence) ∙ not_leading))
+                | inr fence ↦ absurd (true≢false (sym (or_right (has_kind reads e) _ fence) ∙ not_blocking))
                 | inl writing ↦ elim (write_stores_or_reads fenced e writing) [
                   | inl store ↦ store
-                  | inr reading ↦ absurd (true≢false (sym (or_left (has_kind reads e) _ reading) ∙ not_leading))
+                  | inr reading ↦ absurd (true≢false (sym (or_left (has_kind reads e) _ reading) ∙ not_blocking))
                 ]
               ]
             ]
@@ -675,7 +686,7 @@ module _ {test fenced : X86Test} (fencing : IsFencedTest test fenced) (well_scop
     rank-HappensBefore a b (inl ppo) = rank-Ppo a b ppo
     rank-HappensBefore a b (inr (inl rfe)) =
         let reading = rfe.rf.read in
-        let less : number a < number b =
+        let less : ghb_rank_without a < ghb_rank_without b =
         axioms.happens_before.increases (event_without fencing a) (event_without fencing b) (inr (inl (record {
           rf = Rf-event_without fencing well_scoped candidate a b rfe.rf;
           threads_differ = rfe.threads_differ;
@@ -684,7 +695,7 @@ module _ {test fenced : X86Test} (fencing : IsFencedTest test fenced) (well_scop
         (counts-from_access b rfe.rf.on_location reading.is_event reading.location_is
         (or_left (has_kind reads b) _ reading.is_read)).1 less
     rank-HappensBefore a b (inr (inr (inl co))) =
-        let less : number a < number b =
+        let less : ghb_rank_without a < ghb_rank_without b =
         axioms.happens_before.increases (event_without fencing a) (event_without fencing b)
         (inr (inr (inl (Co-event_without fencing well_scoped candidate a b co)))) in
         rank-after_write a b co.on_location co.first_write

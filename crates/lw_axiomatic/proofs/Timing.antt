@@ -1,6 +1,6 @@
--- An execution that satisfies the axioms has times. A store reaches memory at its number in global
+-- An execution that satisfies the axioms has times. A store reaches memory at its rank in global
 -- happens-before. All else is done as soon as the loads, the locked instructions and the fences up to it in
--- its thread allow, each of them at its own number. Equal times are distinguished by thread and position. The
+-- its thread allow, each of them at its own rank. Equal times are distinguished by thread and position. The
 -- first step from the axioms to the machine.
 use Rattle.lw_axiomatic.proofs.Common.{◌≡◌, ◌≢◌, ℕ, suc, ◌+◌, ◌*◌, ◌<◌, ◌≤◌, ◌||◌, inl, inr, Bool, true}
 use Rattle.lw_axiomatic.proofs.Common.{false, Option, Some, None, refl, sym, ap, ap₂, ◌∙◌, subst, arith}
@@ -20,18 +20,18 @@ use Rattle.lw_axiomatic.proofs.EventKinds.{write_stores_or_reads}
 use Rattle.lw_axiomatic.proofs.Levels.{level, level-le, level-lt, level-unique, size, length-size}
 use Rattle.lw_litmus.specs.Operations as operations
 
--- The greatest number of the members of a list up to j.
+-- The greatest number `top` of the positions on a path up to a position j.
 module _ (top : ℕ → ℕ) where
   -- The greater of two numbers.
   abbrev greater : ℕ → ℕ → ℕ
   greater a b = if nat_lt a b then b else a
 
-  -- The greatest number `top` of the positions on a path up to j, and 0 if there is none.
+  -- The `anchor` of a path up to j is the greatest `top` of the positions on it up to j, and 0 if there are none.
   abbrev pub anchor : List ℕ → ℕ → ℕ
   anchor [] j = 0
   anchor (k ∷ path) j = if nat_le k j then greater (anchor path j) (top k) else anchor path j
 
-  -- The `anchor` of a path up to j is at least the number of each position on it up to j.
+  -- The `anchor` of a path up to j is at least the `top` of each position on it up to j.
   pub anchor_above : (path : List ℕ) (j k : ℕ) → Contains path k → k ≤ j → top k ≤ anchor path j
   anchor_above [] j k on_path le = absurd (not-Contains-nil k on_path)
   anchor_above (h ∷ path) j k on_path le = elim (Contains-cons h k path on_path) [
@@ -41,14 +41,14 @@ module _ (top : ℕ → ℕ) where
     | inr in_tail ↦ grind (arith, nat_tests, anchor_above path j k in_tail le)
   ]
 
-  -- If the numbers of all positions up to j are at most b, the `anchor` is.
+  -- If the `top` of each position on a path up to j is at most b, the `anchor` is at most b.
   pub anchor_least : (path : List ℕ) (j b : ℕ) → ((k : ℕ) → Contains path k → k ≤ j → top k ≤ b) → anchor path j ≤ b
   anchor_least [] j b each = omega arith
   anchor_least (h ∷ path) j b each =
       let rest : anchor path j ≤ b = anchor_least path j b (λ k c le. each k (Contains-tail h k path c) le) in
       grind (arith, nat_tests, rest, each h (Contains-head h h path refl))
 
-  -- The `anchor` up to j is the number of one of the positions up to j, or 0.
+  -- The `anchor` of a path up to j is the `top` of one of the positions on it up to j, or 0.
   pub anchor_reached : (path : List ℕ) (j : ℕ)
       → ((k : ℕ) × Contains path k × (k ≤ j) × (top k ≡ anchor path j)) ⊎ (anchor path j ≡ 0)
   anchor_reached [] j = inr refl
@@ -154,7 +154,7 @@ module _ {test : X86Test} {x : Execution} {o : FinalState} (candidate : IsCandid
   abbrev pub done : MemoryEvent → ℕ
   done e = level slots (anchored e) + slot e
 
-  -- When an event reaches memory: a store at its own number in global happens-before, all else when it is done.
+  -- When an event reaches memory: a store at its own rank in global happens-before, all else when it is done.
   abbrev pub reached : MemoryEvent → ℕ
   reached e = if has_kind is_store e then level slots (suc (ghb_rank e)) + suc (slot e) else done e
 
@@ -176,7 +176,7 @@ module _ {test : X86Test} {x : Execution} {o : FinalState} (candidate : IsCandid
   top-of_other : (e : MemoryEvent) → blocks e ≡ false → top e.thread e.position ≡ 0
   top-of_other e h = cond-false (blocks e) (suc (ghb_rank e)) 0 h
 
-  -- The numbers increase along preserved program order.
+  -- Ranks in global happens-before increase along preserved program order.
   ghb_rank_increases-Ppo : (a b : MemoryEvent) → Ppo x86_language test x a b → ghb_rank a < ghb_rank b
   ghb_rank_increases-Ppo a b p = axioms.happens_before.increases a b (inl p)
 
@@ -373,7 +373,7 @@ module _ {test : X86Test} {x : Execution} {o : FinalState} (candidate : IsCandid
         ]
       ]
 
-  -- Of two events that reach memory at their own numbers, the one with the lower number does so earlier.
+  -- Of two events that reach memory at their own ranks, the one with the lower rank does so earlier.
   reached_increases-ghb_rank : (a b : MemoryEvent)
       → IsReachedAtOwnRank a
       → IsReachedAtOwnRank b

@@ -54,7 +54,7 @@ module _ {S : Type 0} (language : Language S) where
         × ((f : MemoryEvent) → Writes language test x f l → x.co f ≤ x.co e) × (w ≡ x.written e))
 
     -- The execution is a candidate with this outcome: the threads run to their ends, each read has the word of its write, and no two writes
-    -- to a location have the same index in coherence order.
+    -- to a location have the same rank in coherence order.
     pub record IsCandidate (o : FinalState) : Type 0 where
       pub as_many : length x.paths ≡ length test.threads
       pub threads :

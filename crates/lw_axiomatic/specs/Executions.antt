@@ -19,11 +19,11 @@ pub record MemoryEvent : Type 0 where
 -- An execution: the paths of the threads, the words that events read and write, reads-from and coherence order.
 pub record Execution : Type 0 where
   pub paths : List (List ℕ)  -- For each thread the positions of the instructions that it executes.
-  pub read : MemoryEvent → ℕ  -- The word that an event reads, and the word that it writes.
-  pub written : MemoryEvent → ℕ
+  pub read : MemoryEvent → ℕ  -- The word that an event reads.
+  pub written : MemoryEvent → ℕ  -- The word that an event writes.
   -- Reads-from: the event whose word this one reads; `None` for the initial word.
   pub rf : MemoryEvent → Option MemoryEvent
-  -- Coherence order: a number for each write; of two writes to a location the lower number comes first.
+  -- Coherence order: a rank for each write; of two writes to a location the one with the lower rank comes first.
   pub co : MemoryEvent → ℕ
 
 module _ (x : Execution) where

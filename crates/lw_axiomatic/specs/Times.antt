@@ -19,13 +19,14 @@ module _ (test : X86Test) (x : Execution) (done reached : MemoryEvent → ℕ) w
     pub is_before : IsBefore x done reached v r
     pub latest : (w : MemoryEvent) → Writes x86_language test x w l → IsBefore x done reached w r → reached w ≤ reached v
 
-  -- This is the newest of the writes to l that are before r; `None` if there are none.
+  -- The option is the newest of the writes to l that are before r, or `None` if no write to l is before r.
   abbrev pub IsNewest : MemoryEvent → ℕ → Option MemoryEvent → Type 0
   IsNewest r l None = (w : MemoryEvent) → Writes x86_language test x w l → IsBefore x done reached w r → ⊥
   IsNewest r l (Some v) = IsNewestWrite r l v
 
-  -- Each thread's instructions execute in their order; a store reaches memory later, everything else when it executes; preserved program
-  -- order and coherence order hold in memory; and each read has its newest write.
+  -- Each thread's instructions execute in their order. A store reaches memory later than it executes, every other event when it executes.
+  -- No two events reach memory at the same time, and they reach it in preserved program order and in coherence order. Each read reads from
+  -- the newest write that is before it.
   pub record HasConsistentTimes : Type 0 where
     pub po : (a b : MemoryEvent) → Po x a b → done a < done b
     pub later : (e : MemoryEvent) → IsEvent x e → operation_is x86_language test is_store e ≡ true → done e < reached e
