@@ -187,8 +187,8 @@ module _ {test fenced : X86Test} (fencing : IsFencedTest test fenced) (well_scop
   abbrev own : MemoryEvent → ℕ
   own e = if counts e then suc (ghb_rank_without e) else 0
 
-  -- Returns what the event of thread t at position j requires of the bases of the later ones: an inserted MFENCE requires the greatest `own`
-  -- of the events up to it; another event that blocks, one more than its rank in the shorter test; and any other event 0.
+  -- Returns what the event of thread t at position j requires of the bases of the later ones: an inserted MFENCE requires the greatest
+  -- `own` of the events up to it; another event that blocks, one more than its rank in the shorter test; and any other event 0.
   abbrev top : ℕ → ℕ → ℕ
   top t j =
       if is_inserted (event t j)
@@ -517,7 +517,8 @@ module _ {test fenced : X86Test} (fencing : IsFencedTest test fenced) (well_scop
             get_or_past fenced.threads t [] (omega (arith, past, fencing.as_many)) in
             absurd (none-some load (sym (ap (λ (code : List Instr). slice_get code j) is_nil) ∙ on.load_at))
 
-    -- A store before an inserted MFENCE has a lower rank in the shorter test than each write that comes in from-reads after a load that follows the MFENCE.
+    -- A store before an inserted MFENCE has a lower rank in the shorter test than each write that comes in from-reads after a load that
+    -- follows the MFENCE.
     ghb_rank_without-store : (m r w : MemoryEvent) (index l : ℕ)
         → AreStoreAndLoad fenced longer_execution m r
         → is_inserted m ≡ false

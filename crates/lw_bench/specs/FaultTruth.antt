@@ -1,5 +1,5 @@
--- What a fault states of a run's text, of a cell, and of the test. That memory ran out is always reported as `Memory`, and never as the fault
--- of a text or a cell (`not_out_of_memory`).
+-- What a fault states of a run's text, of a cell, and of the test. That memory ran out is always reported as `Memory`, and never as the
+-- fault of a text or a cell (`not_out_of_memory`).
 use Rattle.std.specs.Prelude.{◌≡◌, ◌≢◌, ◌⊎◌, ◌<◌, ◌≤◌, Option, List, length}
 use Rattle.std.specs.Option.{IfSome}
 use Rattle.std.specs.Str.{IsUtf8, IsValidUpTo}

@@ -52,8 +52,8 @@ pub record AreObservedOutcomesOf (test : LitmusTest) (outcomes : List FinalState
   pub covered : (o : FinalState) → OutcomeOf test o → ContainsWordsOf (observed (head_of_test test)) outcomes o
   pub shapes : All (HasOutcomeShape (head_of_test test).threads (length (head_of_test test).locs)) outcomes
 
--- The entries are the test's list: exactly its outcomes, sorted, without duplicates, each with a schedule of the test's x86 program that reaches
--- it over caches of any protocol.
+-- The entries are the test's list: exactly its outcomes, sorted, without duplicates, each with a schedule of the test's x86 program that
+-- reaches it over caches of any protocol.
 pub record IsListOf (test : LitmusTest) (entries : OutcomeEntries) : Type 0 where
   pub program : X86Test
   pub of_test : IsProgramOf test program

@@ -19,8 +19,8 @@ pub record Devices (D : Type 0) : Type 0 where
 abbrev pub devices : {D : Type 0} → (D → Option Bytes) → (D → Bool) → Devices D
 devices bytes failed = record { bytes = bytes; failed = failed }
 
--- A run reads a test, renders its output, as `IsMade` says with its answer, and writes it; `TestFaultIsTrue` says what a fault states of the test.
--- The run changes the reader from `r` to `s`, and the writer from `w` to `v`.
+-- A run reads a test, renders its output, as `IsMade` says with its answer, and writes it; `TestFaultIsTrue` says what a fault states of
+-- the test. The run changes the reader from `r` to `s`, and the writer from `w` to `v`.
 pub record IsRun {R W T : Type 0} (readers : Devices R) (writers : Devices W) (IsMade : T → LitmusTest → Bytes → Type 0)
     (TestFaultIsTrue : LitmusTest → BenchFault → Type 0) (r s : R) (w v : W) (result : Result T BenchFault) : Type 0 where
   -- If the run returns an answer, the output of the test has been written, and nothing else.

@@ -31,8 +31,8 @@ verdict_of Listed Exists p q = if p == 0 then verdict.Unknown else verdict.Ok
 verdict_of Listed NotExists p q = if p == 0 then verdict.Unknown else verdict.No
 verdict_of Listed Forall p q = if q == 0 then verdict.Unknown else verdict.No
 
--- In how many states the proposition is true, from p in which it is and q in which it is not. If there may be other states, only one of each
--- kind decides.
+-- In how many states the proposition is true, from p in which it is and q in which it is not. If there may be other states, only one of
+-- each kind decides.
 abbrev pub observation_of : Claim → ℕ → ℕ → Observation
 observation_of Exact p q = if p == 0 then seen.Never else if q == 0 then seen.Always else seen.Sometimes
 observation_of Listed p q = if p == 0 then seen.Unknown else if q == 0 then seen.Unknown else seen.Sometimes

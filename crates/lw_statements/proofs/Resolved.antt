@@ -45,8 +45,8 @@ module _ {W Form Stmt : Type 0} (spelling : Spelling W Form Stmt) where
   abbrev Says : TokenList → CellContent → Type 0
   Says = ParsesCell grammar
 
-  -- The statements of the cells in `front` are resolved to this code, and their jumps lead forward. `syntaxes` are those of all cells of the
-  -- thread, in which labels are looked up.
+  -- The statements of the cells in `front` are resolved to this code, and their jumps lead forward. `syntaxes` are those of all cells of
+  -- the thread, in which labels are looked up.
   pub record Resolved {A : Type 0} (names : NameTable) (syntaxes : List CellContent) (front : List (Cell A))
       (code : List Stmt) : Type 0 where
     pub above : List CellContent

@@ -335,9 +335,9 @@ module _ {W Form Stmt : Type 0} (spelling : Spelling W Form Stmt) where
         × AllByRecursion IsWordNumber (numbers_of (spelling.language.operation_of (spelling.statement x to form f)))
 
   -- What the rule of cells requires of a spelling. `countable`: the number of statements of a thread is below 2^64. `apart`: no tokens fill
-  -- two forms. `statements`: each form has a first slot, no `:` in the second, and a label's slot only as the last. `names`: each has at most
-  -- one location. `clear`: where one form has a location or a register, no other has a word that is a location's name. `words`: no keyword
-  -- is a register's name. `makes_statements`: the statement of a form results from the operands of its tokens.
+  -- two forms. `statements`: each form has a first slot, no `:` in the second, and a label's slot only as the last. `names`: each has at
+  -- most one location. `clear`: where one form has a location or a register, no other has a word that is a location's name. `words`: no
+  -- keyword is a register's name. `makes_statements`: the statement of a form results from the operands of its tokens.
   pub record IsSpelling (made : Form → Operands → Option Stmt) : Type 0 where
     pub countable : spelling.language.most < 2 ^ 64
     pub apart : all_apart spelling.forms ≡ true

@@ -30,8 +30,8 @@ statements {Syntax} syntaxes = filter_map (λ (syntax : CellSyntax Syntax). synt
 abbrev pub labels_of : {Syntax : Type 0} → List (CellSyntax Syntax) → List Bytes
 labels_of {Syntax} syntaxes = flat_map (λ (syntax : CellSyntax Syntax). syntax.labels) syntaxes
 
--- The index of the statement that a label targets: the first in the label's cell or after it. It is the number of statements if there is none,
--- or if no cell has the label.
+-- The index of the statement that a label targets: the first in the label's cell or after it. It is the number of statements if there is
+-- none, or if no cell has the label.
 abbrev pub target_in : {Syntax : Type 0} → List (CellSyntax Syntax) → Bytes → ℕ
 target_in [] l = 0
 target_in (syntax ∷ syntaxes) l =

@@ -59,8 +59,8 @@ IsMisfitCause IsMeant Register = IsMeant
 IsMisfitCause IsMeant cause = ⊥
 
 module _ {Syntax Stmt : Type 0} (grammar : Grammar Syntax Stmt) where
-  -- After the tokens `mid`, the token is meant as a register: it is a name where a register may appear and no location, or `r` with digits and
-  -- no register.
+  -- After the tokens `mid`, the token is meant as a register: it is a name where a register may appear and no location, or `r` with digits
+  -- and no register.
   abbrev pub IsMeantAsRegister : TokenList → Bytes → Type 0
   IsMeantAsRegister mid t = (IsName t × IsBeforeRegister grammar mid) ⊎ IsUnknownRegister t
 
@@ -68,8 +68,8 @@ module _ {Syntax Stmt : Type 0} (grammar : Grammar Syntax Stmt) where
   abbrev pub table_after : NameTable → List (List (CellSyntax Syntax)) → List (CellSyntax Syntax) → NameTable
   table_after names threads syntaxes = insert_names names (names_of grammar threads ++ names_in grammar syntaxes)
 
-  -- The threads before a cell and the cells above it have this content, without a fault, and `labels` follow: the threads before are those of a
-  -- test; this one has at most as many statements as a thread may have, and no label twice; and the table has at most eight locations.
+  -- The threads before a cell and the cells above it have this content, without a fault, and `labels` follow: the threads before are those
+  -- of a test; this one has at most as many statements as a thread may have, and no label twice; and the table has at most eight locations.
   pub record AreRead (names : NameTable) (before : List (List PlacedCell)) (above : List PlacedCell)
       (threads : List (List (CellSyntax Syntax))) (syntaxes : List (CellSyntax Syntax)) (labels : List Bytes) : Type 0 where
     pub before_says : AllZip (Column grammar) (texts_of_grid before) threads
@@ -78,8 +78,8 @@ module _ {Syntax Stmt : Type 0} (grammar : Grammar Syntax Stmt) where
     pub without_duplicates : IsDuplicateFree (labels_of syntaxes ++ labels)
     pub room : length (table_after names threads syntaxes) ≤ most_locations
 
-  -- What precedes a fault in a cell is read: the threads before, the cells above, and of the cell the tokens `ts`, which are labels followed
-  -- by `mid`.
+  -- What precedes a fault in a cell is read: the threads before, the cells above, and of the cell the tokens `ts`, which are labels
+  -- followed by `mid`.
   pub record IsReadTo (names : NameTable) {columns : List (List PlacedCell)} (c : CellPosition columns) (ts mid : TokenList) : Type 0 where
     pub threads : List (List (CellSyntax Syntax))
     pub syntaxes : List (CellSyntax Syntax)
@@ -190,7 +190,8 @@ module _ {Syntax Stmt : Type 0} (grammar : Grammar Syntax Stmt) where
         × Contains (labels_of (all_syntaxes above syntax below)) p.token.text
         × (target_in (all_syntaxes above syntax below) p.token.text ≤ length (statements above))
 
-  -- What a cause means for a place: the token that begins there, or the cell that ends there, is at fault in this way. Memory means nothing.
+  -- What a cause means for a place: the token that begins there, or the cell that ends there, is at fault in this way. Memory means
+  -- nothing.
   abbrev pub CellCauseIsTrue : NameTable → List (List PlacedCell) → ℕ → CellCause → Type 0
   CellCauseIsTrue names columns at Form =
       ((p : TokenPosition columns at) × IsWrong names p Form) ⊎ ((c : CellPosition columns) × EndsEarly names c at)

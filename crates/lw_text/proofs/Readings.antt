@@ -38,9 +38,9 @@ names_up_to names front s back =
       insert_names-longer (with_sites table (s ∷ [])) (site_names back),
     )
 
--- A kind of list: its opening and closing tokens; how an element parses, as a Y, and what is required of it (`asks`). In memory the element is
--- an X: `at` is its syntax, by the names of a table. Each element has a site, `site` in memory and `syntax` of its syntax. The last three
--- fields say that lists of this kind have unique parses: no element begins with the closing token.
+-- A kind of list: its opening and closing tokens; how an element parses, as a Y, and what is required of it (`asks`). In memory the element
+-- is an X: `at` is its syntax, by the names of a table. Each element has a site, `site` in memory and `syntax` of its syntax. The last
+-- three fields say that lists of this kind have unique parses: no element begins with the closing token.
 pub record ListKind (X Y : Type 0) : Type 1 where
   pub opening : TokenList
   pub close : Bytes

@@ -159,7 +159,8 @@ module _ (threads locs : ℕ) where
   MentionsOnly-Derives (or {ss} {ts} d e) h =
       let k = All-append_inv _ ss _ h in (MentionsOnly-Derives d k.0, MentionsOnly-Derives e k.1.1)
 
--- If terminals satisfy `IsValidTerminal` and their names are in the table, their resolved forms mention only threads and locations in range.
+-- If terminals satisfy `IsValidTerminal` and their names are in the table, their resolved forms mention only threads and locations in
+-- range.
 MentionsOnlyIfAtom-of_valid : (threads : ℕ) (names : List (List ℕ)) (ss : List (Terminal AtomSyntax))
     → AllByRecursion (IsValidTerminal threads) ss
     → ContainsAllNames names ss

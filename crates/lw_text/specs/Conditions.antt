@@ -90,7 +90,8 @@ Quantified ts Exists rest = ts ≡ codes "exists" ∷ rest
 Quantified ts NotExists rest = ts ≡ codes "~" ∷ codes "exists" ∷ rest
 Quantified ts Forall rest = ts ≡ codes "forall" ∷ rest
 
--- The question of a test, which ends its text: the list of names, a quantifier, and a proposition's terminals, with threads below `threads`.
+-- The question of a test, which ends its text: the list of names, a quantifier, and a proposition's terminals, with threads below
+-- `threads`.
 pub record ParsesQuestion (arch : Arch) (threads : ℕ) (ts : TokenList) (listed : List SiteSyntax) (quant : Quant) (ss : List (Terminal AtomSyntax)) : Type 0 where
   pub after_list : TokenList
   pub after_quant : TokenList

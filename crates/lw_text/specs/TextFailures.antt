@@ -100,8 +100,8 @@ pub data FailsInPreamble (text rest : Bytes) (cause : TextCause) : Type 0 where
 abbrev pub HasTokens : ℕ → Bytes → List PlacedToken → Bytes → Type 0
 HasTokens len text tokens end = ParsesMany (IsPlacedToken len) text tokens end × ParsesNothing (IsFirstToken end)
 
--- The tokens of a test's body fail, in the rest of a text of this length: at a token; or where the next fails, which the tokens before need or
--- the end of the text does not allow; or at the end of the text.
+-- The tokens of a test's body fail, in the rest of a text of this length: at a token; or where the next fails, which the tokens before need
+-- or the end of the text does not allow; or at the end of the text.
 pub data FailsInBody (arch : Arch) (len : ℕ) (text : Bytes) (at : ℕ) (cause : TextCause) : Type 0 where
   at_token : (tokens later : List PlacedToken) (token : PlacedToken) (before : List PlacedToken) (end : Bytes)
       → HasTokens len text tokens end → tokens ≡ before ++ token ∷ later → at ≡ token.at

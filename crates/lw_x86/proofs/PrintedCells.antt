@@ -52,8 +52,8 @@ most_front_bytes = most_label_bytes + 2
 abbrev pub most_cell_bytes : ℕ
 most_cell_bytes = most_front_bytes + most_instruction_bytes
 
--- The text spells these tokens before a blank, and is no longer than a cell; the tokens contain no end of a cell, and do not start as an end of
--- the rows does.
+-- The text spells these tokens before a blank, and is no longer than a cell; the tokens contain no end of a cell, and do not start as an
+-- end of the rows does.
 pub record IsPrintedCell (text : Bytes) (tokens : TokenList) : Type 0 where
   pub spells : Spells IsBlankNext most_cell_bytes text tokens
   pub plain : EndsNoCell tokens

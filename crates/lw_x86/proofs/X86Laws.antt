@@ -6,8 +6,8 @@ use Rattle.lw_x86.proofs.Common.{x86_grammar, instruction_of_operands}
 use Rattle.lw_base.specs.declared.operand.Operand.TheVariants.{Register}
 use Rattle.lw_x86.specs.declared.language.X86Form.TheVariants.{Store, Set, Add}
 
--- `instruction_of_operands` makes each form's instruction from the operands that its tokens give: x is the index of its location, and `to` its
--- target. Only forms with a slot for a value need rows of their own, since a register and a number are different cases.
+-- `instruction_of_operands` makes each form's instruction from the operands that its tokens give: x is the index of its location, and `to`
+-- its target. Only forms with a slot for a value need rows of their own, since a register and a number are different cases.
 IsMade-each_form : (x to : ℕ) (form : X86Form) (f : Filling (x86_slots form))
     → IsMade x86_spelling instruction_of_operands x to form f
 IsMade-each_form x to Store (_, (_, (y, (_, (_, (Register r, _)))))) =

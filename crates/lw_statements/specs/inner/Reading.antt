@@ -146,8 +146,8 @@ cell_without_labels o = record { labels = []; stmt = o }
 module _ {Syntax Stmt : Type 0} (grammar : Grammar Syntax Stmt) where
   -- ---- Statements.
 
-  -- A token after which no statement is possible is at this place; a statement that fits the table begins with those before it, if there are
-  -- any. The cause is Register if it is meant as a register, and otherwise Form.
+  -- A token after which no statement is possible is at this place; a statement that fits the table begins with those before it, if there
+  -- are any. The cause is Register if it is meant as a register, and otherwise Form.
   pub record HasMisfitIn (tokens : List Token) (names : NameTable) (at : ℕ) (cause : CellCause) : Type 0 where
     pub place : ℕ
     pub token : Token

@@ -23,8 +23,8 @@ abbrev pub IsOverflowName : NameTable → Token → ℕ → Type 0
 IsOverflowName names t at =
     (t.at ≡ at) × IsLocationName t.text.now × (length names ≡ most_locations) × (Contains names t.text.now → ⊥)
 
--- What each cause means for its place: a token or an end that fits no statement, as the cause says; a label that is missing or a duplicate; a
--- jump that leads backward; or something beyond a limit. Memory means nothing.
+-- What each cause means for its place: a token or an end that fits no statement, as the cause says; a label that is missing or a duplicate;
+-- a jump that leads backward; or something beyond a limit. Memory means nothing.
 pub record FaultClaim (wrong : CellCause → Type 0) (no_label second_label backward one_more : Type 0) (cause : CellCause) : Type 0 where
   pub form : cause ≡ Form → wrong Form
   pub register : cause ≡ Register → wrong Register
@@ -33,8 +33,8 @@ pub record FaultClaim (wrong : CellCause → Type 0) (no_label second_label back
   pub back : cause ≡ Backward → backward
   pub many : cause ≡ TooMany → one_more
 
--- What each refusal states: unless memory ran out, nothing fits (`unfit`); the cause means something for the fault's place (`claim`); and the
--- place is at or before each offset at or before which all is that was read (`all_within`).
+-- What each refusal states: unless memory ran out, nothing fits (`unfit`); the cause means something for the fault's place (`claim`); and
+-- the place is at or before each offset at or before which all is that was read (`all_within`).
 pub record Refused (unfit : Type 0) (claim : ℕ → CellCause → Type 0) (all_within : ℕ → Type 0) (fault : CellFault) : Type 0 where
   pub none : fault.cause ≢ Memory → unfit
   pub cause : claim fault.at fault.cause

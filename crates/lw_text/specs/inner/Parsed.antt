@@ -131,8 +131,8 @@ pub record StopsAt (len : ℕ) (text : Bytes) (tokens : List PlacedToken) (at : 
   pub read : ParsesMany (IsPlacedToken len) text tokens end
   pub fails : FailsFrom len end FailsInFirstToken at cause
 
--- The tokens of a stream, which this fault ends or none, fail to be the body of a test in a text of this length: at one of them; at the end of
--- the text; or at the fault, since the tokens before it need more, or are a test already.
+-- The tokens of a stream, which this fault ends or none, fail to be the body of a test in a text of this length: at one of them; at the end
+-- of the text; or at the fault, since the tokens before it need more, or are a test already.
 pub data StreamFails (arch : Arch) (len : ℕ) (tokens : List PlacedToken) (fault : Option Fault) (at : ℕ) (cause : TextCause) : Type 0 where
   at_stream_token : (before later : List PlacedToken) (token : PlacedToken) → tokens ≡ before ++ token ∷ later → at ≡ token.at
       → FailsInTest arch (texts_of_tokens tokens) (texts_of_tokens (token ∷ later)) cause → StreamFails arch len tokens fault at cause

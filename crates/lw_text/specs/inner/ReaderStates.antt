@@ -54,8 +54,8 @@ with_and l p = record { left_of_or = l.left_of_or; left_of_and = Some (ands_of l
 abbrev pub with_or : GroupState → Formula → GroupState
 with_or l p = record { left_of_or = Some (ors_of l p); left_of_and = None; nots = 0 }
 
--- The state of the parser: before a part of a group; or after one, with the left operand of a `\/`, if there is one, and the conjunction that
--- ends with the part. `outer` has the states of the enclosing groups, the innermost first.
+-- The state of the parser: before a part of a group; or after one, with the left operand of a `\/`, if there is one, and the conjunction
+-- that ends with the part. `outer` has the states of the enclosing groups, the innermost first.
 pub data ReaderState : Type 0 where
   BeforePart : (group : GroupState) (outer : List GroupState) → ReaderState
   AfterPart : (left_of_or : Option Formula) (conjunction : Formula) (outer : List GroupState) → ReaderState

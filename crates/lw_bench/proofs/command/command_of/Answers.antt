@@ -1,6 +1,6 @@
 -- `command_of` returns the task that the arguments name, or `None` if they name none. One goal for each arm
--- of the match on the first word: the tasks without arguments are `IsResultOf-IsCommand_one_word`, `replay` is `IsResultOf-IsCommand_replay`.
--- The arm of other words compares the word with all four names.
+-- of the match on the first word: the tasks without arguments are `IsResultOf-IsCommand_one_word`, `replay` is
+-- `IsResultOf-IsCommand_replay`. The arm of other words compares the word with all four names.
 use Rattle.lw_bench.proofs.Common.{refl, codes, arith, cons-head_eq, States, Compile, Schedules}
 use Rattle.lw_bench.proofs.Commands.{IsResultOf-IsCommand_one_word, IsResultOf-IsCommand_replay}
 use Rattle.lw_bench.proofs.Commands.{not-IsCommand-if_no_arguments, not-IsCommand-if_other_word}

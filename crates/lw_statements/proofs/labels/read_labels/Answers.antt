@@ -1,7 +1,7 @@
 -- `read_labels` promises the labels at the start of a cell, or that they are refused. Each round takes a name
 -- and its `:` (`LabelsRead-push`). A token before a `:` that is no name, or that is a label already, refuses the
--- cell: every reading of it takes this token as a label (`Labels-continue`, `labels_twice`). The loop ends before a token that no `:` follows:
--- no label is left (`stops`).
+-- cell: every reading of it takes this token as a label (`Labels-continue`, `labels_twice`). The loop ends before a token that no `:`
+-- follows: no label is left (`stops`).
 use Rattle.lw_statements.proofs.Common.{ℕ, ◌+◌, ◌-◌, ◌<◌, ◌≤◌, sym, ap, ◌∙◌, arith, true≢false, is_some}
 use Rattle.lw_statements.proofs.Common.{btree_map_updates_str, refl, slice_get_read, subst}
 use Rattle.lw_statements.proofs.Causes.{FaultClaim-wrong, FaultClaim-Memory, FaultClaim-Twice, Refused-Memory}

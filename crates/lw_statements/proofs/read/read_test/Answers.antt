@@ -1,6 +1,6 @@
 -- `read_test` promises the frame's test if it returns one, and otherwise that the frame has none, and why.
--- The three calls are joined step by step: threads (`MatchResult-propagated`), then parts (`MatchResult-part`). `FrameHasTest-ColumnsRead` makes a
--- test of the frame from the threads, and each clause of the fault is a field of its refusal.
+-- The three calls are joined step by step: threads (`MatchResult-propagated`), then parts (`MatchResult-part`). `FrameHasTest-ColumnsRead`
+-- makes a test of the frame from the threads, and each clause of the fault is a field of its refusal.
 use Rattle.lw_statements.proofs.Common.{refl, ◌∙◌, IfOk, length-map, MatchResult-weaker, head_of, test_of}
 use Rattle.lw_statements.proofs.Common.{all_texts, cells_texts, frame_of, FrameHasTest, grammar_of}
 use Rattle.lw_statements.proofs.Exits.{MatchResult-propagated, MatchResult-part}

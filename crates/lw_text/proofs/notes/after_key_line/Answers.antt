@@ -1,6 +1,6 @@
 -- `after_key_line` promises the rest after a line `Key=value`, or that there is none, and where it fails. It
--- fails without a key (`no_key_line-if_key_is_empty`) or without a `=` after it (`no_key_line-if_no_equals`); otherwise the line goes to its end
--- (`KeyLine-of_parts`).
+-- fails without a key (`no_key_line-if_key_is_empty`) or without a `=` after it (`no_key_line-if_no_equals`); otherwise the line goes to
+-- its end (`KeyLine-of_parts`).
 use Rattle.lw_text.proofs.Common.{◌≡◌, ◌++◌, ◌∙◌, refl, sym, first_byte_is, is_key_byte, ℕ, ap, length}
 use Rattle.lw_text.proofs.Common.{length-append, arith, nat_tests, no_equals_sign}
 use Rattle.lw_text.proofs.NoteRows.{no_key_line-if_key_is_empty, no_key_line-if_no_equals, KeyLine-of_parts}

@@ -1,9 +1,9 @@
--- `read_text` promises the frame of a short UTF-8 text, or that it has none and where it fails. Each exit with a fault gives three things, in
--- this order: the text has no frame; the place is within the text; the text fails there, for this cause (`in_preamble`, or
--- `in_body` with `FailsInBody-StreamFails`). At `in_err-stream` and at `in_err-finish` memory ran out, and there is nothing more to show (`MatchResult-out_of_memory`).
--- If the tokens end early or are no test, the text has no frame by `no_frame-if_no_test` and `HasNoTest-if_no_tokens_or_no_parse`. In
--- each answer `whole` says that the lexer's text is the argument. The head computed in memory is the head that the text says
--- (`resolved_head-head_of_syntax`).
+-- `read_text` promises the frame of a short UTF-8 text, or that it has none and where it fails. Each exit with a fault gives three things,
+-- in this order: the text has no frame; the place is within the text; the text fails there, for this cause (`in_preamble`, or
+-- `in_body` with `FailsInBody-StreamFails`). At `in_err-stream` and at `in_err-finish` memory ran out, and there is nothing more to show
+-- (`MatchResult-out_of_memory`). If the tokens end early or are no test, the text has no frame by `no_frame-if_no_test` and
+-- `HasNoTest-if_no_tokens_or_no_parse`. In each answer `whole` says that the lexer's text is the argument. The head computed in memory is
+-- the head that the text says (`resolved_head-head_of_syntax`).
 use Rattle.lw_text.proofs.Common.{◌≡◌, ◌≢◌, ℕ, ◌≤◌, length, sym, ap, ◌∙◌, subst, arith, All, IfSome, Option}
 use Rattle.lw_text.proofs.Common.{None, Some, MatchOption, Result, IsErrAnd, MatchResult, Fault, Memory}
 use Rattle.lw_text.proofs.Common.{MatchOption-at_none, token_texts, PlacedTokens, head_of, columns, Preamble}

@@ -1,6 +1,6 @@
 -- `after_trivia` promises the rest after blanks and comments, or that a comment is not closed. Each round
--- skips a comment and the blanks after it (`TriviaContinuesAt-after_comment`, `TriviaContinuesAt-after_blanks`). A comment that is not closed
--- leaves no rest at all (`not-Trivia-if_comment_is_open`).
+-- skips a comment and the blanks after it (`TriviaContinuesAt-after_comment`, `TriviaContinuesAt-after_blanks`). A comment that is not
+-- closed leaves no rest at all (`not-Trivia-if_comment_is_open`).
 use Rattle.lw_text.proofs.Common.{arith, ap, length, length-append}
 use Rattle.lw_text.proofs.Comments.{Comment-shorter}
 use Rattle.lw_text.proofs.TriviaLemmas.{TriviaContinuesAt-start, TriviaContinuesAt-after_blanks}
