@@ -329,7 +329,7 @@ module _ {test : X86Test} {paths : List (List ℕ)} (given : KeptOrder test path
       at_once = places.reached_is_done given run_execution refl;
       ppo = places.reached_increases-Ppo given run_execution refl;
       co = λ w v co. co.co_lt;
-      apart = places.reached-injective given run_execution refl;
+      reached_injective = places.reached-injective given run_execution refl;
       newest = IsNewest-of_rf;
     }
 

@@ -286,7 +286,7 @@ module _ {test : X86Test} (well_scoped : IsWellScopedProgram test) {x : Executio
       IsBefore-of_indices w is_event (inr po) = inr po
       IsBefore-of_indices w is_event (inl early) = elim (cases_order (reachedT w) (doneT r)) [
         | inl same ↦
-            absurd (let e : w ≡ r = timed.apart w r is_event reading.is_event (same ∙ sym read_reached_is_done) in
+            absurd (let e : w ≡ r = timed.reached_injective w r is_event reading.is_event (same ∙ sym read_reached_is_done) in
             omega (arith, early, ap reached_index e, r_turn))
         | inr (inl less) ↦ inl less
         | inr (inr more) ↦ absurd (omega (
@@ -314,7 +314,7 @@ module _ {test : X86Test} (well_scoped : IsWellScopedProgram test) {x : Executio
           → reachedT w ≤ reachedT v
           → reached_index w ≤ reached_index v
       reached_le-of_times w v iw iv le = elim (cases_eq (reachedT w) (reachedT v)) [
-        | inl same ↦ omega (arith, ap reached_index (timed.apart w v iw iv same))
+        | inl same ↦ omega (arith, ap reached_index (timed.reached_injective w v iw iv same))
         | inr ne ↦
             (let up : reached_index w < reached_index v =
             turn_increases-time (point_of kept_order w) (point_of kept_order v) (Placed-point kept_order w iw)

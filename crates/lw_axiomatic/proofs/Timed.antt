@@ -51,7 +51,7 @@ module _ {test : X86Test} {x : Execution} {done reached : MemoryEvent → ℕ} (
   -- Along from-reads events reach memory later and later.
   reached_increases-Fr : (r w : MemoryEvent) → Fr x86_language test x r w → reached r < reached w
   reached_increases-Fr r w fr = elim (cases_order (reached r) (reached w)) [
-    | inl same ↦ absurd (fr.events_differ (timed.apart r w fr.read.is_event fr.write.is_event same))
+    | inl same ↦ absurd (fr.events_differ (timed.reached_injective r w fr.read.is_event fr.write.is_event same))
     | inr (inl less) ↦ less
     | inr (inr more) ↦
         absurd (not-newer_than_source r w fr.on_location (x.rf r) fr.write (timed.newest r fr.on_location fr.read)

@@ -555,7 +555,7 @@ module _ {test : X86Test} {x : Execution} {o : FinalState} (candidate : IsCandid
       at_once = reached-of_other;
       ppo = reached_increases-Ppo;
       co = reached_increases-Co;
-      apart = reached-injective;
+      reached_injective = reached-injective;
       newest = λ r l reading. IsNewest-of_rf r l reading (x.rf r) refl (candidate.rf r l reading);
     };
   }

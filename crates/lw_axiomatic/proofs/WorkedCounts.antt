@@ -27,11 +27,11 @@ module _ {x : Execution} {o : FinalState} (candidate : IsCandidate x86_language 
   abbrev ghb_rank : MemoryEvent → ℕ
   ghb_rank = axioms.happens_before.rank
 
-  -- The other thread of the two, and both were inside.
+  -- Threads a and b are the two threads of the test, and both enter their critical sections.
   record BothInside (a b : ℕ) : Type 0 where
     first : a < 2
     second : b < 2
-    apart : a ≢ b
+    threads_differ : a ≢ b
     a_inside : EntersSection x a (thread_code x.paths a)
     b_inside : EntersSection x b (thread_code x.paths b)
 
@@ -40,7 +40,7 @@ module _ {x : Execution} {o : FinalState} (candidate : IsCandidate x86_language 
   BothInside-symmetric a b both = record {
     first = both.second;
     second = both.first;
-    apart = λ same. both.apart (sym same);
+    threads_differ = λ same. both.threads_differ (sym same);
     a_inside = both.b_inside;
     b_inside = both.a_inside;
   }
@@ -102,7 +102,7 @@ module _ {x : Execution} {o : FinalState} (candidate : IsCandidate x86_language 
                 both.first,
                 both.second,
                 threads_differ,
-                both.apart,
+                both.threads_differ,
               ) in
               inr (is ∙ ap (λ t. event t 10) same_thread))
         ]
@@ -175,7 +175,7 @@ module _ {x : Execution} {o : FinalState} (candidate : IsCandidate x86_language 
           (record { on_location = 0; write = is.write; read = a_loads; source_is = from }) in
           let up =
           axioms.happens_before.increases (event b 10) (event a 8)
-          (inr (inl (record { rf = rf; threads_differ = λ same. both.apart (sym same) }))) in
+          (inr (inl (record { rf = rf; threads_differ = λ same. both.threads_differ (sym same) }))) in
           omega (arith, up, a_load_before_store, a_store_before_b_load, b_load_before_store))
     ])
 
@@ -189,7 +189,7 @@ module _ {x : Execution} {o : FinalState} (candidate : IsCandidate x86_language 
           on_location = 0;
           read = b_loads;
           write = a_stores;
-          events_differ = λ same. both.apart (sym (ap (λ (z : MemoryEvent). z.thread) same));
+          events_differ = λ same. both.threads_differ (sym (ap (λ (z : MemoryEvent). z.thread) same));
           source_before = λ w is_some. absurd (none-some w (sym from ∙ is_some));
         } in
         omega (arith, axioms.happens_before.increases (event b 8) (event a 10) (inr (inr (inr fr))), a_store_before_b_load))
@@ -215,7 +215,7 @@ module _ {x : Execution} {o : FinalState} (candidate : IsCandidate x86_language 
         | inl is ↦
             absurd (let up = most (event b 10) b_stores in
             elim (Co_total-of_writes candidate axioms.coherence (event a 10) (event b 10) 0 a_stores b_stores) [
-              | inl same ↦ both.apart (ap (λ (z : MemoryEvent). z.thread) same)
+              | inl same ↦ both.threads_differ (ap (λ (z : MemoryEvent). z.thread) same)
               | inr (inl co) ↦ omega (arith, co.co_lt, up, ap x.co is)
               | inr (inr co) ↦ omega (
                 arith,
@@ -248,7 +248,7 @@ module _ {x : Execution} {o : FinalState} (candidate : IsCandidate x86_language 
       let both : BothInside 0 1 = record {
         first = omega arith;
         second = omega arith;
-        apart = λ same. omega (arith, same);
+        threads_differ = λ same. omega (arith, same);
         a_inside = EntersSection-esi_is_one 0 (omega arith) first;
         b_inside = EntersSection-esi_is_one 1 (omega arith) second;
       } in

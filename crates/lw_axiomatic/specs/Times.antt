@@ -33,7 +33,7 @@ module _ (test : X86Test) (x : Execution) (done reached : MemoryEvent → ℕ) w
     pub at_once : (e : MemoryEvent) → operation_is x86_language test is_store e ≡ false → reached e ≡ done e
     pub ppo : (a b : MemoryEvent) → Ppo x86_language test x a b → reached a < reached b
     pub co : (w v : MemoryEvent) → Co x86_language test x w v → reached w < reached v
-    pub apart : (a b : MemoryEvent) → IsEvent x a → IsEvent x b → reached a ≡ reached b → a ≡ b
+    pub reached_injective : (a b : MemoryEvent) → IsEvent x a → IsEvent x b → reached a ≡ reached b → a ≡ b
     pub newest : (r : MemoryEvent) (l : ℕ) → Reads x86_language test x r l → IsNewest r l (x.rf r)
 
 -- The execution has times: when each event executes, and when it reaches memory.

@@ -71,7 +71,7 @@ preamble = (
   record {
     blanks = codes " ";
     parts = refl;
-    apart = omega arith;
+    blanks_not_empty = omega arith;
     blank = (refl, tt);
     is_name = record {
       not_empty = omega arith;

@@ -45,7 +45,7 @@ IsMade-each_form x to Goto (_, (l, _)) =
 pub source_forms_are_spelled : IsSpelling source_spelling statement_of_operands
 source_forms_are_spelled = record {
   countable = omega arith;
-  apart = refl;
+  disjoint = refl;
   statements = refl;
   names = refl;
   clear = refl;

@@ -71,7 +71,7 @@ pub use Rattle.lw_statements.specs.Bindings.{AcceptAtMost, BeginsWith, CanFill, 
 pub use Rattle.lw_statements.specs.Bindings.{IsAcceptedLength, IsDrafted, IsFirstRejected, IsLocationSlot}
 pub use Rattle.lw_statements.specs.Bindings.{IsLongestAccepted, IsMade, IsNameAmong, IsNotDrafted}
 pub use Rattle.lw_statements.specs.Bindings.{IsOverflowSlot, IsRegisterSlot, IsSlotAfter, IsSpelling}
-pub use Rattle.lw_statements.specs.Bindings.{all_apart, are_clear_forms, are_disjoint_forms, bind_slot}
+pub use Rattle.lw_statements.specs.Bindings.{all_disjoint, are_clear_forms, are_disjoint_forms, bind_slot}
 pub use Rattle.lw_statements.specs.Bindings.{bindings_of, draft_of, draft_on, has_at_most_one_location_slot}
 pub use Rattle.lw_statements.specs.Bindings.{has_no_location_slot, is_label_last, is_no_colon, is_no_location}
 pub use Rattle.lw_statements.specs.Bindings.{is_operand_slot, is_register_free, is_statement, is_word_slot}

@@ -258,10 +258,10 @@ module _ {W Form Stmt : Type 0} (spelling : Spelling W Form Stmt) where
   are_disjoint_forms (a ∷ first) (b ∷ second) = tokens_differ a b || are_disjoint_forms first second
 
   -- Tests whether no tokens fill two of the forms.
-  abbrev pub all_apart : List Form → Bool
-  all_apart [] = true
-  all_apart (form ∷ forms) =
-      list_all (λ other. are_disjoint_forms (spelling.slots_of form) (spelling.slots_of other)) forms && all_apart forms
+  abbrev pub all_disjoint : List Form → Bool
+  all_disjoint [] = true
+  all_disjoint (form ∷ forms) =
+      list_all (λ other. are_disjoint_forms (spelling.slots_of form) (spelling.slots_of other)) forms && all_disjoint forms
 
   -- Tests whether the first of these slots, if there is one, is not a `:`.
   abbrev pub is_no_colon : List (Slot W) → Bool
@@ -334,13 +334,13 @@ module _ {W Form Stmt : Type 0} (spelling : Spelling W Form Stmt) where
         → AllByRecursion IsRegisterIndex (registers_of (spelling.language.operation_of (spelling.statement x to form f)))
         × AllByRecursion IsWordNumber (numbers_of (spelling.language.operation_of (spelling.statement x to form f)))
 
-  -- What the rule of cells requires of a spelling. `countable`: the number of statements of a thread is below 2^64. `apart`: no tokens fill
-  -- two forms. `statements`: each form has a first slot, no `:` in the second, and a label's slot only as the last. `names`: each has at
-  -- most one location. `clear`: where one form has a location or a register, no other has a word that is a location's name. `words`: no
+  -- What the rule of cells requires of a spelling. `countable`: the number of statements of a thread is below 2^64. `disjoint`: no tokens
+  -- fill two forms. `statements`: each form has a first slot, no `:` in the second, and a label's slot only as the last. `names`: each has
+  -- at most one location. `clear`: where one form has a location or a register, no other has a word that is a location's name. `words`: no
   -- keyword is a register's name. `makes_statements`: the statement of a form results from the operands of its tokens.
   pub record IsSpelling (made : Form → Operands → Option Stmt) : Type 0 where
     pub countable : spelling.language.most < 2 ^ 64
-    pub apart : all_apart spelling.forms ≡ true
+    pub disjoint : all_disjoint spelling.forms ≡ true
     pub statements : list_all (λ form. is_statement (spelling.slots_of form) && is_label_last (spelling.slots_of form)) spelling.forms ≡ true
     pub names : list_all (λ form. has_at_most_one_location_slot (spelling.slots_of form)) spelling.forms ≡ true
     pub clear : all_clear spelling.forms ≡ true

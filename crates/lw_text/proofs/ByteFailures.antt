@@ -208,7 +208,7 @@ not-FailsInTestName-if_parsed text r name after c (no_name all end p) is =
     blanks_end is.blanks name after (subst (AllByRecursion (λ b. is_blank b ≡ true)) is.parts all)
     (All-mono _ _ (λ b e. graphic_no_blank b e) name is.is_name.are_graphic_bytes) is.is_name.not_empty
 not-FailsInTestName-if_parsed text r name after c (no_blank some other at p) is =
-    false≢true (sym other ∙ blank_first text is.blanks (name ++ after) is.parts is.apart is.blank)
+    false≢true (sym other ∙ blank_first text is.blanks (name ++ after) is.parts is.blanks_not_empty is.blank)
 not-FailsInTestName-if_parsed text r name after c (bad_name blanks word later e f some are plain has longest not_name p) is =
     not_name (subst IsTestName
     (ParsesTestName-parts text blanks r word later e are (ap (first_byte_is is_blank) f ∙ plain_front word later plain has) f

@@ -52,7 +52,7 @@ pub record ListKind (X Y : Type 0) : Type 1 where
   pub same : (names : NameTable) (x : X) → syntax (at names x) ≡ site_by_name names (site x)
   pub stable : (names ns : NameTable) (x : X) → IsIn names (site x) → at (insert_names names ns) x ≡ at names x
   pub deterministic : IsDeterministic parses
-  pub apart : semicolon ≡ close → ⊥
+  pub separator_is_not_close : semicolon ≡ close → ⊥
   pub unlike : (ts r l : TokenList) (x : Y) → ts ≡ close ∷ l → parses ts x r → ⊥
 
 module _ {X Y : Type 0} (kind : ListKind X Y) where
@@ -104,8 +104,8 @@ module _ {X Y : Type 0} (kind : ListKind X Y) where
   -- The parse of a list is unique.
   pub ParsesList-unique : IsDeterministic ParsesList
   ParsesList-unique ts a b r s p q =
-      ParsesSepEndBy-unique kind.parses semicolon kind.close kind.deterministic kind.apart kind.unlike a b p.0 r s p.2
-      (ParsesList-after_opening ts p.0 p.1 b s q)
+      ParsesSepEndBy-unique kind.parses semicolon kind.close kind.deterministic kind.separator_is_not_close kind.unlike a b p.0 r
+      s p.2 (ParsesList-after_opening ts p.0 p.1 b s q)
 
 -- One more element x was read, from `here` to `mid`, and its name inserted into the table.
 pub record IsReadElement {X Y : Type 0} (kind : ListKind X Y) (names after : NameTable) (here mid : TokenList)
@@ -136,8 +136,8 @@ module _ {X Y : Type 0} {kind : ListKind X Y} {first names ts here : TokenList} 
       → ⊥
   no_list-if_no_element no_end never ys rest w all few =
       let before = map (kind.at names) xs in
-      not-ParsesSepEndBy-if_no_element kind.parses semicolon kind.close kind.deterministic kind.apart kind.unlike before ys
-      read.start here rest read.listing (no_end rest) (λ y more mid e p.
+      not-ParsesSepEndBy-if_no_element kind.parses semicolon kind.close kind.deterministic kind.separator_is_not_close kind.unlike
+      before ys read.start here rest read.listing (no_end rest) (λ y more mid e p.
       let f =
       ap (map kind.syntax) e
       ∙ map-append kind.syntax before (y ∷ more)
@@ -157,8 +157,9 @@ module _ {X Y : Type 0} {kind : ListKind X Y} {first names ts here : TokenList} 
       → ((l : TokenList) → mid ≡ kind.close ∷ l → ⊥)
       → ParsesNothing (ParsesList kind ts)
   no_list-if_no_separator x mid p no_sep no_close ys rest w =
-      not-ParsesSepEndBy-if_no_mark kind.parses semicolon kind.close kind.deterministic kind.apart kind.unlike _ ys read.start
-      here mid rest x read.listing p no_sep no_close (ParsesList-after_opening kind ts read.start read.begun ys rest w)
+      not-ParsesSepEndBy-if_no_mark kind.parses semicolon kind.close kind.deterministic kind.separator_is_not_close kind.unlike _
+      ys read.start here mid rest x read.listing p no_sep no_close
+      (ParsesList-after_opening kind ts read.start read.begun ys rest w)
 
   -- One more element.
   module _ {after : NameTable} {x : X} {mid : TokenList} (more : IsReadElement kind names after here mid x) where

@@ -28,7 +28,7 @@ initializer_kind arch = record {
   same = λ names e. refl;
   stable = named_initializer-insert_names;
   deterministic = IsInitializer-unique arch;
-  apart = not-equal-if_bytes_differ semicolon brace refl;
+  separator_is_not_close = not-equal-if_bytes_differ semicolon brace refl;
   unlike = λ ts r l e at p. no_site brace refl arch ts l p.0 e.site at p.1;
 }
 
@@ -69,7 +69,7 @@ site_kind arch threads = record {
   same = λ names s. refl;
   stable = site_by_name-insert_names;
   deterministic = IsSite-unique arch;
-  apart = not-equal-if_bytes_differ semicolon bracket refl;
+  separator_is_not_close = not-equal-if_bytes_differ semicolon bracket refl;
   unlike = λ ts r l s at p. no_site bracket refl arch ts l r s at p;
 }
 

@@ -34,7 +34,7 @@ record ParsesSingleToken (ts : TokenList) (s : Terminal AtomSyntax) (rest : Toke
   pub word : Bytes
   pub tokens_are : ts ≡ word ∷ rest
   pub terminal_is : terminal_word word ≡ Some s
-  pub apart : starts_no_site word ≡ true
+  pub word_starts_no_site : starts_no_site word ≡ true
 
 -- The tokens start with an atom: a site, and its value after it.
 record ParsesAtom (arch : Arch) (threads : ℕ) (ts : TokenList) (s : Terminal AtomSyntax) (rest : TokenList) : Type 0 where
@@ -49,20 +49,22 @@ record ParsesAtom (arch : Arch) (threads : ℕ) (ts : TokenList) (s : Terminal A
 terminal_front : (arch : Arch) (threads : ℕ) (ts rest : TokenList) (s : Terminal AtomSyntax)
     → IsTerminal arch threads ts s rest
     → ParsesSingleToken ts s rest ⊎ ParsesAtom arch threads ts s rest
-terminal_front arch threads ts rest Open e = inl (record { word = codes "("; tokens_are = e; terminal_is = refl; apart = refl })
-terminal_front arch threads ts rest Close e = inl (record { word = codes ")"; tokens_are = e; terminal_is = refl; apart = refl })
+terminal_front arch threads ts rest Open e =
+    inl (record { word = codes "("; tokens_are = e; terminal_is = refl; word_starts_no_site = refl })
+terminal_front arch threads ts rest Close e =
+    inl (record { word = codes ")"; tokens_are = e; terminal_is = refl; word_starts_no_site = refl })
 terminal_front arch threads ts rest Negation (inl e) =
-    inl (record { word = codes "~"; tokens_are = e; terminal_is = refl; apart = refl })
+    inl (record { word = codes "~"; tokens_are = e; terminal_is = refl; word_starts_no_site = refl })
 terminal_front arch threads ts rest Negation (inr e) =
-    inl (record { word = codes "not"; tokens_are = e; terminal_is = refl; apart = refl })
+    inl (record { word = codes "not"; tokens_are = e; terminal_is = refl; word_starts_no_site = refl })
 terminal_front arch threads ts rest Conjunction e =
-    inl (record { word = codes "/\\"; tokens_are = e; terminal_is = refl; apart = refl })
+    inl (record { word = codes "/\\"; tokens_are = e; terminal_is = refl; word_starts_no_site = refl })
 terminal_front arch threads ts rest Disjunction e =
-    inl (record { word = codes "\\/"; tokens_are = e; terminal_is = refl; apart = refl })
+    inl (record { word = codes "\\/"; tokens_are = e; terminal_is = refl; word_starts_no_site = refl })
 terminal_front arch threads ts rest (Atom Always) e =
-    inl (record { word = codes "true"; tokens_are = e; terminal_is = refl; apart = refl })
+    inl (record { word = codes "true"; tokens_are = e; terminal_is = refl; word_starts_no_site = refl })
 terminal_front arch threads ts rest (Atom Never) e =
-    inl (record { word = codes "false"; tokens_are = e; terminal_is = refl; apart = refl })
+    inl (record { word = codes "false"; tokens_are = e; terminal_is = refl; word_starts_no_site = refl })
 terminal_front arch threads ts rest (Atom (Holds site n)) p =
     inr (record { site = site; n = n; mid = p.0; terminal_is = refl; site_is = p.1; value = p.3 })
 
@@ -72,7 +74,7 @@ pub no_terminal-if_site_has_no_value : (arch : Arch) (threads : ℕ) (ts mid : T
     → ParsesNothing (Value mid)
     → ParsesNothing (IsTerminal arch threads ts)
 no_terminal-if_site_has_no_value arch threads ts mid site p never s rest is = elim (terminal_front arch threads ts rest s is) [
-  | inl w ↦ no_site w.word w.apart arch ts rest mid site w.tokens_are p
+  | inl w ↦ no_site w.word w.word_starts_no_site arch ts rest mid site w.tokens_are p
   | inr w ↦ never w.n rest (subst (λ l. Value l w.n rest) (IsSite-unique arch ts w.site site w.mid mid w.site_is p).1 w.value)
 ]
 
@@ -85,10 +87,10 @@ IsTerminal-unique arch threads ts a b r s p q = elim (terminal_front arch thread
         let f = w.tokens_are in
         let k : v.word ≡ w.word = cc in
         (cc, cc)
-    | inr w ↦ absurd (no_site v.word v.apart arch ts r w.mid w.site v.tokens_are w.site_is)
+    | inr w ↦ absurd (no_site v.word v.word_starts_no_site arch ts r w.mid w.site v.tokens_are w.site_is)
   ]
   | inr v ↦ elim (terminal_front arch threads ts s b q) [
-    | inl w ↦ absurd (no_site w.word w.apart arch ts s v.mid v.site w.tokens_are v.site_is)
+    | inl w ↦ absurd (no_site w.word w.word_starts_no_site arch ts s v.mid v.site w.tokens_are v.site_is)
     | inr w ↦
         let e = IsSite-unique arch ts v.site w.site v.mid w.mid v.site_is w.site_is in
         let f = Value-unique v.mid r s v.n w.n v.value (subst (λ l. Value l w.n s) (sym e.1) w.value) in

@@ -12,7 +12,7 @@ use Rattle.lw_text.specs.Tokens.{Trivia, IsFirstToken}
 pub record ParsesTestName (text name rest : Bytes) : Type 0 where
   pub blanks : Bytes
   pub parts : text ≡ blanks ++ (name ++ rest)
-  pub apart : 0 < length blanks
+  pub blanks_not_empty : 0 < length blanks
   pub blank : AllByRecursion (λ b. is_blank b ≡ true) blanks
   pub is_name : IsTestName name
   pub longest : first_byte_is (λ b. not (is_blank b)) rest ≡ false

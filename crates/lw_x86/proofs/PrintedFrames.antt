@@ -249,7 +249,7 @@ module _ (p : X86Test) (well : IsWellFormedProgram p) where
     record {
       blanks = codes " ";
       parts = refl;
-      apart = omega arith;
+      blanks_not_empty = omega arith;
       blank = (refl, tt);
       is_name = well.head.name;
       longest = refl;

@@ -33,7 +33,7 @@ IsMade-each_form x to form f =
 pub x86_forms_are_spelled : IsSpelling x86_spelling instruction_of_operands
 x86_forms_are_spelled = record {
   countable = omega arith;
-  apart = refl;
+  disjoint = refl;
   statements = refl;
   names = refl;
   clear = refl;

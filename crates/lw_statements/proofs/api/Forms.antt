@@ -7,7 +7,7 @@ use Rattle.lw_statements.proofs.Common.{none-some, All-from_recursion, IsLocatio
 use Rattle.lw_statements.proofs.Common.{IsWordNumber, Bytes, TokenList, registers_of, numbers_of, Operation}
 use Rattle.lw_statements.proofs.Common.{Operands, Slot, Register, Location, Value, Number, IsGrammar}
 use Rattle.lw_statements.proofs.Common.{Spelling, Filling, Gives, Fills, ParsesStatement, grammar_of, name_in}
-use Rattle.lw_statements.proofs.Common.{are_disjoint_forms, all_apart, is_statement, is_label_last}
+use Rattle.lw_statements.proofs.Common.{are_disjoint_forms, all_disjoint, is_statement, is_label_last}
 use Rattle.lw_statements.proofs.Common.{registers_in, numbers_in, IsSpelling}
 use Rattle.lw_statements.proofs.Slots.{Fills-unique, not-Fills-disjoint, colon_gives}
 use Rattle.lw_base.specs.declared.operand.Operand.TheVariants as operand
@@ -32,25 +32,25 @@ module _ {W Form Stmt : Type 0} (spelling : Spelling W Form Stmt) where
     are_others form other = are_disjoint_forms spelling (spelling.slots_of form) (spelling.slots_of other)
 
     -- Two forms of a list in which all differ are equal, if the same tokens fill both.
-    form_unique : (forms : List Form) → all_apart spelling forms ≡ true → Contains forms a → Contains forms b → a ≡ b
+    form_unique : (forms : List Form) → all_disjoint spelling forms ≡ true → Contains forms a → Contains forms b → a ≡ b
     form_unique [] all (i, less, e) there = absurd (omega (arith, less))
     form_unique (form ∷ forms) all (zero, less, e) (zero, more, h) = sym e ∙ h
     form_unique (form ∷ forms) all (zero, less, e) (suc j, more, h) =
         let others =
-        list_all-get (are_others form) forms j b (and_parts (list_all (are_others form) forms) (all_apart spelling forms) all).0
-        (omega (arith, more)) h in
+        list_all-get (are_others form) forms j b
+        (and_parts (list_all (are_others form) forms) (all_disjoint spelling forms) all).0 (omega (arith, more)) h in
         absurd (not-Fills-disjoint spelling ts (spelling.slots_of a) (spelling.slots_of b) f g (rw e at others) x y)
     form_unique (form ∷ forms) all (suc i, less, e) (zero, more, h) =
         let others =
-        list_all-get (are_others form) forms i a (and_parts (list_all (are_others form) forms) (all_apart spelling forms) all).0
-        (omega (arith, less)) e in
+        list_all-get (are_others form) forms i a
+        (and_parts (list_all (are_others form) forms) (all_disjoint spelling forms) all).0 (omega (arith, less)) e in
         absurd (not-Fills-disjoint spelling ts (spelling.slots_of b) (spelling.slots_of a) g f (rw h at others) y x)
     form_unique (form ∷ forms) all (suc i, less, e) (suc j, more, h) =
-        form_unique forms (and_parts (list_all (are_others form) forms) (all_apart spelling forms) all).1
+        form_unique forms (and_parts (list_all (are_others form) forms) (all_disjoint spelling forms) all).1
         (i, omega (arith, less), e) (j, omega (arith, more), h)
 
   -- Tokens say at most one statement.
-  ParsesStatement-unique : all_apart spelling spelling.forms ≡ true
+  ParsesStatement-unique : all_disjoint spelling spelling.forms ≡ true
       → (ts : TokenList) (s t : ParsesStatement spelling)
       → (grammar_of spelling).says ts s
       → (grammar_of spelling).says ts t
@@ -149,7 +149,7 @@ module _ {W Form Stmt : Type 0} (spelling : Spelling W Form Stmt) where
     pub IsGrammar-of_spelling : IsGrammar (grammar_of spelling)
     IsGrammar-of_spelling = record {
       countable = lawful.countable;
-      deterministic = ParsesStatement-unique lawful.apart;
+      deterministic = ParsesStatement-unique lawful.disjoint;
       some = λ ts s says none.
           not-empty-is_statement (spelling.slots_of s.form) s.filling (well_spelled s.form says.0).0
           (subst (λ (us : TokenList). Fills spelling us (spelling.slots_of s.form) s.filling) none says.1);

@@ -32,7 +32,7 @@ returns-then-is_empty-2-clause-reads c =
     let none : length c.prefix_of_kind.result.0.now ≡ 0 = grind (arith, nat_tests) in (
       λ n r p.
           let k = ParsesTestName-parts _ _ _ _ _ b.parts b.bytes_pass b.longest u.parts u.bytes_pass u.longest n r p in
-          omega (arith, none, p.apart, ap length k.0),
+          omega (arith, none, p.blanks_not_empty, ap length k.0),
       omega arith,
       record {
         rest = c.args.self.now.rest.now;
@@ -111,7 +111,7 @@ returns-clause-reads c =
           c.prefix_of_kind.ensures.parts
           ∙ ap (λ x. space ++ x)
           (c.prefix_of_kind-2.ensures.parts ∙ ap (λ x. x ++ c.prefix_of_kind-2.result.1.now) (sym c.ascii_text.ensures));
-      apart = grind (arith, nat_tests);
+      blanks_not_empty = grind (arith, nat_tests);
       blank = c.prefix_of_kind.ensures.bytes_pass;
       is_name = subst IsTestName (sym c.ascii_text.ensures) (c.if-not-is_test_name.ensures.0 refl);
       longest = c.prefix_of_kind-2.ensures.longest;
