@@ -220,7 +220,7 @@ HasFrame-store_buffering = record {
   stream = Tokens-store_buffering;
   parts = ParsesTest-store_buffering;
   proposition = Derives-both_loads_early;
-  made = refl;
+  frame_is = refl;
 }
 
 -- ---- the cells
@@ -287,7 +287,7 @@ HasProgram-store_buffering = record {
     (Column-store_and_load (codes "y") (codes "x") y_index x_index, tt),
   );
   bounded = omega arith;
-  made = refl;
+  test_is = refl;
 }
 
 -- The text of the example says store buffering in x86.

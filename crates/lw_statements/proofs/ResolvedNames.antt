@@ -41,7 +41,7 @@ module _ {Syntax Stmt : Type 0} (grammar : Grammar Syntax Stmt) where
           → AreIn table (named_by grammar s)
           → resolved_statement grammar (insert_names table more) t s ≡ resolved_statement grammar table t s
       resolved_statement-insert_names table more s there =
-          ap (λ (x : ℕ). grammar.made x (resolved_target t (grammar.label_of s)) s)
+          ap (λ (x : ℕ). grammar.statement_of x (resolved_target t (grammar.label_of s)) s)
           (location_index-insert_names table more _ there)
 
   module _ (lawful : IsGrammar grammar) where

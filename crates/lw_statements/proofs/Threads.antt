@@ -112,5 +112,5 @@ module _ {Syntax Stmt : Type 0} (grammar : Grammar Syntax Stmt) where
         threads = read.syntax;
         says = read.says;
         bounded = rw grown at few;
-        made = rw (zeros, read.made, same, ← grown) refl;
+        test_is = rw (zeros, read.made, same, ← grown) refl;
       }

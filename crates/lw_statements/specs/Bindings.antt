@@ -323,8 +323,8 @@ module _ {W Form Stmt : Type 0} (spelling : Spelling W Form Stmt) where
 
   -- The statement of a form results from the operands of its tokens; it accesses the location of its name, jumps to where its label does,
   -- and has the registers and numbers of its tokens.
-  pub record IsMade (made : Form → Operands → Option Stmt) (x to : ℕ) (form : Form) (f : Filling (spelling.slots_of form)) : Type 0 where
-    pub statement_is : made form (operands_of x (option_map (λ l. to) (label_in (spelling.slots_of form) f)) (bindings_of 0 (spelling.slots_of form) f)) ≡ Some
+  pub record IsMade (statement_of : Form → Operands → Option Stmt) (x to : ℕ) (form : Form) (f : Filling (spelling.slots_of form)) : Type 0 where
+    pub statement_is : statement_of form (operands_of x (option_map (λ l. to) (label_in (spelling.slots_of form) f)) (bindings_of 0 (spelling.slots_of form) f)) ≡ Some
         (spelling.statement x to form f)
     pub located : location_of (spelling.language.operation_of (spelling.statement x to form f)) ≡ option_map (λ n. x) (name_in (spelling.slots_of form) f)
     pub target_is : branch_target (spelling.language.operation_of (spelling.statement x to form f)) ≡ option_map (λ l. to) (label_in (spelling.slots_of form) f)
@@ -338,11 +338,11 @@ module _ {W Form Stmt : Type 0} (spelling : Spelling W Form Stmt) where
   -- fill two forms. `statements`: each form has a first slot, no `:` in the second, and a label's slot only as the last. `names`: each has
   -- at most one location. `clear`: where one form has a location or a register, no other has a word that is a location's name. `words`: no
   -- keyword is a register's name. `makes_statements`: the statement of a form results from the operands of its tokens.
-  pub record IsSpelling (made : Form → Operands → Option Stmt) : Type 0 where
+  pub record IsSpelling (statement_of : Form → Operands → Option Stmt) : Type 0 where
     pub countable : spelling.language.most < 2 ^ 64
     pub disjoint : all_disjoint spelling.forms ≡ true
     pub statements : list_all (λ form. is_statement (spelling.slots_of form) && is_label_last (spelling.slots_of form)) spelling.forms ≡ true
     pub names : list_all (λ form. has_at_most_one_location_slot (spelling.slots_of form)) spelling.forms ≡ true
     pub clear : all_clear spelling.forms ≡ true
     pub words : list_all (λ form. is_register_free (spelling.slots_of form)) spelling.forms ≡ true
-    pub makes_statements : (x to : ℕ) (form : Form) (f : Filling (spelling.slots_of form)) → IsMade made x to form f
+    pub makes_statements : (x to : ℕ) (form : Form) (f : Filling (spelling.slots_of form)) → IsMade statement_of x to form f

@@ -82,7 +82,7 @@ module _ {Syntax Stmt : Type 0} (grammar : Grammar Syntax Stmt) where
   -- The resolved statement, with its location's index in a table, and the index of the statement that its label targets.
   abbrev pub resolved_statement : NameTable → List (CellSyntax Syntax) → Syntax → Stmt
   resolved_statement names syntaxes s =
-      grammar.made (location_index names (grammar.name_of s)) (resolved_target syntaxes (grammar.label_of s)) s
+      grammar.statement_of (location_index names (grammar.name_of s)) (resolved_target syntaxes (grammar.label_of s)) s
 
   -- A thread's code: the statements of its cells, resolved.
   abbrev pub code_in : NameTable → List (CellSyntax Syntax) → List Stmt
@@ -99,4 +99,4 @@ module _ {Syntax Stmt : Type 0} (grammar : Grammar Syntax Stmt) where
     pub threads : List (List (CellSyntax Syntax))
     pub says : AllZip Column frame.cells threads
     pub bounded : length (insert_names frame.head.locs (names_of threads)) ≤ most_locations
-    pub made : test ≡ resolve_test frame.head (insert_names frame.head.locs (names_of threads)) threads
+    pub test_is : test ≡ resolve_test frame.head (insert_names frame.head.locs (names_of threads)) threads

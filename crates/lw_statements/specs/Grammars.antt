@@ -21,7 +21,7 @@ pub record Grammar (Syntax Stmt : Type 0) : Type 1 where
   pub name_of : Syntax → Option Bytes
   pub label_of : Syntax → Option Bytes
   -- The statement, from the index of its location and its target.
-  pub made : ℕ → ℕ → Syntax → Stmt
+  pub statement_of : ℕ → ℕ → Syntax → Stmt
 
 module _ {Syntax Stmt : Type 0} (grammar : Grammar Syntax Stmt) where
   -- The language of a grammar's tests.
@@ -64,10 +64,10 @@ module _ {Syntax Stmt : Type 0} (grammar : Grammar Syntax Stmt) where
     pub some : (ts : TokenList) (s : Syntax) → grammar.says ts s → ts ≡ [] → ⊥
     pub no_label : (ts : TokenList) (s : Syntax) → grammar.says ts s → slice_get ts 1 ≡ Some (codes ":") → ⊥
     -- A statement accesses the location of its name, and jumps to where its label does.
-    pub located : (x to : ℕ) (s : Syntax) → location_of (grammar.language.operation_of (grammar.made x to s)) ≡ option_map (λ n. x) (grammar.name_of s)
-    pub target_is : (x to : ℕ) (s : Syntax) → branch_target (grammar.language.operation_of (grammar.made x to s)) ≡ option_map (λ l. to) (grammar.label_of s)
+    pub located : (x to : ℕ) (s : Syntax) → location_of (grammar.language.operation_of (grammar.statement_of x to s)) ≡ option_map (λ n. x) (grammar.name_of s)
+    pub target_is : (x to : ℕ) (s : Syntax) → branch_target (grammar.language.operation_of (grammar.statement_of x to s)) ≡ option_map (λ l. to) (grammar.label_of s)
     -- Its registers are registers of a thread, and its numbers are words.
     pub registers : (ts : TokenList) (x to : ℕ) (s : Syntax) → grammar.says ts s
-        → All IsRegisterIndex (registers_of (grammar.language.operation_of (grammar.made x to s)))
+        → All IsRegisterIndex (registers_of (grammar.language.operation_of (grammar.statement_of x to s)))
     pub numbers : (ts : TokenList) (x to : ℕ) (s : Syntax) → grammar.says ts s
-        → All IsWordNumber (numbers_of (grammar.language.operation_of (grammar.made x to s)))
+        → All IsWordNumber (numbers_of (grammar.language.operation_of (grammar.statement_of x to s)))

@@ -84,5 +84,5 @@ module _ {W Form Stmt : Type 0} (spelling : Spelling W Form Stmt) where
     says = λ ts s. Contains spelling.forms s.form × Fills ts (spelling.slots_of s.form) s.filling;
     name_of = λ s. name_in (spelling.slots_of s.form) s.filling;
     label_of = λ s. label_in (spelling.slots_of s.form) s.filling;
-    made = λ x to s. spelling.statement x to s.form s.filling;
+    statement_of = λ x to s. spelling.statement x to s.form s.filling;
   }

@@ -239,7 +239,7 @@ head_well_formed arch ts name s p allowed parts whole =
 -- The head of a text's frame is well-formed.
 pub frame_well_formed : (text : List ℕ) (f : TestFrame) → HasFrame text f → IsWellFormedHead f.head
 frame_well_formed text f h =
-    subst (λ (g : TestFrame). IsWellFormedHead g.head) (sym h.made)
+    subst (λ (g : TestFrame). IsWellFormedHead g.head) (sym h.frame_is)
     (head_well_formed h.arch h.tokens h.name h.syntax h.condition h.preamble.3.is_name h.parts h.proposition)
 
 -- ---- bodies in memory

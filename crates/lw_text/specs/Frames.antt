@@ -124,4 +124,4 @@ pub record HasFrame (text : Bytes) (frame : TestFrame) : Type 0 where
   pub stream : Tokens rest tokens
   pub parts : ParsesTest arch tokens syntax
   pub proposition : IsProposition (map (resolved (location_table syntax)) syntax.terminals) condition
-  pub made : frame ≡ frame_of_syntax arch name syntax condition
+  pub frame_is : frame ≡ frame_of_syntax arch name syntax condition

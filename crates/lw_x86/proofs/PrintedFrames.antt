@@ -278,5 +278,5 @@ module _ (p : X86Test) (well : IsWellFormedProgram p) where
     proposition =
         subst (λ (names : NameTable). IsProposition (map (resolved names) (terminals_in p.head)) p.head.condition)
         (sym location_table-of_syntax) IsProposition-of_condition;
-    made = frame_of_syntax-printed;
+    frame_is = frame_of_syntax-printed;
   }

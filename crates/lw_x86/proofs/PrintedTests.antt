@@ -83,7 +83,7 @@ module _ (p : X86Test) (well : IsWellFormedProgram p) where
     threads = syntaxes_of_threads;
     says = (AllZip-Column_of_threads p.threads HasEnoughRows-of_test).0;
     bounded = omega (arith, ap length insert_names-no_new_name, well.head.table.bounded);
-    made = sym resolve_test-printed;
+    test_is = sym resolve_test-printed;
   }
 
   -- The canonical text of a well-formed program says that program.

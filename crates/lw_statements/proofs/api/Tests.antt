@@ -40,9 +40,9 @@ module _ {Syntax Stmt : Type 0} (grammar : Grammar Syntax Stmt) (lawful : IsGram
   pub test-unique : (frame : TestFrame) (s t : Test Stmt) → FrameHasTest grammar frame s → FrameHasTest grammar frame t → s ≡ t
   test-unique frame s t h k =
       let same = AllZip-unique _ (Column-unique grammar lawful) frame.cells h.threads k.threads h.says k.says in
-      h.made
+      h.test_is
       ∙ ap (λ ts. resolve_test grammar frame.head (insert_names frame.head.locs (names_of grammar ts)) ts) same
-      ∙ sym k.made
+      ∙ sym k.test_is
 
   -- Each statement of a column is said by some tokens.
   HaveTokens-Column : (cells : Cells) (t : List (CellSyntax Syntax))
@@ -103,7 +103,7 @@ module _ {Syntax Stmt : Type 0} (grammar : Grammar Syntax Stmt) (lawful : IsGram
               (IsLocationName-all_names frame.cells h.threads h.says);
           without_duplicates = IsDuplicateFree-insert_names frame.head.locs added formed.table.without_duplicates;
         } in
-        subst (IsWellFormed grammar.language) (sym h.made) (record {
+        subst (IsWellFormed grammar.language) (sym h.test_is) (record {
           head = set_location_names-well_formed _ names formed table (insert_names-longer frame.head.locs added);
           arch = h.arch;
           as_many =

@@ -21,13 +21,14 @@ HasFrame-unique text f g p q =
     q.proposition in
     let arch : p.arch ≡ q.arch = head.0 in
     let name : p.name ≡ q.name = head.1 in
-    p.made
+    p.frame_is
     ∙ ap (λ (a : Arch). frame_of_syntax a p.name p.syntax p.condition) arch
     ∙ ap (λ n. frame_of_syntax q.arch n p.syntax p.condition) name
     ∙ ap (λ (s : TestSyntax). frame_of_syntax q.arch q.name s p.condition) syntax
     ∙ ap (λ (c : Formula). frame_of_syntax q.arch q.name q.syntax c) condition
-    ∙ sym q.made
+    ∙ sym q.frame_is
 
 -- A frame has a column of cells for each thread.
 pub frame_columns : (text : Bytes) (f : TestFrame) → HasFrame text f → length f.cells ≡ f.head.threads
-frame_columns text f p = ap (λ g. length g.cells) p.made ∙ length-map-range_with_len _ 0 _ ∙ sym (ap (λ g. g.head.threads) p.made)
+frame_columns text f p =
+    ap (λ g. length g.cells) p.frame_is ∙ length-map-range_with_len _ 0 _ ∙ sym (ap (λ g. g.head.threads) p.frame_is)

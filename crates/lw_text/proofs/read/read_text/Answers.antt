@@ -129,7 +129,7 @@ returns g c =
         stream = Tokens-with_spans (length c.args.text.now) rest all.tokens stream;
         parts = says.parts;
         proposition = body_proposition arch (token_texts all.tokens) body says;
-        made = TestFrame-eq _ head cells;
+        frame_is = TestFrame-eq _ head cells;
       },
       record {
         arch = arch;
