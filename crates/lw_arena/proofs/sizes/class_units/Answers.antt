@@ -1,5 +1,5 @@
--- Of `class_units`, which returns the number of units of a block of a class. Its bound: a class is at most
--- 59, and powers of two are monotone.
+-- Proves `class_units`, which returns the number of units of a block of a class. Its bound: a class is at
+-- most 59, and powers of two are monotone.
 use Rattle.std.proofs.Common.{arith, pow_mono}
 use Rattle.lw_arena.proofs.sizes.class_units.Goals as goal
 

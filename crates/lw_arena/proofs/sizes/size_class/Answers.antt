@@ -1,5 +1,5 @@
--- Of `size_class`, which returns the class of the block for a size. Its bound: a size is below 2 to the 63,
--- so its last unit has less than 60 binary digits (`FitsClass-of_size`).
+-- Proves `size_class`, which returns the class of the block for a size. Its bound: a size is below 2 to the
+-- 63, so its last unit has less than 60 binary digits (`FitsClass-of_size`).
 use Rattle.std.proofs.Common.{ℕ, ◌-◌, ◌/◌, ◌<◌, subst, sym}
 use Rattle.std.specs.Int.Count.{count_leading_zeros}
 use Rattle.lw_arena.proofs.Classes.{FitsClass-of_size}

@@ -1,4 +1,4 @@
--- Of `prefix_of_kind`, which splits a text after its longest prefix of bytes of a kind. The two parts are
+-- Proves `prefix_of_kind`, which splits a text after its longest prefix of bytes of a kind. The two parts are
 -- `take` and `drop` at the counted index; that the byte after the prefix is of another kind is what
 -- `take_while` promises.
 use Rattle.lw_base.proofs.Common.{sym, take-append-drop, common_steps, arith}

@@ -1,4 +1,4 @@
--- Of the three functions that print a proposition: `write_proposition`, `write_part` and
+-- Proves the three functions that print a proposition: `write_proposition`, `write_part` and
 -- `write_right_operand`, which call each other. Each case is the text of the definition, part by part
 -- (`written-two_parts`); a part is in parentheses if and only if the definition has them (`parenthesized_if-true`,
 -- `parenthesized_if-same_part`).

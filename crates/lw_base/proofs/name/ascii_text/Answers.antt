@@ -1,5 +1,5 @@
--- Of `ascii_text`, which views bytes below 128 as a text. Such bytes are valid UTF-8 (`IsUtf8-from_ascii`),
--- as the unchecked conversion requires.
+-- Proves `ascii_text`, which views bytes below 128 as a text. Such bytes are valid UTF-8
+-- (`IsUtf8-from_ascii`), as the unchecked conversion requires.
 use Rattle.lw_base.proofs.Common.{IsUtf8-from_ascii}
 use Rattle.lw_base.proofs.name.ascii_text.Goals as goal
 

@@ -1,5 +1,5 @@
--- Of `is_location_name`, which says whether a text can name a location. Immediate from the contracts of `is_name`
--- and `is_reserved`.
+-- Proves `is_location_name`, which says whether a text can name a location. Immediate from the contracts of
+-- `is_name` and `is_reserved`.
 use Rattle.lw_base.proofs.Common.{rules}
 use Rattle.lw_base.proofs.name.is_location_name.Goals as goal
 

@@ -1,5 +1,5 @@
--- Of `is_name_shaped`. Immediate: this is the case of a text whose first byte is no digit, so all bytes are
--- tested.
+-- Proves `is_name_shaped`. Immediate: this is the case of a text whose first byte is no digit, so all bytes
+-- are tested.
 use Rattle.lw_base.proofs.Common.{rules}
 use Rattle.lw_base.proofs.name.is_name_shaped.Goals as goal
 

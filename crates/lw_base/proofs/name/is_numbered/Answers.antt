@@ -1,5 +1,5 @@
--- Of `is_numbered`, which says whether bytes are `r` and digits. Immediate: this is the case of a text that
--- begins with `r`.
+-- Proves `is_numbered`, which says whether bytes are `r` and digits. Immediate: this is the case of a text
+-- that begins with `r`.
 use Rattle.lw_base.proofs.Common.{rules}
 use Rattle.lw_base.proofs.name.is_numbered.Goals as goal
 

@@ -1,4 +1,4 @@
--- Of `reg_name`, a table of a name for each register. Two rows by hand, since the definition has the same
+-- Proves `reg_name`, a table of a name for each register. Two rows by hand, since the definition has the same
 -- rows; the search proves the others.
 use Rattle.lw_base.proofs.Common.{rules}
 use Rattle.lw_base.proofs.register.reg_name.Goals as goal

@@ -1,6 +1,6 @@
--- Of `parse_event`: a piece that it rejects is faulty for the returned cause, so it is no event's text. The
--- cases follow the first letter. If there is none, or another one, the piece does not have the shape of an
--- event; after `P`, `D` or `E` the cause is that of the rest.
+-- Proves `parse_event`: a piece that it rejects is faulty for the returned cause, so it is no event's text.
+-- The cases follow the first letter. If there is none, or another one, the piece does not have the shape of
+-- an event; after `P`, `D` or `E` the cause is that of the rest.
 use Rattle.lw_base.proofs.Common.{◌∙◌, subst, refl, IsFaultyPiece, Bytes}
 use Rattle.lw_base.proofs.api.Returns.{Err-clause_propagated}
 use Rattle.lw_base.proofs.Shapes.{not-HasEventShape-nil, IsFaultyPiece-bad_step, IsFaultyPiece-bad_drain}

@@ -1,6 +1,6 @@
--- Of `parse_eviction`, for the text after an `E`: what it rejects is faulty for the returned cause. One lemma
--- for each exit: no `:`, a name that is not shaped as one, bad digits, and a name that is not in the table,
--- in this order.
+-- Proves `parse_eviction`, for the text after an `E`: what it rejects is faulty for the returned cause. One
+-- lemma for each exit: no `:`, a name that is not shaped as one, bad digits, and a name that is not in the
+-- table, in this order.
 use Rattle.lw_base.proofs.Common.{◌∙◌, ap, subst, sym, Some, Contains, false≢true}
 use Rattle.lw_base.proofs.api.Blanks.{name_bytes_ascii}
 use Rattle.lw_base.proofs.api.Returns.{Err-clause_propagated}

@@ -1,4 +1,4 @@
--- Of `read_schedule`: it returns the events of the text, or fails at the first piece that is no event.
+-- Proves `read_schedule`: it returns the events of the text, or fails at the first piece that is no event.
 -- `event_texts-push` adds the piece that was read to those before. At a faulty piece the pieces before it are the
 -- texts of the events read, so the fault is the first one, and the text is no schedule at all
 -- (`not-IsSchedule-if_no_event_text`).

@@ -1,4 +1,4 @@
--- Of `split_at_colon`, which splits a text at its first `:`. The prefix has no `:` and is the longest such
+-- Proves `split_at_colon`, which splits a text at its first `:`. The prefix has no `:` and is the longest such
 -- one, so either nothing follows it (`DoesNotContain-if_no_rest`), or the first `:` does (`IsSplitAtFirst-longest_prefix`).
 use Rattle.lw_base.proofs.api.Returns.{None-clause_known}
 use Rattle.lw_base.proofs.Shapes.{IsSplitAtFirst-longest_prefix, DoesNotContain-if_no_rest}

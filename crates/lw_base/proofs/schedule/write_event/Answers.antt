@@ -1,5 +1,5 @@
--- Of `write_event`, which appends an event's text. This is the case of an eviction: letter, digit, colon and
--- name are written in sequence, and make the text of the definition.
+-- Proves `write_event`, which appends an event's text. This is the case of an eviction: letter, digit, colon
+-- and name are written in sequence, and make the text of the definition.
 use Rattle.lw_base.proofs.Common.{◌≡◌, ◌++◌, ◌∷◌, [], ◌∙◌, ap, arith, refl, string_bytes, digit, event_text}
 use Rattle.lw_base.proofs.Common.{byte, get_or_from_slice_get}
 use Rattle.lw_base.proofs.api.Writing.{written-append, OnOk-push_str, written-two_parts}

@@ -1,4 +1,4 @@
--- Of `write_schedule`, which appends a schedule's text: the first event, and each other one after a space.
+-- Proves `write_schedule`, which appends a schedule's text: the first event, and each other one after a space.
 -- `schedule_text-first_event` begins the loop; each event written is one of the test, as `write_event` requires.
 use Rattle.lw_base.proofs.Common.{◌∙◌, ◌++◌, ap, arith, string_bytes, subst, sym, AllByRecursion}
 use Rattle.lw_base.proofs.Common.{All-from_recursion, IsEvent}

@@ -1,7 +1,7 @@
--- Of `compile`: the result is the compilation of the source, a well-formed program with exactly the source's
--- outcomes over flat memory, whose runs can all be extended to a final state. `SourceOutcome-of_machine` and
--- `schedule_replays` are the two directions of the outcomes; `IsCompiled-of_threads` puts the compiled threads
--- together.
+-- Proves `compile`: the result is the compilation of the source, a well-formed program with exactly the
+-- source's outcomes over flat memory, whose runs can all be extended to a final state.
+-- `SourceOutcome-of_machine` and `schedule_replays` are the two directions of the outcomes;
+-- `IsCompiled-of_threads` puts the compiled threads together.
 use Rattle.lw_fence.proofs.Common.{source_language, source_of, initial_state, compiled_schedule}
 use Rattle.lw_fence.proofs.Common.{IsWellScoped-well_formed}
 use Rattle.lw_fence.proofs.Endings.{CanTerminate-compiled}

@@ -1,5 +1,5 @@
--- Of `compile_thread`: instructions and starts are those of a compiled thread. The three clauses are those of
--- the functions called: the fences are the needed ones, the starts follow from the fences, and the
+-- Proves `compile_thread`: instructions and starts are those of a compiled thread. The three clauses are
+-- those of the functions called: the fences are the needed ones, the starts follow from the fences, and the
 -- instructions from both.
 use Rattle.lw_fence.proofs.Common.{ap, ap₂, ◌∙◌, lowered_code, starts_from}
 use Rattle.lw_fence.proofs.compiler.compile_thread.Goals as goal

@@ -1,5 +1,5 @@
--- Of `compile_threads`: each thread of the source is compiled. `AreCompiled-push` appends the next thread, which
--- is well-formed, as `compile_thread` requires (`IsWellFormedThread-of_round`).
+-- Proves `compile_threads`: each thread of the source is compiled. `AreCompiled-push` appends the next thread,
+-- which is well-formed, as `compile_thread` requires (`IsWellFormedThread-of_round`).
 use Rattle.lw_fence.proofs.Common.{◌∙◌, ap, arith, get_or, length, refl, subst, sym, slice_get_read}
 use Rattle.lw_fence.proofs.Common.{source_language, IsWellFormedThread}
 use Rattle.lw_fence.proofs.CompiledThreads.{AreCompiled-none, AreCompiled-push}

@@ -1,4 +1,4 @@
--- Of `fences_of`, which sets a statement's flag if and only if it needs a fence. `AreFencesOfFirst-push` appends the
+-- Proves `fences_of`, which sets a statement's flag if and only if it needs a fence. `AreFencesOfFirst-push` appends the
 -- flag of the next statement: set if it is a load at a marked position. By `NeedsFence-found` these flags are the
 -- needed fences, since the marks are the positions reachable from stores.
 use Rattle.lw_fence.proofs.Common.{◌≡◌, ◌&&◌, ◌∙◌, ℕ, false, ap₂, arith, length, refl, subst, sym}

@@ -1,5 +1,5 @@
--- Of `marks_of`, which marks exactly the positions that a flow path reaches from a store that may still be
--- buffered. Jumps lead forward, so one pass is enough: when a statement is passed, its own mark is final
+-- Proves `marks_of`, which marks exactly the positions that a flow path reaches from a store that may still
+-- be buffered. Jumps lead forward, so one pass is enough: when a statement is passed, its own mark is final
 -- (`AreMarksAfter-suc`).
 use Rattle.lw_fence.proofs.Common.{◌+◌, ℕ, ap, arith, length, refl, sym, ◌∙◌, subst, slice_get_read}
 use Rattle.lw_fence.proofs.Common.{branch_target, common_steps}

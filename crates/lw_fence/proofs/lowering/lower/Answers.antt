@@ -1,5 +1,5 @@
--- Of `lower`, which concatenates the lowerings of a thread's statements. `lowered_code-push` appends that of
--- the next statement.
+-- Proves `lower`, which concatenates the lowerings of a thread's statements. `lowered_code-push` appends that
+-- of the next statement.
 use Rattle.lw_fence.proofs.Common.{ap, ◌++◌, ◌∙◌, instrs_of}
 use Rattle.lw_fence.proofs.CodeLayout.{lowered_code-push}
 use Rattle.lw_fence.proofs.lowering.lower.Goals as goal

@@ -1,4 +1,4 @@
--- Of `push_next`, which appends the events of the statement at an index of a thread, or nothing if memory
+-- Proves `push_next`, which appends the events of the statement at an index of a thread, or nothing if memory
 -- runs out. The thread exists, since it has the statement, and so does the start after it (`HasStart-of_read`); the
 -- difference of the two starts is the number of instructions.
 use Rattle.lw_fence.proofs.Common.{◌≡◌, ◌++◌, ◌∙◌, List, ap, arith, length, sym, take, Event, common_steps}

@@ -1,5 +1,5 @@
--- Of `push_statement`, which appends a step for each instruction, and a drain after a store. The loop appends
--- the steps one by one; if memory runs out, the old events are still the first.
+-- Proves `push_statement`, which appends a step for each instruction, and a drain after a store. The loop
+-- appends the steps one by one; if memory runs out, the old events are still the first.
 use Rattle.lw_fence.proofs.Common.{◌≡◌, ◌++◌, ◌∷◌, ◌∙◌, Bool, [], ap, append_assoc, arith, if◌then◌else◌}
 use Rattle.lw_fence.proofs.Common.{replicate, sym, append-nil, replicate-append-replicate, Step, Drain}
 use Rattle.lw_fence.proofs.Common.{is_store}

@@ -1,4 +1,4 @@
--- Of `schedule_of`, which returns the compiled program's schedule for a source run. The run is made once
+-- Proves `schedule_of`, which returns the compiled program's schedule for a source run. The run is made once
 -- more, to know each thread's position: `NextThreadStep-of_run` says that the next step is enabled, so `unwrap` cannot
 -- panic, and `compiled_schedule-append_events` appends its statement's events.
 use Rattle.lw_fence.proofs.Common.{IsWellScoped-well_formed, source_language, ◌≡◌, ◌+◌, ◌++◌, ◌∙◌, ℕ, List}

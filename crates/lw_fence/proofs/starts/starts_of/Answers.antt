@@ -1,4 +1,4 @@
--- Of `starts_of`, which returns the index of each statement's first instruction, and the number of all.
+-- Proves `starts_of`, which returns the index of each statement's first instruction, and the number of all.
 -- `starts_from-push` appends the next start. A lowering has at most two instructions, so the sum does not overflow.
 use Rattle.lw_fence.proofs.Common.{ap, ap₂, arith, length, sym, ◌++◌, ◌∙◌, drop_all, instrs_of, starts_from}
 use Rattle.lw_fence.proofs.CodeLayout.{starts_from-push}

@@ -1,5 +1,5 @@
--- Of `add_last_outcome`, which inserts the outcome of the last run, so that the outcomes of this order are
--- collected. An order has at most one outcome (the premise `ran`), and this one is not listed yet:
+-- Proves `add_last_outcome`, which inserts the outcome of the last run, so that the outcomes of this order
+-- are collected. An order has at most one outcome (the premise `ran`), and this one is not listed yet:
 -- `CollectsOutcomes-one`.
 use Rattle.lw_finals.proofs.Common.{on_ok_weaker}
 use Rattle.lw_finals.proofs.Gathering.{CollectsOutcomes-one}

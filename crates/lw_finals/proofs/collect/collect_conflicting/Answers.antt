@@ -1,5 +1,5 @@
--- Of `collect_conflicting`, which collects the outcomes of the enumerated orders of items with conflicts. The
--- orders that remain in the new iterator are all of them, each is of the items' indices, and no iterator
+-- Proves `collect_conflicting`, which collects the outcomes of the enumerated orders of items with conflicts.
+-- The orders that remain in the new iterator are all of them, each is of the items' indices, and no iterator
 -- means that there are too many: three clauses of `Orders::new`, with the reduced constraints put in place of
 -- the argument.
 use Rattle.lw_finals.proofs.collect.collect_conflicting.Goals as goal

@@ -1,5 +1,5 @@
--- Of `collect_items`, which collects the outcomes of all orders of the items. The only goal that the search
--- leaves is that nothing conflicts if the list of conflicts is empty (`nil-if_length_zero`).
+-- Proves `collect_items`, which collects the outcomes of all orders of the items. The only goal that the
+-- search leaves is that nothing conflicts if the list of conflicts is empty (`nil-if_length_zero`).
 use Rattle.lw_finals.proofs.Common.{◌≡◌, sym, ◌∙◌, constraints_of}
 use Rattle.lw_finals.proofs.Gathering.{nil-if_length_zero}
 use Rattle.lw_finals.proofs.collect.collect_items.Goals as goal

@@ -1,4 +1,4 @@
--- Of `collect_order`, which runs one order and adds its outcome if it is new. The interesting exit is the
+-- Proves `collect_order`, which runs one order and adds its outcome if it is new. The interesting exit is the
 -- call of `add_last_outcome`: the run has followed its paths, and `contains` returned `false`, so the outcome
 -- is not listed.
 use Rattle.lw_finals.proofs.Common.{sym, ◌∙◌, true≢false}

@@ -1,6 +1,6 @@
--- Of `collect_orders`, which collects the outcomes of all orders that the iterator still has. `CollectedUpTo-next`
--- moves one order from those that remain to those that are collected. Each order is within the items, since
--- the iterator only returns what it had at first.
+-- Proves `collect_orders`, which collects the outcomes of all orders that the iterator still has.
+-- `CollectedUpTo-next` moves one order from those that remain to those that are collected. Each order is within
+-- the items, since the iterator only returns what it had at first.
 use Rattle.lw_finals.proofs.Common.{ℕ, List, length, ◌<◌, refl, sym, ◌∙◌, subst, All, Contains, All-contains}
 use Rattle.lw_finals.proofs.Common.{Progress, Contains-head}
 use Rattle.lw_finals.proofs.Gathering.{CollectedUpTo-next}

@@ -1,4 +1,4 @@
--- Of `collect_single_order`, which runs the ascending order of items without conflicts. By the law
+-- Proves `collect_single_order`, which runs the ascending order of items without conflicts. By the law
 -- `one_order_without_unordered_conflicts` it is the only order that is enumerated, so its outcome is all that
 -- there is (`CollectsOutcomes-only_order`).
 use Rattle.lw_finals.proofs.Common.{length, ap, ◌∙◌, filter, not, is_ordered, indices, transitive_reduction}

@@ -1,4 +1,4 @@
--- Of `list_program`, whose list has the outcomes of all orders of all path assignments, and which fails only
+-- Proves `list_program`, whose list has the outcomes of all orders of all path assignments, and which fails only
 -- for a true limit. `CollectsOutcomes-all_visits` joins the visits of the path assignments, and `CollectsOutcomes-sorted` says that
 -- sorting loses nothing. A fault of a visit is a limit's, by `LimitFaultOfAssignments-visit_fails`: the collector is seen as a
 -- visitor that counts nothing.

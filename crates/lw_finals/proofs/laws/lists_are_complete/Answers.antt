@@ -1,4 +1,4 @@
--- Of the law that lists are complete: each order is trace-equivalent to exactly one enumerated order, and
+-- Proves the law that lists are complete: each order is trace-equivalent to exactly one enumerated order, and
 -- caches change no outcome. It puts together three laws of lw_orders and lw_tso_caches.
 use Rattle.lw_finals.proofs.Common.{IsWellScoped-well_formed, x86_language}
 use Rattle.lw_finals.proofs.laws.lists_are_complete.Goals as goal

@@ -1,4 +1,4 @@
--- Of `list_compiled`, the complete list of a source test with schedules of its compiled program.
+-- Proves `list_compiled`, the complete list of a source test with schedules of its compiled program.
 -- `IsComplete-source_collected` does the work: what the orders of all path assignments collect is complete. The source can
 -- be visited since it is well-formed; the rest are clauses of `list_program`.
 use Rattle.lw_finals.proofs.Common.{IsWellScoped-well_formed, source_language, arith, source_of, program_of}

@@ -1,4 +1,4 @@
--- Of `list_compiled_outcomes`, the outcomes of a source test without schedules. As for `list_compiled`, by
+-- Proves `list_compiled_outcomes`, the outcomes of a source test without schedules. As for `list_compiled`, by
 -- `AreAllOutcomes-source_collected`; the runner inside has the test, its program and its code, which three equations
 -- say.
 use Rattle.lw_finals.proofs.Common.{IsWellScoped-well_formed, source_language, arith, source_of, program_of}

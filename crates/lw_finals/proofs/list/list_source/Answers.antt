@@ -1,4 +1,4 @@
--- Of `list_source`, the complete list of a source test with schedules. Each clause is a part of what
+-- Proves `list_source`, the complete list of a source test with schedules. Each clause is a part of what
 -- `list_compiled` promises of the program that `compile` returned: it has the outcomes, the threads and the
 -- locations of its source.
 use Rattle.lw_finals.proofs.Common.{IfOk-weaker, program_of, on_machine, IsListedOutcome-of_source}

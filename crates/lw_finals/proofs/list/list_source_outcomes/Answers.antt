@@ -1,5 +1,5 @@
--- Of `list_source_outcomes`, the outcomes of a source test without schedules. Each clause is a part of what
--- `list_compiled_outcomes` promises; the compiled program has the threads and locations of its source
+-- Proves `list_source_outcomes`, the outcomes of a source test without schedules. Each clause is a part of
+-- what `list_compiled_outcomes` promises; the compiled program has the threads and locations of its source
 -- (`HasOutcomeShape-of_compiled`).
 use Rattle.lw_finals.proofs.Common.{IfOk-weaker, program_of, outcomes_of, HasOutcomeShape-of_compiled}
 use Rattle.lw_finals.proofs.list.list_source_outcomes.Goals as goal

@@ -1,4 +1,4 @@
--- Of `list_x86`, the complete list of an x86 test with schedules. `IsComplete-x86_collected` says that what the orders
+-- Proves `list_x86`, the complete list of an x86 test with schedules. `IsComplete-x86_collected` says that what the orders
 -- collect is complete (`IsComplete-list`), and the clauses are its parts. The limits are those of `list_program`.
 use Rattle.lw_finals.proofs.Common.{IsWellScoped-well_formed, x86_language, arith, IfOk, IfOk-weaker}
 use Rattle.lw_finals.proofs.Common.{IsComplete, IsMachineOutcome, flat_memory, program_of}

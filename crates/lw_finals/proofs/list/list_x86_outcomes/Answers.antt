@@ -1,5 +1,6 @@
--- Of `list_x86_outcomes`, the outcomes of an x86 test without schedules. `AreAllOutcomes-x86_collected` says that
--- they are all (`AreAllOutcomes-list`), and the clauses are its parts. The limits are those of `list_program`.
+-- Proves `list_x86_outcomes`, the outcomes of an x86 test without schedules. `AreAllOutcomes-x86_collected` says
+-- that they are all (`AreAllOutcomes-list`), and the clauses are its parts. The limits are those of
+-- `list_program`.
 use Rattle.lw_finals.proofs.Common.{IsWellScoped-well_formed, x86_language, arith, IfOk, IfOk-weaker}
 use Rattle.lw_finals.proofs.Common.{AreAllOutcomes, outcomes_of, IsMachineOutcome, flat_memory, program_of}
 use Rattle.lw_finals.proofs.Common.{IsVisitable-well_formed, ap, ◌∙◌, RunnerState, X86Test}

@@ -1,4 +1,4 @@
--- Of `schedule_of_items`, which returns the events of an order's items, concatenated. Each call of
+-- Proves `schedule_of_items`, which returns the events of an order's items, concatenated. Each call of
 -- `push_next` appends the events of the next item; past the last item nothing remains of the order.
 use Rattle.lw_finals.proofs.Common.{arith, ◌++◌, ◌∙◌, List, ap, sym, append-nil, drop_all, Event, item_events}
 use Rattle.lw_finals.proofs.Common.{common_steps, IfOk-from_err}

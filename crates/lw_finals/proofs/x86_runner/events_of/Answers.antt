@@ -1,4 +1,4 @@
--- Of `events_of`, which returns the events of an order's items. Each round appends the event of the next
+-- Proves `events_of`, which returns the events of an order's items. Each round appends the event of the next
 -- item; simple arithmetic and list equations prove it (`grind`).
 use Rattle.lw_finals.proofs.Common.{arith, common_steps}
 use Rattle.lw_finals.proofs.x86_runner.events_of.Goals as goal

@@ -1,4 +1,4 @@
--- Of the law that a well-formed test is well-scoped, in both languages. This is the lemma
+-- Proves the law that a well-formed test is well-scoped, in both languages. This is the lemma
 -- `IsWellScoped-well_formed`.
 use Rattle.lw_litmus.proofs.Common.{source_language, x86_language}
 use Rattle.lw_litmus.proofs.api.WellScoped.{IsWellScoped-well_formed}

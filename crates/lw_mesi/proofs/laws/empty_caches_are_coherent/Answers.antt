@@ -1,5 +1,5 @@
--- Of the law that empty caches satisfy each protocol and have memory's words as content. These are the lemmas
--- `SatisfiesProtocol-empty_caches` and `coherent_words-empty_caches`.
+-- Proves the law that empty caches satisfy each protocol and have memory's words as content. These are the
+-- lemmas `SatisfiesProtocol-empty_caches` and `coherent_words-empty_caches`.
 use Rattle.lw_mesi.proofs.Start.{coherent_words-empty_caches, SatisfiesProtocol-empty_caches}
 use Rattle.lw_mesi.proofs.laws.empty_caches_are_coherent.Goals as goal
 

@@ -1,5 +1,5 @@
--- Of the law that each served request preserves coherence, in each protocol. It is one clause of the proof
--- that caches are a lawful memory (`protocol_lawful`).
+-- Proves the law that each served request preserves coherence, in each protocol. It is one clause of the
+-- proof that caches are a lawful memory (`protocol_lawful`).
 use Rattle.lw_mesi.proofs.Common.{protocol_lawful}
 use Rattle.lw_mesi.proofs.laws.requests_preserve_coherence.Goals as goal
 

@@ -1,6 +1,6 @@
--- Of `add_predecessors`, which inserts the first item of each pair into the set of its second. Each round inserts
--- one item, and a pair is among the first k + 1 if it is among the first k or is the next one; the rest is
--- Boolean reasoning (`grind`).
+-- Proves `add_predecessors`, which inserts the first item of each pair into the set of its second. Each round
+-- inserts one item, and a pair is among the first k + 1 if it is among the first k or is the next one; the rest
+-- is Boolean reasoning (`grind`).
 use Rattle.lw_orders.proofs.Common.{◌&&◌, arith, eqb, list_any_more}
 use Rattle.lw_orders.proofs.adjacency.add_predecessors.Goals as goal
 

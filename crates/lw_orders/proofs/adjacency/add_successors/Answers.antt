@@ -1,5 +1,5 @@
--- Of `add_successors`, which inserts the second item of each pair into the set of its first. As `add_predecessors`,
--- with the items of a pair reversed.
+-- Proves `add_successors`, which inserts the second item of each pair into the set of its first. As
+-- `add_predecessors`, with the items of a pair reversed.
 use Rattle.lw_orders.proofs.Common.{◌&&◌, arith, eqb, list_any_more}
 use Rattle.lw_orders.proofs.adjacency.add_successors.Goals as goal
 

@@ -1,4 +1,4 @@
--- Of `fill_predecessors`: the filled sets are the predecessors along the preserved and the chosen pairs.
+-- Proves `fill_predecessors`: the filled sets are the predecessors along the preserved and the chosen pairs.
 -- `ArePredecessors-append` adds to the copied sets what `add_predecessors` inserts.
 use Rattle.lw_orders.proofs.Common.{◌||◌, arith, ap, ◌∙◌, has, has_edge}
 use Rattle.lw_orders.proofs.LowestBySets.{ArePredecessors-append, get_or-copied_set}

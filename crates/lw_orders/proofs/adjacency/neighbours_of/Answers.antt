@@ -1,4 +1,4 @@
--- Of `neighbours_of`: the sets have each successor along the preserved pairs, and both items of each
+-- Proves `neighbours_of`: the sets have each successor along the preserved pairs, and both items of each
 -- unordered pair. Each pair was inserted by one of three calls, and later calls only add items (`or_left`,
 -- `or_right`).
 use Rattle.lw_orders.proofs.Common.{◌∙◌, get_or, or_left, or_right, Contains-get_or}

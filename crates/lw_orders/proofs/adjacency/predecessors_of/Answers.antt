@@ -1,5 +1,5 @@
--- Of `predecessors_of`: the sets are the predecessors along the pairs. `ArePredecessors-append` adds the pairs to empty
--- sets, which are the predecessor sets of no pairs (`ArePredecessors-empty`).
+-- Proves `predecessors_of`: the sets are the predecessors along the pairs. `ArePredecessors-append` adds the pairs to
+-- empty sets, which are the predecessor sets of no pairs (`ArePredecessors-empty`).
 use Rattle.lw_orders.proofs.Common.{most_items, [], ◌∙◌, replicate, get_or-replicate}
 use Rattle.lw_orders.proofs.LowestBySets.{ArePredecessors-append, ArePredecessors-empty}
 use Rattle.lw_orders.proofs.adjacency.predecessors_of.Goals as goal

@@ -1,5 +1,5 @@
--- Of `successors_of`: item j is in the set of i if and only if (i, j) is a pair. The pairs are added to empty
--- sets, which contain nothing (`ArePredecessors-empty`).
+-- Proves `successors_of`: item j is in the set of i if and only if (i, j) is a pair. The pairs are added to
+-- empty sets, which contain nothing (`ArePredecessors-empty`).
 use Rattle.lw_orders.proofs.Common.{most_items, ap, ◌∙◌, ◌||◌, replicate, get_or-replicate, has_edge}
 use Rattle.lw_orders.proofs.LowestBySets.{ArePredecessors-empty}
 use Rattle.lw_orders.proofs.adjacency.successors_of.Goals as goal

@@ -1,5 +1,6 @@
--- Of `lowest_by_sets`, whose result is the greedy order of any pairs that the tables are of. `TakenSoFar-more`
--- takes the item that `first_free` found; if it found none, no order respects the pairs (`TakenSoFar-none`).
+-- Proves `lowest_by_sets`, whose result is the greedy order of any pairs that the tables are of.
+-- `TakenSoFar-more` takes the item that `first_free` found; if it found none, no order respects the pairs
+-- (`TakenSoFar-none`).
 use Rattle.lw_orders.proofs.Common.{◌||◌, ◌&&◌, ◌∙◌, ap, sym, refl, length-set, arith, get_or_read, has}
 use Rattle.lw_orders.proofs.LowestBySets.{TakenSoFar-start, TakenSoFar-none, TakenSoFar-more}
 use Rattle.lw_orders.proofs.greedy.lowest_by_sets.Goals as goal

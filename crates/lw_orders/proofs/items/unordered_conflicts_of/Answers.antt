@@ -1,4 +1,4 @@
--- Of `unordered_conflicts_of`, which returns the conflicts that the preserved pairs do not order. The loop
+-- Proves `unordered_conflicts_of`, which returns the conflicts that the preserved pairs do not order. The loop
 -- filters the conflicts by reachability, and `unordered_conflicts-by_sets` says that this leaves the unordered ones. Items are
 -- below the limit, as the table's functions require.
 use Rattle.lw_orders.proofs.Common.{ℕ, List, not, length, get_or, ap, subst, arith, ◌∙◌, filter, take_all}

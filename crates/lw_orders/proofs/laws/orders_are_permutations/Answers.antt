@@ -1,5 +1,5 @@
--- Of the law that the definition of an order by indices says the same as: all items, without duplicates. Each
--- clause is a lemma about indices in lists.
+-- Proves the law that the definition of an order by indices says the same as: all items, without duplicates.
+-- Each clause is a lemma about indices in lists.
 use Rattle.lw_orders.proofs.api.Indices.{AreDistinct-order, IsOrder-all_below, index_in-order_split}
 use Rattle.lw_orders.proofs.api.Indices.{IsOrder-of_distinct}
 use Rattle.lw_orders.proofs.laws.orders_are_permutations.Goals as goal

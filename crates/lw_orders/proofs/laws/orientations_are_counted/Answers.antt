@@ -1,5 +1,6 @@
--- Of the law that the computed unordered conflicts, and the number of their orientations, are those of the
--- definitions. These are the lemmas `AreUnorderedConflicts-computed` and `HasOrientationCount-iff_computed`.
+-- Proves the law that the computed unordered conflicts, and the number of their orientations, are those of
+-- the definitions. These are the lemmas `AreUnorderedConflicts-computed` and
+-- `HasOrientationCount-iff_computed`.
 use Rattle.lw_orders.proofs.api.UnorderedPairs.{AreUnorderedConflicts-computed}
 use Rattle.lw_orders.proofs.api.UnorderedPairs.{HasOrientationCount-iff_computed}
 use Rattle.lw_orders.proofs.laws.orientations_are_counted.Goals as goal

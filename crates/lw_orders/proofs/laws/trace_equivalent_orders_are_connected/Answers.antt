@@ -1,5 +1,5 @@
--- Of the law that trace-equivalent orders are connected by swaps of adjacent independent items. This is the
--- lemma of the same name.
+-- Proves the law that trace-equivalent orders are connected by swaps of adjacent independent items. This is
+-- the lemma of the same name.
 use Rattle.lw_orders.proofs.api.SwapInvariance.{trace_equivalent_orders_are_connected}
 use Rattle.lw_orders.proofs.laws.trace_equivalent_orders_are_connected.Goals as goal
 

@@ -1,6 +1,6 @@
--- Of `try_orientation`, which tries the current orientation of a level's pair. If it closes a cycle, the last
--- pair that can be is reversed. Otherwise it is chosen: the pair is recorded, reachability with it is saved,
--- and the next pair is not reversed (`reversal_reset-at_index`).
+-- Proves `try_orientation`, which tries the current orientation of a level's pair. If it closes a cycle, the
+-- last pair that can be is reversed. Otherwise it is chosen: the pair is recorded, reachability with it is
+-- saved, and the next pair is not reversed (`reversal_reset-at_index`).
 use Rattle.lw_orders.proofs.Common.{◌≡◌, ℕ, List, ◌+◌, ◌<◌, ◌≤◌, Bool, true, false, ◌⊎◌, inl, inr, Option}
 use Rattle.lw_orders.proofs.Common.{length, get_or, set, take, ap, sym, ◌∙◌, subst, refl, arith}
 use Rattle.lw_orders.proofs.Common.{get_or-set_same, length-set, take-set, get_or_past, has, reach}

@@ -1,4 +1,4 @@
--- Of `reach_more`, which computes reachability with one more pair: i reaches j if it did, or if i reaches the
+-- Proves `reach_more`, which computes reachability with one more pair: i reaches j if it did, or if i reaches the
 -- pair's first item and its second reaches j. A set is joined (`IsGrowing-set_joined`) or unchanged (`IsGrowing-set_unchanged`). If
 -- the first item reaches the second already, nothing changes, since reachability is transitive.
 use Rattle.lw_orders.proofs.Common.{◌≡◌, ◌^◌, ◌||◌, not, arith, ap, sym, ◌∙◌, has, are_disjoint, reaches_in}

@@ -1,6 +1,6 @@
--- Of `reach_next`, which fills the table after that of a level with reachability by one more pair, in one of
--- two widths. The list of tables is split after the level: the lemmas say how to read and write both parts in
--- the whole list (`reaches_in-written_level`, `set-split_at`).
+-- Proves `reach_next`, which fills the table after that of a level with reachability by one more pair, in one
+-- of two widths. The list of tables is split after the level: the lemmas say how to read and write both parts
+-- in the whole list (`reaches_in-written_level`, `set-split_at`).
 use Rattle.lw_orders.proofs.Common.{[], arith, ◌+◌}
 use Rattle.lw_orders.proofs.WalkSets.{reaches_in-written_level, get_or-front_level, set-split_at}
 use Rattle.lw_orders.proofs.reach.reach_next.Goals as goal

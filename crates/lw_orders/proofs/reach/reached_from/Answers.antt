@@ -1,5 +1,5 @@
--- Of `reached_from`, which joins the sets of an item's successors, and the item. `IsReaching-next` joins the
--- set of the next successor; `next_lt_further` says that the following one is higher, so the loop ends.
+-- Proves `reached_from`, which joins the sets of an item's successors, and the item. `IsReaching-next` joins
+-- the set of the next successor; `next_lt_further` says that the following one is higher, so the loop ends.
 use Rattle.lw_orders.proofs.Common.{most_items, ℕ, ◌≡◌, ◌<◌, ap, ◌∙◌, ◌||◌, eqb, arith, bit_at-zero, has}
 use Rattle.lw_orders.proofs.Common.{reaches_in}
 use Rattle.lw_orders.proofs.ReachedFrom.{IsReaching-start, IsReaching-next, IsReachedFrom-end}

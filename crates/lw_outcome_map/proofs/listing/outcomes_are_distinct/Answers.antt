@@ -1,5 +1,5 @@
--- Of the law that an outcome of a listing is at one index only. This is the lemma `outcome_index-unique`: the list is
--- strictly ascending.
+-- Proves the law that an outcome of a listing is at one index only. This is the lemma `outcome_index-unique`: the
+-- list is strictly ascending.
 use Rattle.lw_outcome_map.proofs.api.Listings.{outcome_index-unique}
 use Rattle.lw_outcome_map.proofs.listing.outcomes_are_distinct.Goals as goal
 

@@ -1,5 +1,5 @@
--- Of `sort_by_outcome`, which sorts entries by their outcomes: the closure compares by a total order, so the sort's promise
--- holds of that order, and the outcomes of sorted entries are sorted.
+-- Proves `sort_by_outcome`, which sorts entries by their outcomes: the closure compares by a total order, so the sort's
+-- promise holds of that order, and the outcomes of sorted entries are sorted.
 use Rattle.std.proofs.Common.{ap, is_lt, refl}
 use Rattle.std.proofs.lemmas.Fn.{always_returns_same}
 use Rattle.std.proofs.lemmas.List.MinMax.{ranks_by}

@@ -1,5 +1,5 @@
--- Of `accesses_of`, which returns the accesses of the items, in their order. `accesses_from-push` appends the next
--- item's access, or nothing if the item has none.
+-- Proves `accesses_of`, which returns the accesses of the items, in their order. `accesses_from-push` appends the
+-- next item's access, or nothing if the item has none.
 use Rattle.lw_paths.proofs.Common.{◌++◌, ◌∙◌, Vec, ap, sym, append-nil, option_to_list, drop_all, Access}
 use Rattle.lw_paths.proofs.AccessPairs.{accesses_from-push}
 use Rattle.lw_paths.proofs.conflicts.accesses_of.Goals.{in-Some+in_ok-push, in_default}

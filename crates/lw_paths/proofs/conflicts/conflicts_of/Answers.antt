@@ -1,4 +1,4 @@
--- Of `conflicts_of`, which returns the conflicting pairs of items, sorted. The definition filters all pairs
+-- Proves `conflicts_of`, which returns the conflicting pairs of items, sorted. The definition filters all pairs
 -- of items; the code pairs accesses only, which gives the same list (`conflicts_among-are_conflicts`), since an item without
 -- an access conflicts with none.
 use Rattle.lw_paths.proofs.Common.{append_assoc, append-nil, nil_from_length}

@@ -1,5 +1,5 @@
--- Of `push_conflicts`, which appends the conflicts of one access with later ones. `conflicts_with-push` appends
--- the pair with the next access if they conflict, and otherwise nothing.
+-- Proves `push_conflicts`, which appends the conflicts of one access with later ones. `conflicts_with-push`
+-- appends the pair with the next access if they conflict, and otherwise nothing.
 use Rattle.lw_paths.proofs.Common.{ℕ, Bool, if◌then◌else◌, [], ◌∷◌, ◌++◌, ◌∙◌, Vec, ap, sym, append-nil}
 use Rattle.lw_paths.proofs.Common.{drop_all}
 use Rattle.lw_paths.proofs.AccessPairs.{conflicts_with-push}

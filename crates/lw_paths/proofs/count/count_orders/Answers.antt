@@ -1,4 +1,4 @@
--- Of `count_orders`, which returns the number of orders of a path assignment's items, or `None` above the
+-- Proves `count_orders`, which returns the number of orders of a path assignment's items, or `None` above the
 -- limit. Without conflicts it is one (`orientation_count-no_conflicts`); otherwise the reduced pairs are counted, and leave as
 -- many orientations as all preserved pairs (`orientation_count-reduced_items`).
 use Rattle.lw_paths.proofs.Common.{◌≡◌, ◌≤◌, ◌<◌, ℕ, ◌∙◌, ap, arith, length, subst, sym, IfOk, MatchOption}

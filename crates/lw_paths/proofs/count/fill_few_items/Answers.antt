@@ -1,5 +1,5 @@
--- Of `fill_few_items`, which fills a list with the items, and fails if there are more than a list takes. This
--- is the fault: the filled list is that of all items, and so is its length.
+-- Proves `fill_few_items`, which fills a list with the items, and fails if there are more than a list takes.
+-- This is the fault: the filled list is that of all items, and so is its length.
 use Rattle.lw_paths.proofs.Common.{[], ap, append-nil, arith, length, ◌∙◌}
 use Rattle.lw_paths.proofs.Pushed.{append-is_take}
 use Rattle.lw_paths.proofs.count.fill_few_items.Goals as goal

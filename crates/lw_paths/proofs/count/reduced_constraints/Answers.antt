@@ -1,4 +1,4 @@
--- Of `reduced_constraints`, which returns the items with the reduced pairs. These are well-formed, as
+-- Proves `reduced_constraints`, which returns the items with the reduced pairs. These are well-formed, as
 -- `Items::new` requires (`IsWellFormed-with_reduced_pairs`).
 use Rattle.lw_paths.proofs.api.ReducedPairs.{IsWellFormed-with_reduced_pairs}
 use Rattle.lw_paths.proofs.count.reduced_constraints.Goals as goal

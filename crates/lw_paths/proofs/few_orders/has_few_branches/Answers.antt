@@ -1,5 +1,5 @@
--- Of `has_few_branches`: if it returns `true`, the program has at most as many branches as a list may have
--- unordered conflicts. The loop subtracts the branches of one thread after the other from the room
+-- Proves `has_few_branches`: if it returns `true`, the program has at most as many branches as a list may
+-- have unordered conflicts. The loop subtracts the branches of one thread after the other from the room
 -- (`room-after_subtraction`).
 use Rattle.lw_paths.proofs.Common.{◌≡◌, ℕ, ◌+◌, ◌-◌, ◌<◌, ◌≤◌, List, length, take, drop, get_or, ap, arith}
 use Rattle.lw_paths.proofs.Common.{sum_by, sum_by-cons, sum_by-take-drop, drop_more, common_steps}

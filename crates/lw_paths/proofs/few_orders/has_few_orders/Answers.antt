@@ -1,4 +1,4 @@
--- Of `has_few_orders`: if it returns `true`, the program is within the limit of orders. Nothing conflicts, so
+-- Proves `has_few_orders`: if it returns `true`, the program is within the limit of orders. Nothing conflicts, so
 -- each path assignment has one order, and each branch at most doubles the path assignments (`total_of-le_most_orders`).
 use Rattle.lw_paths.proofs.Common.{◌∙◌, sym}
 use Rattle.lw_paths.proofs.FewOrders.{total_of-le_most_orders}

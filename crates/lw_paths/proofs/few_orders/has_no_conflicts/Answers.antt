@@ -1,4 +1,4 @@
--- Of `has_no_conflicts`: if it returns `true`, no items conflict, on any paths. No statement accesses a
+-- Proves `has_no_conflicts`: if it returns `true`, no items conflict, on any paths. No statement accesses a
 -- location (`conflicts-none`).
 use Rattle.lw_paths.proofs.Common.{◌∙◌, sym}
 use Rattle.lw_paths.proofs.FewOrders.{conflicts-none}

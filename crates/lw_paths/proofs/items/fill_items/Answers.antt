@@ -1,5 +1,5 @@
--- Of `fill_items`, which fills a list with the items of a path assignment, thread by thread; if memory runs
--- out the list has the first of them. `items_from-push` appends the items of the next thread's path. The
+-- Proves `fill_items`, which fills a list with the items of a path assignment, thread by thread; if memory
+-- runs out the list has the first of them. `items_from-push` appends the items of the next thread's path. The
 -- thread's index is that of a processor, since there are at most four paths.
 use Rattle.lw_paths.proofs.Common.{◌≡◌, ◌≤◌, ◌++◌, sym, ap₂, length, drop, append-nil, arith, ltb-false, ◌+◌}
 use Rattle.lw_paths.proofs.Common.{refl, drop_all, map, most_threads, items_from, path_items, path_of}

@@ -1,6 +1,6 @@
--- Of `push_path`, which appends the items along one path; if memory runs out the list has the first of them.
--- `path_items-push` appends those of the next position. After a failure what is missing is the rest of this
--- position and all later ones.
+-- Proves `push_path`, which appends the items along one path; if memory runs out the list has the first of
+-- them. `path_items-push` appends those of the next position. After a failure what is missing is the rest of
+-- this position and all later ones.
 use Rattle.lw_paths.proofs.Common.{◌+◌, ◌++◌, ◌∙◌, ap, drop, slice_get, path_items}
 use Rattle.lw_paths.proofs.Pushed.{OnErr-always, append-assoc_all, path_items-push}
 use Rattle.lw_paths.proofs.items.push_path.Goals as goal

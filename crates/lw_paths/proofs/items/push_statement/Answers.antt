@@ -1,5 +1,6 @@
--- Of `push_statement`, which appends a statement's item, and its drain's if it has one; if memory runs out
--- the list has some of them. The cases are the two places where memory may run out, and that of both items.
+-- Proves `push_statement`, which appends a statement's item, and its drain's if it has one; if memory runs
+-- out the list has some of them. The cases are the two places where memory may run out, and that of both
+-- items.
 use Rattle.lw_paths.proofs.Common.{◌++◌, ap, items_at, option_copied, List, Item, common_steps, arith}
 use Rattle.lw_paths.proofs.Pushed.{OnErr-always}
 use Rattle.lw_paths.proofs.items.push_statement.Goals as goal

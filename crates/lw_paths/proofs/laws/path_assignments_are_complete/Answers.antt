@@ -1,5 +1,5 @@
--- Of the law that the list of path assignments has exactly the path assignments, without duplicates. These
--- are the lemmas `Contains-path_assignments` and `IsDuplicateFree-path_assignments`.
+-- Proves the law that the list of path assignments has exactly the path assignments, without duplicates.
+-- These are the lemmas `Contains-path_assignments` and `IsDuplicateFree-path_assignments`.
 use Rattle.lw_paths.proofs.api.Enumerated.{Contains-path_assignments}
 use Rattle.lw_paths.proofs.Once.{IsDuplicateFree-path_assignments}
 use Rattle.lw_paths.proofs.laws.path_assignments_are_complete.Goals as goal

@@ -1,5 +1,5 @@
--- Of the law that a program's total number of orders is unique and is the computed sum, so that no program is
--- both within the limits and beyond them. Each clause is a lemma.
+-- Proves the law that a program's total number of orders is unique and is the computed sum, so that no
+-- program is both within the limits and beyond them. Each clause is a lemma.
 use Rattle.lw_paths.proofs.api.Totals.{IsTotalOrderCount-total_of, IsTotalOrderCount-unique}
 use Rattle.lw_paths.proofs.api.Totals.{not-LimitFaultIsTrue-if_within_limits}
 use Rattle.lw_paths.proofs.laws.totals_are_counted.Goals as goal

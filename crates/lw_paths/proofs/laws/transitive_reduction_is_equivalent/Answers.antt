@@ -1,5 +1,5 @@
--- Of the law that the reduced pairs have the same linear extensions as all preserved pairs, order the same
--- items, and leave as many orientations. Each clause is a lemma.
+-- Proves the law that the reduced pairs have the same linear extensions as all preserved pairs, order the
+-- same items, and leave as many orientations. Each clause is a lemma.
 use Rattle.lw_paths.proofs.api.Reduced.{IsLinearExtension-reduced_iff, IsOrderedByPath-reduced_iff}
 use Rattle.lw_paths.proofs.api.Reduced.{orientation_count-reduced}
 use Rattle.lw_paths.proofs.laws.transitive_reduction_is_equivalent.Goals as goal

@@ -1,4 +1,4 @@
--- Of `check_limits`: if it returns `Ok`, the program is within the limits of lists, and a fault is true.
+-- Proves `check_limits`: if it returns `Ok`, the program is within the limits of lists, and a fault is true.
 -- Items are checked first, so a fault of `check_orders` is one of orders (`LimitFaultIsTrue-of_assignments`). If the quick test
 -- says that orders are few, they are (`IsWithinLimits-of_total`).
 use Rattle.lw_paths.proofs.Common.{on_ok_weaker, IfErr-weaker}

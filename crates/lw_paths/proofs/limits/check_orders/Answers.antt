@@ -1,4 +1,4 @@
--- Of `check_orders`, which counts the orders of all path assignments. The visitor is a counter (`IsCounter-counter_view`):
+-- Proves `check_orders`, which counts the orders of all path assignments. The visitor is a counter (`IsCounter-counter_view`):
 -- what its visits add up to is the program's total (`IsWithinLimits-all_visited`), and a visit that fails has a true cause.
 use Rattle.lw_paths.proofs.Common.{refl, on_ok_weaker, IfErr-weaker, LimitFaultOfAssignment, Counter}
 use Rattle.lw_paths.proofs.api.Counting.{VisitorView, IsCounter, Counts, IsWithinLimits-all_visited}

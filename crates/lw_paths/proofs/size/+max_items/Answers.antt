@@ -1,4 +1,4 @@
--- Of `max_items`, which returns the maximum number of items of a program's path assignments. It is the sum of
+-- Proves `max_items`, which returns the maximum number of items of a program's path assignments. It is the sum of
 -- the threads' maxima (`IsMost-more_threads`), since a path assignment chooses each thread's path by itself. The sum
 -- is small, so nothing overflows.
 use Rattle.lw_paths.proofs.Common.{arith, rules, ap, ◌<◌, length, IsVisitable}

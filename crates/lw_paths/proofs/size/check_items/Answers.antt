@@ -1,4 +1,4 @@
--- Of `check_items`: if it returns `Ok`, no path assignment has too many items. None has more than the
+-- Proves `check_items`: if it returns `Ok`, no path assignment has too many items. None has more than the
 -- maximum, which was compared with the limit.
 use Rattle.lw_paths.proofs.Common.{arith}
 use Rattle.lw_paths.proofs.size.check_items.Goals as goal

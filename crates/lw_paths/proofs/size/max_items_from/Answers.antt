@@ -1,6 +1,6 @@
--- Of `max_items_from`, which returns the maximum over a statement's successors, from a table of the maxima at
--- later positions. A statement has one successor or two, and each is an index of the table; `IsMost-two` is
--- the case of two.
+-- Proves `max_items_from`, which returns the maximum over a statement's successors, from a table of the
+-- maxima at later positions. A statement has one successor or two, and each is an index of the table;
+-- `IsMost-two` is the case of two.
 use Rattle.lw_paths.proofs.Common.{ℕ, Option, inr, refl, sym, ap, ◌∙◌, ◌∷◌, arith, slice_index}
 use Rattle.lw_paths.proofs.Common.{option_to_list}
 use Rattle.lw_paths.proofs.Sizes.{IsMost-two, Contains-first_successor, Contains-second_successor}

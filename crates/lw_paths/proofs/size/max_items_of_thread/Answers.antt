@@ -1,4 +1,4 @@
--- Of `max_items_of_thread`, which returns the maximum number of items on a thread's paths. Jumps lead
+-- Proves `max_items_of_thread`, which returns the maximum number of items on a thread's paths. Jumps lead
 -- forward, so the table is filled from the end: the maximum at a position is the statement's items and the
 -- maximum over its successors, which are known.
 use Rattle.lw_paths.proofs.Common.{suc, most_instructions, ◌+◌, ◌-◌, ◌∙◌, ap, sym, subst, refl, Some, length}

@@ -1,4 +1,4 @@
--- Of `visit_from`, which visits each path assignment that begins with these paths, until a visit fails. The
+-- Proves `visit_from`, which visits each path assignment that begins with these paths, until a visit fails. The
 -- cases follow the definition `assignments_along`: at the end of the last thread one visit, at the end of another
 -- thread the next thread, and at a statement its successors, of which there are one or two.
 use Rattle.lw_paths.proofs.Common.{rules, ◌≡◌, ◌<◌, ◌≤◌, [], ◌∷◌, length, sym, refl, ap, subst, arith, ◌∙◌}

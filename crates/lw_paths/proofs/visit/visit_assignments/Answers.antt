@@ -1,4 +1,4 @@
--- Of `visit_assignments`, which visits exactly the path assignments of a program, in order, until a visit fails.
+-- Proves `visit_assignments`, which visits exactly the path assignments of a program, in order, until a visit fails.
 -- Those that begin with no path are all (`assignments_along-start`); a program without threads has one, the empty one
 -- (`path_assignments-no_threads`).
 use Rattle.lw_paths.proofs.Common.{nat_tests, arith, refl, inl, subst, on_ok_weaker, IfErr-weaker, path_of}

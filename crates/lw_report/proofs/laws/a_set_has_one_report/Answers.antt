@@ -1,4 +1,4 @@
--- Of the law that states and report depend only on the set of outcomes: two sets with the same outcomes have
+-- Proves the law that states and report depend only on the set of outcomes: two sets with the same outcomes have
 -- one list of states and one report. These are the lemmas `AreStatesOf-unique` and `IsReport-unique`: a strictly
 -- sorted list is determined by its elements.
 use Rattle.lw_report.proofs.api.OneList.{AreStatesOf-unique, IsReport-unique}

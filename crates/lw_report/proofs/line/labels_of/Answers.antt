@@ -1,5 +1,6 @@
--- Of `labels_of`, which returns the labels of the names, all except the first after a space. `labels-push`
--- appends the next name's label; `gap-suc` says that the prefix of the next label is a space from then on.
+-- Proves `labels_of`, which returns the labels of the names, all except the first after a space.
+-- `labels-push` appends the next name's label; `gap-suc` says that the prefix of the next label is a space
+-- from then on.
 use Rattle.lw_report.proofs.Common.{length, refl, subst, sym, All-get_or, head_of, IsSeenInRange}
 use Rattle.lw_report.proofs.Lines.{labels-push, labels-all, gap-suc}
 use Rattle.lw_report.proofs.line.labels_of.Goals as goal

@@ -1,4 +1,4 @@
--- Of `observed_labels`, which returns the labels of the test's observed names. It composes `observed` and
+-- Proves `observed_labels`, which returns the labels of the test's observed names. It composes `observed` and
 -- `labels_of`; the names are in range, as the latter requires.
 use Rattle.lw_report.proofs.Common.{◌∙◌}
 use Rattle.lw_report.proofs.line.observed_labels.Goals as goal

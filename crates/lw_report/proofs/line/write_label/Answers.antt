@@ -1,5 +1,5 @@
--- Of `write_label`, which appends a prefix and the label of a name. One case for a register (`label-register`)
--- and one for a location (`label-location`), which has a name since it is in range.
+-- Proves `write_label`, which appends a prefix and the label of a name. One case for a register
+-- (`label-register`) and one for a location (`label-location`), which has a name since it is in range.
 use Rattle.lw_report.proofs.Common.{head_of, written-equal_text}
 use Rattle.lw_report.proofs.Lines.{label-register, label-location}
 use Rattle.lw_report.proofs.line.write_label.Goals as goal

@@ -1,5 +1,6 @@
--- Of `write_state`, which appends each word after its label, and ends the line. `labelled_words-push` adds one
--- label with its word; after the last, `labelled_words-all` says that all of the line but its end is written.
+-- Proves `write_state`, which appends each word after its label, and ends the line. `labelled_words-push` adds
+-- one label with its word; after the last, `labelled_words-all` says that all of the line but its end is
+-- written.
 use Rattle.lw_report.proofs.Common.{◌++◌, ◌∙◌, ap, append_assoc, codes, refl, get_or, arith, decimal}
 use Rattle.lw_report.proofs.Common.{string_bytes, Bytes, written-two_parts, OnOk-push_str}
 use Rattle.lw_report.proofs.Lines.{labelled_words-push, labelled_words-all}

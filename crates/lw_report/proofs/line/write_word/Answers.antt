@@ -1,4 +1,4 @@
--- Of `write_word`, which appends a word in decimal and a semicolon. The case of a number below 10: its
+-- Proves `write_word`, which appends a word in decimal and a semicolon. The case of a number below 10: its
 -- decimal is one character (`decimal_digit`). The search proves the other case, which formats the word.
 use Rattle.lw_report.proofs.Common.{◌++◌, ◌∙◌, ap, sym, codes, refl, arith, string_bytes, decimal_digit}
 use Rattle.lw_report.proofs.Common.{Bytes, written-two_parts, OnOk-push_str}

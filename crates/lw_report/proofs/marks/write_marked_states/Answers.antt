@@ -1,5 +1,5 @@
--- Of `write_marked_states`, which appends the line of each state after its mark. `marked_line-written` says that
--- mark and line make the state's text; `items_written-push` adds it to those before.
+-- Proves `write_marked_states`, which appends the line of each state after its mark. `marked_line-written` says
+-- that mark and line make the state's text; `items_written-push` adds it to those before.
 use Rattle.lw_report.proofs.Common.{mark_text, ◌∙◌, ap, refl, head_of, items_written-push, items_written-all}
 use Rattle.lw_report.proofs.Common.{ListedState, projection_of}
 use Rattle.lw_report.proofs.Lines.{marked_line-written}

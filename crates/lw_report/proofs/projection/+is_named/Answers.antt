@@ -1,5 +1,5 @@
--- Of `is_named`, which says whether a proposition names a register or a location. Only negation is proved by
--- hand: it names what its part names.
+-- Proves `is_named`, which says whether a proposition names a register or a location. Only negation is proved
+-- by hand: it names what its part names.
 use Rattle.lw_report.proofs.Common.{◌≡◌, sym, ap, ◌∙◌, subst, formula_of, is_named}
 use Rattle.lw_report.proofs.projection.+is_named.Goals as goal
 

@@ -1,4 +1,4 @@
--- Of `observed`, which returns the observed names, sorted, all in range. `all_registers-next_thread` adds the observed
+-- Proves `observed`, which returns the observed names, sorted, all in range. `all_registers-next_thread` adds the observed
 -- registers of one more thread; `observed-registers_and_locations` puts the locations after those of all threads.
 use Rattle.lw_report.proofs.Common.{head_of, is_observed}
 use Rattle.lw_report.proofs.Names.{IsSeenInRange-observed, cpu_eq_index, cpu_count-is_threads}

@@ -1,4 +1,4 @@
--- Of `project`, which returns an outcome's words of the observed names. It composes `observed` and
+-- Proves `project`, which returns an outcome's words of the observed names. It composes `observed` and
 -- `words_of`; the names are in range of the outcome, since this has the test's threads and locations.
 use Rattle.lw_report.proofs.Common.{◌∙◌}
 use Rattle.lw_report.proofs.projection.project.Goals as goal

@@ -1,6 +1,6 @@
--- Of `push_locations`, which appends the observed locations. `filter_prefix-push` adds one location if it is observed.
--- The loop goes over the first of all eight locations; that there are not more in the test is an invariant of
--- its table.
+-- Proves `push_locations`, which appends the observed locations. `filter_prefix-push` adds one location if it is
+-- observed. The loop goes over the first of all eight locations; that there are not more in the test is an invariant
+-- of its table.
 use Rattle.lw_report.proofs.Common.{most_locations, ◌<◌, ◌≤◌, ◌∙◌, sym, length, length-take, get_or-take}
 use Rattle.lw_report.proofs.Common.{arith, ap, append-nil, Location}
 use Rattle.lw_report.proofs.Names.{filter_prefix-push, filter_prefix-all}

@@ -1,5 +1,5 @@
--- Of `push_registers`, which appends the observed registers of one thread. `filter_prefix-push` adds one register if it
--- is observed; after six they are all (`filter_prefix-all`).
+-- Proves `push_registers`, which appends the observed registers of one thread. `filter_prefix-push` adds one register
+-- if it is observed; after six they are all (`filter_prefix-all`).
 use Rattle.lw_report.proofs.Common.{refl, sym, append-nil}
 use Rattle.lw_report.proofs.Names.{filter_prefix-push, filter_prefix-all}
 use Rattle.lw_report.proofs.projection.push_registers.Goals as goal

@@ -1,5 +1,5 @@
--- Of `words_of`, which returns an outcome's words of these names. Each name is in range of the outcome, as
--- `word_of` requires, and `map_prefix-push` appends its word.
+-- Proves `words_of`, which returns an outcome's words of these names. Each name is in range of the outcome,
+-- as `word_of` requires, and `map_prefix-push` appends its word.
 use Rattle.lw_report.proofs.Common.{◌∙◌, length, subst, sym, All-get_or, IsSeenInRange}
 use Rattle.lw_report.proofs.Names.{map_prefix-push, map_prefix-all}
 use Rattle.lw_report.proofs.projection.words_of.Goals as goal

@@ -1,4 +1,4 @@
--- Of `counts_of`, which returns the numbers of states in which the proposition is true, and in which it is
+-- Proves `counts_of`, which returns the numbers of states in which the proposition is true, and in which it is
 -- false. `count_true-suc` counts one state; the false ones are all others (`count_false-negative`). Neither sum nor
 -- difference overflows, since no count exceeds the index.
 use Rattle.lw_report.proofs.Common.{ap, refl, arith, ListedState}

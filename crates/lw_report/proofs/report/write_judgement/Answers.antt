@@ -1,5 +1,5 @@
--- Of `write_judgement`, which appends what follows the states in a report. `judgement_lines-as_written` says that the
--- lines of verdict, numbers and condition, and then the observation, make that text.
+-- Proves `write_judgement`, which appends what follows the states in a report. `judgement_lines-as_written` says that
+-- the lines of verdict, numbers and condition, and then the observation, make that text.
 use Rattle.lw_report.proofs.Common.{◌++◌, ◌∙◌, ap, codes, decimal, head_of, written-two_parts, verdict_text}
 use Rattle.lw_report.proofs.Lines.{judgement_lines-as_written}
 use Rattle.lw_report.proofs.report.write_judgement.Goals as goal

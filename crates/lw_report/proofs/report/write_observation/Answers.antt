@@ -1,5 +1,5 @@
--- Of `write_observation`, which appends the observation's line and that of the claim. The formatted text is
--- these two lines (`observation_line-as_written`).
+-- Proves `write_observation`, which appends the observation's line and that of the claim. The formatted text
+-- is these two lines (`observation_line-as_written`).
 use Rattle.lw_report.proofs.Common.{◌∙◌, ap, written-equal_text, observation_text}
 use Rattle.lw_report.proofs.Lines.{observation_line-as_written}
 use Rattle.lw_report.proofs.report.write_observation.Goals as goal

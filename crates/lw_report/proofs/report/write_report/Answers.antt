@@ -1,5 +1,5 @@
--- Of `write_report`, which renders the report of the states. `report_text-of_parts` puts its three parts together,
--- title, states and judgement, which are written in sequence into an empty text.
+-- Proves `write_report`, which renders the report of the states. `report_text-of_parts` puts its three parts
+-- together, title, states and judgement, which are written in sequence into an empty text.
 use Rattle.lw_report.proofs.Common.{◌∙◌, head_of, string_bytes}
 use Rattle.lw_report.proofs.Lines.{report_text-of_parts}
 use Rattle.lw_report.proofs.report.write_report.Goals as goal

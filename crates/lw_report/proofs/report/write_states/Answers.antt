@@ -1,5 +1,5 @@
--- Of `write_states`, which appends the line of each state. `state_line-written` says that the words after their
--- labels are the state's line; `items_written-push` adds it to those before.
+-- Proves `write_states`, which appends the line of each state. `state_line-written` says that the words after
+-- their labels are the state's line; `items_written-push` adds it to those before.
 use Rattle.lw_report.proofs.Common.{◌∙◌, ap, refl, head_of, items_written-push, items_written-all}
 use Rattle.lw_report.proofs.Common.{ListedState}
 use Rattle.lw_report.proofs.Lines.{state_line-written}

@@ -1,5 +1,5 @@
--- Of `write_title`, which appends the first lines of a report. The formatted text is the title and the number
--- of states (`title_line-as_written`).
+-- Proves `write_title`, which appends the first lines of a report. The formatted text is the title and the
+-- number of states (`title_line-as_written`).
 use Rattle.lw_report.proofs.Common.{head_of, written-equal_text}
 use Rattle.lw_report.proofs.Lines.{title_line-as_written}
 use Rattle.lw_report.proofs.report.write_title.Goals as goal

@@ -1,4 +1,4 @@
--- Of `write_scheduled_state`, which appends a state's line and that of its schedule. The state's entry is in
+-- Proves `write_scheduled_state`, which appends a state's line and that of its schedule. The state's entry is in
 -- the listing, and the schedule there names only the test's locations (`IsEvent-schedule_of_entry`); `scheduled_lines-of_parts` says
 -- that the four written parts make the two lines.
 use Rattle.lw_report.proofs.Common.{◌∙◌, ◌++◌, ap, arith, append_assoc, codes, refl, string_bytes, head_of}

@@ -1,4 +1,4 @@
--- Of `write_scheduled_states`, which appends the two lines of each state. Each state's entry is in the
+-- Proves `write_scheduled_states`, which appends the two lines of each state. Each state's entry is in the
 -- listing (`state_entry_in_range`); `scheduled_lines-as_written` and `items_written-push` add its lines to those before.
 use Rattle.lw_report.proofs.Common.{◌∙◌, length, refl, head_of, items_written-push, items_written-all}
 use Rattle.lw_report.proofs.Common.{schedules_of}

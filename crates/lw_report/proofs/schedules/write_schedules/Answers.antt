@@ -1,5 +1,6 @@
--- Of `write_schedules`, which renders the list of schedules. The states are those of the listing, so their
--- entries are in it (`entry_indices_in_range`); `schedule_list_text-of_parts` puts title and lines together.
+-- Proves `write_schedules`, which renders the list of schedules. The states are those of the listing, so
+-- their entries are in it (`entry_indices_in_range`); `schedule_list_text-of_parts` puts title and lines
+-- together.
 use Rattle.lw_report.proofs.Common.{◌∙◌, head_of, schedules_of, string_bytes}
 use Rattle.lw_report.proofs.Scheduled.{entry_indices_in_range, schedule_list_text-of_parts}
 use Rattle.lw_report.proofs.schedules.write_schedules.Goals as goal

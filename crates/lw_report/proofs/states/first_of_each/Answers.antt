@@ -1,4 +1,4 @@
--- Of `first_of_each`, which returns the first of each run of sorted states with the same words. `dedup_by` is
+-- Proves `first_of_each`, which returns the first of each run of sorted states with the same words. `dedup_by` is
 -- the list function `dedup` for the test of equal words, and `AreFirstStates-dedup` says that on a sorted list it
 -- leaves the first states.
 use Rattle.lw_report.proofs.Common.{sym, ◌∙◌, subst, rules, dedup_same, AreFirstStates}

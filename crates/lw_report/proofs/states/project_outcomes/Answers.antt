@@ -1,5 +1,5 @@
--- Of `project_outcomes`, which returns the state of each outcome of a listing. `AreStatesOfFirst-push` adds the state
--- of the next outcome, which has the test's threads and locations (`HasOutcomeShape-of_entry`).
+-- Proves `project_outcomes`, which returns the state of each outcome of a listing. `AreStatesOfFirst-push` adds the
+-- state of the next outcome, which has the test's threads and locations (`HasOutcomeShape-of_entry`).
 use Rattle.lw_report.proofs.Common.{◌≡◌, ℕ, ◌∷◌, [], ◌++◌, ◌∙◌, length, ap, subst, arith, head_of}
 use Rattle.lw_report.proofs.Common.{outcomes_of, AreStatesOfFirst, ListedState}
 use Rattle.lw_report.proofs.ListedStates.{HasOutcomeShape-of_entry, AreStatesOfFirst-push}

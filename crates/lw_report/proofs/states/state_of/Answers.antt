@@ -1,4 +1,4 @@
--- Of `state_of`, which returns the state of one outcome. The only goal is what `words_of` requires: the
+-- Proves `state_of`, which returns the state of one outcome. The only goal is what `words_of` requires: the
 -- observed names are in range of the outcome.
 use Rattle.lw_report.proofs.Common.{length, All, head_of, IsSeenInRange}
 use Rattle.lw_report.proofs.Names.{IsSeenInRange-observed}

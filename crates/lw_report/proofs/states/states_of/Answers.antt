@@ -1,4 +1,4 @@
--- Of `states_of`, which returns the sorted states of a listing, without duplicates. Sorting only permutes the
+-- Proves `states_of`, which returns the sorted states of a listing, without duplicates. Sorting only permutes the
 -- states (`AreStatesOfFirst-sorted`); `AreListedStates-first_states` says that the first ones of each run of equal words are the
 -- states that the report shows.
 use Rattle.lw_report.proofs.Common.{ℕ, length, sym, subst, length-map, head_of, outcomes_of, AreStatesOfFirst}

@@ -1,4 +1,4 @@
--- Of `holds`, which returns the truth of a proposition in an outcome. Each index is in range, since the
+-- Proves `holds`, which returns the truth of a proposition in an outcome. Each index is in range, since the
 -- proposition mentions only the outcome's threads and locations; then each case is the definition's, and the
 -- parts are by the recursive calls.
 use Rattle.lw_report.proofs.Common.{not, length, sym, ap, ◌∙◌, arith, FinalState, formula_of, is_true}

@@ -1,4 +1,4 @@
--- Of `outlooks_of`: each round sets the outlook of one more thread of the program (`HoldsOfFirst-set`).
+-- Proves `outlooks_of`: each round sets the outlook of one more thread of the program (`HoldsOfFirst-set`).
 use Rattle.lw_search.proofs.Common.{◌<◌, ◌∙◌, arith, ap, sym, subst, length, thread_code, HasConflictsOf}
 use Rattle.lw_search.proofs.Common.{length-set, refl, [], get_or_from_slice_get}
 use Rattle.lw_search.proofs.AccessSets.{HoldsOfFirst-set}

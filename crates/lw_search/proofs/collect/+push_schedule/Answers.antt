@@ -1,5 +1,5 @@
--- Of `push_schedule`, which appends to `events` a schedule from the start to the state at an index, along the
--- chain of parents. Three exits: past the table, and at the start, which is its own parent, nothing is
+-- Proves `push_schedule`, which appends to `events` a schedule from the start to the state at an index, along
+-- the chain of parents. Three exits: past the table, and at the start, which is its own parent, nothing is
 -- appended, and that is right; otherwise `ReachesIndex-next` puts the schedule of the parent, by the
 -- recursive call, before the run of the origin.
 use Rattle.lw_search.proofs.Common.{◌++◌, ◌∙◌, [], arith, ap, sym, append-nil, append_assoc, on_ok_weaker}

@@ -1,4 +1,4 @@
--- Of `is_final`, whose answer is right, either way, for each machine state that the key represents. A thread
+-- Proves `is_final`, whose answer is right, either way, for each machine state that the key represents. A thread
 -- that is not done refutes finality (`not-is_final-if_unfinished`, by the index of that thread); the end of the loop implies
 -- it (`is_final-if_all_done`).
 use Rattle.lw_search.proofs.Common.{◌<◌, arith, ap, length}

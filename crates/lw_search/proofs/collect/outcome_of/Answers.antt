@@ -1,4 +1,4 @@
--- Of `outcome_of`, which returns the registers and words of each state that the key represents.
+-- Proves `outcome_of`, which returns the registers and words of each state that the key represents.
 -- `AreRegisters-push` adds one thread's registers to the list; the rest is proved by the search.
 use Rattle.lw_search.proofs.Common.{◌<◌, ◌+◌, arith, sym, subst, length}
 use Rattle.lw_search.proofs.Collected.{AreRegisters-push, AreRegisters}

@@ -1,5 +1,5 @@
--- Of `push_run`, which appends the events of the run with a number. If no run has the number, `events_at` has
--- no events either (`events_at-none`), so appending nothing is right.
+-- Proves `push_run`, which appends the events of the run with a number. If no run has the number, `events_at`
+-- has no events either (`events_at-none`), so appending nothing is right.
 use Rattle.lw_search.proofs.Common.{◌++◌, ◌∙◌, ap, sym, append-nil, option_copied}
 use Rattle.lw_search.proofs.Collected.{events_at-none}
 use Rattle.lw_search.proofs.collect.push_run.Goals as goal

@@ -1,5 +1,5 @@
--- Of `schedule_to`, which returns a schedule from the start to the state at an index. The list of events is
--- empty before `push_schedule`, so what this call has appended is the whole schedule.
+-- Proves `schedule_to`, which returns a schedule from the start to the state at an index. The list of events
+-- is empty before `push_schedule`, so what this call has appended is the whole schedule.
 use Rattle.lw_search.proofs.Common.{◌≡◌, ◌++◌, ◌∙◌, ap, sym, subst, ReachesIndex}
 use Rattle.lw_search.proofs.collect.schedule_to.Goals as goal
 

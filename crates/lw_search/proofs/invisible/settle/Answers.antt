@@ -1,7 +1,7 @@
--- Of `settle`, which takes invisible events of one thread as long as it finds any: the appended events lead
--- from each state of this key to a state that covers it. `Settles-push` and `Settles-end` put the next event,
--- or none, after those taken before. The contract does not say that all are taken, so the bound on events
--- needs no proof.
+-- Proves `settle`, which takes invisible events of one thread as long as it finds any: the appended events
+-- lead from each state of this key to a state that covers it. `Settles-push` and `Settles-end` put the next
+-- event, or none, after those taken before. The contract does not say that all are taken, so the bound on
+-- events needs no proof.
 use Rattle.lw_search.proofs.Common.{◌++◌, ◌∷◌, ◌∙◌, [], Bool, ℕ, Option, Some, ap, sym, subst, append-nil}
 use Rattle.lw_search.proofs.Common.{append_assoc, option_to_list, events_of, Settles}
 use Rattle.lw_search.proofs.Settling.{Settles-none, Settles-push, Settles-end}

@@ -1,6 +1,6 @@
--- Of `take_drain`, which drains the thread's oldest entry if the drain is invisible, and otherwise changes
--- nothing. `Settles-drain` does the work: an invisible drain leads to a state that covers the one before. It
--- needs that jumps lead forward, which holds of each well-formed program.
+-- Proves `take_drain`, which drains the thread's oldest entry if the drain is invisible, and otherwise
+-- changes nothing. `Settles-drain` does the work: an invisible drain leads to a state that covers the one
+-- before. It needs that jumps lead forward, which holds of each well-formed program.
 use Rattle.lw_search.proofs.Common.{program_of}
 use Rattle.lw_search.proofs.Settling.{Settles-none, Settles-drain, IsForward-of_well_formed}
 use Rattle.lw_search.proofs.invisible.take_drain.Goals as goal

@@ -1,4 +1,4 @@
--- Of `take_event`, which takes the thread's step if it is invisible, otherwise its drain if that is, and
+-- Proves `take_event`, which takes the thread's step if it is invisible, otherwise its drain if that is, and
 -- returns which. The first of the two calls has then taken no event, so `Settles-append` joins no event with
 -- the one of the second call, or with none.
 use Rattle.lw_search.proofs.Common.{◌∷◌, [], Bool, Step, Drain, sym, subst, if◌then◌else◌, event_of, Settles}

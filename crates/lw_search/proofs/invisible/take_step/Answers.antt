@@ -1,6 +1,6 @@
--- Of `take_step`, which takes the thread's next step if it is invisible and enabled, and otherwise changes
--- nothing. `Settles-step` does the work, as for the drain. At the end of the code, and for a visible step,
--- the empty run is right.
+-- Proves `take_step`, which takes the thread's next step if it is invisible and enabled, and otherwise
+-- changes nothing. `Settles-step` does the work, as for the drain. At the end of the code, and for a visible
+-- step, the empty run is right.
 use Rattle.lw_search.proofs.Common.{◌∙◌, ap, sym, slice_get, IfOk-weaker, program_of}
 use Rattle.lw_search.proofs.Settling.{Settles-none, Settles-step, IsForward-of_well_formed}
 use Rattle.lw_search.proofs.invisible.take_step.Goals as goal

@@ -1,4 +1,4 @@
--- Of `reach_program`, the complete list of an x86 test with schedules. Each clause is a part of what
+-- Proves `reach_program`, the complete list of an x86 test with schedules. Each clause is a part of what
 -- `search_schedules` promises (`IsComplete`).
 use Rattle.lw_search.proofs.Common.{IfOk-weaker}
 use Rattle.lw_search.proofs.list.reach_program.Goals as goal

@@ -1,6 +1,6 @@
--- Of `reach_source`, the complete list of a source test with schedules of its compiled program. The program
--- is searched; by the contract of `compile` it has exactly the outcomes of its source, and the same threads
--- and locations.
+-- Proves `reach_source`, the complete list of a source test with schedules of its compiled program. The
+-- program is searched; by the contract of `compile` it has exactly the outcomes of its source, and the same
+-- threads and locations.
 use Rattle.lw_search.proofs.Common.{IfOk-weaker, program_of, on_machine, IsListedOutcome-of_source}
 use Rattle.lw_search.proofs.list.reach_source.Goals as goal
 

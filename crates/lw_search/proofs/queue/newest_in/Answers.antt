@@ -1,5 +1,5 @@
--- Of `newest_in`, which returns the newest word that buffer entries, oldest first, have for a location, or
--- `None`. By `newest_buffered-take`, one more entry either has the word for the location, and is then the
+-- Proves `newest_in`, which returns the newest word that buffer entries, oldest first, have for a location,
+-- or `None`. By `newest_buffered-take`, one more entry either has the word for the location, and is then the
 -- newest, or leaves what was found.
 use Rattle.lw_search.proofs.Common.{arith}
 use Rattle.lw_search.proofs.ThreadStates.{newest_buffered-take}

@@ -1,4 +1,4 @@
--- Of `carry_out`, which carries out a drain, or the step of the thread's next instruction. The effect of the event is that of the
+-- Proves `carry_out`, which carries out a drain, or the step of the thread's next instruction. The effect of the event is that of the
 -- operation (`event_effect-of_instruction`), and at the end of the code the step is refused (`event_effect-at_end`).
 use Rattle.lw_search.proofs.Common.{◌≡◌, ◌∙◌, Bool, ap, sym, refl, subst, slice_get, IfOk-weaker, Ended}
 use Rattle.lw_search.proofs.Common.{Event, Step, Drain, if◌then◌else◌, ActResult, event_effect, event_of}

@@ -1,4 +1,4 @@
--- Of `start_key`, which returns the key of the initial state, and only appends rows to the tables.
+-- Proves `start_key`, which returns the key of the initial state, and only appends rows to the tables.
 -- `IsStartKey-next` adds the number of one thread's initial state; at the end `Represents-start_key` says that
 -- the key represents the initial state.
 use Rattle.lw_search.proofs.Common.{◌≡◌, ◌<◌, ◌∙◌, [], Some, arith, ap, slice_get, get_or, length}

@@ -1,5 +1,5 @@
--- Of `needs_empty_buffer`: if it returns `true`, the machine refuses the operation while the buffer has an
--- entry. One case for each operation that waits; the cause is `FenceWaits` or `SwapWaits`.
+-- Proves `needs_empty_buffer`: if it returns `true`, the machine refuses the operation while the buffer has
+-- an entry. One case for each operation that waits; the cause is `FenceWaits` or `SwapWaits`.
 use Rattle.lw_search.proofs.Common.{FenceWaits, SwapWaits}
 use Rattle.lw_search.proofs.ThreadStates.{if_buffer_empty-refused}
 use Rattle.lw_search.proofs.thread_state.needs_empty_buffer.Goals as goal

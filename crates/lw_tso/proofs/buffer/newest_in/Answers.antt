@@ -1,4 +1,4 @@
--- Of `newest_in`, which returns the newest word that the ring has for a location, or `None`. It searches from
+-- Proves `newest_in`, which returns the newest word that the ring has for a location, or `None`. It searches from
 -- the newest entry. `newest_buffered-none_before` is for an entry of another location; `newest_buffered-found` for one of this
 -- location, which is the newest since no later entry is for it.
 use Rattle.lw_tso.proofs.Common.{arith, sym, ap, ◌∙◌, option_copied, drop_all, newest_buffered, ◌-◌}

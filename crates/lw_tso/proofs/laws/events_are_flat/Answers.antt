@@ -1,4 +1,4 @@
--- Of the law that an event of a reachable state has the same result over a memory system as over flat memory,
+-- Proves the law that an event of a reachable state has the same result over a memory system as over flat memory,
 -- in both directions. These are the lemmas `MachineTransition-reached_flat` and `LiftedEvent-reached`; the memory system is lawful by
 -- its trait.
 use Rattle.lw_tso.proofs.api.FlatSimulation.{MachineTransition-reached_flat, LiftedEvent-reached}

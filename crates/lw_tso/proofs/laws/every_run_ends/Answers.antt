@@ -1,5 +1,5 @@
--- Of the law that each run can be extended to a final state. This is the lemma `CanTerminate-reached`: buffers are drained
--- and threads stepped forward, one after the other.
+-- Proves the law that each run can be extended to a final state. This is the lemma `CanTerminate-reached`: buffers are
+-- drained and threads stepped forward, one after the other.
 use Rattle.lw_tso.proofs.api.Endings.{CanTerminate-reached}
 use Rattle.lw_tso.proofs.laws.every_run_ends.Goals as goal
 

@@ -1,6 +1,6 @@
--- Of the law that fences only remove outcomes over every memory system. The outcome is taken to flat memory
--- and back by the law `outcomes_are_flat`, and there the law for flat memory is used; the test without the
--- fences is well-scoped too.
+-- Proves the law that fences only remove outcomes over every memory system. The outcome is taken to flat
+-- memory and back by the law `outcomes_are_flat`, and there the law for flat memory is used; the test without
+-- the fences is well-scoped too.
 use Rattle.lw_tso.proofs.laws.fences_only_remove_outcomes_over_every_memory.Goals as goal
 
 pub returns : goal.returns

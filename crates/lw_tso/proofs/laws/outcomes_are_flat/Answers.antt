@@ -1,5 +1,5 @@
--- Of the law that a program has the same outcomes over each memory system, those over flat memory. This is
--- the lemma `IsMachineOutcome-flat_iff`.
+-- Proves the law that a program has the same outcomes over each memory system, those over flat memory. This
+-- is the lemma `IsMachineOutcome-flat_iff`.
 use Rattle.lw_tso.proofs.api.FlatSimulation.{IsMachineOutcome-flat_iff}
 use Rattle.lw_tso.proofs.laws.outcomes_are_flat.Goals as goal
 

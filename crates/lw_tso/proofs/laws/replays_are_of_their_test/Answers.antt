@@ -1,5 +1,5 @@
--- Of the law that a replay's events and its outcome are of the test's processors and locations. This is the
--- lemma `HasOutcomeShape-replay`.
+-- Proves the law that a replay's events and its outcome are of the test's processors and locations. This is
+-- the lemma `HasOutcomeShape-replay`.
 use Rattle.lw_tso.proofs.api.Replaying.{HasOutcomeShape-replay}
 use Rattle.lw_tso.proofs.laws.replays_are_of_their_test.Goals as goal
 

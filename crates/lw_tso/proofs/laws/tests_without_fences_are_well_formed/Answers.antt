@@ -1,4 +1,4 @@
--- Of the law that a test is well-scoped, or well-formed, if it is so with MFENCEs inserted. These are the
+-- Proves the law that a test is well-scoped, or well-formed, if it is so with MFENCEs inserted. These are the
 -- lemmas `IsWellScopedProgram-without_fences` and `IsWellFormedProgram-without_fences`.
 use Rattle.lw_tso.proofs.api.FewerFences.{IsWellFormedProgram-without_fences}
 use Rattle.lw_tso.proofs.api.FewerFences.{IsWellScopedProgram-without_fences}

@@ -1,4 +1,4 @@
--- Of the law that the machine with locked instructions in phases has the outcomes of the machine in which
+-- Proves the law that the machine with locked instructions in phases has the outcomes of the machine in which
 -- each is one step. `MachineRunsTo-of_phases` turns a run in phases into one of single steps, and `InPhases-run` the
 -- reverse; both end in the same state.
 use Rattle.lw_tso.proofs.FromPhases.{MachineRunsTo-of_phases}

@@ -1,4 +1,4 @@
--- Of `content_of`, which returns the memory's content as a list. Each round appends the word of the next
+-- Proves `content_of`, which returns the memory's content as a list. Each round appends the word of the next
 -- location; there are at most eight, as the memory system's `location_count` promises, so the list of all
 -- locations is long enough.
 use Rattle.lw_tso.proofs.Common.{◌<◌, ◌++◌, ◌∷◌, [], ap, ap₂, arith, length, sym, ◌∙◌, length-take, take_all}

@@ -1,5 +1,5 @@
--- Of `copy_content`, which writes the memory's content over a list of the same length. `take-set_next` extends
--- the part that is right by the word of the next location.
+-- Proves `copy_content`, which writes the memory's content over a list of the same length. `take-set_next`
+-- extends the part that is right by the word of the next location.
 use Rattle.lw_tso.proofs.Common.{◌+◌, ◌<◌, ap, arith, length, length-set, ◌∙◌, length-take, slice_index, take}
 use Rattle.lw_tso.proofs.Common.{common_steps}
 use Rattle.lw_tso.proofs.Refilled.{all_locations-at, take-set_next}

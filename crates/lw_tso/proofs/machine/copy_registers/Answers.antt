@@ -1,4 +1,4 @@
--- Of `copy_registers`, which writes the registers of each processor over the rows of a list of the same
+-- Proves `copy_registers`, which writes the registers of each processor over the rows of a list of the same
 -- length. Each round writes one row; after the last the whole list is written (`take_all`).
 use Rattle.lw_tso.proofs.Common.{◌+◌, ◌++◌, ◌∷◌, [], ap, ap₂, arith, length, length-set, map, sym, take, ◌∙◌}
 use Rattle.lw_tso.proofs.Common.{take_all, map_more, take_more_set}

@@ -1,5 +1,5 @@
--- Of `instr_at`, which returns the instruction at a position of a thread, or `None` at its end. The thread
--- exists, so its code can be read.
+-- Proves `instr_at`, which returns the instruction at a position of a thread, or `None` at its end. The
+-- thread exists, so its code can be read.
 use Rattle.lw_tso.proofs.Common.{[], ◌∙◌, arith, get_or_from_slice_get}
 use Rattle.lw_tso.proofs.Events.{slice_get-of_read}
 use Rattle.lw_tso.proofs.machine.instr_at.Goals as goal

@@ -1,4 +1,4 @@
--- Of `processors_of`, which creates the initial processors of a program, each with room for all stores of its
+-- Proves `processors_of`, which creates the initial processors of a program, each with room for all stores of its
 -- thread. `AreStarted-push` appends the next one. There is a code for each thread with registers, since the program
 -- is well-formed.
 use Rattle.lw_tso.proofs.Common.{◌≡◌, ◌<◌, ◌≤◌, [], get_or, length, map, arith, ap, sym, refl, ◌∙◌, take_all}

@@ -1,4 +1,4 @@
--- Of `registers_of`, which returns the registers of each processor. Each round appends those of the next one.
+-- Proves `registers_of`, which returns the registers of each processor. Each round appends those of the next one.
 use Rattle.lw_tso.proofs.Common.{◌++◌, ◌∷◌, [], ap, ap₂, map, sym, ◌∙◌, take_all, map_more}
 use Rattle.lw_tso.specs.declared.processor.Processor.{Processor as ProcessorInMemory}
 use Rattle.lw_tso.proofs.machine.registers_of.Goals as goal

@@ -1,5 +1,5 @@
--- Of `restart_all`, which resets all processors and keeps the rooms of their buffers. `RefilledUpTo-suc` extends the
--- part that is reset by one processor, and `map-set_same_image` says that its room is unchanged.
+-- Proves `restart_all`, which resets all processors and keeps the rooms of their buffers. `RefilledUpTo-suc` extends
+-- the part that is reset by one processor, and `map-set_same_image` says that its room is unchanged.
 use Rattle.lw_tso.proofs.Common.{◌<◌, arith, length, length-set, [], refl, ◌∙◌, initial_processor}
 use Rattle.lw_tso.proofs.Common.{processor_of}
 use Rattle.lw_tso.proofs.Events.{slice_get-of_read}

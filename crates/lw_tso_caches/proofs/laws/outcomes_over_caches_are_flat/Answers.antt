@@ -1,4 +1,4 @@
--- Of the law that an x86 test has the same outcomes over caches of each protocol as over flat memory. Caches
+-- Proves the law that an x86 test has the same outcomes over caches of each protocol as over flat memory. Caches
 -- are a lawful memory (`protocol_lawful`), and empty ones have the initial words as content (`IsInitialMemory-empty_caches`), so
 -- the law for each lawful memory applies.
 use Rattle.lw_mesi.specs.laws.ProtocolLaws.{protocol_lawful}

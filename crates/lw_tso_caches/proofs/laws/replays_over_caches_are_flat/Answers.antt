@@ -1,4 +1,4 @@
--- Of the law that steps and drains replay over caches of each protocol to the same outcomes as over flat
+-- Proves the law that steps and drains replay over caches of each protocol to the same outcomes as over flat
 -- memory, and that a replay is of its test's processors and locations. As for outcomes: caches are a lawful
 -- memory, and empty ones are a right start.
 use Rattle.lw_mesi.specs.laws.ProtocolLaws.{protocol_lawful}

@@ -1,4 +1,4 @@
--- Of `CellCause::code`, a table of a number for each cause. One row by hand, since the definition has the
+-- Proves `CellCause::code`, a table of a number for each cause. One row by hand, since the definition has the
 -- same row; the search proves the others.
 use Rattle.lw_base.proofs.Common.{refl}
 use Rattle.lw_base.proofs.fault.CellCause.code.Goals as goal

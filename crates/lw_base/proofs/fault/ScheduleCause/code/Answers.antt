@@ -1,5 +1,5 @@
--- Of `ScheduleCause::code`, a table of a number for each cause. One row by hand, since the definition has the
--- same row; the search proves the others.
+-- Proves `ScheduleCause::code`, a table of a number for each cause. One row by hand, since the definition has
+-- the same row; the search proves the others.
 use Rattle.lw_base.proofs.Common.{refl}
 use Rattle.lw_base.proofs.fault.ScheduleCause.code.Goals as goal
 

@@ -1,5 +1,5 @@
--- Of `Head::copy`, which returns an equal head. Field by field: those that own memory are copies by their own
--- contracts, and the others are the same.
+-- Proves `Head::copy`, which returns an equal head. Field by field: those that own memory are copies by their
+-- own contracts, and the others are the same.
 use Rattle.lw_base.proofs.head.Head.copy.Goals as goal
 
 pub returns : goal.returns

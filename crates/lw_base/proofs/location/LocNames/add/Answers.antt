@@ -1,5 +1,5 @@
--- Of `LocNames::add`, which appends a new valid name and returns its location. `IsNameTable-push`: the result is
--- still a table of at most eight different valid names, so the number of old names fits as a location
+-- Proves `LocNames::add`, which appends a new valid name and returns its location. `IsNameTable-push`: the
+-- result is still a table of at most eight different valid names, so the number of old names fits as a location
 -- (`index-of_pushed_name`).
 use Rattle.lw_base.proofs.Common.{sym, ◌∙◌, ap, ◌++◌, ◌∷◌, [], arith, length, string_bytes, length-map}
 use Rattle.lw_base.proofs.api.Tables.{map_names-push, IsNameTable-push, index-of_pushed_name}

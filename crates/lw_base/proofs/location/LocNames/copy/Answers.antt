@@ -1,4 +1,4 @@
--- Of `LocNames::copy`, which returns an equal table. Each round copies one name (`copied_names-push`).
+-- Proves `LocNames::copy`, which returns an equal table. Each round copies one name (`copied_names-push`).
 use Rattle.lw_base.proofs.Common.{◌∙◌, map, ap, sym, subst, arith, take_all, string_bytes, IsNameTable}
 use Rattle.lw_base.proofs.api.Tables.{copied_names-push}
 use Rattle.lw_base.proofs.location.LocNames.copy.Goals as goal

@@ -1,4 +1,4 @@
--- Of `LocNames::find`, which returns the location with a name, or `None` if the table has no such name. Names
+-- Proves `LocNames::find`, which returns the location with a name, or `None` if the table has no such name. Names
 -- that were passed are others (`not-found_at_index`); a name that compares equal is at this index, which fits as a
 -- location (`found_at_index`).
 use Rattle.lw_base.proofs.Common.{arith, ap, sym, ◌∙◌, below_more, get_or, length, map, ◌<◌, [], string_bytes}

@@ -1,5 +1,5 @@
--- Of `LocNames::find_or_add`, which returns the location with a name, after the name was inserted if it was
--- new. A known name leaves the table unchanged (`insert_name-if_in_table`), a new one is appended
+-- Proves `LocNames::find_or_add`, which returns the location with a name, after the name was inserted if it
+-- was new. A known name leaves the table unchanged (`insert_name-if_in_table`), a new one is appended
 -- (`insert_name-if_new`); a ninth does not fit.
 use Rattle.lw_base.proofs.Common.{most_locations, [], ◌∷◌, ◌<◌, length, sym, ◌∙◌, length-append, arith}
 use Rattle.lw_base.proofs.api.Tables.{insert_name-if_in_table, insert_name-if_new, position_of_name-at}

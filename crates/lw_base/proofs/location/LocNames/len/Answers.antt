@@ -1,4 +1,4 @@
--- Of `LocNames::len`, which returns the number of names. The contract's table is the list of the names'
+-- Proves `LocNames::len`, which returns the number of names. The contract's table is the list of the names'
 -- bytes, and is as long as the list of names.
 use Rattle.lw_base.proofs.Common.{◌∙◌, sym, length-map}
 use Rattle.lw_base.proofs.location.LocNames.len.Goals as goal

@@ -1,5 +1,5 @@
--- Of `LocNames::name`, which returns the name of a location. The location is in the table, so it can be read,
--- and what is read is the contract's (`slice_get-entry_name`).
+-- Proves `LocNames::name`, which returns the name of a location. The location is in the table, so it can be
+-- read, and what is read is the contract's (`slice_get-entry_name`).
 use Rattle.lw_base.proofs.Common.{◌∙◌, ap, length, sym, arith, string_bytes, length-map}
 use Rattle.lw_base.proofs.api.Tables.{slice_get-entry_name}
 use Rattle.lw_base.proofs.location.LocNames.name.Goals as goal

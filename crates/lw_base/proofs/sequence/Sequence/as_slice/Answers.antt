@@ -1,4 +1,4 @@
--- Of `Sequence::as_slice`. Immediate: the contract's list is that of the vector inside.
+-- Proves `Sequence::as_slice`. Immediate: the contract's list is that of the vector inside.
 use Rattle.lw_base.proofs.Common.{rules}
 use Rattle.lw_base.proofs.sequence.Sequence.as_slice.Goals as goal
 

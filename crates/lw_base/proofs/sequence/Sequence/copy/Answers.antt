@@ -1,4 +1,4 @@
--- Of `Sequence::copy`. Immediate from the contract of the vector's copy.
+-- Proves `Sequence::copy`. Immediate from the contract of the vector's copy.
 use Rattle.lw_base.proofs.Common.{rules}
 use Rattle.lw_base.proofs.sequence.Sequence.copy.Goals as goal
 

@@ -1,5 +1,5 @@
--- Of `Sequence::get`, which returns the item at an index, or `None`. The standard library promises each case
--- by itself; `option_copied-slice_get` makes one equation of them.
+-- Proves `Sequence::get`, which returns the item at an index, or `None`. The standard library promises each
+-- case by itself; `option_copied-slice_get` makes one equation of them.
 use Rattle.lw_base.proofs.Common.{Bor, HoldsAt, IfSome, option_copied, slice_get, slice_get_past, ◌≡◌, ◌<◌}
 use Rattle.lw_base.proofs.Common.{◌≤◌, ◌∙◌, ℕ, List, MatchOption, None, Option, Some, ap, get_or, length}
 use Rattle.lw_base.proofs.Common.{refl, sym, slice_get_read}

@@ -1,4 +1,4 @@
--- Of `Sequence::len`. The contract's list is that of the vector inside, whose length is the length of its
+-- Proves `Sequence::len`. The contract's list is that of the vector inside, whose length is the length of its
 -- list.
 use Rattle.lw_base.proofs.Common.{◌∙◌}
 use Rattle.lw_base.proofs.sequence.Sequence.len.Goals as goal

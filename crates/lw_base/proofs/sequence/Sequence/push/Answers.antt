@@ -1,4 +1,4 @@
--- Of `Sequence::push`. Immediate from the contract of the vector's `push`.
+-- Proves `Sequence::push`. Immediate from the contract of the vector's `push`.
 use Rattle.lw_base.proofs.Common.{rules}
 use Rattle.lw_base.proofs.sequence.Sequence.push.Goals as goal
 

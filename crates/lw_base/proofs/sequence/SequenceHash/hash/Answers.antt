@@ -1,4 +1,4 @@
--- Of the hash of a sequence. Immediate: what the hasher is fed is what the vector inside feeds it.
+-- Proves the hash of a sequence. Immediate: what the hasher is fed is what the vector inside feeds it.
 use Rattle.lw_base.proofs.sequence.SequenceHash.hash.Goals as goal
 
 pub returns : goal.returns

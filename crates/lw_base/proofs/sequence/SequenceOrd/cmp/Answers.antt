@@ -1,4 +1,4 @@
--- Of the comparison of sequences. Immediate: it is that of the vectors inside, which is lexicographic.
+-- Proves the comparison of sequences. Immediate: it is that of the vectors inside, which is lexicographic.
 use Rattle.lw_base.proofs.sequence.SequenceOrd.cmp.Goals as goal
 
 pub returns : goal.returns

@@ -1,4 +1,4 @@
--- Of the equality of sequences. Immediate: it is that of the vectors inside.
+-- Proves the equality of sequences. Immediate: it is that of the vectors inside.
 use Rattle.lw_base.proofs.Common.{rules}
 use Rattle.lw_base.proofs.sequence.SequencePartialEq.eq.Goals as goal
 

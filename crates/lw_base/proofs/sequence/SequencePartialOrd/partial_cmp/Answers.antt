@@ -1,4 +1,4 @@
--- Of the partial comparison of sequences. Immediate: it is that of the vectors inside.
+-- Proves the partial comparison of sequences. Immediate: it is that of the vectors inside.
 use Rattle.lw_base.proofs.sequence.SequencePartialOrd.partial_cmp.Goals as goal
 
 pub returns : goal.returns

@@ -1,4 +1,4 @@
--- Of `Text::copy`, which returns an equal text. Immediate from the contract of the string's copy.
+-- Proves `Text::copy`, which returns an equal text. Immediate from the contract of the string's copy.
 use Rattle.lw_base.proofs.text.Text.copy.Goals as goal
 
 pub returns : goal.returns

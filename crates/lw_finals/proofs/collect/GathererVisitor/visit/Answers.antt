@@ -1,6 +1,6 @@
--- Of the collector's `visit`: it collects the outcomes of one path assignment's orders, and fails only for a
--- true limit. Both clauses are those of `collect_items`, since `fill_few_items` returns exactly the items of
--- the path assignment.
+-- Proves the collector's `visit`: it collects the outcomes of one path assignment's orders, and fails only
+-- for a true limit. Both clauses are those of `collect_items`, since `fill_few_items` returns exactly the
+-- items of the path assignment.
 use Rattle.lw_finals.proofs.Common.{refl, ◌∙◌, on_ok_weaker, IfErr-weaker, assignment_of}
 use Rattle.lw_finals.proofs.Common.{LimitFaultOfAssignment-items_refused}
 use Rattle.lw_finals.proofs.collect.GathererVisitor.visit.Goals as goal

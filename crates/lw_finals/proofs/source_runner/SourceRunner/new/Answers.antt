@@ -1,6 +1,6 @@
--- Of `SourceRunner::new`, which creates a runner of the test. The runner's invariant holds: the run has the
--- source's code and starts in its initial state, and the copied outcome has as many registers and words as
--- the source.
+-- Proves `SourceRunner::new`, which creates a runner of the test. The runner's invariant holds: the run has
+-- the source's code and starts in its initial state, and the copied outcome has as many registers and words
+-- as the source.
 use Rattle.lw_finals.proofs.Common.{arith, ap, ◌∙◌, ◌≡◌, length, length-map, FinalState, common_steps}
 use Rattle.lw_finals.proofs.source_runner.SourceRunner.new.Goals as goal
 

@@ -1,4 +1,4 @@
--- Of the source runner's `entry`, which returns the last outcome with a schedule of the compiled program that
+-- Proves the source runner's `entry`, which returns the last outcome with a schedule of the compiled program that
 -- reaches it. By the law `schedules_replay` the schedule of the order's threads reaches it, and by `ReplaysTo-item_events`
 -- that schedule is the events of the order's items.
 use Rattle.lw_finals.proofs.Common.{IsWellScoped-well_formed, source_language, ◌≡◌, List, ap, sym, ◌∙◌, subst}

@@ -1,5 +1,5 @@
--- Of the source runner's `has_kept`: some schedule of the compiled program reaches the outcome of the last run.
--- As for `entry`, but the events are only named and not computed.
+-- Proves the source runner's `has_kept`: some schedule of the compiled program reaches the outcome of the last
+-- run. As for `entry`, but the events are only named and not computed.
 use Rattle.lw_finals.proofs.Common.{IsWellScoped-well_formed, source_language, ◌≡◌, List, refl, ap, sym}
 use Rattle.lw_finals.proofs.Common.{subst, Event, source_of, program_of, SourceFollowsPathsToEnd}
 use Rattle.lw_finals.proofs.Common.{ReplaysFlatTo, RunnerState, CompiledSource, item_events, SourceTest}

@@ -1,4 +1,4 @@
--- Of the source runner's `run`: if it returns `true`, the order follows its paths, and `end` is its only
+-- Proves the source runner's `run`: if it returns `true`, the order follows its paths, and `end` is its only
 -- outcome; if `false`, it has none. `RunsContinueFrom-next` adds one executed item, since an item has at most one successor
 -- state. An item that is not executed leaves the order without a run (`not-Ran-if_not_enabled`). After the last item
 -- `FollowsPathsToEnd-if_final` and `outcome_at_end-unique` say that the outcome is the order's, and the only one.

@@ -1,4 +1,4 @@
--- Of `X86Runner::new`, which creates a runner of the test. Empty caches over the initial words have these
+-- Proves `X86Runner::new`, which creates a runner of the test. Empty caches over the initial words have these
 -- words as their content, as `Machine::new` requires: the law `empty_caches_are_coherent`.
 use Rattle.lw_finals.proofs.Common.{map, ap, ◌∙◌, unheld_cache_line, coherent_word}
 use Rattle.lw_finals.proofs.x86_runner.X86Runner.new.Goals as goal

@@ -1,5 +1,5 @@
--- Of the x86 runner's `entry`, which returns the last outcome with the order's events. By `ReplaysTo-of_order`
--- these events are a schedule that reaches the outcome over flat memory.
+-- Proves the x86 runner's `entry`, which returns the last outcome with the order's events. By
+-- `ReplaysTo-of_order` these events are a schedule that reaches the outcome over flat memory.
 use Rattle.lw_finals.proofs.Common.{List, ap, sym, ◌∙◌, subst, FinalState, Event, X86Test, RunnerState}
 use Rattle.lw_finals.proofs.Common.{events_of, ReplaysFlatTo}
 use Rattle.lw_finals.proofs.X86Outcomes.{ReplaysTo-of_order}

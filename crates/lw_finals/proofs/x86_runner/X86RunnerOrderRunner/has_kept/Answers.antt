@@ -1,5 +1,5 @@
--- Of the x86 runner's `has_kept`: some schedule reaches the outcome of the last run, namely the order's events
--- (`ReplaysTo-of_order`).
+-- Proves the x86 runner's `has_kept`: some schedule reaches the outcome of the last run, namely the order's
+-- events (`ReplaysTo-of_order`).
 use Rattle.lw_finals.proofs.Common.{events_of}
 use Rattle.lw_finals.proofs.X86Outcomes.{ReplaysTo-of_order}
 use Rattle.lw_finals.proofs.x86_runner.X86RunnerOrderRunner.has_kept.Goals as goal

@@ -1,4 +1,4 @@
--- Of the x86 runner's `run`: if it returns `true`, the order follows its paths over flat memory, and `end` is
+-- Proves the x86 runner's `run`: if it returns `true`, the order follows its paths over flat memory, and `end` is
 -- its only outcome; if `false`, it has none. The code runs over MESI caches; the law `events_are_flat` says
 -- that each event does the same over flat memory. `HasFlatRuns-next` adds one item; `not-outcome_if_refused` is for an item that
 -- is refused.

@@ -1,6 +1,6 @@
--- Of `SourceRun::carry_out_event`, which returns the result of one event. A step is the contract of `step`.
--- Drains and evictions are always refused, for the cause that the definition says: a source run has no store
--- buffers and no caches.
+-- Proves `SourceRun::carry_out_event`, which returns the result of one event. A step is the contract of
+-- `step`. Drains and evictions are always refused, for the cause that the definition says: a source run has
+-- no store buffers and no caches.
 use Rattle.lw_interleaving.proofs.Common.{ap, refl, length, SourceRunState}
 use Rattle.lw_interleaving.proofs.api.Runs.{ReturnsEventResult-drain_refused}
 use Rattle.lw_interleaving.proofs.run.SourceRun.carry_out_event.Goals as goal

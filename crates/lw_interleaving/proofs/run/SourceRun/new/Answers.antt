@@ -1,4 +1,4 @@
--- Of `SourceRun::new`, which creates a run in the test's initial state. Each round appends one thread with
+-- Proves `SourceRun::new`, which creates a run in the test's initial state. Each round appends one thread with
 -- its registers (`take_map-push`), and the numbers of threads and words are the test's, as the invariant says.
 use Rattle.lw_interleaving.proofs.Common.{ap, refl, sym, ◌∙◌, length, length-map, initial_thread}
 use Rattle.lw_interleaving.proofs.api.Runs.{State-eq, take_map-push, take_map-all}

@@ -1,5 +1,5 @@
--- Of `SourceRun::outcome`, which returns the registers and words of the current state. Each round appends one
--- thread's registers (`take_map-push`); `source_outcome-of_registers` puts both lists together.
+-- Proves `SourceRun::outcome`, which returns the registers and words of the current state. Each round appends
+-- one thread's registers (`take_map-push`); `source_outcome-of_registers` puts both lists together.
 use Rattle.lw_interleaving.proofs.Common.{ap, ◌∙◌, SourceRunState}
 use Rattle.lw_interleaving.proofs.api.Runs.{take_map-push, take_map-all, source_outcome-of_registers}
 use Rattle.lw_interleaving.proofs.run.SourceRun.outcome.Goals as goal

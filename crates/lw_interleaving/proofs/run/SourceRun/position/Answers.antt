@@ -1,4 +1,4 @@
--- Of `SourceRun::position`, which returns a thread's position. The thread exists, and what is read in the
+-- Proves `SourceRun::position`, which returns a thread's position. The thread exists, and what is read in the
 -- list of threads is the contract's (`slice_get-map_equal_list`).
 use Rattle.lw_interleaving.proofs.Common.{ap, ◌∙◌, Thread, SourceRunState}
 use Rattle.lw_interleaving.proofs.api.Runs.{slice_get-map_equal_list}

@@ -1,5 +1,5 @@
--- Of `SourceRun::reg`, which returns a register's word. The thread exists, and what is read in the list of
--- threads is the contract's (`slice_get-map_equal_list`).
+-- Proves `SourceRun::reg`, which returns a register's word. The thread exists, and what is read in the list
+-- of threads is the contract's (`slice_get-map_equal_list`).
 use Rattle.lw_interleaving.proofs.Common.{ap, ◌∙◌, SourceRunState}
 use Rattle.lw_interleaving.proofs.api.Runs.{slice_get-map_equal_list}
 use Rattle.lw_interleaving.proofs.run.SourceRun.reg.Goals as goal

@@ -1,4 +1,4 @@
--- Of `SourceRun::restart`, which resets the run to its initial state. After the loop all threads are
+-- Proves `SourceRun::restart`, which resets the run to its initial state. After the loop all threads are
 -- overwritten, since the lists have one length; list equations and arithmetic prove the rest (`grind`).
 use Rattle.lw_interleaving.proofs.Common.{arith, common_steps}
 use Rattle.lw_interleaving.proofs.run.SourceRun.restart.Goals as goal

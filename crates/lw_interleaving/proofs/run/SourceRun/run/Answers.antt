@@ -1,5 +1,5 @@
--- Of `SourceRun::run`, which carries out events up to the first that is refused, and reports how the replay
--- ended. `RunsTo-more` adds one event. A refused event changes nothing, so the replay stops there
+-- Proves `SourceRun::run`, which carries out events up to the first that is refused, and reports how the
+-- replay ended. `RunsTo-more` adds one event. A refused event changes nothing, so the replay stops there
 -- (`IsSourceReplay-stopped`); otherwise all events are carried out.
 use Rattle.lw_interleaving.proofs.Common.{◌≡◌, ◌∙◌, ap, refl, sym, true≢false, RunsTo-more, SourceTransition}
 use Rattle.lw_interleaving.proofs.Common.{SourceRunState}

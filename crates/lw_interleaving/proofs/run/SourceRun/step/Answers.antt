@@ -1,6 +1,6 @@
--- Of `SourceRun::step`, which executes a thread's next statement. `ReturnsEventResult-step` says that the changed thread and
--- memory are the state after the step. The statement is on the test's locations, as `carry_out` requires,
--- since the test is well-formed (`next_statement`).
+-- Proves `SourceRun::step`, which executes a thread's next statement. `ReturnsEventResult-step` says that the changed thread
+-- and memory are the state after the step. The statement is on the test's locations, as `carry_out` requires, since the test
+-- is well-formed (`next_statement`).
 use Rattle.lw_interleaving.proofs.Common.{refl, length, length-set, ap, sym, ◌∙◌, arith, slice_get_within}
 use Rattle.lw_interleaving.proofs.Common.{SourceRunState}
 use Rattle.lw_interleaving.proofs.api.Runs.{next_statement, ReturnsEventResult-step}

@@ -1,5 +1,5 @@
--- Of `SourceRun::word`, which returns a location's word. The location exists, and what is read in the list of
--- words is the contract's.
+-- Proves `SourceRun::word`, which returns a location's word. The location exists, and what is read in the
+-- list of words is the contract's.
 use Rattle.lw_interleaving.proofs.Common.{ap, ◌∙◌, SourceRunState}
 use Rattle.lw_interleaving.proofs.api.Runs.{slice_get-equal_list}
 use Rattle.lw_interleaving.proofs.run.SourceRun.word.Goals as goal

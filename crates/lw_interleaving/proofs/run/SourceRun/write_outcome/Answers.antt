@@ -1,5 +1,5 @@
--- Of `SourceRun::write_outcome`, which writes the current registers and memory into an outcome of the same
--- size. Each round overwrites one row (`map_prefix-set`), which exists, since the sizes are equal.
+-- Proves `SourceRun::write_outcome`, which writes the current registers and memory into an outcome of the
+-- same size. Each round overwrites one row (`map_prefix-set`), which exists, since the sizes are equal.
 use Rattle.lw_interleaving.proofs.Common.{ap, arith, length, ◌∙◌, FinalState, common_steps}
 use Rattle.lw_interleaving.proofs.api.Runs.{map_prefix-set}
 use Rattle.lw_interleaving.proofs.run.SourceRun.write_outcome.Goals as goal

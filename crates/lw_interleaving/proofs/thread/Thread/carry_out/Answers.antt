@@ -1,4 +1,4 @@
--- Of `Thread::carry_out`, which executes an operation on the thread and the memory. The search proves the
+-- Proves `Thread::carry_out`, which executes an operation on the thread and the memory. The search proves the
 -- effects; what is left is that each location is in range, which the premise says of the operation.
 use Rattle.lw_interleaving.proofs.Common.{refl}
 use Rattle.lw_interleaving.proofs.thread.Thread.carry_out.Goals as goal

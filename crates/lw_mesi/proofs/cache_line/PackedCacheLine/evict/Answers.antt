@@ -1,4 +1,4 @@
--- Of `PackedCacheLine::evict`, which evicts a processor's copy as the protocol's table says. One lemma for
+-- Proves `PackedCacheLine::evict`, which evicts a processor's copy as the protocol's table says. One lemma for
 -- each state of the copy: a sharer (`unpacked-sharer_evicted`), a dirty owner, whose word goes to memory (`unpacked-dirty_owner_evicted`),
 -- and a clean owner (`unpacked-clean_owner_evicted`).
 use Rattle.lw_mesi.proofs.Common.{◌≡◌, ℕ, sym, ap, ◌∙◌, CacheLine, Inside, unpacked, copy_of, copy_state}

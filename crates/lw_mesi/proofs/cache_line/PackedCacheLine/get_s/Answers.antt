@@ -1,4 +1,4 @@
--- Of `PackedCacheLine::get_s`, the bus transaction of a load without a copy, as the protocol's table says.
+-- Proves `PackedCacheLine::get_s`, the bus transaction of a load without a copy, as the protocol's table says.
 -- One lemma for each case: a dirty owner under MOESI (`unpacked-shared_by_dirty_owner`), another owner (`unpacked-shared_by_clean_owner`), no
 -- holder (`unpacked-first_reader`), and sharers only (`unpacked-next_reader`). Under MESI no owner is in O, so the packed line
 -- stays well formed (`not_owned`).

@@ -1,6 +1,6 @@
--- Of `PackedCacheLine::write`, which makes the writer the only holder, in M, and returns the old word. The
--- packed line, unpacked, is that of the table (`unpacked-after_write`), and the old word is the coherent one
--- (`copy_word-after_write`).
+-- Proves `PackedCacheLine::write`, which makes the writer the only holder, in M, and returns the old word.
+-- The packed line, unpacked, is that of the table (`unpacked-after_write`), and the old word is the coherent
+-- one (`copy_word-after_write`).
 use Rattle.lw_mesi.proofs.PackedWrites.{unpacked-after_write, copy_word-after_write}
 use Rattle.lw_mesi.proofs.cache_line.PackedCacheLine.write.Goals as goal
 

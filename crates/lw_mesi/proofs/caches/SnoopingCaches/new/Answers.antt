@@ -1,5 +1,5 @@
--- Of `SnoopingCaches::new`, which creates empty caches over a memory with these words. After the loop each
--- location has a line without copies (`cache_lines-after_loop`), and such caches satisfy each protocol
+-- Proves `SnoopingCaches::new`, which creates empty caches over a memory with these words. After the loop
+-- each location has a line without copies (`cache_lines-after_loop`), and such caches satisfy each protocol
 -- (`SatisfiesProtocol-empty_caches`).
 use Rattle.lw_mesi.proofs.Common.{◌≡◌, ◌≤◌, ◌++◌, ◌∙◌, ℕ, List, arith, drop, length, map, sym, ap, subst}
 use Rattle.lw_mesi.proofs.Common.{append-nil, drop_all, length-map, CacheLine, Caches, unheld_cache_line}

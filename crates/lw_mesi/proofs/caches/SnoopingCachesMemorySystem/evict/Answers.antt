@@ -1,4 +1,4 @@
--- Of `evict` of the caches: a copy that is held is evicted as the protocol says, and the call fails
+-- Proves `evict` of the caches: a copy that is held is evicted as the protocol says, and the call fails
 -- otherwise. The line at the location's index is the location's (`cache_line_value-same`); the changed line still satisfies
 -- the protocol, and so do the caches (`LineSatisfiesProtocol-evicted`, `SatisfiesProtocol-set_line`).
 use Rattle.lw_mesi.proofs.Common.{◌∙◌, copy_of, is_held, copy_state}

@@ -1,5 +1,5 @@
--- Of `load` of the caches, which is the protocol's transition for a load. `ProtocolTransition-borrowed` lifts the change of the
--- borrowed line to all caches, and `SatisfiesProtocol-set_line` says that they satisfy the protocol afterwards.
+-- Proves `load` of the caches, which is the protocol's transition for a load. `ProtocolTransition-borrowed` lifts the change of
+-- the borrowed line to all caches, and `SatisfiesProtocol-set_line` says that they satisfy the protocol afterwards.
 use Rattle.lw_mesi.proofs.Common.{ap, sym, ◌∙◌, subst, cache_line_to_read, table_of, LineSatisfiesProtocol}
 use Rattle.lw_mesi.proofs.Common.{load_kept, Caches, Load}
 use Rattle.lw_mesi.proofs.ProtocolInvariant.{IsBorrowedLine, before_states, index_in_range}

@@ -1,5 +1,5 @@
--- Of `restart` of the caches, which empties them and writes the initial words to memory. After the loop all
--- lines are overwritten, since there are as many words as lines (`caches_empty-after_loop`).
+-- Proves `restart` of the caches, which empties them and writes the initial words to memory. After the loop
+-- all lines are overwritten, since there are as many words as lines (`caches_empty-after_loop`).
 use Rattle.lw_mesi.proofs.Common.{◌≡◌, ◌≤◌, ◌<◌, ◌∙◌, ℕ, List, arith, length, length-set, map, take, refl}
 use Rattle.lw_mesi.proofs.Common.{sym, ap, subst, take_all, length-map, map_more, take_more_set, most_threads}
 use Rattle.lw_mesi.proofs.Common.{Caches, CacheLine, unheld_cache_line, empty_caches, coherent_word}

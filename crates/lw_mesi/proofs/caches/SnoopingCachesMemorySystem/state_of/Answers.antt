@@ -1,4 +1,4 @@
--- Of `state_of` of the caches, which returns the state of a processor's copy. The line at the location's
+-- Proves `state_of` of the caches, which returns the state of a processor's copy. The line at the location's
 -- index is the location's (`cache_line_value-same`).
 use Rattle.lw_mesi.proofs.Common.{◌∙◌, copy_of, copy_state}
 use Rattle.lw_mesi.proofs.ProtocolInvariant.{cache_line_value-same, index_in_range}

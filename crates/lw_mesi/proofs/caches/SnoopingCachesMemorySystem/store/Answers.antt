@@ -1,5 +1,5 @@
--- Of `store` of the caches, which is the protocol's transition for a store. `ProtocolTransition-borrowed` lifts the change of the
--- borrowed line to all caches, and `SatisfiesProtocol-set_line` says that they satisfy the protocol afterwards.
+-- Proves `store` of the caches, which is the protocol's transition for a store. `ProtocolTransition-borrowed` lifts the change of
+-- the borrowed line to all caches, and `SatisfiesProtocol-set_line` says that they satisfy the protocol afterwards.
 use Rattle.lw_mesi.proofs.Common.{sym, subst, LineSatisfiesProtocol, write_kept, Caches, table_of, refl}
 use Rattle.lw_mesi.proofs.Common.{Store}
 use Rattle.lw_mesi.proofs.ProtocolInvariant.{IsBorrowedLine, index_in_range, ProtocolTransition-borrowed}

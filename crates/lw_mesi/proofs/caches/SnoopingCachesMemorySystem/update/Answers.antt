@@ -1,4 +1,4 @@
--- Of `update` of the caches, which is the protocol's transition for an atomic change. As for `store`; the
+-- Proves `update` of the caches, which is the protocol's transition for an atomic change. As for `store`; the
 -- word written is the change of the coherent word, which the transaction brings.
 use Rattle.lw_mesi.proofs.Common.{sym, subst, LineSatisfiesProtocol, write_kept, Caches, table_of, Update}
 use Rattle.lw_mesi.proofs.ProtocolInvariant.{IsBorrowedLine, index_in_range, ProtocolTransition-borrowed}

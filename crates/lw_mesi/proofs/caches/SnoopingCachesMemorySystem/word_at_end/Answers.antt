@@ -1,5 +1,5 @@
--- Of `word_at_end` of the caches, which returns a location's coherent word. The line at the location's index
--- is the location's (`read_word-same`).
+-- Proves `word_at_end` of the caches, which returns a location's coherent word. The line at the location's
+-- index is the location's (`read_word-same`).
 use Rattle.lw_mesi.proofs.Common.{coherent_word}
 use Rattle.lw_mesi.proofs.ProtocolInvariant.{index_in_range, read_word-same}
 use Rattle.lw_mesi.proofs.caches.SnoopingCachesMemorySystem.word_at_end.Goals as goal

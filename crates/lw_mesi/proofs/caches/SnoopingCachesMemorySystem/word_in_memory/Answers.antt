@@ -1,4 +1,4 @@
--- Of `word_in_memory` of the caches, which returns memory's word. The line at the location's index is the
+-- Proves `word_in_memory` of the caches, which returns memory's word. The line at the location's index is the
 -- location's (`read_word-same`).
 use Rattle.lw_mesi.proofs.Common.{◌∙◌}
 use Rattle.lw_mesi.proofs.ProtocolInvariant.{index_in_range, read_word-same}

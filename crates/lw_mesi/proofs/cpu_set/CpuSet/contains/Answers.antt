@@ -1,5 +1,5 @@
--- Of `CpuSet::contains`, which tests a processor's bit. The contract's list has the same truth value at that
--- index (`get_or-cpu_set_of_bits`).
+-- Proves `CpuSet::contains`, which tests a processor's bit. The contract's list has the same truth value at
+-- that index (`get_or-cpu_set_of_bits`).
 use Rattle.lw_mesi.proofs.SetLemmas.{get_or-cpu_set_of_bits}
 use Rattle.lw_mesi.proofs.cpu_set.CpuSet.contains.Goals as goal
 

@@ -1,4 +1,4 @@
--- Of `CpuSet::insert`, which sets a processor's bit. The contract's list is changed at that index only
+-- Proves `CpuSet::insert`, which sets a processor's bit. The contract's list is changed at that index only
 -- (`cpu_set_of_bits-insert`), and the number still has no bit past the processors' (`bit_or-fits`).
 use Rattle.lw_mesi.proofs.SetLemmas.{cpu_set_of_bits-insert, bit_or-fits}
 use Rattle.lw_mesi.proofs.cpu_set.CpuSet.insert.Goals as goal

@@ -1,4 +1,4 @@
--- Of `CpuSet::remove`, which clears a processor's bit. The contract's list is changed at that index only
+-- Proves `CpuSet::remove`, which clears a processor's bit. The contract's list is changed at that index only
 -- (`cpu_set_of_bits-remove`), and the number still has no bit past the processors' (`bit_and-fits`).
 use Rattle.lw_mesi.proofs.SetLemmas.{cpu_set_of_bits-remove, bit_and-fits}
 use Rattle.lw_mesi.proofs.cpu_set.CpuSet.remove.Goals as goal

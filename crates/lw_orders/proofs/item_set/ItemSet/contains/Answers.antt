@@ -1,5 +1,5 @@
--- Of `ItemSet::contains`, which tests whether an item is in the set. A bit of the number is set if and only
--- if its intersection with the power of two is not 0 (`has-bit`).
+-- Proves `ItemSet::contains`, which tests whether an item is in the set. A bit of the number is set if and
+-- only if its intersection with the power of two is not 0 (`has-bit`).
 use Rattle.lw_orders.proofs.Common.{most_items, ap, ◌∙◌, not, eqb, bit_and, one_shl}
 use Rattle.lw_orders.proofs.Bits.{has-bit}
 use Rattle.lw_orders.proofs.item_set.ItemSet.contains.Goals as goal

@@ -1,5 +1,5 @@
--- Of `below` for sets of 128 items: all items below `len`. For 128 all bits are set (`has-ones`); otherwise
--- the number is one less than a power of two (`has-below`).
+-- Proves `below` for sets of 128 items: all items below `len`. For 128 all bits are set (`has-ones`);
+-- otherwise the number is one less than a power of two (`has-below`).
 use Rattle.lw_orders.proofs.Common.{most_items, arith, w128}
 use Rattle.lw_orders.proofs.Bits.{has-ones, has-below}
 use Rattle.lw_orders.proofs.item_set.ItemSetItemBits.below.Goals as goal

@@ -1,5 +1,5 @@
--- Of `with_all_among` for sets of 128 items: those of `others` that are in this set or in `set`, by the laws
--- of bits (`has-among`).
+-- Proves `with_all_among` for sets of 128 items: those of `others` that are in this set or in `set`, by the
+-- laws of bits (`has-among`).
 use Rattle.lw_orders.proofs.Bits.{has-among}
 use Rattle.lw_orders.proofs.item_set.ItemSetItemBits.with_all_among.Goals as goal
 

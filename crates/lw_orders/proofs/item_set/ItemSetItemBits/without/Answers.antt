@@ -1,4 +1,4 @@
--- Of `without` for sets of 128 items: all but one item, by the laws of bits (`has-without`).
+-- Proves `without` for sets of 128 items: all but one item, by the laws of bits (`has-without`).
 use Rattle.lw_orders.proofs.Common.{w128}
 use Rattle.lw_orders.proofs.Bits.{has-without}
 use Rattle.lw_orders.proofs.item_set.ItemSetItemBits.without.Goals as goal

@@ -1,4 +1,4 @@
--- Of `without_all` for sets of 128 items: those that are not in the other set, by the laws of bits
+-- Proves `without_all` for sets of 128 items: those that are not in the other set, by the laws of bits
 -- (`has-difference`).
 use Rattle.lw_orders.proofs.Common.{w128}
 use Rattle.lw_orders.proofs.Bits.{has-difference}

@@ -1,5 +1,5 @@
--- Of `Order::ascending`, which returns the items below `len` in ascending order. Each round writes one more
--- item at its own index.
+-- Proves `Order::ascending`, which returns the items below `len` in ascending order. Each round writes one
+-- more item at its own index.
 use Rattle.lw_orders.proofs.Common.{◌∙◌, sym, ap, arith, length-set, [], ◌∷◌, ◌++◌, take_more_set}
 use Rattle.lw_orders.proofs.Ascending.{indices-suc}
 use Rattle.lw_orders.proofs.order.Order.ascending.Goals as goal

@@ -1,4 +1,4 @@
--- Of `Orders::with_unordered`, which creates the iterator. At the first pair, with no pair reversed, the
+-- Proves `Orders::with_unordered`, which creates the iterator. At the first pair, with no pair reversed, the
 -- remaining orders are all of them (`from_reversals-start`, in `remaining_orders-at_start`); and the search's invariant holds with the table
 -- of the preserved pairs, which have no cycle.
 use Rattle.lw_orders.proofs.Common.{CanBeSearched, false, Some, arith, ◌≡◌, ◌+◌, ◌≤◌, length, get_or}

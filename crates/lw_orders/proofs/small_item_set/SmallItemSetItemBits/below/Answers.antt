@@ -1,5 +1,5 @@
--- Of `below` for sets of 64 items: all items below `len`. For 64 all bits are set (`has-ones`); otherwise the
--- number is one less than a power of two (`has-below`).
+-- Proves `below` for sets of 64 items: all items below `len`. For 64 all bits are set (`has-ones`); otherwise
+-- the number is one less than a power of two (`has-below`).
 use Rattle.lw_orders.proofs.Common.{arith, w64}
 use Rattle.lw_orders.proofs.Bits.{has-ones, has-below}
 use Rattle.lw_orders.proofs.small_item_set.SmallItemSetItemBits.below.Goals as goal

@@ -1,5 +1,5 @@
--- Of `lowest` for sets of 64 items: no item below the result is in the set (`has-false_below_lowest`), and the result is,
--- unless the set is empty (`has-lowest`). The code counts trailing zeros.
+-- Proves `lowest` for sets of 64 items: no item below the result is in the set (`has-false_below_lowest`), and the result
+-- is, unless the set is empty (`has-lowest`). The code counts trailing zeros.
 use Rattle.lw_orders.proofs.Common.{w64}
 use Rattle.lw_orders.proofs.Bits.{has-false_below_lowest, has-lowest}
 use Rattle.lw_orders.proofs.small_item_set.SmallItemSetItemBits.lowest.Goals as goal

@@ -1,4 +1,4 @@
--- Of `without` for sets of 64 items: all but one item, by the laws of bits (`has-without`).
+-- Proves `without` for sets of 64 items: all but one item, by the laws of bits (`has-without`).
 use Rattle.lw_orders.proofs.Common.{w64}
 use Rattle.lw_orders.proofs.Bits.{has-without}
 use Rattle.lw_orders.proofs.small_item_set.SmallItemSetItemBits.without.Goals as goal

@@ -1,5 +1,5 @@
--- Of `without_all` for sets of 64 items, without the items of a wide set. Its low bits are enough, since this
--- set has no items from 64 on (`has-difference_low_bits`).
+-- Proves `without_all` for sets of 64 items, without the items of a wide set. Its low bits are enough, since
+-- this set has no items from 64 on (`has-difference_low_bits`).
 use Rattle.lw_orders.proofs.Common.{w64}
 use Rattle.lw_orders.proofs.Bits.{has-difference_low_bits}
 use Rattle.lw_orders.proofs.small_item_set.SmallItemSetItemBits.without_all.Goals as goal

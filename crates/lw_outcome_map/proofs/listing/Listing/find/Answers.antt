@@ -1,5 +1,5 @@
--- Of `Listing::find`, which returns the index of an outcome, or `None` if it is not listed. The listing is strictly sorted, so a binary
--- search finds what is listed (`search-finds_outcome`).
+-- Proves `Listing::find`, which returns the index of an outcome, or `None` if it is not listed. The listing is strictly sorted, so a
+-- binary search finds what is listed (`search-finds_outcome`).
 use Rattle.std.proofs.lemmas.Fn.{always_returns_same}
 use Rattle.lw_base.specs.Outcomes.{final_state_cmp}
 use Rattle.lw_outcome_map.proofs.SortedEntries.{search-finds_outcome}

@@ -1,4 +1,4 @@
--- Of `Listing::from_entries`, which sorts entries and leaves the first of those with the same outcome.
+-- Proves `Listing::from_entries`, which sorts entries and leaves the first of those with the same outcome.
 use Rattle.std.proofs.Common.{rules}
 use Rattle.std.proofs.lemmas.Fn.{dedup_same}
 use Rattle.std.proofs.lemmas.List.Kept.{Contains-from_dedup}

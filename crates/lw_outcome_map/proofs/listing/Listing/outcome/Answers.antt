@@ -1,4 +1,4 @@
--- Of `Listing::outcome`, which returns the outcome at an index: that of the entry there.
+-- Proves `Listing::outcome`, which returns the outcome at an index: that of the entry there.
 use Rattle.std.proofs.Common.{ap, sym, ◌∙◌, Some, option_map}
 use Rattle.std.proofs.lemmas.Option.{slice_get-get_or, slice_get-map}
 use Rattle.lw_base.specs.Outcomes.{FinalState}

@@ -1,5 +1,5 @@
--- Of `OutcomeMap::contains`, which says whether an outcome is in the map. `lookup-iff_Contains` turns the map's promise,
--- about keys that compare equal, into membership in the list.
+-- Proves `OutcomeMap::contains`, which says whether an outcome is in the map. `lookup-iff_Contains` turns the map's
+-- promise, about keys that compare equal, into membership in the list.
 use Rattle.lw_outcome_map.proofs.api.Listings.{lookup-iff_Contains}
 use Rattle.lw_outcome_map.proofs.listing.OutcomeMap.contains.Goals as goal
 

@@ -1,5 +1,5 @@
--- Of `OutcomeMap::insert_new`, which appends an outcome that is not in the map. The map appends an entry if
--- no key compares equal to the new one, and by the premise none does (`insert_entry-appends`).
+-- Proves `OutcomeMap::insert_new`, which appends an outcome that is not in the map. The map appends an entry
+-- if no key compares equal to the new one, and by the premise none does (`insert_entry-appends`).
 use Rattle.lw_outcome_map.proofs.api.Listings.{insert_entry-appends}
 use Rattle.lw_outcome_map.proofs.listing.OutcomeMap.insert_new.Goals as goal
 

@@ -1,5 +1,5 @@
--- Of `OutcomeMap::into_listing`, which sorts the entries of the map: the listing is strictly ascending and a permutation of the map. No two
--- keys of a map compare equal, so sorted keys are strictly ascending (`IsStrictlySorted-of_permutation`).
+-- Proves `OutcomeMap::into_listing`, which sorts the entries of the map: the listing is strictly ascending and a permutation of the map. No
+-- two keys of a map compare equal, so sorted keys are strictly ascending (`IsStrictlySorted-of_permutation`).
 use Rattle.std.proofs.Common.{◌∙◌, ◌≡◌, ◌++◌, ap}
 use Rattle.indexmap.proofs.CallerLemmas.{Drains-YieldsInOrder}
 use Rattle.lw_outcome_map.proofs.SortedEntries.{IsStrictlySorted-of_permutation}

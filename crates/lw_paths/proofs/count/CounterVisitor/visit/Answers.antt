@@ -1,4 +1,4 @@
--- Of the counter's `visit`, which adds the number of one path assignment's orders to the total.
+-- Proves the counter's `visit`, which adds the number of one path assignment's orders to the total.
 -- `Counts-if_counted`: the total is within its limit after the visit, so the saturating sum is the sum.
 -- `sum_too_large-if_saturated` is for a total above the limit: then so is the exact sum.
 use Rattle.lw_paths.proofs.Common.{arith, ◌∙◌}

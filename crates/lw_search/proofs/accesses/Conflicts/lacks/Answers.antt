@@ -1,4 +1,4 @@
--- Of `Conflicts::lacks`: if the test of the access's bit finds 0, the set lacks the access (`bit_at-zero_if_tested`).
+-- Proves `Conflicts::lacks`: if the test of the access's bit finds 0, the set lacks the access (`bit_at-zero_if_tested`).
 use Rattle.lw_search.proofs.Common.{◌<◌, ◌∙◌, ap, sym, subst, bit_at}
 use Rattle.lw_search.proofs.AccessSets.{access_bit-lt, bit_at-zero_if_tested}
 use Rattle.lw_search.proofs.accesses.Conflicts.lacks.Goals as goal

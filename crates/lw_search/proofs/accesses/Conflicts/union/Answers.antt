@@ -1,4 +1,4 @@
--- Of `Conflicts::union`: an access that both sets together lack, each of them lacks (`Lacks-union`).
+-- Proves `Conflicts::union`: an access that both sets together lack, each of them lacks (`Lacks-union`).
 use Rattle.lw_search.proofs.AccessSets.{Lacks-union}
 use Rattle.lw_search.proofs.accesses.Conflicts.union.Goals as goal
 

@@ -1,4 +1,4 @@
--- Of `Conflicts::with`, which adds one access: its bit is set (`not-Lacks-added`), and no bit is cleared (`Lacks-before`).
+-- Proves `Conflicts::with`, which adds one access: its bit is set (`not-Lacks-added`), and no bit is cleared (`Lacks-before`).
 use Rattle.lw_search.proofs.Common.{◌<◌, sym, subst}
 use Rattle.lw_search.proofs.AccessSets.{Lacks-before, not-Lacks-added, access_bit-lt}
 use Rattle.lw_search.proofs.accesses.Conflicts.with.Goals as goal

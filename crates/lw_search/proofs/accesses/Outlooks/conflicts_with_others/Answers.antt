@@ -1,4 +1,5 @@
--- Of `Outlooks::conflicts_with_others`: what the set lacks, the conflicts of each other thread lack, so the thread never conflicts with it.
+-- Proves `Outlooks::conflicts_with_others`: what the set lacks, the conflicts of each other thread lack, so the thread never conflicts with
+-- it.
 use Rattle.lw_search.proofs.Common.{arith}
 use Rattle.lw_search.proofs.accesses.Outlooks.conflicts_with_others.Goals as goal
 

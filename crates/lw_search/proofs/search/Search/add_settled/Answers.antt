@@ -1,4 +1,4 @@
--- Of `add_settled`, which inserts the state to which a transition leads, after the invisible events of all threads that follow: if the
+-- Proves `add_settled`, which inserts the state to which a transition leads, after the invisible events of all threads that follow: if the
 -- event leads there, the successor is covered. `IsCovered-transition` does the work, whether the key of the state at the end is new or known.
 use Rattle.lw_search.proofs.Common.{◌∙◌, ◌∷◌, ap, subst, refl, slice_get, on_ok_weaker, Transition}
 use Rattle.lw_search.proofs.Common.{SettlesFrom, IsWorking}

@@ -1,4 +1,4 @@
--- Of `add_successor`, which inserts the state after an event, the local steps and the invisible events that follow: if the event is
+-- Proves `add_successor`, which inserts the state after an event, the local steps and the invisible events that follow: if the event is
 -- enabled, the successor is covered. An event that is enabled in no state of the key needs nothing. If no thread has an invisible event,
 -- the state after the transition is inserted as it is; otherwise `add_settled` promises the rest. `ExpandsState-prepared` says that the rows
 -- that `successor` appended change nothing.

@@ -1,6 +1,6 @@
--- Of `compute_successor`, which takes an event in the working copies, with the invisible events that follow it, and numbers what it leads to. Two
--- exits are for keys that have no rows, and so represent no state; the third is for an event that is refused. Otherwise
--- `IsTransition-taken` says what was done.
+-- Proves `compute_successor`, which takes an event in the working copies, with the invisible events that follow it, and numbers what it leads to.
+-- Two exits are for keys that have no rows, and so represent no state; the third is for an event that is refused. Otherwise `IsTransition-taken`
+-- says what was done.
 use Rattle.lw_search.proofs.Common.{◌∙◌, Some, Bool, ap, subst, slice_index, ◌+◌, ActResult, event_effect}
 use Rattle.lw_search.proofs.Common.{event_of}
 use Rattle.lw_search.proofs.ThreadTransitions.{AppendsRows-refl, IsTransition-taken}

@@ -1,4 +1,4 @@
--- Of `expand`, which finds all successors of the state at an index, so that one more state counts as visited.
+-- Proves `expand`, which finds all successors of the state at an index, so that one more state counts as visited.
 -- Each round covers the events of one more thread. `ExpandsState-both` is the reason that this is enough: states
 -- found later keep what was covered before.
 use Rattle.lw_search.proofs.Common.{◌+◌, ◌∙◌, arith, ap, length, CoversThread, DescribeState}

@@ -1,5 +1,5 @@
--- Of `expand_drain`: the successor of the state by a thread's drain is covered. If the buffer is empty the drain is not enabled, and
--- nothing has to be covered (`ExpandsState-refused`). Otherwise `add_successor` promises it.
+-- Proves `expand_drain`: the successor of the state by a thread's drain is covered. If the buffer is empty the drain is not enabled,
+-- and nothing has to be covered (`ExpandsState-refused`). Otherwise `add_successor` promises it.
 use Rattle.lw_search.proofs.Common.{◌∙◌, refl, sym, same_Some, HasConflictsOfOthers}
 use Rattle.lw_search.proofs.Successors.{ExpandsState-refused}
 use Rattle.lw_search.proofs.ThreadStates.{drain_effect-empty}

@@ -1,5 +1,5 @@
--- Of `expand_step`: the successor of the state by a thread's step is covered. If the quick test says that the step is refused, nothing has
--- to be covered (`ExpandsState-refused`). Otherwise `add_successor` promises it.
+-- Proves `expand_step`: the successor of the state by a thread's step is covered. If the quick test says that the step is refused, nothing
+-- has to be covered (`ExpandsState-refused`). Otherwise `add_successor` promises it.
 use Rattle.lw_search.proofs.Common.{◌∙◌, refl, sym, same_Some, HasConflictsOfOthers}
 use Rattle.lw_search.proofs.Successors.{ExpandsState-refused, event_effect-of_code}
 use Rattle.lw_base.specs.declared.event.Event.TheVariants as of

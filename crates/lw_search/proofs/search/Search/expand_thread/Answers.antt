@@ -1,5 +1,5 @@
--- Of `expand_thread`: the successors by a thread's step and by its drain are covered. `ExpandsState-both` joins
--- the two calls, since the states that the second one finds are only added to those of the first.
+-- Proves `expand_thread`: the successors by a thread's step and by its drain are covered. `ExpandsState-both`
+-- joins the two calls, since the states that the second one finds are only added to those of the first.
 use Rattle.lw_search.proofs.Common.{on_ok_weaker, IsCovered, HasConflictsOfOthers}
 use Rattle.lw_search.proofs.Successors.{ExpandsState-both, IsMonotone-IsCovered}
 use Rattle.lw_base.specs.declared.event.Event.TheVariants as of

@@ -1,4 +1,4 @@
--- Of `insert_start`, after which the search has found exactly the initial state of the program.
+-- Proves `insert_start`, after which the search has found exactly the initial state of the program.
 -- `IsStarted-of_start_key` shows that empty tables with this one key satisfy the search's invariant; only the key
 -- has to represent the initial state (`start_key`).
 use Rattle.lw_search.proofs.Common.{program_of, on_ok_weaker}

@@ -1,4 +1,4 @@
--- Of `number_copies`: the thread's state, the memory and the run each get their number, and rows are only appended.
+-- Proves `number_copies`: the thread's state, the memory and the run each get their number, and rows are only appended.
 use Rattle.lw_search.proofs.Rows.{Extends-trans}
 use Rattle.lw_search.proofs.search.Search.number_copies.Goals as goal
 

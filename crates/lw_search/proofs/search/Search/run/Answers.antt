@@ -1,6 +1,6 @@
--- Of `run`: if it returns `true`, all found states are visited; if `false`, more are found than the budget
--- allows. The state to expand exists, since the invariant bounds `at`. The exits compare the number of keys
--- with `at` and with the budget, which gives the claim.
+-- Proves `run`: if it returns `true`, all found states are visited; if `false`, more are found than the
+-- budget allows. The state to expand exists, since the invariant bounds `at`. The exits compare the number of
+-- keys with `at` and with the budget, which gives the claim.
 use Rattle.lw_search.proofs.Common.{◌≡◌, ◌∙◌, ◌+◌, arith, subst, length, SearchInvariant}
 use Rattle.lw_search.proofs.search.Search.run.Goals as goal
 

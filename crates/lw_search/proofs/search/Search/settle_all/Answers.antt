@@ -1,6 +1,6 @@
--- Of `settle_all`, which takes invisible events of all threads, round by round: the appended events lead to a
--- state that covers the first one. `SettlesFrom-trans` joins the rounds. That no invisible event is left is
--- not claimed, so each early exit is right.
+-- Proves `settle_all`, which takes invisible events of all threads, round by round: the appended events lead
+-- to a state that covers the first one. `SettlesFrom-trans` joins the rounds. That no invisible event is left
+-- is not claimed, so each early exit is right.
 use Rattle.lw_search.proofs.Common.{◌∙◌, refl}
 use Rattle.lw_search.proofs.Settling.{SettlesFrom-none, SettlesFrom-trans}
 use Rattle.lw_search.proofs.search.Search.settle_all.Goals as goal

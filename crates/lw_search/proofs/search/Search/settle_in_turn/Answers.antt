@@ -1,5 +1,5 @@
--- Of `settle_in_turn`, which lets each thread take its invisible events once: the appended events lead to a
--- state that covers the first one. `SettlesFrom-trans` joins the threads.
+-- Proves `settle_in_turn`, which lets each thread take its invisible events once: the appended events lead to
+-- a state that covers the first one. `SettlesFrom-trans` joins the threads.
 use Rattle.lw_search.proofs.Common.{◌<◌, ◌∙◌, arith, ap, length, refl}
 use Rattle.lw_search.proofs.Collected.{slice_get-loop_item}
 use Rattle.lw_search.proofs.Settling.{SettlesFrom-none, SettlesFrom-trans}

@@ -1,4 +1,4 @@
--- Of `settle_thread`, which loads a thread of a key and takes its invisible events. From a state in
+-- Proves `settle_thread`, which loads a thread of a key and takes its invisible events. From a state in
 -- which the thread has its row (`IsLoaded-of_working`) they lead to one with the thread's new row (`SettlesFrom-loaded`). If the run did not grow, no event was taken,
 -- and the old key is right (`SettlesFrom-unmoved`).
 use Rattle.lw_search.proofs.Common.{◌≡◌, ◌∙◌, length, ap, sym, slice_get, IsLoaded, IsWorking, State}

@@ -1,5 +1,5 @@
--- Of `successor`, which looks into the cache, and takes the event if the cache does not hold the transition. What the cache holds are
--- transitions of the program, and rows that are appended preserve them.
+-- Proves `successor`, which looks into the cache, and takes the event if the cache does not hold the transition. What the cache holds
+-- are transitions of the program, and rows that are appended preserve them.
 use Rattle.lw_search.proofs.Common.{◌∙◌, inl, inr, sym, subst, Transition, IsTransition}
 use Rattle.lw_search.proofs.ThreadTransitions.{AppendsRows-refl, AreTransitions-extended}
 use Rattle.lw_search.proofs.ThreadTransitions.{IsTransition-extended}

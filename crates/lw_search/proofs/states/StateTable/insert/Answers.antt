@@ -1,4 +1,4 @@
--- Of `StateTable::insert`, which appends a key and its origin unless the table has the key. This is the case
+-- Proves `StateTable::insert`, which appends a key and its origin unless the table has the key. This is the case
 -- of a new key: by `not-slice_get-if_absent` the set's test, that no key compares equal, means that no row has it.
 use Rattle.lw_search.proofs.Common.{◌≡◌, ◌∙◌, Bool, false, ◌++◌, ◌∷◌, [], if◌then◌else◌, sym, ap, inl, nat_eq}
 use Rattle.lw_search.proofs.Common.{on_ok_weaker, unsigned_Decides, pointwise, pointwise_decides, list_any}

@@ -1,5 +1,5 @@
--- Of `StateTable::insert_numbered`, which appends a key and its origin unless the table has the key. For a new key, by `not-slice_get-if_absent` the set's test,
--- that no key compares equal, means that no row has it.
+-- Proves `StateTable::insert_numbered`, which appends a key and its origin unless the table has the key. For a new key, by `not-slice_get-if_absent` the set's
+-- test, that no key compares equal, means that no row has it.
 use Rattle.lw_search.proofs.Common.{◌≡◌, ◌∙◌, Bool, false, ◌++◌, ◌∷◌, [], if◌then◌else◌, sym, ap, refl, inl}
 use Rattle.lw_search.proofs.Common.{nat_eq, unsigned_Decides, pointwise, pointwise_decides, list_any}
 use Rattle.lw_search.proofs.Rows.{not-slice_get-if_absent, false-if_not_true, IsPrefix-refl}

@@ -1,4 +1,4 @@
--- Of `number_of_run`, which returns the number of a run and inserts the run if it has none; keys and origins are
+-- Proves `number_of_run`, which returns the number of a run and inserts the run if it has none; keys and origins are
 -- unchanged. `slice_get-at_position` shows that a found index is that of an equal run; `IsPrefix-insert_if` that an
 -- insertion keeps all earlier numbers.
 use Rattle.lw_search.proofs.Common.{◌≡◌, ◌∙◌, Some, sym, ap, slice_get, IfOk-weaker, FoundStates}

@@ -1,4 +1,4 @@
--- Of `recent_number`: the number has a run that is equal to the argument, since the comparison decides equality.
+-- Proves `recent_number`: the number has a run that is equal to the argument, since the comparison decides equality.
 use Rattle.lw_search.proofs.Common.{slice_index_or, ◌≡◌, ◌∙◌, Some, sym, ap, slice_get, option_copied}
 use Rattle.lw_search.proofs.Common.{FoundStates}
 use Rattle.lw_search.proofs.Rows.{run_eq-sound}

@@ -1,5 +1,5 @@
--- Of `has_empty_buffer`: if it returns `true`, the thread's number has a row, and the store buffer there is
--- empty. Immediate from the contracts of `thread` and `has_empty_buffer`.
+-- Proves `has_empty_buffer`: if it returns `true`, the thread's number has a row, and the store buffer there
+-- is empty. Immediate from the contracts of `thread` and `has_empty_buffer`.
 use Rattle.lw_search.proofs.Common.{◌∙◌, sym, ap, option_copied}
 use Rattle.lw_search.proofs.tables.Tables.has_empty_buffer.Goals as goal
 

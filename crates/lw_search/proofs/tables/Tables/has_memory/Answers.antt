@@ -1,5 +1,5 @@
--- Of `has_memory`: if it returns `true`, the number's memory has these words. The comparison decides equality
--- of the lists of words.
+-- Proves `has_memory`: if it returns `true`, the number's memory has these words. The comparison decides
+-- equality of the lists of words.
 use Rattle.lw_search.proofs.Common.{◌≡◌, ◌∙◌, sym, ap, Some, option_copied, pointwise_decides}
 use Rattle.lw_search.proofs.Common.{unsigned_Decides}
 use Rattle.lw_search.proofs.tables.Tables.has_memory.Goals as goal

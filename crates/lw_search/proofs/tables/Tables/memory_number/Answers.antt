@@ -1,4 +1,4 @@
--- Of `memory_number`, which returns the number of a memory and inserts the memory if it has none. A found
+-- Proves `memory_number`, which returns the number of a memory and inserts the memory if it has none. A found
 -- index has equal words (`slice_get-at_position`); an insertion keeps earlier numbers and makes no duplicate
 -- (`HasUniqueIndices-insert`), since it happens only if no row compares equal.
 use Rattle.lw_search.proofs.Common.{◌≡◌, ◌∙◌, Some, refl, sym, ap, slice_get, IfOk-weaker, unsigned_Decides}

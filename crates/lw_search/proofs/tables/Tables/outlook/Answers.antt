@@ -1,5 +1,5 @@
--- Of `Tables::outlook`: the row of outlooks with the number of a thread's state describes the state, by the invariant of the tables. There
--- are at least as many rows as states.
+-- Proves `Tables::outlook`: the row of outlooks with the number of a thread's state describes the state, by the invariant of the tables.
+-- There are at least as many rows as states.
 use Rattle.lw_search.proofs.Common.{◌≡◌, ◌<◌, ◌+◌, ◌∙◌, arith, ap, sym, subst, Some, true≢false, length}
 use Rattle.lw_search.proofs.Common.{slice_get, slice_index, slice_get_within, get_or, get_or_from_slice_get}
 use Rattle.lw_search.proofs.Common.{thread_code, Components, Lacks, lt-ltb, HasConflictsOf, Outlook}

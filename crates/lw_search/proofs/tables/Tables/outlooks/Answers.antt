@@ -1,5 +1,5 @@
--- Of `Tables::outlooks`: each round sets the outlook of one more thread (`HoldsOfFirst-set`), which is right of each state that the key
--- represents.
+-- Proves `Tables::outlooks`: each round sets the outlook of one more thread (`HoldsOfFirst-set`), which is right of each state that the
+-- key represents.
 use Rattle.lw_search.proofs.Common.{◌≡◌, ◌<◌, ◌+◌, ◌∙◌, arith, ap, sym, refl, subst, Some, length, length-set}
 use Rattle.lw_search.proofs.Common.{slice_get, slice_index, slice_get_within, thread_code, Processor}
 use Rattle.lw_search.proofs.Common.{Components, HasConflictsOf}

@@ -1,5 +1,5 @@
--- Of `refuses_step`: if it returns `true`, the thread's number has a row whose next step is refused. Immediate
--- from the contracts of `thread` and `refuses_step`.
+-- Proves `refuses_step`: if it returns `true`, the thread's number has a row whose next step is refused.
+-- Immediate from the contracts of `thread` and `refuses_step`.
 use Rattle.lw_search.proofs.Common.{◌∙◌, sym, ap, option_copied}
 use Rattle.lw_search.proofs.tables.Tables.refuses_step.Goals as goal
 

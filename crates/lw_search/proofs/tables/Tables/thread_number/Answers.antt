@@ -1,4 +1,4 @@
--- Of `thread_number`, which returns the number of a thread's state and inserts it if it has none. As for
+-- Proves `thread_number`, which returns the number of a thread's state and inserts it if it has none. As for
 -- `memory_number`; the row of outlooks that is appended describes the thread's state (`DescribeRows-appended`). That the comparison of threads' states decides equality is `thread_eq-sound` and
 -- `Decides-thread_eq`.
 use Rattle.lw_search.proofs.Common.{◌≡◌, ◌∙◌, Some, true, refl, sym, ap, slice_get, IfOk-weaker, Components}

@@ -1,5 +1,5 @@
--- Of `ThreadState::drain`, which does to the thread and the words what the machine's drain does. This is the
--- case of an empty buffer: the machine refuses the drain (`drain_effect-refused`), and `pop` has left the
+-- Proves `ThreadState::drain`, which does to the thread and the words what the machine's drain does. This is
+-- the case of an empty buffer: the machine refuses the drain (`drain_effect-refused`), and `pop` has left the
 -- buffer as it was.
 use Rattle.lw_search.proofs.Common.{◌≡◌, ◌∙◌, ap, sym, refl, Processor, None, slice_get}
 use Rattle.lw_search.proofs.ThreadStates.{drain_effect-refused, drop_one-none}

@@ -1,4 +1,4 @@
--- Of `ThreadState::fence`, which does what the machine's fence does. This is the case of a buffer with an
+-- Proves `ThreadState::fence`, which does what the machine's fence does. This is the case of a buffer with an
 -- entry: the machine refuses the fence then (`if_buffer_empty-refused`), and nothing has changed.
 use Rattle.lw_search.proofs.Common.{◌≡◌, ◌∙◌, ◌==◌, ap, sym, refl, false, length, Processor, FenceWaits}
 use Rattle.lw_search.proofs.ThreadStates.{if_buffer_empty-refused}

@@ -1,5 +1,6 @@
--- Of `ThreadState::fetch_add`, which does what the machine's `LOCK XADD` does. This is the case of a buffer
--- with an entry: the machine refuses the operation then (`if_buffer_empty-refused`), and nothing has changed.
+-- Proves `ThreadState::fetch_add`, which does what the machine's `LOCK XADD` does. This is the case of a
+-- buffer with an entry: the machine refuses the operation then (`if_buffer_empty-refused`), and nothing has
+-- changed.
 use Rattle.lw_search.proofs.Common.{◌≡◌, ◌∙◌, ◌==◌, ap, sym, refl, false, length, Processor, SwapWaits}
 use Rattle.lw_search.proofs.ThreadStates.{if_buffer_empty-refused}
 use Rattle.lw_search.proofs.thread_state.ThreadState.fetch_add.Goals as goal

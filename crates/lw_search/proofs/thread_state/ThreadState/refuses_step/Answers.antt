@@ -1,6 +1,6 @@
--- Of `refuses_step`: if it returns `true`, the machine refuses the thread's next step. There are two reasons:
--- the thread is at the end of its code, or its operation waits for an empty buffer and the buffer has an
--- entry.
+-- Proves `refuses_step`: if it returns `true`, the machine refuses the thread's next step. There are two
+-- reasons: the thread is at the end of its code, or its operation waits for an empty buffer and the buffer
+-- has an entry.
 use Rattle.lw_search.proofs.Common.{◌≡◌, ◌∙◌, ◌==◌, ap, sym, false, None, Some, length, slice_get}
 use Rattle.lw_search.proofs.Common.{step_effect, operation_effect, Ended, Processor}
 use Rattle.lw_search.proofs.thread_state.ThreadState.refuses_step.Goals as goal

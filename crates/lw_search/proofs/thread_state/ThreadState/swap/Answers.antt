@@ -1,4 +1,4 @@
--- Of `ThreadState::swap`, which does what the machine's `XCHG` does. This is the case of a buffer with an
+-- Proves `ThreadState::swap`, which does what the machine's `XCHG` does. This is the case of a buffer with an
 -- entry: the machine refuses the operation then (`if_buffer_empty-refused`), and nothing has changed.
 use Rattle.lw_search.proofs.Common.{◌≡◌, ◌∙◌, ◌==◌, ap, sym, refl, false, length, Processor, SwapWaits}
 use Rattle.lw_search.proofs.ThreadStates.{if_buffer_empty-refused}

@@ -1,5 +1,5 @@
--- Of `StoreBuffer::entry`, which returns the entry at an index. The index is below the number of entries, so
--- the ring has an item there (`IsSome-index_in_range`), and `unwrap` cannot panic.
+-- Proves `StoreBuffer::entry`, which returns the entry at an index. The index is below the number of entries,
+-- so the ring has an item there (`IsSome-index_in_range`), and `unwrap` cannot panic.
 use Rattle.lw_tso.proofs.Common.{◌<◌, ◌∙◌, ap, length, option_copied, slice_get, subst, sym}
 use Rattle.lw_tso.proofs.Newest.{IsSome-index_in_range}
 use Rattle.lw_tso.proofs.buffer.StoreBuffer.entry.Goals as goal

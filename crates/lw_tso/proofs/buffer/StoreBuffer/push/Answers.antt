@@ -1,5 +1,5 @@
--- Of `StoreBuffer::push`, which appends an entry. The premise says that there is room, so the ring overwrites
--- no entry, and there are still not more entries than its capacity.
+-- Proves `StoreBuffer::push`, which appends an entry. The premise says that there is room, so the ring
+-- overwrites no entry, and there are still not more entries than its capacity.
 use Rattle.lw_tso.proofs.Common.{common_steps, arith}
 use Rattle.lw_tso.proofs.buffer.StoreBuffer.push.Goals as goal
 

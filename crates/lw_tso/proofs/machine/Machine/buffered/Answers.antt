@@ -1,5 +1,5 @@
--- Of `Machine::buffered`, which returns the number of entries in a processor's buffer. The list of processors
--- is as long as that of the contract's state, and `processor_part-read` reads the buffer there.
+-- Proves `Machine::buffered`, which returns the number of entries in a processor's buffer. The list of
+-- processors is as long as that of the contract's state, and `processor_part-read` reads the buffer there.
 use Rattle.lw_tso.proofs.Common.{[], get_or_from_slice_get}
 use Rattle.lw_tso.proofs.Events.{index_in_range-of_cpu, processor_part-read}
 use Rattle.lw_tso.proofs.machine.Machine.buffered.Goals as goal

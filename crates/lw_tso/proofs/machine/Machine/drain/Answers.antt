@@ -1,4 +1,4 @@
--- Of `Machine::drain`, which makes the machine's transition for a drain. `MachineTransition-by_effect` turns what the processor
+-- Proves `Machine::drain`, which makes the machine's transition for a drain. `MachineTransition-by_effect` turns what the processor
 -- did into a transition of the machine, `IsReachableMachine-event` preserves the machine's invariant, and `MachineTransition-no_cpu` is
 -- for a processor that does not exist. The invariant bounds the locations of entries, as the processor's
 -- `drain` requires.

@@ -1,4 +1,4 @@
--- Of `Machine::entry`, which returns an entry of a processor's buffer, for a location that exists. The
+-- Proves `Machine::entry`, which returns an entry of a processor's buffer, for a location that exists. The
 -- processor exists since its buffer has an entry (`cpu_in_range-if_entry`), and the machine's invariant says that the
 -- location does (`entries_in_range`).
 use Rattle.lw_tso.proofs.Common.{◌<◌, ℕ, [], ap, refl, arith, length, subst, length-map}

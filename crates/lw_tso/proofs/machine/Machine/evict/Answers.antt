@@ -1,4 +1,4 @@
--- Of `Machine::evict`, which makes the machine's transition for an eviction. Four cases: no such processor
+-- Proves `Machine::evict`, which makes the machine's transition for an eviction. Four cases: no such processor
 -- (`MachineTransition-no_cpu`), no such location, a line that is not held, and one that is, which the memory evicts. The
 -- processors are unchanged (`MachineTransition-eviction`).
 use Rattle.lw_tso.proofs.Common.{◌<◌, ◌≤◌, ap, arith, Err, sym, subst, length, memory_of, Memory, MachineRun}

@@ -1,4 +1,4 @@
--- Of `Machine::is_final`, which says whether all threads have terminated and all buffers are empty.
+-- Proves `Machine::is_final`, which says whether all threads have terminated and all buffers are empty.
 -- `is_final-all_processors`: the test of the processors in memory is that of the contract's state.
 use Rattle.lw_tso.proofs.Common.{ap, ◌∙◌, MachineRun, is_final}
 use Rattle.lw_tso.proofs.Events.{is_final-all_processors}

@@ -1,5 +1,6 @@
--- Of `Machine::new`, which creates a machine in the initial state. Its invariant holds: initial processors
--- are reachable, and each buffer has room for all stores of its thread (`IsReachableMachine-start`).
+-- Proves `Machine::new`, which creates a machine in the initial state. Its invariant holds: initial
+-- processors are reachable, and each buffer has room for all stores of its thread
+-- (`IsReachableMachine-start`).
 use Rattle.lw_tso.proofs.Common.{ap, sym, length, ◌∙◌, invariant_of, memory_of}
 use Rattle.lw_tso.proofs.Starts.{IsReachableMachine-start}
 use Rattle.lw_tso.proofs.machine.Machine.new.Goals as goal

@@ -1,5 +1,5 @@
--- Of `Machine::outcome`, which returns the registers and the content of the current state. `machine_outcome-of_registers` puts
--- the two copied lists together.
+-- Proves `Machine::outcome`, which returns the registers and the content of the current state. `machine_outcome-of_registers`
+-- puts the two copied lists together.
 use Rattle.lw_tso.proofs.Common.{ap, ◌∙◌, map, memory_of}
 use Rattle.lw_tso.proofs.Events.{machine_outcome-of_registers}
 use Rattle.lw_tso.proofs.machine.Machine.outcome.Goals as goal

@@ -1,4 +1,4 @@
--- Of `Machine::position`, which returns a processor's position. The processor exists, so it can be read
+-- Proves `Machine::position`, which returns a processor's position. The processor exists, so it can be read
 -- (`index_in_range-of_cpu`), and `processor_part-read` says that it is the contract's.
 use Rattle.lw_tso.proofs.Events.{index_in_range-of_cpu, processor_part-read}
 use Rattle.lw_tso.proofs.machine.Machine.position.Goals as goal

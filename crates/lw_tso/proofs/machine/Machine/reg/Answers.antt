@@ -1,4 +1,4 @@
--- Of `Machine::reg`, which returns a register's word. The processor exists, so it can be read
+-- Proves `Machine::reg`, which returns a register's word. The processor exists, so it can be read
 -- (`index_in_range-of_cpu`), and `processor_part-read` says that the word is the contract's.
 use Rattle.lw_tso.proofs.Common.{slice_index}
 use Rattle.lw_tso.proofs.Events.{index_in_range-of_cpu, processor_part-read}

@@ -1,4 +1,4 @@
--- Of `Machine::restart`, which resets the machine to its initial state. The invariant holds again: all
+-- Proves `Machine::restart`, which resets the machine to its initial state. The invariant holds again: all
 -- processors are overwritten (`take-overwritten`), in the buffers that they had, which have room for all stores of
 -- their threads.
 use Rattle.lw_tso.proofs.Common.{◌≡◌, ◌≤◌, ◌++◌, ℕ, List, ap, ap₂, arith, drop, length, map, subst, sym, take}

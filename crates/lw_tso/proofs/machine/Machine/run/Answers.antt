@@ -1,4 +1,4 @@
--- Of `Machine::run`, which carries out events up to the first that is refused, and reports how the replay
+-- Proves `Machine::run`, which carries out events up to the first that is refused, and reports how the replay
 -- ended. `RunsTo-more` adds one event to the run. A refusal leaves the state unchanged, so the replay stops
 -- there; otherwise all events are carried out.
 use Rattle.lw_tso.proofs.Common.{Some, Err, ap, arith, subst, sym, take, ◌∙◌, memory_of, MachineState}

@@ -1,6 +1,6 @@
--- Of `Machine::step`, which carries out an event of any kind. One case for each kind, by the contract of the
--- function that does it; `IsLeft-event` adds what holds of each transition: sizes are preserved, and a refusal
--- changes nothing.
+-- Proves `Machine::step`, which carries out an event of any kind. One case for each kind, by the contract of
+-- the function that does it; `IsLeft-event` adds what holds of each transition: sizes are preserved, and a
+-- refusal changes nothing.
 use Rattle.lw_base.specs.declared.event.Event.TheVariants as of
 use Rattle.lw_tso.proofs.Common.{memory_of}
 use Rattle.lw_tso.proofs.Acts.{IsLeft-event}

@@ -1,7 +1,7 @@
--- Of `Machine::step_thread`, which makes the machine's transition for a step. `MachineTransition-no_cpu` and `step-refused_at_end` are the
--- refusals; otherwise `MachineTransition-by_effect` turns what the processor did into a transition of the machine.
--- `CanCarryOut-reachable` gives what the processor's `carry_out` requires, from the invariant: the location exists,
--- and the buffer has room for a store.
+-- Proves `Machine::step_thread`, which makes the machine's transition for a step. `MachineTransition-no_cpu` and `step-refused_at_end` are
+-- the refusals; otherwise `MachineTransition-by_effect` turns what the processor did into a transition of the machine.
+-- `CanCarryOut-reachable` gives what the processor's `carry_out` requires, from the invariant: the location exists, and the buffer has
+-- room for a store.
 use Rattle.lw_tso.proofs.Common.{◌<◌, ◌∙◌, arith, refl, sym, length, memory_of, processor_of, common_steps}
 use Rattle.lw_tso.proofs.Events.{slice_get-of_read, CanCarryOut-reachable, EffectTransition-step}
 use Rattle.lw_tso.proofs.Events.{step-refused_at_end, MachineTransition-by_effect, MachineTransition-no_cpu}

@@ -1,4 +1,4 @@
--- Of `Machine::write_outcome`, which writes the current registers and content into an outcome of the same
+-- Proves `Machine::write_outcome`, which writes the current registers and content into an outcome of the same
 -- size. The sizes fit, as both copies require, and `machine_outcome-of_registers` puts the two lists together.
 use Rattle.lw_tso.proofs.Common.{ap, arith, length, map, sym, ◌∙◌, length-map, FinalState, memory_of}
 use Rattle.lw_tso.proofs.Common.{MachineRun, processor_of}

@@ -1,5 +1,5 @@
--- Of `Processor::carry_out`, which executes an operation over the memory as the table of effects says. One
--- case for each operation, by the contract of the function that does it; the location of a memory access
+-- Proves `Processor::carry_out`, which executes an operation over the memory as the table of effects says.
+-- One case for each operation, by the contract of the function that does it; the location of a memory access
 -- exists, by the premise.
 use Rattle.lw_tso.proofs.Common.{ap, refl, location_of}
 use Rattle.lw_tso.proofs.processor.Processor.carry_out.Goals as goal
