@@ -34,7 +34,7 @@ from shared import answers, command, start
 
 
 def print_report(arguments: Namespace, name: str, text: str) -> int:
-    """Prints the report of one test."""
+    """Prints the report of one test. Returns the exit status."""
     conversion = convert(text, arguments.tries, ORDERS[arguments.order])
     from_herd.print_notes(name, text, conversion)
     report, makers = make_merged_report(conversion.conversions)

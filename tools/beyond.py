@@ -26,7 +26,7 @@ from typing import Tuple
 sys.dont_write_bytecode = True
 import given
 import plain
-from search.explore import Found, Search
+from search.explore import SearchResult, Search
 from search.reports import make_report
 from shared import answers, batch, command, start
 
@@ -47,7 +47,7 @@ def read_page_state(page: str, test: plain.Test) -> Words:
     return tuple(words[plain.format_site(test, site)] for site in plain.list_observed_sites(test))
 
 
-def replay_all(test: plain.Test, text: str, exploration: Found) -> str:
+def replay_all(test: plain.Test, text: str, exploration: SearchResult) -> str:
     """Replays all schedules, each of which must end in its state. Returns the name of what replays them. Exits if one does not."""
     schedules = list(exploration.schedules.values())
     pages, maker = batch.replay_all(text, schedules), answers.find_maker("lw").value
@@ -59,13 +59,13 @@ def replay_all(test: plain.Test, text: str, exploration: Found) -> str:
     return maker
 
 
-def format_last_line(exploration: Found, by: str) -> str:
+def format_last_line(exploration: SearchResult, by: str) -> str:
     """Returns the last line of the output: what listed and replayed the states, and where the search ended if it is not whole."""
-    end = "" if exploration.is_whole else f"; the search ended at {exploration.seen} state{'s' * (exploration.seen != 1)} of the machine"
+    end = "" if exploration.is_whole else f"; the search ended at {exploration.state_count} state{'s' * (exploration.state_count != 1)} of the machine"
     return f"Listed by tools/beyond.py and not claimed complete; each state is replayed by {by}{end}"
 
 
-def list_schedules(test: plain.Test, exploration: Found) -> str:
+def list_schedules(test: plain.Test, exploration: SearchResult) -> str:
     """Returns the list of schedules."""
     lines = [f"Test {test.name}", f"States {len(exploration.schedules)}"]
     for words in sorted(exploration.schedules):
@@ -73,14 +73,14 @@ def list_schedules(test: plain.Test, exploration: Found) -> str:
     return plain.join_lines(lines)
 
 
-def show_progress(looked_at: int, seen: int) -> None:
-    """Says on a terminal how far the search is."""
+def show_progress(explored: int, state_count: int) -> None:
+    """Says on a terminal how many of the states that were found are explored."""
     if sys.stderr.isatty():
-        print(f"\r{looked_at} of {seen} states looked at", end="", file=sys.stderr, flush=True)
+        print(f"\r{explored} of {state_count} states looked at", end="", file=sys.stderr, flush=True)
 
 
 def print_report(words: Namespace, text: str) -> int:
-    """Prints the report of one test, or its schedules."""
+    """Prints the report of one test, or its schedules. Returns the exit status."""
     test = plain.read_test(text)
     exploration = Search(test).explore(words.max_states, show_progress)
     if sys.stderr.isatty():

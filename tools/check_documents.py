@@ -305,7 +305,7 @@ def check_example(name: str) -> Iterator[Comparison]:
         yield f"the x86 form that {name} points to", f"{os.path.basename(name)}-x86", words["shown_by"]
     elif words["x86"] == "allowed":
         is_final, outcome = random_tests.find_end(test, words["telling"])
-        yield f"the schedule of {name} shows its outcome", (True, True), (is_final, plain.is_true(test.proposition, outcome))
+        yield f"the schedule of {name} shows its outcome", (True, True), (is_final, plain.is_true_in(test.proposition, outcome))
 
 
 def check_x86_form(name: str) -> Iterator[Comparison]:
@@ -565,7 +565,7 @@ def count_fences(name: str) -> tuple[int, int]:
     """Returns how many fences a test has, compiled, and how many of them are enough for its question, with none to spare."""
     test = plain.compile_test(plain.read_test(read_file(f"examples/{name}.litmus")))
     places = fences.list_fences(test)
-    return len(places), len(places) - len(fences.find_spared(test, places, fences.list_states(test)))
+    return len(places), len(places) - len(fences.find_spared_fences(test, places, fences.list_states(test)))
 
 
 def check_counts_of_fences(names: str, number: str, fence_count: str) -> Iterator[Comparison]:

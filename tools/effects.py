@@ -63,7 +63,7 @@ class Step:
     """A step of a thread: the words that it finds and leaves."""
 
     def __init__(self, thread: int, before: State, after: State) -> None:
-        """Looks at a step of a thread, by the states before and after it."""
+        """Makes the step of a thread between two states."""
         self.thread, self.before, self.after = thread, before, after
         self.thread_before, self.thread_after = before["threads"][thread], after["threads"][thread]
         self.name = f"P{thread}"
@@ -74,7 +74,7 @@ class Step:
         return registers[text] if text in registers else int(text.lstrip("$"), 0 if "x" in text else 10)
 
     def describe_put(self, register: str, word: int, words: str) -> Effect:
-        """Returns an effect that leaves a word in a register."""
+        """Returns an effect that leaves a word in a register. Raises Unknown if the register does not have the word after the step."""
         self.require(dict(self.thread_after["registers"]).get(register) == word)
         return {"words": words, "register": register}
 
@@ -89,13 +89,15 @@ class Step:
         return dict(self.before["content"])[location]
 
     def describe_cache(self, location: str) -> Effect:
-        """Returns in whose cache a location is: in the own one, if that holds it, otherwise in its owner's, if there is one."""
+        """Returns the field `cache`: whose cache has the word of a location, that of this thread if it holds the line, otherwise the owner's; empty if
+        there is none.
+        """
         letters = [dict(it.get("lines", [])).get(location, "I") for it in self.before["threads"]]
         holding = [thread for thread, it in enumerate(letters) if it in "MO" or thread == self.thread and it != "I"]
         return {"cache": self.thread if self.thread in holding else holding[0]} if holding else {}
 
     def describe_waiting(self, location: str) -> str:
-        """Returns a sentence on the entries for a location that wait in the buffers of others."""
+        """Returns the words on the entries for a location that wait in the buffers of other threads, to follow a sentence; empty if there are none."""
         others = (it for it in enumerate(self.before["threads"]) if it[0] != self.thread)
         entries = [(thread, word) for thread, it in others for name, word in it.get("buffer", []) if name == location]
         return "".join(f"; P{thread}'s `{location}={word}` still waits in its store buffer" for thread, word in entries)
@@ -230,7 +232,7 @@ FORMS: tuple[tuple[str, Callable], ...] = (
 
 
 def find_cell(cells: Cells, thread_state: ThreadState) -> str:
-    """Returns the text of the statement at a place, or an empty text."""
+    """Returns the text of the cell of a thread's next statement. Empty if the thread has ended."""
     return next((it["text"] for it in cells if it["at"] == thread_state["at"] and not it["text"].endswith(":")), "")
 
 

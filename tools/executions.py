@@ -51,18 +51,27 @@ class Edge(NamedTuple):
 
 
 class Execution:
-    """A candidate execution: the positions that each thread goes along, for each read the write it reads from or None for the initial
-    word, and for each location its writes in coherence order. Words follow from these; one that would only follow from itself is None.
+    """A candidate execution: the positions on each thread's path (`paths`), for each read the write that it reads from, or None for the initial word
+    (`rf`), and for each location its writes in coherence order (`co`).
+
+    The words of events follow from these: `read` and `written` have them, None for a word that would only follow from itself. `ends` has each
+    thread's registers at its end; it is None if the words lead some thread along another path.
     """
 
     def __init__(
         self, test: plain.Test, paths: Sequence[Sequence[int]], rf: dict[Event, Event | None], co: dict[int, Sequence[Event]]
     ) -> None:
-        """Finds the words of an execution. `ends` is None if a jump goes another way than its thread's path."""
+        """Makes an execution, and computes the words of its events."""
         self.test, self.paths, self.rf, self.co = test, paths, rf, co
         self.read: dict[Event, int | None] = {}
         self.written: dict[Event, int | None] = {}
         self.ends = self.compute_words()
+
+    def with_orders(self, co: dict[int, Sequence[Event]]) -> Execution:
+        """Returns the same execution with other coherence orders, on which no word depends."""
+        other = Execution.__new__(Execution)
+        other.__dict__ = {**self.__dict__, "co": co}
+        return other
 
     def find_instruction(self, event: Event) -> plain.Statement:
         """Returns the instruction of an event."""
@@ -70,12 +79,14 @@ class Execution:
 
     def list_events(self) -> list[Event]:
         """Returns the accesses to memory and the fences, thread by thread."""
-        return [it for it in list_events(self.test, self.paths) if appears_in_relations(self.find_instruction(it))]
+        return [it for it in list_events_on_paths(self.test, self.paths) if is_access_or_fence(self.find_instruction(it))]
 
     # Words.
 
     def compute_words(self) -> list[Registers] | None:
-        """Finds what each event reads and writes. Returns each thread's state at its end, or `None` if a jump goes another way."""
+        """Computes `read` and `written`: follows all paths until no word changes. Returns each thread's registers at its end, or `None` if the words
+        lead some thread elsewhere.
+        """
         while True:
             before = dict(self.written)
             ends = [self.follow_path(thread, path) for thread, path in enumerate(self.paths)]
@@ -85,7 +96,9 @@ class Execution:
                 return [it for it in ends if it is not None]
 
     def follow_path(self, thread: int, path: Sequence[int]) -> Registers | None:
-        """Returns the registers of a thread at the end of its path, or `None` if the words lead it elsewhere."""
+        """Records the words that a thread's events read and write, as far as they are known. Returns the registers at the end of the path, or `None`
+        if the words lead elsewhere.
+        """
         state: ThreadState = (0, self.test.registers[thread], False)
         for position in path:
             if state[0] not in (position, None):
@@ -99,7 +112,7 @@ class Execution:
         return state[1] if state[0] in (len(self.test.threads[thread]), None) else None
 
     def find_read_word(self, event: Event) -> int | None:
-        """Returns the word that a read finds, if it is known. `None` if it is not."""
+        """Returns the word that an event reads. `None` if it is not known so far."""
         source = self.rf[event]
         return self.test.words[self.find_instruction(event).location] if source is None else self.written.get(source)
 
@@ -172,13 +185,13 @@ class Execution:
         return find_shortest_cycle([*self.list_po_edges(), *self.list_rf_edges(), *self.list_co_edges(), *self.list_fr_edges()])
 
 
-def appears_in_relations(statement: plain.Statement) -> bool:
-    """Returns whether an instruction appears in an execution's relations: it accesses memory, or is a fence."""
+def is_access_or_fence(statement: plain.Statement) -> bool:
+    """Returns whether an instruction accesses memory or is a fence: only such events are in an execution's relations."""
     return statement.location is not None or statement.kind == "mfence"
 
 
-def list_events(test: plain.Test, paths: Sequence[Sequence[int]]) -> list[Event]:
-    """Returns the events of all threads on their paths."""
+def list_events_on_paths(test: plain.Test, paths: Sequence[Sequence[int]]) -> list[Event]:
+    """Returns the events of all instructions on the threads' paths, jumps among them, thread by thread."""
     return [Event(thread, position) for thread, path in enumerate(paths) for position in path]
 
 
@@ -202,14 +215,16 @@ def are_equal(first: int | None, second: int | None) -> bool | None:
 
 
 def compute_written_word(statement: plain.Statement, registers: Registers, read: int | None) -> int | None:
-    """Returns the word that an instruction writes to memory. `None` if it writes none, or the word is not known."""
+    """Returns the word that a store or a locked instruction writes to memory, if it reads the word `read`. `None` if the word is not known."""
     if statement.kind == "store":
         return resolve_value(statement.value, registers)
     return registers[statement.register] if statement.kind == "xchg" else add_words(read, registers[statement.register])
 
 
 def compute_next_state(statement: plain.Statement, position: int, state: ThreadState, read: int | None) -> ThreadState:
-    """Returns the position, the registers and the zero flag after an instruction that reads a word, if it reads one."""
+    """Returns the position, the registers and the zero flag of a thread after an instruction. `read` is the word that the instruction reads; `None` if
+    it reads none, or the word is not known.
+    """
     _, registers, zero = state
     if statement.kind in ("je", "jne", "jmp"):
         jumps = True if statement.kind == "jmp" else are_equal(zero, statement.kind == "je")
@@ -243,7 +258,9 @@ def find_shortest_cycle(edges: Iterable[Edge]) -> list[Edge] | None:
 
 
 def is_acyclic(targets: dict[Event, set[Event]]) -> bool:
-    """Returns whether there is no cycle: events without successors are removed until none is left."""
+    """Returns whether there is no cycle: events without successors are removed until none is left. `targets` has the successors of each event that has
+    some.
+    """
     while targets:
         remaining = {source: successors for source, all_of in targets.items() if (successors := all_of & targets.keys())}
         if len(remaining) == len(targets):
@@ -268,7 +285,9 @@ def find_cycle_through(start: Event, leaving: dict[Event, dict[Event, Edge]]) ->
 
 
 def trace_cycle(start: Event, last: Edge, came_by: dict[Event, Edge]) -> list[Edge]:
-    """Returns the edges of a cycle that ends with an edge to its start. `came_by` has the edge by which each event was reached."""
+    """Returns the edges of a cycle from an event, given the `last` one, which leads back to it. `came_by` has the edge by which each other event was
+    reached.
+    """
     cycle = [last]
     while cycle[-1].source != start:
         cycle.append(came_by[cycle[-1].source])
@@ -282,7 +301,7 @@ def list_candidates(test: plain.Test, max_candidates: int) -> Iterator[Execution
     """Yields all candidate executions of a test. Raises TooMany after `max_candidates` of them."""
     number = 0
     for paths in product(*map(plain.list_paths, test.threads)):
-        events = list_events(test, paths)
+        events = list_events_on_paths(test, paths)
         statement_of = lambda it: test.threads[it.thread][it.position]
         writes: dict[int, list[Event]] = {}
         for event in events:
@@ -299,9 +318,7 @@ def list_candidates(test: plain.Test, max_candidates: int) -> Iterator[Execution
                 continue
             for rows in product(*(permutations(row) for row in writes.values())):
                 number += 1
-                reordered = Execution.__new__(Execution)
-                reordered.__dict__ = {**execution.__dict__, "co": dict(zip(writes, rows))}
-                yield reordered
+                yield execution.with_orders(dict(zip(writes, rows)))
 
 
 def list_allowed_outcomes(test: plain.Test, max_candidates: int) -> set[plain.Outcome]:

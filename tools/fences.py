@@ -42,7 +42,7 @@ from fencing.places import Place, insert_fences, list_fence_places, remove_fence
 from fencing.sets import find_smallest_sets
 from fencing.spare import is_spare
 from fencing.together import CombinedTest, Original, Part, format_added_states, format_answer, format_sets, format_tests_and_makers
-from herd.convert import Converted, convert
+from herd.convert import ConversionResult, convert
 from herd.lines import Text, find_origins
 from herd.order import ORDERS
 from herd.together import make_renamer
@@ -53,14 +53,16 @@ TRIES = 1
 
 
 class Row(TypedDict):
-    """The place of a fence, and the states that are added without it."""
+    """A row of the table: a fence's place in words, and the lines of the states that are added without the fence."""
 
     place: str
     added: list[str]
 
 
 class Table(TypedDict):
-    """The result of `make_table`, and the makers of the lists of states."""
+    """The result of `make_fence_table`: a row for each fence; the places of fences that are enough together; the number of states, and of those in
+    which the proposition is true; and the names of who made the lists of states, sorted.
+    """
 
     rows: list[Row]
     enough: list[str]
@@ -70,8 +72,8 @@ class Table(TypedDict):
 
 
 class Choices(NamedTuple):
-    """The options of a question about fences: whether it is by all registers and locations, and about exchanges too, the number of tries of loops,
-    and the order of operands.
+    """The options of a question about fences: whether it is by all registers and locations, and about exchanges too; how often a run goes through
+    each loop at most; and the word of `--order`, if there is one.
     """
 
     everything: bool = False
@@ -80,12 +82,12 @@ class Choices(NamedTuple):
     order: str | None = None
 
 
-# The lists that were asked for since this was cleared, by the texts of their tests.
+# The reports that were made since `make_fence_table` last cleared these, by the texts of their tests.
 lists: dict[str, answers.Answer] = {}
 
 
 def list_fences(test: plain.Test) -> list[Place]:
-    """Returns the places of all fences: a thread, and the number of the instruction."""
+    """Returns the places of all fences: a thread, and the index of the instruction."""
     return [(thread, index) for thread, code in enumerate(test.threads) for index, it in enumerate(code) if it.kind == "mfence"]
 
 
@@ -100,7 +102,7 @@ def show_everything(test: plain.Test) -> plain.Test:
 
 
 def make_report(test: plain.Test) -> str:
-    """Returns the report of a test."""
+    """Returns the report of a test, which is made once for each text and kept in `lists`."""
     text = plain.format_canonical_text(test)
     if text not in lists:
         lists[text] = answers.make_answer(["states"], test, text)
@@ -123,8 +125,8 @@ def count_unwanted_states(test: plain.Test) -> int:
     return int(numbers[2 if test.quantifier == "forall" else 1])
 
 
-def format_place(test: plain.Test, fence: Place) -> str:
-    """Returns the words for the place of a fence."""
+def format_fence_place(test: plain.Test, fence: Place) -> str:
+    """Returns the words for the place of a fence that the test has, and for the instruction after it."""
     thread, position = fence
     after = [plain.format_instruction(test, it) for it in test.threads[thread][position + 1 : position + 2]]
     return f"P{thread} at {position}" + (f", before {after[0]}" if after else "")
@@ -139,8 +141,8 @@ def format_fence(row: Row, is_spare: bool, question: str) -> list[str]:
     return [f"{row['place']}: needed, {len(row['added'])} more without it", *format_added_states(row["added"], "  ")]
 
 
-def find_spared(test: plain.Test, fences: list[Place], states: list[str]) -> list[Place]:
-    """Returns fences that can be left out together, taken one after another as long as no state is added."""
+def find_spared_fences(test: plain.Test, fences: list[Place], states: list[str]) -> list[Place]:
+    """Returns fences that can be left out together. Each fence in turn is left out, with those before it that were, if the states are still `states`."""
     left_out: list[Place] = []
     for fence in fences:
         if list_states(remove_fences(test, [*left_out, fence])) == states:
@@ -148,9 +150,9 @@ def find_spared(test: plain.Test, fences: list[Place], states: list[str]) -> lis
     return left_out
 
 
-def make_table(test: plain.Test) -> Table:
-    """Returns a table: for each fence its place, and the states that are added without it; the fences that are enough; the number of states, and of
-    those in which the proposition is true.
+def make_fence_table(test: plain.Test) -> Table:
+    """Returns the table of a test's fences. A spare fence is not tried: its row has no states. The fences that are enough are those that remain
+    after all that can be left out together, one after another.
     """
     lists.clear()
     fences, report = list_fences(test), make_report(test)
@@ -159,9 +161,9 @@ def make_table(test: plain.Test) -> Table:
     rows: list[Row] = []
     for fence in fences:
         added = [] if is_spare(test, fence) else [line for line in list_states(remove_fences(test, [fence])) if line not in before]
-        rows.append({"place": format_place(test, fence), "added": added})
-    gone = find_spared(test, fences, states)
-    enough = [f"P{thread} at {position}" for thread, position in fences if (thread, position) not in gone]
+        rows.append({"place": format_fence_place(test, fence), "added": added})
+    spared = find_spared_fences(test, fences, states)
+    enough = [f"P{thread} at {position}" for thread, position in fences if (thread, position) not in spared]
     answered_by = sorted(it.name.lower() for it in list_makers())
     return {"rows": rows, "enough": enough, "states": len(states), "positive": positive, "answered_by": answered_by}
 
@@ -176,30 +178,32 @@ def find_helping_sets(test: plain.Test) -> list[list[Place]]:
     return find_smallest_sets(list_fence_places(test), lambda chosen: not count_unwanted_states(insert_fences(test, sorted(chosen))))
 
 
-def format_load_place(test: plain.Test, place: Place) -> str:
-    """Returns the name of a place for a fence."""
+def format_new_place(test: plain.Test, place: Place) -> str:
+    """Returns the words for a place where a fence may be inserted: before the instruction at its position."""
     thread, position = place
     return f"P{thread} at {position}, before {plain.format_instruction(test, test.threads[thread][position])}"
 
 
 def format_enough_sets(test: plain.Test, states: list[str], question: str, are_enough: bool) -> list[str]:
-    """Returns which sets of fences add no state, by what was asked, and whether they are enough."""
+    """Returns the line on the smallest sets of fences that add no state, in a list that is empty if there is none. `question` says what was asked;
+    `are_enough` is set if the fences forbid what the question is against.
+    """
     fences = list_fences(test)
     sets = find_enough_sets(test, fences, states) if fences or are_enough else []
     return format_sets([[f"P{thread} at {position}" for thread, position in it] for it in sets], question, are_enough)
 
 
 def format_helping_places(test: plain.Test, number: int, states: int) -> list[str]:
-    """Returns where further fences would answer the question."""
+    """Returns the lines on where further fences would answer the question: what it is against is present in `number` of the states."""
     presence = "What has to be always is not there" if test.quantifier == "forall" else "What is asked about is there"
     sets = find_helping_sets(test)
     end = "an MFENCE more at these places changes that" if sets else "no MFENCE changes that"
     head = f"{presence}, in {number} of {states} states: {end}"
-    return [head, *(f"  {'; '.join(format_load_place(test, place) for place in places)}" for places in sets)]
+    return [head, *(f"  {'; '.join(format_new_place(test, place) for place in places)}" for places in sets)]
 
 
 def format_without_lock(test: plain.Test, place: Place, question: str) -> list[str]:
-    """Returns what is said of an exchange without its lock, by the states that a test shows. `question` says by what it is asked."""
+    """Returns the lines on an exchange without its lock: the states that are added, as the test shows them. `question` says by what it is asked."""
     instructions = make_unlocked_instructions(test, place)
     if not instructions:
         return [f"  {question}: not tried, since no register is free"]
@@ -220,7 +224,7 @@ def format_exchanges(test: plain.Test, by_everything: bool) -> list[str]:
 
 
 def format_makers() -> list[str]:
-    """Returns the line that says that some lists are not proved, if some are not."""
+    """Returns the line that says that some lists are not proved, in a list that is empty if all are."""
     number = sum(not it.by.is_proved for it in lists.values())
     names = answers.format_makers(it for it in list_makers() if not it.is_proved)
     is_searched = answers.Maker.SEARCH in list_makers()
@@ -231,8 +235,9 @@ def format_makers() -> list[str]:
 # Tests in herd's form.
 
 
-def convert_unread_text(text: str, fault: plain.NoTest, choices: Choices) -> Converted:
-    """Returns what a text is converted to that lw does not read. If it is not converted either, raises the fault of the reader that came further.
+def convert_unread_text(text: str, fault: plain.NoTest, choices: Choices) -> ConversionResult:
+    """Returns what a text in herd's form is converted to, which lw does not read. If it is not converted either, raises the fault of the reader that
+    came further; `fault` is that of lw's.
     """
     try:
         return convert(text, choices.tries, ORDERS[choices.order])
@@ -240,20 +245,20 @@ def convert_unread_text(text: str, fault: plain.NoTest, choices: Choices) -> Con
         raise (fault if fault.offset >= other.offset else other) from None
 
 
-def print_converted(choices: Choices, text: str, name: str, conversion: Converted) -> int:
+def print_converted(choices: Choices, text: str, name: str, result: ConversionResult) -> int:
     """Prints which fences of a test in herd's form matter. Returns the exit status."""
-    for offset, says in conversion.notes:
+    for offset, says in result.notes:
         print(command.format_note(name, text, offset, says), file=sys.stderr)
-    parts = [Part(it, find_origins(it), it.begins) for it in conversion.conversions]
-    in_names = make_renamer(conversion)
-    condition = in_names(plain.format_condition(conversion.conversions[0].question))
-    tests, names = CombinedTest(parts, in_names), Text(text, conversion)
+    parts = [Part(it, find_origins(it), it.begins) for it in result.conversions]
+    rename_line = make_renamer(result)
+    condition = rename_line(plain.format_condition(result.conversions[0].question))
+    tests, names = CombinedTest(parts, rename_line), Text(text, result)
     if not tests.list_states():
-        tries = f"{conversion.tries} tr{'ies' if conversion.tries != 1 else 'y'}"
+        tries = f"{result.tries} tr{'ies' if result.tries != 1 else 'y'}"
         print(answers.format_no_verdict(tests.question, f"no run goes through every loop within {tries}"), end="")
-        print(format_tests_and_makers(tests, tests.makers, conversion.tries))
+        print(format_tests_and_makers(tests, tests.makers, result.tries))
         return answers.NO_VERDICT
-    original = Original(conversion.frame.name, condition, names.describe_place, names.describe_place_briefly, {*conversion.sites}, conversion.tries)
+    original = Original(result.frame.name, condition, names.describe_place, names.describe_place_briefly, {*result.sites}, result.tries)
     print("\n".join(format_answer(tests, original, choices.everything, choices.exchanges)))
     return 0
 
@@ -271,7 +276,7 @@ def print_fences(choices: Choices, text: str, name: str = given.STANDARD_INPUT) 
     by_everything = choices.everything
     question = "all registers and locations" if by_everything else f"its question, {plain.format_condition(test)}"
     shown = show_everything(test) if by_everything else test
-    table = make_table(shown)
+    table = make_fence_table(shown)
     spare = [is_spare(shown, fence) for fence in list_fences(shown)]
     lines = [line for row in zip(table["rows"], spare) for line in format_fence(*row, question)]
     number = 0 if by_everything else count_unwanted_states(test)

@@ -41,14 +41,14 @@ class Film(TypedDict):
 
 
 class NoFilm(Exception):
-    """There is no film, and why."""
+    """There is no film: the program is not there or fails, or the schedule is too long; and why."""
 
 
 class Refused(Exception):
     """The program refuses a text or a schedule: its line, its status, the text and the schedule."""
 
 
-# Returns the output of the program, or of another, for arguments and the bytes of a text.
+# A function that returns the output of the program, or of another, for arguments and the bytes of a text.
 Asker = Callable[[List[str], bytes], str]
 
 # The program.
@@ -91,7 +91,7 @@ def read_language(text: bytes) -> str:
 
 
 def list_x86_cells(canonical: str) -> list[Cells]:
-    """Returns, for each thread, its cells in a canonical text: row k has instruction k."""
+    """Returns, for each thread, its cells in a canonical text, each with the index of its instruction, which is that of its row."""
     rows = [line[1:-2].split(" | ") for line in canonical.partition("\n}\n")[2].splitlines() if line.startswith(" ")]
     columns = list(zip(*rows[1:])) or [() for _ in rows[0]]
     return [[{"text": cell, "at": index} for index, cell in enumerate(column) if cell] for column in columns]

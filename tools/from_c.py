@@ -76,7 +76,7 @@ def format_no_run(source: Source, why: str) -> str:
 
 
 def print_answer(arguments: Namespace, name: str, text: str) -> int:
-    """Prints the answer on one file."""
+    """Prints the answer on one file. Returns the exit status."""
     source = read_source(name, text)
     include = os.path.dirname(os.path.abspath(name)) if name != given.STANDARD_INPUT else None
     answer_by = lambda compiler, weaker=0: convert_source(source, compiler, arguments.tries, weaker, include)

@@ -28,27 +28,27 @@ from argparse import Namespace
 sys.dont_write_bytecode = True
 import given
 import plain
-from herd.convert import Conversion, Converted, convert
+from herd.convert import ConvertedTest, ConversionResult, convert
 from herd.order import ORDERS
 from herd.origin import make_comment
 from herd.text import read_heading
 from shared import command, start
 
 
-def write_converted_text(original: Converted, conversion: Conversion) -> str:
+def write_converted_text(original: ConversionResult, conversion: ConvertedTest) -> str:
     """Returns the text of a converted test, with a comment on its origin."""
     heading, _, rest = plain.format_canonical_text(conversion.test).partition("\n")
     return f"{heading}\n{make_comment(original, conversion)}{rest}"
 
 
 class Folder:
-    """The folder that tests are written into. It knows from which input each of its files comes, and overwrites nothing."""
+    """The folder into which tests are written, overwriting nothing. `origins` has the input from which each file of this run comes."""
 
     def __init__(self, path: str) -> None:
         self.path = path
         self.origins: dict[str, str] = {}
 
-    def check_file(self, path: str, text: str, conversion: Converted, name: str, offset: int) -> None:
+    def check_file(self, path: str, text: str, conversion: ConversionResult, name: str, offset: int) -> None:
         """Checks that a file may be written: no other input of this run has its name, and no other text is there. Raises Fault if not."""
         if path in self.origins:
             fault = f"'{conversion.frame.name}' of {name} and a test of {self.origins[path]} have one file name, {path}"
@@ -61,7 +61,7 @@ class Folder:
         if present != text:
             raise given.Fault(f"{path} has another text already, and is not overwritten: take it away, or name another folder", offset)
 
-    def write_tests(self, conversion: Converted, name: str, text: str) -> None:
+    def write_tests(self, conversion: ConversionResult, name: str, text: str) -> None:
         """Writes the tests of one input, all or none."""
         offset = read_heading(text)[2] - len(conversion.frame.name)
         files = [(os.path.join(self.path, make_file_name(it.test.name)), write_converted_text(conversion, it)) for it in conversion.conversions]
@@ -78,8 +78,8 @@ def make_file_name(name: str) -> str:
     return name.replace("/", "_").replace("\\", "_") + ".litmus"
 
 
-def print_notes(name: str, text: str, conversion: Converted) -> None:
-    """Prints on standard error what is left out or taken otherwise."""
+def print_notes(name: str, text: str, conversion: ConversionResult) -> None:
+    """Prints on standard error what of a text is left out or read differently."""
     for offset, says in conversion.notes:
         print(command.format_note(name, text, offset, says), file=sys.stderr)
 

@@ -36,14 +36,14 @@ def decode(data: bytes) -> str:
         raise Fault("the text is not UTF-8", len(data[: why.start].decode("utf-8"))) from None
 
 
-def format_place(text: str, offset: int) -> str:
-    """Returns an offset in a text as LINE:COLUMN."""
+def format_line_and_column(text: str, offset: int) -> str:
+    """Returns an offset in a text as LINE:COLUMN, both counted from 1."""
     return f"{text.count(chr(10), 0, offset) + 1}:{offset - text.rfind(chr(10), 0, offset)}"
 
 
 def format_fault(name: str, data: bytes, fault: Fault) -> str:
     """Returns the line on a fault in the bytes of a file."""
-    return f"{name}:{format_place(data.decode('utf-8', 'replace'), fault.offset)}: {fault.cause}"
+    return f"{name}:{format_line_and_column(data.decode('utf-8', 'replace'), fault.offset)}: {fault.cause}"
 
 
 def refuse(line: str) -> int:

@@ -72,11 +72,11 @@ WayKey = Tuple[str, str, Tuple[str, ...]]
 
 
 class DrawnCycle(NamedTuple):
-    """A cycle that forbids a state: its picture, its words, and the sentences on why it teaches little, if it does."""
+    """A cycle that forbids a state: its picture, its words, and the sentences on why it teaches little, which are empty if it teaches much."""
 
     picture: str
     words: str
-    kind: str
+    drawbacks: str
 
 
 class WhyNot(NamedTuple):
@@ -147,7 +147,7 @@ def list_drawn_edges(execution: executions.Execution, marked: list[executions.Ed
 
 
 def list_unpreserved_pairs(execution: executions.Execution, cycle: list[executions.Edge]) -> list[executions.Edge]:
-    """Returns the pairs of program order in a cycle that are not preserved by themselves."""
+    """Returns the pairs of program order in a cycle that x86-TSO does not preserve if no fence is between."""
     return [it for it in cycle or [] if it.kind == "po" and not execution.is_preserved(it)]
 
 
@@ -201,8 +201,8 @@ def format_point(point: Point) -> str:
     return f"{round_to_tenth(x):g} {round_to_tenth(y):g}"
 
 
-def format_place(event: executions.Event) -> str:
-    """Returns the place of an event in its test, by which the page finds its instruction."""
+def format_event_place(event: executions.Event) -> str:
+    """Returns the place of an event in its test, as THREAD:POSITION, by which the page finds its instruction."""
     return f"{event.thread}:{event.position}"
 
 
@@ -211,8 +211,8 @@ def draw_edge(drawing: Drawing, layout: GraphLayout, route: Route, is_marked: bo
     kind = route.edge.kind if route.edge else "rf"
     curves = layout.make_picture_curves(route)
     path = f"M{format_point(curves[0][0])} " + " ".join(f"C{' '.join(map(format_point, points))}" for _, *points in curves)
-    start = "" if route.way == "start" else f'data-from="{format_place(route.source)}" '
-    ends = f'{start}data-to="{format_place(route.target)}"'
+    start = "" if route.way == "start" else f'data-from="{format_event_place(route.source)}" '
+    ends = f'{start}data-to="{format_event_place(route.target)}"'
     marked = " marked" if is_marked else ""
     drawing.elements.append(f'<path class="{kind}{marked}" {ends} marker-end="url(#to-{kind})" d="{path}"/>')
 
@@ -244,7 +244,7 @@ def draw_events(
         for event in events:
             x, y = layout.find_corner(event)
             kind = "entry" if execution.find_instruction(event).kind == "store" else "box"
-            drawing.elements.append(f'<g data-at="{format_place(event)}">')
+            drawing.elements.append(f'<g data-at="{format_event_place(event)}">')
             drawing.draw_box(x, y, *layout.box, f"{kind} marked" if event in marked else kind)
             drawing.draw_text(x + layout.room.beside, y + BASE, texts[event])
             drawing.elements.append("</g>")
@@ -290,7 +290,7 @@ def draw_execution(execution: executions.Execution, title: str, broken: tuple[st
 
 
 def parse_state(test: plain.Test, line: str) -> dict[plain.Site, int]:
-    """Returns the words of a report's line, by site; the line has to name exactly what the test shows. Raises Fault if it does not."""
+    """Returns the words of a report's line, by site. Raises Fault unless the line names exactly what the test shows."""
     pairs = re.findall(r"([^\s=;]+)=([0-9]+);", line)
     word_of_name = dict(pairs)
     names = {plain.format_site(test, site): site for site in plain.list_observed_sites(test)}
@@ -300,7 +300,9 @@ def parse_state(test: plain.Test, line: str) -> dict[plain.Site, int]:
 
 
 class Way:
-    """A way in which the axioms forbid a state: the axiom and its cycle, with the clearest execution that has it, and how many have it."""
+    """A way in which the axioms forbid a state: the axiom and its cycle, with the clearest execution that has it (`execution`, and `broken`, what that
+    violates), and how many have it (`times`).
+    """
 
     def __init__(self, execution: executions.Execution, broken: tuple[str, list[executions.Edge]]) -> None:
         """Describes the cycle by which an execution breaks an axiom."""
@@ -308,22 +310,22 @@ class Way:
         names = Names(execution)
         self.axiom, self.cycle = broken[0], names.format_cycle(broken[1])
         self.events = tuple(names.format_event(event) for event in dict.fromkeys(it.source for it in broken[1]))
-        self.kinds = list_kinds(execution, broken[1])
+        self.drawbacks = list_drawbacks(execution, broken[1])
 
     @property
     def weight(self) -> int:
         """Returns how little the cycle teaches about buffers and fences."""
-        return sum(WEIGHTS[it] for it in self.kinds)
+        return sum(WEIGHTS[it] for it in self.drawbacks)
 
     def make_key(self) -> WayKey:
-        """Returns the key of the order of ways, which differs for different ways."""
+        """Returns the key of this way, which executions have in common if they break the same axiom by the same cycle with the same words."""
         return self.axiom, self.cycle, self.events
 
     def add(self, other: Way) -> None:
-        """Counts an execution that has the same cycle, and draws it in place of the first one if it is clearer."""
+        """Counts the execution of another object of the same way, and takes it in place of this one's if it is clearer."""
         self.times += 1
         if other.weight < self.weight:
-            self.execution, self.broken, self.kinds = other.execution, other.broken, other.kinds
+            self.execution, self.broken, self.drawbacks = other.execution, other.broken, other.drawbacks
 
     def make_rank(self) -> tuple[int, bool, int, int]:
         """Returns what orders the ways of a state: the clearest are first, then those of several threads, the shortest, and the most frequent."""
@@ -336,7 +338,7 @@ def list_constants(test: plain.Test) -> set[int]:
     return {*test.words, *(word for row in test.registers for word in row), *(it.word for it in values if isinstance(it, plain.Number))}
 
 
-def list_kinds(execution: executions.Execution, cycle: list[executions.Edge]) -> list[str]:
+def list_drawbacks(execution: executions.Execution, cycle: list[executions.Edge]) -> list[str]:
     """Returns why a cycle teaches little about buffers and fences: it is of one location, or words are computed in it, or unknown in its execution."""
     events = [it.source for it in cycle]
     locations = {execution.find_instruction(it).location for it in events} - {None}
@@ -350,9 +352,10 @@ def list_kinds(execution: executions.Execution, cycle: list[executions.Edge]) ->
 def list_forbidden_states(
     test: plain.Test, state: dict[plain.Site, int] | None, max_candidates: int
 ) -> tuple[set[Words], dict[Words, dict[WayKey, Way]]]:
-    """Returns the states that the axioms allow; and of each state that candidate executions have, and the axioms allow in none, its ways.
+    """Returns the states that the axioms allow; and for each state that some candidate executions have, all of which the axioms forbid, the ways in
+    which they do.
 
-    With wanted words only their state is looked for. Raises TooMany if there are more than `max_candidates` candidate executions.
+    If `state` has words, other states are left out. Raises TooMany if there are more than `max_candidates` candidate executions.
     """
     allowed: set[Words] = set()
     broken: dict[Words, dict[WayKey, Way]] = {}
@@ -386,12 +389,12 @@ def format_state(test: plain.Test, words: Words) -> str:
 def draw_cycle(test: plain.Test, way: Way, line: str) -> DrawnCycle:
     """Returns a way as a picture with its words, which begin with the line of the state if several states are explained."""
     words = f"{way.axiom}: {way.cycle}"
-    return DrawnCycle(draw_execution(way.execution, f"{test.name}: {way.cycle}", way.broken), f"{line} {words}" if line else words, " ".join(way.kinds))
+    return DrawnCycle(draw_execution(way.execution, f"{test.name}: {way.cycle}", way.broken), f"{line} {words}" if line else words, " ".join(way.drawbacks))
 
 
 def explain_state(test: plain.Test, words: Words, ways: list[Way]) -> list[str]:
     """Returns the lines on a state that the axioms forbid."""
-    lines = [f"x86-TSO forbids {format_state(test, words)}", *(f"  {kind}" for kind in ways[0].kinds)]
+    lines = [f"x86-TSO forbids {format_state(test, words)}", *(f"  {sentence}" for sentence in ways[0].drawbacks)]
     for way in ways[:MAX_CYCLES]:
         breaking = "1 candidate execution breaks" if way.times == 1 else f"{way.times} candidate executions break"
         lines += [f"  {breaking} {way.axiom}: {way.cycle}", *(f"    {event}" for event in way.events)]
@@ -401,7 +404,9 @@ def explain_state(test: plain.Test, words: Words, ways: list[Way]) -> list[str]:
 
 
 def explain_states(test: plain.Test, state: str) -> WhyNot:
-    """Returns the lines on a state, or on all; the exit status; and the cycles that are drawn: the clearest ones."""
+    """Returns the lines on a state, given as a report's line, or on all of them (`all`); the exit status; and the cycles that are drawn: the clearest
+    ones. Raises Fault if the line has other names than those that the test shows.
+    """
     state_words = None if state == "all" else parse_state(test, state)
     try:
         allowed, broken = list_forbidden_states(test, state_words, MAX_CANDIDATES)

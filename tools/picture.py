@@ -114,7 +114,7 @@ def find_effect(film: Film, step: int) -> Effect:
 
 
 def format_effect(film: Film, step: int, letters: int) -> list[str]:
-    """Returns the effect of the event before a step, in lines of at most `letters` letters."""
+    """Returns the effect of the event before a step, in lines of at most `letters` letters, unless a word is longer."""
     lines: list[str] = []
     for word in find_effect(film, step)["words"].replace("`", "").split():
         longer = f"{lines[-1]} {word}" if lines else word
@@ -139,19 +139,20 @@ class Measures:
     """How much room the threads of a film need, the same for all its states."""
 
     def __init__(self, film: Film) -> None:
-        """Measures the threads of a film."""
+        """Measures the threads of a film. Numbers of rows are the largest of all threads and states."""
         threads = range(len(film["cells"]))
-        self.used = [list_used_registers(film, thread) for thread in threads]
+        self.used = [list_used_registers(film, thread) for thread in threads]  # for each thread, its registers in the picture
         self.has_buffers = "buffer" in film["states"][0]["threads"][0]
         places = [thread_state for state in film["states"] for thread_state in state["threads"]]
+        # The rows of a store buffer, of code, and of registers.
         self.entries = max([len(thread_state.get("buffer", [])) for thread_state in places] + [1]) if self.has_buffers else 0
         self.code = max([len(column) for column in film["cells"]] + [1])
         self.registers = max([len(used) for used in self.used] + [1])
-        self.lines = max(len(list_held_lines(thread_state)) for thread_state in places) > 0
+        self.has_lines = any(list_held_lines(thread_state) for thread_state in places)
         self.width = max(self.find_width(film, thread) for thread in threads)
         self.height = LINE * (self.code + self.registers + 2) + EDGE * 2
         self.height += (self.entries + 1) * (LINE + 3) if self.has_buffers else 0
-        self.height += LINE * self.lines
+        self.height += LINE * self.has_lines
         content = sum(len(f"{name}={word}") * LETTER + 20 for name, word in film["states"][-1]["content"])
         self.whole_width = max(len(threads) * (self.width + GAP) - GAP, content + 10 * LETTER)
         self.whole_height = self.height + GAP + LINE + 8
@@ -188,7 +189,7 @@ def draw_thread(drawing: Drawing, film: Film, step: int, thread: int, x: float, 
         is_lit = words[name] != old_words[name] or name == effect.get("register")
         drawing.draw_text(x, top + LINE * row, f"{name}={words[name]}", "changed" if is_lit else "")
     top += LINE * measures.registers
-    if measures.lines:
+    if measures.has_lines:
         lines_text = "lines " + (" ".join(list_held_lines(thread_state)) or "none")
         drawing.draw_text(x, top, lines_text, "changed" if thread_state["lines"] != thread_before["lines"] else "faint")
         top += LINE
@@ -225,7 +226,7 @@ def draw_state(drawing: Drawing, film: Film, step: int, x: float, y: float, meas
 
 
 def draw_refusal(drawing: Drawing, refusal: str, y: float) -> float:
-    """Draws what is said of the event that a film ends before. Returns the height that this takes."""
+    """Draws the words on the event before which a film ends, if there are any. Returns the height that they take."""
     if not refusal:
         return 0
     drawing.draw_text(EDGE, y + 14, refusal, "changed")

@@ -33,12 +33,12 @@ from interpreter.compiling import (
     compile_statement, compile_test, compile_thread, find_fenced_loads, format_canonical_text, format_cells, format_instruction, list_successors,
 )
 from interpreter.conditions import (
-    format_condition, format_proposition, format_site, is_true, list_parts, list_sites, read_word, replace_atoms, site_sort_key,
+    format_condition, format_proposition, format_site, is_true_in, list_parts, list_sites, read_word, replace_atoms, site_sort_key,
 )
 from interpreter.machines import (
     Caches, OneMemory, Processor, drain_oldest, execute_instruction, execute_locked, execute_next, execute_statement, read_value, replace_item,
 )
-from interpreter.orders import count_accesses, count_conflicts, count_orders, list_paths
+from interpreter.orders import collect_accesses, count_conflicts, count_orders, list_paths
 from interpreter.reading import (
     BLANKS, LANGUAGE, MAX_BYTES, MAX_NODES, MAX_ROWS, MAX_STATEMENTS, NAME_OF_TEST, RESERVED, Reader, read_heading, read_test,
 )

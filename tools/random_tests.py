@@ -280,7 +280,7 @@ def compare_lists(subject: str, text: str, test: plain.Test) -> Iterator[Compari
 
 
 def make_comparisons(language: str, seed: int) -> Iterator[Comparison]:
-    """Returns all comparisons of one random test: what is compared, what plain.py says, what the program says."""
+    """Yields all comparisons of one random test: what is compared, what plain.py says, what the program says."""
     writer = Writer(language, seed)
     subject, text = f"random test {seed} of {language}", writer.draw_test()
     test = plain.read_test(text)

@@ -96,7 +96,7 @@ def print_table(quizzes: Quizzes, name: str, text: str) -> int:
                 seen.setdefault(student, number)
         except codes.BadCode as why:
             cause, column = why.args
-            faults = given.refuse(f"{name}:{given.format_place(text, offset + column)}: {cause}")
+            faults = given.refuse(f"{name}:{given.format_line_and_column(text, offset + column)}: {cause}")
         offset += len(line) + 1
     print(format_table(rows), end="")
     return faults

@@ -89,14 +89,14 @@ class Page:
 
     def __init__(self, text: str) -> None:
         *self.lines, self.rest = text.split("\n")
-        self.offset = self.before = 0  # of the next line, and of the line that was read last
+        self.offset = self.last_offset = 0  # of the next line, and of the line that was read last
 
     def take_line(self, pattern: str) -> tuple[str, ...]:
         """Reads the next line. Returns the groups that a pattern matches in it, and refuses a line that it does not match."""
         if not self.lines:
             raise NoReplay("the last line has no end" if self.rest else "the text ends, and a replay prints more", self.offset)
         line = self.lines.pop(0)
-        self.before, self.offset = self.offset, self.offset + len(line) + 1
+        self.last_offset, self.offset = self.offset, self.offset + len(line) + 1
         match = re.fullmatch(pattern, line[:-1] if line.endswith("\r") else line)
         self.require(match)
         return require_match(match).groups()
@@ -110,7 +110,7 @@ class Page:
     def require(self, condition: object) -> None:
         """Refuses the line that was read last unless a condition holds."""
         if not condition:
-            raise NoReplay("a replay prints no such line here", self.before)
+            raise NoReplay("a replay prints no such line here", self.last_offset)
 
     def close(self) -> None:
         """Refuses whatever follows the last line of a replay."""
@@ -129,7 +129,7 @@ def list_names(words: Words | Letters) -> tuple[str, ...]:
 
 
 def make_end(kind: str | None, stopped_at: str, number: str, cause: str) -> End:
-    """Returns how a run ended: the groups of a match of END."""
+    """Returns how a run ended, by the groups of a match of END: `kind` is None if the run was stopped."""
     return {"kind": kind} if kind else {"kind": "Stopped", "at": int(stopped_at), "number": int(number), "cause": cause}
 
 
@@ -170,7 +170,7 @@ def read_state(text: str) -> State:
 
 def parse_register(name: str) -> int:
     """Returns the index of a register of either language, by its name."""
-    return int(name[1:]) if name.startswith("r") else ("EAX", "EBX", "ECX", "EDX", "ESI", "EDI").index(name)
+    return int(name[1:]) if name.startswith("r") else X86.index(name)
 
 
 def parse_report_line(line: str) -> list[tuple[str, int]]:

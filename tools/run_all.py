@@ -169,7 +169,7 @@ def report_rows(table: list[rows.Row], expected: Expected | None) -> set[int]:
     return {1 if refused else 0, NO_VERDICT if without else 0, report_unexpected(table, expected) if expected else 0}
 
 
-def report_notes(answers: list[rows.Answered]) -> None:
+def report_notes(answers: list[rows.FileAnswer]) -> None:
     """Reports on standard error what was left out of converted files or read otherwise, and whose lists are not proved."""
     for row in (it.row for it in answers if it.row.converted):
         for note in row.notes:
@@ -189,7 +189,7 @@ def merge_and_print(arguments: argparse.Namespace) -> int:
     return choose_status({0} | seen | report_rows(table, expected))
 
 
-def compare_with_logs(answers: list[rows.Answered], arguments: argparse.Namespace) -> set[int]:
+def compare_with_logs(answers: list[rows.FileAnswer], arguments: argparse.Namespace) -> set[int]:
     """Compares the answers with logs, as far as that is requested. Returns the exit statuses."""
     if not (arguments.against or arguments.machine_log):
         return {0}
@@ -199,7 +199,7 @@ def compare_with_logs(answers: list[rows.Answered], arguments: argparse.Namespac
     return {differing, compare.report_machine_log(answers, arguments.machine_log) if arguments.machine_log else 0}
 
 
-def make_rows(answers: list[rows.Answered], arguments: argparse.Namespace) -> tuple[list[rows.Row], int]:
+def make_rows(answers: list[rows.FileAnswer], arguments: argparse.Namespace) -> tuple[list[rows.Row], int]:
     """Returns the rows, with what was seen on this machine if that is requested, and the exit status."""
     if arguments.seconds is None:
         return [it.row for it in answers], 0

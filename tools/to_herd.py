@@ -35,7 +35,7 @@ def read_program(text: str) -> plain.Test:
 
 
 def print_herd_form(arguments: Namespace, text: str) -> int:
-    """Prints one test, or one report. Raises Fault if the input of --report is no report."""
+    """Prints one test, or one report. Returns the exit status. Raises Fault if the input of --report is no report."""
     if not arguments.report:
         print(write_herd_text(read_program(text), arguments.form), end="")
         return 0

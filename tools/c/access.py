@@ -18,29 +18,30 @@ RED_ZONE = 128
 
 
 class Access:
-    """An instruction on a path, which it changes; what other threads can see of it is in `effects`.
+    """The base of the classes up to `Step`: an instruction on a path, which it changes; what other threads can see of it is in `effects`.
 
-    `done` is set when the instruction's load is done: the path on which the instruction continues from there, if it forks later. `guess` is
-    what an effect must find: a question, and the answer that does not abandon the run.
+    `done` is set when the instruction's load is done: the path on which the instruction continues from there, if it forks later, and the effect of
+    the load. `guess` is what an effect must find: a question, and the answer that does not abandon the run.
     """
 
     def __init__(self, program: Program, thread: int, stored_words: dict[int, dict[int, Clock]], path: ExecutionPath, instruction: Instruction) -> None:
-        """Does an instruction on a path of a thread. `stored_words` are the words that the thread has stored at each address, with their clocks."""
+        """Prepares an instruction on a path of a thread; `Step.execute` executes it. `stored_words` has the words that the thread has stored at each
+        address so far, with their clocks; stores are added to it.
+        """
         self.program, self.thread, self.stored_words, self.path, self.instruction = program, thread, stored_words, path, instruction
         self.effects: list[Effect] = []
         self.done: tuple[ExecutionPath, Effect] | None = None
         self.guess: tuple[Question, bool] | None = None
-        self.gives_up = False
 
     # Registers.
 
     def read_register(self, name: str, size: int, offset: int = 0) -> Value:
-        """Returns some bytes of a register."""
+        """Returns the value of `size` bytes of a register, from the one at `offset` on; `None` if not all of them are known."""
         value, known_bytes = self.path.registers[name]
         return self.path.extract_bytes(value, size, offset) if known_bytes >= size + offset else None
 
     def read_register_or_number(self, operand: Any, size: int) -> Value:
-        """Returns the value of a register or a number."""
+        """Returns the value of a Register, or of a Number, which may be a symbol's address. (c/forms.py has refused other operands.)"""
         if isinstance(operand, Number):
             return self.program.layout.find_address(operand.symbol, operand.number) & MASK[size]
         return self.read_register(operand.name, size, operand.offset)
@@ -50,7 +51,7 @@ class Access:
         return self.load(self.compute_address(operand), size) if isinstance(operand, Memory) else self.read_register_or_number(operand, size)
 
     def write_register(self, operand: Any, size: int, value: Value) -> None:
-        """Sets a register. A write of 4 bytes clears those above, and a shorter one preserves them."""
+        """Writes `size` bytes of a Register. A write of 4 bytes clears those above, and a shorter one preserves them."""
         path, name, offset = self.path, operand.name, operand.offset
         old, known_bytes = path.registers[name]
         if size >= 4:
@@ -76,7 +77,7 @@ class Access:
     # Memory.
 
     def is_shared(self, address: int, size: int) -> bool:
-        """Returns whether other threads access some bytes too. Raises Refused if they are on another thread's stack."""
+        """Records an access of some bytes. Returns whether other threads access them too. Raises Refused if they are on another thread's stack."""
         if self.program.layout.is_stack(address):
             top = STACKS - STACK_OF_THREAD * self.thread
             if not top - STACK_OF_THREAD < address <= top:
@@ -93,7 +94,7 @@ class Access:
         return self.path.last_stored.get(address, self.program.layout.read_initial_word(address, size))
 
     def load(self, address: int, size: int) -> Value:
-        """Returns the value that a load finds. The load is an effect if others may have stored it."""
+        """Returns the value that a load finds. If another thread may have stored it, the load is an effect, and what it finds is a symbol."""
         locations = self.program.locations
         if not self.is_shared(address, size):
             return load_own(self.path, self.program.layout, address, size)

@@ -48,7 +48,7 @@ def list_compilers(ending: str) -> list[str]:
 
 @functools.lru_cache(maxsize=None)
 def read_version(name: str) -> str:
-    """Returns the version that a compiler says it has, as 12.2.0, or nothing if it says none."""
+    """Returns the version that a compiler says it has, as 12.2.0; empty if it says none or does not start."""
     try:
         ran = subprocess.run([name, "--version"], stdout=subprocess.PIPE, stderr=subprocess.DEVNULL, check=False, timeout=SECONDS)
     except (OSError, subprocess.TimeoutExpired):
@@ -58,7 +58,7 @@ def read_version(name: str) -> str:
 
 
 def write_input_and_make_command(source: Source, arguments: list[str], weaker: int, folder: str) -> list[str]:
-    """Returns the command that compiles a source, and the file that it reads, which is written."""
+    """Writes the file that the compiler reads into a folder. Returns the command that compiles it."""
     path, target = os.path.join(folder, NAME + source.ending), os.path.join(folder, NAME + ".s")
     text = source.text
     if source.is_rust:
@@ -119,7 +119,7 @@ def compile_to_assembly(source: Source, compiler: str, weaker: int = 0, include:
 
 
 def parse_first_fault(printed: str, shift: int) -> Refused:
-    """Returns the first fault that a compiler reports, with its line."""
+    """Returns the first fault that a compiler reports, with its line in the source, which begins after `shift` lines of the compiled file."""
     cause = re.search(r"\berror\b(?:\[\w+\])?:\s*(.*)", printed)
     line_match = re.search(rf"{NAME}\.\w+:(\d+):", printed)
     first = cause[1] if cause else (printed.strip().splitlines() or ["it says nothing"])[0]

@@ -8,8 +8,8 @@ from herd.text import Refused, TOKEN, Token
 from plain import Constant, Eq, Not, Proposition, list_parts
 
 
-class Seen(NamedTuple):
-    """A value of a thread: a local variable, what `lw_see` says, or `return`."""
+class ThreadValue(NamedTuple):
+    """A value of a thread in a condition: a local variable, what `lw_see` says, or `return`."""
 
     thread: int
     name: str
@@ -27,7 +27,7 @@ class Address(NamedTuple):
     name: str
 
 
-Site = Union[Seen, Global]
+Site = Union[ThreadValue, Global]
 
 
 class Condition(NamedTuple):
@@ -45,7 +45,7 @@ class Condition(NamedTuple):
         """Returns the names that the condition mentions, by thread."""
         names: dict[int, set[str]] = {}
         for atom in self.list_atoms():
-            if isinstance(atom.site, Seen):
+            if isinstance(atom.site, ThreadValue):
                 names.setdefault(atom.site.thread, set()).add(atom.site.name)
         return names
 
@@ -99,7 +99,7 @@ class ConditionReader(PropositionReader):
             return site
         return Global(self.read_name_with_offset())
 
-    def read_thread_value(self) -> Seen:
+    def read_thread_value(self) -> ThreadValue:
         """Reads a value of a thread, such as 0:r0 or P0:r0. Raises Refused if the thread or the name is none."""
         offset, digits = self.token.offset, self.take_token().text.lstrip("P")
         if not digits.isdigit() or int(digits) > 3:
@@ -107,7 +107,7 @@ class ConditionReader(PropositionReader):
         self.take_token(":")
         if self.token.kind != "name":
             raise self.make_misplaced_refusal("a name")
-        return Seen(int(digits), self.take_token().text)
+        return ThreadValue(int(digits), self.take_token().text)
 
     def read_word(self, site: Any) -> Any:
         """Reads a number, or the address of a global, as an Address. Raises Refused if a number has more than 64 bits."""

@@ -23,7 +23,7 @@ class Control(Locked):
     # Flags.
 
     def evaluate_condition(self, letters: str) -> bool:
-        """Returns whether a condition holds."""
+        """Returns whether the condition that the letters of a mnemonic name holds. The path forks if that is not known: Ask is raised then."""
         name, expected = parse_condition(letters)
         path = self.path
         flags = require_readable(path.flags, name)

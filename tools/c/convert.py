@@ -9,7 +9,7 @@ from dataclasses import dataclass
 import plain
 from c.assembly import Assembly
 from c.compiler import NAME
-from c.condition import Address, Condition, Global, Seen
+from c.condition import Address, Condition, Global, ThreadValue
 from c.program import Program
 from c.refused import Refused
 from c.registers import SIX
@@ -18,17 +18,19 @@ from c.source import MAX_THREADS, strip_prefix
 from c.thread import Thread
 from c.path_graph import Do, End, Fence, GiveUp
 from c.write import Writer
-from herd.convert import Conversion
+from herd.convert import ConvertedTest
 
 MAX_LOCATIONS, MAX_TESTS = 8, 256
 ALWAYS = plain.Constant(True)
 
 
 @dataclass
-class Written:
-    """A test of lw with its marks, the source lines of each thread's instructions, and the indices at which the code of a node of its paths begins."""
+class ProgramTest:
+    """A test of lw of a program, with its marks; the source lines of each thread's instructions; and for each thread the indices at which the code of
+    a node of its paths begins.
+    """
 
-    conversion: Conversion
+    conversion: ConvertedTest
     lines: list[list[set[int]]]
     begins: list[list[int]]
 
@@ -125,9 +127,9 @@ class Converter:
             raise Refused(f"the condition names '&{word.name}', which is no variable of the compiled file")
         return self.program.layout.find_address(base, int(offset or 0))
 
-    def find_site(self, site: Seen | Global) -> plain.Site | None:
+    def find_site(self, site: ThreadValue | Global) -> plain.Site | None:
         """Returns where lw has what a site of the program means, or None if no thread stores it. Raises Refused if it is a part of a location."""
-        if isinstance(site, Seen):
+        if isinstance(site, ThreadValue):
             return plain.RegisterSite(site.thread, self.assign_seen_registers(site.thread)[site.name])
         address = self.program.asked_addresses[site.name]
         for thread in range(len(self.threads)):
@@ -145,7 +147,7 @@ class Converter:
         location.
         """
         site, lw_site, number = eq.site, self.find_site(eq.site), self.compute_number(eq.word)
-        if isinstance(site, Seen):
+        if isinstance(site, ThreadValue):
             return plain.Eq(lw_site, number % 2**32)
         address = self.program.asked_addresses[site.name]
         size = self.program.find_asked_size(address) if not isinstance(lw_site, plain.LocationSite) else self.program.locations.sizes[address]
@@ -165,7 +167,7 @@ class Converter:
 
     # Tests.
 
-    def tests_by_guess(self) -> Iterator[Written]:
+    def tests_by_guess(self) -> Iterator[ProgramTest]:
         """Yields the tests of lw. A guess under which a thread has no end makes none. Raises Refused if there are too many."""
         count = 1
         for guessed in self.threads:
@@ -177,7 +179,7 @@ class Converter:
             if all(it.graph.can_reach(End) for it in threads):
                 yield self.make_test(threads, numbers)
 
-    def make_test(self, threads: list[Thread], numbers: tuple[int, ...]) -> Written:
+    def make_test(self, threads: list[Thread], numbers: tuple[int, ...]) -> ProgramTest:
         """Returns the test of some guesses."""
         columns: list[Sequence[plain.Statement]] = []
         lines, starts = [], []
@@ -199,7 +201,7 @@ class Converter:
         listed = question.listed | set(marks)
         name = self.name + ("+" + "-".join(map(str, numbers)) if len(numbers) and self.has_guesses() else "")
         test = plain.Test("X86", name, question.locations, question.registers, words, columns, listed, "forall", ALWAYS)
-        return Written(Conversion(test, question, marks, numbers), lines, starts)
+        return ProgramTest(ConvertedTest(test, question, marks, numbers), lines, starts)
 
     def has_guesses(self) -> bool:
         """Returns whether the program is more than one test."""

@@ -62,7 +62,7 @@ class ExecutionPath:
     # What is known.
 
     def resolve(self, value: Value) -> Any:
-        """Returns a value as a number, if it is one on this path. Raises Refused if the value is unset."""
+        """Returns a value as a number, or `None` if it can be several numbers on this path. Raises Refused if the value is unset."""
         if value is None:
             raise Refused(UNSET)
         if isinstance(value, Symbol):
@@ -173,7 +173,9 @@ class ExecutionPath:
             del self.facts[fact]
 
     def snapshot(self) -> tuple[Any, ...]:
-        """Returns all that determines how the path continues, if nothing is asked and no other thread stores anything."""
+        """Returns all that determines how the path continues, if nothing is asked and no other thread stores anything: two equal snapshots of a loop say
+        that it never ends.
+        """
         simplify = lambda value: value if value is None or self.resolve(value) is None else self.resolve(value)
         registers = tuple((name, simplify(value), size) for name, (value, size) in sorted(self.registers.items()))
         memory = tuple((address, size, simplify(value)) for address, (size, value) in sorted(self.memory.items()))

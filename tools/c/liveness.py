@@ -49,7 +49,9 @@ def sets_to_zero(instruction: Instruction) -> bool:
 
 
 def list_reads_and_writes(instruction: Instruction) -> tuple[set[str], set[str]]:
-    """Returns the registers and flags that an instruction reads, and those that it overwrites. It may list too many reads, and too few writes."""
+    """Returns the registers and flags that an instruction reads, and those that it overwrites. There may be too many reads and too few writes: then
+    more is kept than is needed.
+    """
     name, writes = instruction.mnemonic, list_overwritten(instruction)
     if name.startswith("call"):
         return set(ALL), set()

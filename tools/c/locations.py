@@ -20,7 +20,8 @@ class Wider(Exception):
 
 
 class Locations:
-    """Bytes by the threads that access and store them, and the shared locations: the start of each, its size, and its words."""
+    """Bytes by the threads that access them (`users`) and store them (`writers`), and the shared locations: the start of each, its size, and its words.
+    """
 
     def __init__(self, layout: Layout, threads: int) -> None:
         """Starts with what no thread has accessed yet."""
@@ -98,11 +99,11 @@ class Locations:
             record_earlier(self.words[address], word, clock)
 
     def snapshot_accesses(self) -> tuple[Any, ...]:
-        """Returns what is known of accesses, to compare it with what is known later."""
+        """Returns a copy of what is known of accesses, to be compared with a later copy."""
         writers = {address: frozenset(it) for address, it in self.writers.items()}
         users = {address: frozenset(it) for address, it in self.users.items()}
         return frozenset(self.shared), writers, users, dict(self.sizes)
 
     def copy_words(self) -> dict[int, dict[int, Clock]]:
-        """Returns a copy of all words, to compare it with what is known later."""
+        """Returns a copy of all words, to be compared with a later copy."""
         return {address: dict(words) for address, words in self.words.items()}

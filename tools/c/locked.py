@@ -27,12 +27,12 @@ class NextGuess(Exception):
 
 
 class Locked(Vectors):
-    """Locked instructions."""
+    """Locked instructions. `guesses` are those under which the thread is followed: for each question in turn, the index of a case."""
 
     guesses: tuple[int, ...] = ()
 
     def wait_for_empty_buffer(self) -> None:
-        """Waits until the store buffer is empty."""
+        """Adds the effect that the thread waits until its store buffer is empty."""
         self.effects.append(Fence())
 
     def take_guess(self, cases: int) -> int:
@@ -104,7 +104,9 @@ class Locked(Vectors):
         return compute_result(self.path, "add" if base == "xadd" else base, old, value, size)
 
     def take_pending(self, register: Operand | None, size: int) -> bool:
-        """Puts what a locked instruction has found into its register, if the path forked after it."""
+        """Puts what a locked instruction has found into its register, if the path forked after it. Returns whether it did, so that the instruction is
+        done.
+        """
         if not self.path.pending_value:
             return False
         value, = self.path.pending_value

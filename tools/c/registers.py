@@ -13,10 +13,10 @@ class Registers:
     """The registers of a thread's symbols. What the condition mentions has registers of its own at the end; the mark's is used last."""
 
     def __init__(self, graph: PathGraph, seen_registers: dict[str, int], mark: int | None, thread: int) -> None:
-        """Chooses registers for the symbols of a thread's paths."""
+        """Chooses registers for the symbols of a thread's paths. `seen_registers` are those of what the condition mentions, by its name."""
         self.graph, self.seen, self.mark, self.thread = graph, seen_registers, mark, thread
-        self.live: dict[int, frozenset[int]] = {}
-        self.of: dict[int, int] = {}
+        self.live: dict[int, frozenset[int]] = {}  # for each node the symbols that are read in it or after it
+        self.register_of: dict[int, int] = {}
         for node_index in graph.list_reachable():
             node = graph.nodes[node_index]
             defined_symbol = find_defined_symbol(node)
@@ -50,24 +50,24 @@ class Registers:
         return wishes
 
     def refuse_too_many(self) -> Refused:
-        """Returns the fault if six registers are not enough."""
+        """Returns the refusal of a thread for which six registers are not enough."""
         return Refused(f"P{self.thread} needs more than the six registers that lw has")
 
     def choose_registers(self) -> None:
         """Chooses a register for each symbol. Raises Refused if six are not enough."""
         wishes = self.find_wishes()
         for symbol, others in sorted(self.find_conflicts().items()):
-            taken_registers = {self.of[it] for it in others if it in self.of}
+            taken_registers = {self.register_of[it] for it in others if it in self.register_of}
             free = [it for it in range(SIX) if it not in taken_registers]
             if not free:
                 raise self.refuse_too_many()
             wish = [it for it in wishes.get(symbol, []) if it in free]
             others_free = [it for it in free if it not in (*self.seen.values(), self.mark)]
-            self.of[symbol] = (wish or others_free or [it for it in free if it != self.mark] or free)[0]
+            self.register_of[symbol] = (wish or others_free or [it for it in free if it != self.mark] or free)[0]
 
     def find_spare_register(self, node_index: int) -> int:
         """Returns a register that is free at a node. Raises Refused if there is none."""
-        taken_registers = {self.of[it] for it in self.live[node_index] | self.find_live_after(node_index)}
+        taken_registers = {self.register_of[it] for it in self.live[node_index] | self.find_live_after(node_index)}
         free = [it for it in range(SIX) if it not in taken_registers and it != self.mark]
         if not free:
             raise self.refuse_too_many()

@@ -4,7 +4,7 @@ from __future__ import annotations
 from dataclasses import dataclass, field
 
 import plain
-from c.convert import Converter, Written
+from c.convert import Converter, ProgramTest
 from c.refused import NoRun
 from c.source import strip_prefix
 from herd.together import make_merged_report, parse_state
@@ -16,7 +16,7 @@ class Answer:
     """A report, the tests from which it is composed, who listed them, and the number of instructions of the longest thread."""
 
     report: str
-    tests: list[Written]
+    tests: list[ProgramTest]
     makers: set[answers.Maker]
     instructions: int
     # The lines of the loops that a run passes at most as often as `--tries` says.
@@ -63,7 +63,7 @@ class Names:
 
 
 def make_answer(converter: Converter) -> Answer:
-    """Returns the report of a program. Raises NoRun if no run comes to an end."""
+    """Lists the tests of a program, and puts their reports together. Returns the answer. Raises NoRun if no run comes to an end."""
     tests = list(converter.tests_by_guess())
     if not tests:
         raise NoRun("no run comes to an end: each waits for what no other thread stores, or goes through a loop more often than --tries says")

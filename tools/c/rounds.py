@@ -8,6 +8,7 @@ from c.refused import Refused
 from c.thread import Thread, Unbounded, follow_guesses
 from c.values import Clock
 
+# How often all threads are followed by the same locations, how often locations may change, and the guesses of one thread.
 MAX_ROUNDS, MAX_RESTARTS, MAX_GUESSES = 60, 40, 64
 
 
@@ -17,8 +18,8 @@ def follow_threads(program: Program) -> list[list[Thread]]:
 
 
 def is_enough(program: Program, threads: list[list[Thread]], words: dict[int, dict[int, Clock]], rounds: int) -> bool:
-    """Returns whether all words that a run can store are found. The result of a run's n-th store is found in the n-th round, so a word that
-    comes only after more rounds than a run has stores is in no run.
+    """Returns whether all words that a run can store are found: `words` are those before the last round. The result of a run's n-th store is found in
+    the n-th round, so a word that comes only after more rounds than a run has stores is in no run.
     """
     if program.locations.copy_words() == words:
         return True

@@ -10,7 +10,7 @@ from dataclasses import replace
 import fences
 import films
 import plain
-from c.convert import Converter, Written
+from c.convert import Converter, ProgramTest
 from c.report import Answer, Names
 from fencing.together import CombinedTest, Original, Part, format_answer
 from herd.propositions import restrict
@@ -23,7 +23,7 @@ from shared import answers
 VISIBLE = ("load", "store", "xchg", "xadd", "mfence")
 
 
-def restore_question(written: Written) -> plain.Test:
+def restore_question(written: ProgramTest) -> plain.Test:
     """Returns the test whose condition is that of the source. A run that is given up has no marks, and the condition leaves it out."""
     question = written.conversion.question
     proposition = restrict(question.quantifier, [plain.Eq(site, 1) for site in written.conversion.marks], question.proposition)
@@ -40,7 +40,7 @@ def format_tests(answer: Answer, converter: Converter) -> str:
     return "".join(format_test(it, converter) for it in answer.tests)
 
 
-def format_test(written: Written, converter: Converter) -> str:
+def format_test(written: ProgramTest, converter: Converter) -> str:
     """Returns the text of a test, with a comment that says what its names mean, and from which lines its instructions come."""
     test = restore_question(written)
     heading, _, rest = plain.format_canonical_text(test).partition("\n")
@@ -76,9 +76,9 @@ def format_fences_together(answer: Answer, converter: Converter) -> str:
     origin = lambda lines: tuple(sorted(lines))
     parts = [Part(it.conversion, [list(map(origin, lines)) for lines in it.lines], it.begins) for it in answer.tests]
     format_place = lambda place: f"P{place[0]} {format_lines(place[1])}"
-    everything: set[plain.Site] = {plain.LocationSite(number) for number in converter.locations.values()}
+    further_sites: set[plain.Site] = {plain.LocationSite(number) for number in converter.locations.values()}
     names = Names(converter, answer.tests[0].conversion.question)
-    original = Original(converter.name, converter.condition.text, format_place, format_place, everything, all_shown="its question and all locations")
+    original = Original(converter.name, converter.condition.text, format_place, format_place, further_sites, words_on_everything="its question and all locations")
     # (The maker of the lists and the number of tries are reported for the whole answer.)
     return plain.join_lines(format_answer(CombinedTest(parts, names.translate_line, True), original, False, True)[:-1])
 
@@ -117,7 +117,7 @@ def render_film(answer: Answer, converter: Converter, number: int, source: list[
     return draw_strip(film)
 
 
-def list_schedules(written: Written, converter: Converter) -> Iterator[tuple[str, str]]:
+def list_schedules(written: ProgramTest, converter: Converter) -> Iterator[tuple[str, str]]:
     """Yields the states of a test that are not given up, by the names of the source, each with a schedule."""
     test, names = written.conversion.test, Names(converter, written.conversion.question)
     shown = {plain.format_site(test, site) for site in plain.list_observed_sites(written.conversion.question)}
@@ -130,7 +130,7 @@ def list_schedules(written: Written, converter: Converter) -> Iterator[tuple[str
             yield names.translate_line(shown_words), schedule.strip()
 
 
-def list_visible_events(written: Written, schedule: list[str]) -> Iterator[str]:
+def list_visible_events(written: ProgramTest, schedule: list[str]) -> Iterator[str]:
     """Yields the events of a schedule, without instructions that no other thread can see."""
     test = written.conversion.test
     state = plain.make_x86_start(test)

@@ -82,7 +82,7 @@ class Step(Control):
     # Moves.
 
     def execute_see(self) -> None:
-        """Does what `lw_see` writes: a name, and its value."""
+        """Does what `lw_see` writes: the condition can mention the value by the name from here on."""
         value = self.read_register_or_number(self.instruction.operands[0], 4)
         self.path.list_words(value)
         self.path.shown_values[self.instruction.name] = value
@@ -248,8 +248,8 @@ class Step(Control):
             self.path.flags = flags
 
     def mask_part(self, target: Register, mask: Value, size: int) -> bool:
-        """Does an AND with a number that has only the lowest bytes, which are known: then all bytes of the result are. Returns whether it
-        is one.
+        """Does an AND of a register whose lowest bytes are known with a number that has no others: then all bytes of the result are known. Returns whether
+        the instruction was one, and is done.
         """
         value, known_bytes = self.path.registers[target.name]
         number = self.path.resolve(mask)
@@ -260,8 +260,8 @@ class Step(Control):
         return True
 
     def operate_on_part(self, base: str, source: Operand | None, target: Register) -> bool:
-        """Does an operation on registers of which only the lowest bytes are known, if those of the result depend only on these. Returns
-        whether it is one. Its flags are unknown.
+        """Does an operation on registers of which only the lowest bytes are known, if those of the result depend only on these; its flags are unknown then.
+        Returns whether the instruction was one, and is done.
         """
         known_bytes = [self.path.registers[it.name][1] for it in (source, target) if isinstance(it, Register)]
         has_offset = any(it.offset for it in (source, target) if isinstance(it, Register))

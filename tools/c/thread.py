@@ -58,7 +58,9 @@ class Thread:
             path.passes[(path.call, path.position)] = Pass(questions_before=path.question_count, question_count=path.question_count, stores=path.stores)
 
     def follow(self, path: ExecutionPath) -> int:
-        """Returns the node of what follows on a path. Raises Refused, with the instruction, if that is not followed."""
+        """Follows a path to its end, and adds nodes for what it does. Returns the index of the first one. Raises Refused, with the instruction, if one is
+        not followed.
+        """
         effects: list[tuple[Effect, int | None]] = []
         last = None
         while last is None:
@@ -112,8 +114,8 @@ class Thread:
         return instruction
 
     def find_successor(self, path: ExecutionPath, step: Step) -> int | None:
-        """Returns what follows an instruction that is done, if that is the end of this path. `None` if the path continues. Raises Refused if the code
-        runs over the end of its function.
+        """Returns the index of the node after an instruction that is done, if this path ends there: at a guess, or since the run is given up. `None` if
+        the path continues. Raises Refused if the code runs over the end of its function.
         """
         if step.guess:
             self.enter_loop(path)
@@ -152,10 +154,10 @@ class Thread:
     # Where paths fork.
 
     def fork(self, path: ExecutionPath, question: Question, line: int | None) -> int:
-        """Follows both answers to a question."""
+        """Follows both answers to a question. Returns the index of its node."""
 
         def follow_answer(holds: bool) -> int:
-            """Follows one answer."""
+            """Follows one answer. Returns the index of the node after it."""
             branch = path.copy()
             branch.question_count += 1
             branch.learn(question, holds)
@@ -165,7 +167,7 @@ class Thread:
         return self.graph.intern_branch(question, yes, follow_answer(False), line)
 
     def follow_guess(self, path: ExecutionPath, question: Question, answer: bool, line: int | None) -> int:
-        """Follows the answer that confirms a guess. The other one abandons the run."""
+        """Follows the answer that confirms a guess; the other one abandons the run. Returns the index of the question's node."""
         branch = path.copy()
         branch.question_count += GUESS
         branch.learn(question, answer)

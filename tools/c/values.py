@@ -12,7 +12,7 @@ Clock = Tuple[int, ...]
 
 
 class Symbol(NamedTuple):
-    """The word that a load of `width` bytes found, plus a number, modulo 2 to the bits of `size` bytes."""
+    """The word that a load of `width` bytes found, plus the number `added`, modulo 2 to the bits of `size` bytes. `id` distinguishes the loads."""
 
     id: int
     width: int
@@ -20,7 +20,7 @@ class Symbol(NamedTuple):
     size: int = 8
 
 
-# A number, a Symbol, or None, which is a value that nothing has set. Most code knows by a look at `known` which it is.
+# A number, a Symbol, or None, which is a value that nothing has set.
 Value = Any
 
 
@@ -65,7 +65,7 @@ def later_clock(first: Clock, second: Clock) -> Clock:
 
 
 def earliest_clock(clocks: Sequence[Clock]) -> Clock:
-    """Returns the clock of what comes after one of these, whichever."""
+    """Returns the clock of what comes after one of some events, of which it is not known which."""
     return tuple(map(min, *clocks)) if len(clocks) > 1 else clocks[0]
 
 
@@ -75,7 +75,7 @@ def record_earlier(clocks: dict[int, Clock], word: int, clock: Clock) -> None:
 
 
 def symbols_in(value: Value) -> frozenset[int]:
-    """Returns the symbol of a value, if it is one."""
+    """Returns the set with the symbol that a value has, or the empty set if the value has none."""
     return frozenset((value.id,)) if isinstance(value, Symbol) else frozenset()
 
 

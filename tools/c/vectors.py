@@ -19,7 +19,7 @@ class Vectors(Access):
     """Instructions on vectors."""
 
     def is_vector(self) -> bool:
-        """Returns whether an operand is a vector."""
+        """Returns whether some operand of the instruction is a vector."""
         return any(isinstance(it, Register) and it.size == VECTOR for it in self.instruction.operands)
 
     def execute_vector_move(self) -> None:

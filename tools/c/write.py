@@ -18,7 +18,8 @@ def sort_nodes(graph: PathGraph) -> list[int]:
 
 
 class Writer:
-    """A writer of one thread. `locations` are the indices of locations, `seen` the registers of what the condition mentions, by its name.
+    """A writer of one thread. `locations` has the indices of locations by their addresses, `seen` the registers of what the condition mentions, by its
+    name, and `origins` the node from which each statement comes.
     """
 
     def __init__(self, graph: PathGraph, seen_registers: dict[str, int], mark: int | None, locations: dict[int, int], thread: int) -> None:
@@ -36,7 +37,7 @@ class Writer:
         for node_index in self.order:
             if self.needs_spare(node_index):
                 spares.add(self.registers.find_spare_register(node_index))
-        return set(self.registers.of.values()) | spares
+        return set(self.registers.register_of.values()) | spares
 
     def needs_spare(self, node_index: int) -> bool:
         """Returns whether a node computes a sum that it does not hold afterwards."""
@@ -59,9 +60,9 @@ class Writer:
         if not isinstance(value, Symbol):
             return Number(to_word(value))
         if not value.added:
-            return Register(self.registers.of[value.id])
+            return Register(self.registers.register_of[value.id])
         spare = self.registers.find_spare_register(node_index)
-        self.statements += self.write_value(spare, value, self.registers.of)
+        self.statements += self.write_value(spare, value, self.registers.register_of)
         return Register(spare)
 
     # Nodes.
@@ -88,7 +89,7 @@ class Writer:
         else:
             if isinstance(node, End):
                 self.write_end(node)
-            elif self.mark in self.registers.of.values():
+            elif self.mark in self.registers.register_of.values():
                 self.statements.append(Statement("set", self.mark, value=Number(0)))
             self.write_continuation(END, following)
 
@@ -99,7 +100,7 @@ class Writer:
 
     def write_effect(self, effect: Effect, node_index: int) -> None:
         """Writes the effect of a node."""
-        registers = self.registers.of
+        registers = self.registers.register_of
         if isinstance(effect, Fence):
             self.statements.append(Statement("mfence"))
         elif isinstance(effect, Load):
@@ -115,7 +116,7 @@ class Writer:
     def write_branch(self, node: Branch, node_index: int, following: int) -> None:
         """Writes a question: comparisons with the fewer words, or with another register."""
         question, yes, no = node.question, node.yes, node.no
-        register = self.registers.of[question.symbol]
+        register = self.registers.register_of[question.symbol]
         if isinstance(question, IsOneOf):
             if len(question.words) > len(question.others):
                 question, yes, no = IsOneOf(question.symbol, question.others, question.words), no, yes
@@ -133,7 +134,7 @@ class Writer:
 
     def write_end(self, node: End) -> None:
         """Puts what the condition mentions into its registers, and sets the mark. Raises Refused if there is no free register for a ring of moves."""
-        values, registers = dict(node.seen), dict(self.registers.of)
+        values, registers = dict(node.seen), dict(self.registers.register_of)
         moves = [(register, values.get(name, 0)) for name, register in self.seen.items()]
         moves += [] if self.mark is None else [(self.mark, 1)]
         moves = [it for it in moves if it[1] != 0 or it[0] in self.written]

@@ -198,7 +198,7 @@ class Names:
 
 
 def list_wanted_texts(crates: Crates, names: Names) -> Iterator[tuple[str, str]]:
-    """Returns the files as they should be, by path."""
+    """Yields the files as they should be, by path."""
     for crate in crates.order:
         if not names.passed[crate]:
             yield from ((path, crates.read_proof(path)) for path in crates.list_proofs(crate))

@@ -121,7 +121,7 @@ class Missing:
         return file is None or "." in name or name in file.own or name in file.brings or name in list_offered_names(file)
 
     def remove_false_imports(self, file: File) -> Iterator[str]:
-        """Returns the lines of a file without imports of names that their module lacks."""
+        """Yields the lines of a file without imports of names that their module lacks."""
         for line in file.text.split("\n"):
             use = USE.match(line)
             lacking = [it for it in split_names(use[2]) if it and not self.module_has(use[1], it)] if use else []

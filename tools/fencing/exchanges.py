@@ -24,7 +24,7 @@ def is_old_word_used(test: Test, place: Place) -> bool:
 
 
 def find_free_register(code: Sequence[Statement], test: Test, thread: int) -> int | None:
-    """Returns a register that a thread does not use, if there is one. `None` if it uses all."""
+    """Returns the last register that a thread neither uses nor shows. `None` if there is none."""
     used = {it.register for it in code} | {it.value.register for it in code if isinstance(it.value, Register)}
     used |= Code(test, thread).needed[0] | Code(test, thread).needed[len(code)]
     free = [number for number in range(6) if number not in used]

@@ -30,7 +30,7 @@ def find_positions_after_stores(code: Sequence[Statement]) -> set[int]:
 
 
 def find_next_loads(code: Sequence[Statement], position: int) -> set[int]:
-    """Returns the loads that are the first from a position on, on some way with nothing before them that waits."""
+    """Returns the positions of the loads that are the first ones from a position on, on some way with nothing before them that waits."""
     if position == len(code) or code[position].kind in WAITS:
         return set()
     if code[position].kind == "load":
@@ -49,18 +49,18 @@ def list_fence_places(test: Test) -> list[Place]:
 
 
 def remove_fences(test: Test, left_out: list[Place]) -> Test:
-    """Returns a test without some of its fences. A jump to one of them leads to what follows it."""
+    """Returns a test without the fences at some places. A jump to one of them targets what follows it."""
     threads = []
     for thread, code in enumerate(test.threads):
-        gone = [position for other_thread, position in left_out if other_thread == thread]
-        moved = lambda target, gone=gone: target - sum(position < target for position in gone)
-        instructions = [it for position, it in enumerate(code) if position not in gone]
-        threads.append(tuple(it if it.target is None else replace(it, target=moved(it.target)) for it in instructions))
+        removed = [position for other_thread, position in left_out if other_thread == thread]
+        shift = lambda target, removed=removed: target - sum(position < target for position in removed)
+        instructions = [it for position, it in enumerate(code) if position not in removed]
+        threads.append(tuple(it if it.target is None else replace(it, target=shift(it.target)) for it in instructions))
     return replace(test, threads=threads)
 
 
 def insert_fences(test: Test, places: list[Place]) -> Test:
-    """Returns a test with a fence before each of some instructions. A jump to one of them leads to its fence."""
+    """Returns a test with a fence before each of the instructions at some places. A jump to one of them targets its fence."""
     threads = []
     for thread, code in enumerate(test.threads):
         added = [position for other_thread, position in places if other_thread == thread]

@@ -11,7 +11,9 @@ Fence = TypeVar("Fence", bound=Hashable)
 
 
 def find_smallest_sets(fences: Sequence[Fence], is_enough: Callable[[frozenset[Fence]], bool]) -> list[list[Fence]]:
-    """Returns all smallest sufficient sets, each in the order of the fences; none if all fences together are not sufficient."""
+    """Returns all smallest sufficient sets, each in the order of the fences; none if all fences together are not sufficient. `is_enough` says
+    whether a set is sufficient.
+    """
     whole = frozenset(fences)
     if not is_enough(whole):
         return []

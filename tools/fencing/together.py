@@ -1,5 +1,5 @@
 """Fences of tests that are put together into one answer: of a test with LOCK CMPXCHG or loops, or of a program. Each instruction of lw comes from
-one of the original; it is left out, or has a fence before it, in all tests and copies in which that is.
+one of the original. If an instruction of the original is left out, or gets a fence before it, so do those of lw, in all tests and copies.
 """
 from __future__ import annotations
 
@@ -11,24 +11,26 @@ import plain
 from fencing.exchanges import list_exchanges, make_unlocked_instructions, replace_instruction
 from fencing.places import find_positions_after_stores, insert_fences, list_fence_places, remove_fences
 from fencing.sets import find_smallest_sets
-from herd.convert import Conversion
+from herd.convert import ConvertedTest
 from herd.together import make_merged_report
 from shared import answers
 
-# The key of an instruction of the original; None if an instruction of lw comes from none. A thread with a key is a place.
+# The key of an instruction of the original; None if an instruction of lw comes from none. A thread with a key is a place in the original.
 Origin = Any  # hashable
 Place = Tuple[int, Origin]
+# A place in a test of lw: a thread, and the index of an instruction.
+LwPlace = Tuple[int, int]
 
 
-def list_places_after_stores(test: plain.Test) -> list[tuple[int, int]]:
-    """Returns all instructions, by thread and number, that some way leads to from a store, with nothing between that waits for it."""
+def list_places_after_stores(test: plain.Test) -> list[LwPlace]:
+    """Returns the places of all instructions that some way reaches from a store, with nothing between that waits for it."""
     return [(thread, position) for thread, code in enumerate(test.threads) for position in sorted(find_positions_after_stores(code))]
 
 
 class Part(NamedTuple):
     """One of the tests, with the origins of each thread's instructions, and the indices at which the code of one original instruction begins."""
 
-    conversion: Conversion
+    conversion: ConvertedTest
     origins: list[list[Origin]]
     begins: list[list[int]]
 
@@ -37,32 +39,35 @@ class Part(NamedTuple):
         """Returns the test of lw."""
         return self.conversion.test
 
-    def find_places(self, numbered: list[tuple[int, int]]) -> set[Place]:
-        """Returns the places of instructions of lw, which are given by thread and number."""
-        places = {(thread, self.origins[thread][position]) for thread, position in numbered}
+    def find_places(self, lw_places: list[LwPlace]) -> set[Place]:
+        """Returns the places in the original of instructions of lw; an instruction that comes from none has no place there."""
+        places = {(thread, self.origins[thread][position]) for thread, position in lw_places}
         return {it for it in places if it[1] is not None}
 
-    def find_instructions(self, places: set[Place], kinds: tuple[str, ...]) -> list[tuple[int, int]]:
-        """Returns the instructions of lw, by thread and number, that come from some places and are of some kinds."""
+    def find_instructions(self, places: set[Place], kinds: tuple[str, ...]) -> list[LwPlace]:
+        """Returns the instructions of lw that come from some places in the original and are of some kinds."""
         threads = enumerate(self.test.threads)
         accesses = [(t, index) for t, code in threads for index, it in enumerate(code) if it.kind in kinds]
         return [(t, index) for t, index in accesses if (t, self.origins[t][index]) in places]
 
-    def find_first_instructions(self, places: set[Place]) -> list[tuple[int, int]]:
-        """Returns the first instructions of lw of each copy of some places."""
+    def find_first_instructions(self, places: set[Place]) -> list[LwPlace]:
+        """Returns the first instruction of lw of each copy of the instructions at some places in the original."""
         begins = [(t, position) for t, positions in enumerate(self.begins) for position in positions if position < len(self.origins[t])]
         return [(t, position) for t, position in begins if (t, self.origins[t][position]) in places]
 
 
 class CombinedTest:
-    """The tests, and the lists that were asked for. If the tests have different branches, since what a guess decides is none, one fence before a
-    branch of the original may do what two do in the tests: then fences are tried everywhere after stores."""
+    """The tests to which a test or a program was converted, and the reports that were made of them so far.
 
-    def __init__(self, parts: list[Part], in_names: Callable[[str], str], is_tried_everywhere: bool = False) -> None:
-        """Prepares the tests that a test was converted to. `in_names` writes a report in the names of the original."""
-        self.parts, self.in_names, self.is_tried_everywhere = parts, in_names, is_tried_everywhere
+    A branch that a guess decides is in no test, so the tests may have different branches. Then one fence before a branch of the original may do what
+    two do in a test, and with `is_tried_everywhere` fences are tried at all places after stores.
+    """
+
+    def __init__(self, parts: list[Part], rename_line: Callable[[str], str], is_tried_everywhere: bool = False) -> None:
+        """Prepares the tests. `rename_line` writes the line of a state in the names of the original."""
+        self.parts, self.rename_line, self.is_tried_everywhere = parts, rename_line, is_tried_everywhere
         self.makers: set[answers.Maker] = set()
-        self.known: dict[tuple, str] = {}
+        self.reports: dict[tuple, str] = {}  # by the canonical texts of the tests
         self.question = parts[0].conversion.question
 
     def show_sites(self, sites: set[plain.Site]) -> "CombinedTest":
@@ -70,20 +75,20 @@ class CombinedTest:
         shown = lambda test: replace(test, listed=test.listed | sites)
         conversions = [replace(it.conversion, test=shown(it.test), question=shown(it.conversion.question)) for it in self.parts]
         parts = [it._replace(conversion=shown_conversion) for it, shown_conversion in zip(self.parts, conversions)]
-        return CombinedTest(parts, self.in_names, self.is_tried_everywhere)
+        return CombinedTest(parts, self.rename_line, self.is_tried_everywhere)
 
     def make_report(self, change: Callable[[Part], plain.Test] = lambda part: part.test) -> str:
-        """Returns the report that is put together from all tests, each of them changed."""
+        """Returns the report that is put together from all tests, each of them changed by a function, and records who made their lists."""
         tests = tuple(change(it) for it in self.parts)
         key = tuple(map(plain.format_canonical_text, tests))
-        if key not in self.known:
-            self.known[key], makers = make_merged_report([replace(part.conversion, test=test) for part, test in zip(self.parts, tests)])
+        if key not in self.reports:
+            self.reports[key], makers = make_merged_report([replace(part.conversion, test=test) for part, test in zip(self.parts, tests)])
             self.makers |= makers
-        return self.known[key]
+        return self.reports[key]
 
     def list_states(self, change: Callable[[Part], plain.Test] = lambda part: part.test) -> list[str]:
         """Returns the lines of the states of all tests, each of them changed, by the names of the original."""
-        return list(map(self.in_names, answers.filter_state_lines(self.make_report(change))))
+        return list(map(self.rename_line, answers.filter_state_lines(self.make_report(change))))
 
     def count_unwanted_states(self, change: Callable[[Part], plain.Test] = lambda part: part.test) -> int:
         """Returns in how many states what a question is against is present: its proposition, or of `forall` its contrary."""
@@ -149,17 +154,17 @@ class CombinedTest:
 
 
 class Original(NamedTuple):
-    """The words on the original: its name, its condition, the name of a place, and its name among several; and the further sites of
-    `--everything`."""
+    """The words on the original: its name, its condition, the words for a place, and shorter words for a place in a list."""
 
     name: str
     condition: str
-    named: Callable[[Place], str]
-    short: Callable[[Place], str]
-    everything: set[plain.Site]
-    # The number of tries of loops, if it has a limit, and the words for `--everything`.
+    format_place: Callable[[Place], str]
+    format_place_briefly: Callable[[Place], str]
+    # The sites that `--everything` shows besides those of the question.
+    further_sites: set[plain.Site]
+    # How often a run goes through each loop at most; 0 if there is no loop.
     tries: int = 0
-    all_shown: str = "all registers and locations"
+    words_on_everything: str = "all registers and locations"
 
 
 MAX_SHOWN_STATES = 4
@@ -184,10 +189,10 @@ def format_fences(tests: CombinedTest, original: Original, question: str, are_en
     before, fences = {*tests.list_states()}, tests.list_fences()
     for place in fences:
         added = [line for line in tests.list_states_without({place}) if line not in before]
-        yield f"{original.named(place)}: " + (f"needed, {len(added)} more without it" if added else f"can be left out alone, by {question}")
+        yield f"{original.format_place(place)}: " + (f"needed, {len(added)} more without it" if added else f"can be left out alone, by {question}")
         yield from format_added_states(added, "  ")
     sets = tests.find_enough_sets() if fences or are_enough else []
-    yield from format_sets([list(map(original.short, it)) for it in sets], question, are_enough)
+    yield from format_sets([list(map(original.format_place_briefly, it)) for it in sets], question, are_enough)
 
 
 def format_helping_places(tests: CombinedTest, format_place: Callable[[Place], str]) -> Iterator[str]:
@@ -203,7 +208,7 @@ def format_helping_places(tests: CombinedTest, format_place: Callable[[Place], s
 
 
 def format_exchanges(shown: list[tuple[str, CombinedTest]], format_place: Callable[[Place], str]) -> Iterator[str]:
-    """Yields the lines on each exchange: by the question, and by everything."""
+    """Yields the lines on each exchange without its lock, by each of the pairs in `shown`: what the states are shown by, and the tests."""
     for place in shown[0][1].list_exchanges():
         yield f"{format_place(place)}, without its lock:"
         for shown_by, tests in shown:
@@ -223,16 +228,16 @@ def format_tests_and_makers(tests: CombinedTest, makers: set[answers.Maker], tri
 
 
 def format_answer(tests: CombinedTest, original: Original, by_everything: bool, with_exchanges: bool) -> list[str]:
-    """Returns all that is said of the fences of a test of which some run is left."""
-    everything = tests.show_sites(original.everything)
-    question = original.all_shown if by_everything else f"its question, {original.condition}"
-    shown, format_place = everything if by_everything else tests, original.named
+    """Returns the lines on the fences of a test of which some run is left: by the question, or `by_everything`, and on exchanges if they are asked for."""
+    everything = tests.show_sites(original.further_sites)
+    question = original.words_on_everything if by_everything else f"its question, {original.condition}"
+    shown, format_place = everything if by_everything else tests, original.format_place
     lines = list(format_fences(shown, original, question, not by_everything and not tests.count_unwanted_states()))
     if not by_everything:
         lines += format_helping_places(tests, format_place)
     if with_exchanges:
         asks = [] if by_everything else [(f"by its question, {original.condition}", tests)]
-        lines += format_exchanges([*asks, (f"by {original.all_shown}", everything)], format_place)
+        lines += format_exchanges([*asks, (f"by {original.words_on_everything}", everything)], format_place)
     makers = tests.makers | everything.makers
     suffix = "" if answers.are_proved(makers) else " (not proved)"
     head = f"{original.name}, by {question}: fences {len(shown.list_fences())}, states {len(shown.list_states())}{suffix}"

@@ -60,12 +60,12 @@ class Count(unittest.TestResult):
 
 
 def make_comparisons(module: ModuleType) -> Iterator[Comparison]:
-    """Returns all comparisons of a module's tests, for tools/check_documents.py: what is compared, what is expected, and what was found."""
+    """Yields all comparisons of a module's tests, for tools/check_documents.py: what is compared, what is expected, and what was found."""
     yield from run_suite(unittest.defaultTestLoader.loadTestsFromModule(module))
 
 
 def run_suite(suite: unittest.TestSuite) -> Iterator[Comparison]:
-    """Returns the comparisons of some tests: one for each assertion that holds, and one for each test that fails."""
+    """Yields the comparisons of some tests: one for each assertion that holds, and one for each test that fails."""
     count = Count()
     suite.run(count)
     yield from [("an assertion", "holds", "holds")] * count.held_count

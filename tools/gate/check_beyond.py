@@ -30,7 +30,7 @@ import plain
 from gate import check_tables
 from gate.cases import Comparison
 from gate.examples import examples, read
-from interpreter.conditions import is_true
+from interpreter.conditions import is_true_in
 from interpreter.reports import collect_states, format_state
 from interpreter.walks import list_outcomes
 from search.explore import Search
@@ -115,7 +115,7 @@ def check_within(name: str, text: str) -> Iterator[Comparison]:
 def list_marks(test: plain.Test) -> str:
     """Returns the states of a test with their marks, by tools/plain.py."""
     states = collect_states(test, list_outcomes(test))
-    return "".join(f"{'+' if is_true(test.proposition, outcome) else '-'} {format_state(test, words)}\n" for words, outcome in states)
+    return "".join(f"{'+' if is_true_in(test.proposition, outcome) else '-'} {format_state(test, words)}\n" for words, outcome in states)
 
 
 def check_marks(name: str, text: str, report: str) -> Iterator[Comparison]:
@@ -200,7 +200,7 @@ def check_index() -> Iterator[Comparison]:
 
 
 def list_table_texts() -> Iterator[tuple[str, str, bool]]:
-    """Returns the texts of tables/ on lists: the file of each, its text, and whether `lw` refuses it for size."""
+    """Yields the texts of tables/ on lists: the file of each, its text, and whether `lw` refuses it for size."""
     for path in sorted(glob.glob(f"{HOME}/tables/reports/*") + glob.glob(f"{HOME}/tables/schedules/*")):
         with open(path, encoding="utf-8", newline="\n") as file:
             case = check_tables.parse_case_file(file.read())
@@ -249,7 +249,7 @@ def check_seconds() -> Iterator[Comparison]:
 
 
 def checks() -> Iterator[tuple[Any, ...]]:
-    """Returns all checks: functions with their arguments. What takes long comes first."""
+    """Yields all checks: functions with their arguments. What takes long comes first."""
     yield (check_index,)
     yield (check_seconds,)
     for row in sorted(read_rows(), key=lambda it: it[2], reverse=True):

@@ -207,7 +207,7 @@ TIMES = {"": 1, "three times": 3, "four times": 4}
 
 
 def read_families() -> Iterator[tuple[str, list[str], str]]:
-    """Returns the rows of docs/FAMILIES.md: a test's name, the relations of its cycle, and the verdict of x86-TSO."""
+    """Yields the rows of docs/FAMILIES.md: a test's name, the relations of its cycle, and the verdict of x86-TSO."""
     with open(f"{HOME}/docs/FAMILIES.md", encoding="utf-8") as file:
         rows = re.findall(r"^\| (\S+) \| [^|]* \| ([^|]*?) \| \w+ \| (allowed|forbidden) \| \d \|", file.read(), re.M)
     for name, cycle, verdict in rows:

@@ -124,7 +124,7 @@ def list_code_names() -> set[tuple[str, str]]:
 
 
 def find_code_names(crate: str, text: str) -> Iterator[tuple[str, str]]:
-    """Returns the names of proofs in the text of a crate's file: in attributes, and in `ghost use` items."""
+    """Yields the names of proofs in the text of a crate's file: in attributes, and in `ghost use` items."""
     for home, path in re.findall(r"\b(\w+)::proofs::([\w:'-]+)", text):
         yield split_path(crate if home == "crate" else home, path.replace("::", "."))
     for home, path, group in re.findall(r"Rattle\.(\w+)\.proofs\.([\w.'-]+?)(?:\.\{([^}]*)\})?[;\s,)]", text):
@@ -139,7 +139,7 @@ def split_path(crate: str, path: str) -> tuple[str, str]:
 
 
 def list_unnamed(files: Files) -> Iterator[Declaration]:
-    """Returns the declarations that nothing names."""
+    """Yields the declarations that nothing names."""
     names_in_use = Named(files)
     for file in filter(is_proof, files.all):
         for declaration in file.declarations:
@@ -301,7 +301,7 @@ def group_duplicates(files: Files) -> list[list[Declaration]]:
 
 
 def list_uncommented(files: Files) -> Iterator[Declaration]:
-    """Returns the `pub` lemmas of proofs/api/ without a comment above them."""
+    """Yields the `pub` lemmas of proofs/api/ without a comment above them."""
     for file in files.all:
         if "/proofs/api/" in file.path:
             lines = file.text.split("\n")
@@ -316,7 +316,7 @@ def format_full_name(declaration: Declaration) -> str:
 
 
 def find_faults(files: Files) -> Iterator[str]:
-    """Returns a line for each fault."""
+    """Yields a line for each fault."""
     for declaration in list_unnamed(files):
         if format_full_name(declaration) not in ALLOWED:
             yield f"{declaration.place}: nothing names {declaration.name}"
@@ -329,7 +329,7 @@ def find_faults(files: Files) -> Iterator[str]:
 
 
 def make_comparisons() -> Iterator[Comparison]:
-    """Returns all comparisons, for tools/check_documents.py."""
+    """Yields all comparisons, for tools/check_documents.py."""
     files = Files()
     yield "there are lemmas to look at", True, sum(len(it.declarations) for it in files.all) > 5000
     yield "lemmas that nothing names, that are there twice, or that have no comment (tools/gate/check_lemmas.py)", [], list(find_faults(files))

@@ -159,7 +159,7 @@ def list_commands(text: str) -> list[str]:
 
 
 def find_path_faults(page: str, text: str) -> Iterator[str]:
-    """Returns the broken links and whole paths of a page, README.md or one of docs/."""
+    """Yields the broken links and whole paths of a page, README.md or one of docs/."""
     folder = os.path.dirname(page)
     for link in dict.fromkeys(re.findall(r"\]\(([^)#:\s]+)(?:#[^)]*)?\)", text)):
         if not os.path.exists(os.path.join(HOME, folder, link)):
@@ -216,7 +216,7 @@ def read_crate_rows(text: str) -> dict[str, str]:
 
 
 def find_table_faults(rows: dict[str, str], lines: dict[str, list[str]]) -> Iterator[str]:
-    """Returns the differences of the table of crates from crates.txt. `lines` has the dependencies of each crate there."""
+    """Yields the differences of the table of crates from crates.txt. `lines` has the dependencies of each crate there."""
     for crate in sorted({*rows} ^ {*lines}):
         yield f"docs/MAP.md has {'a' if crate in rows else 'no'} row for {crate}, which crates.txt has{'' if crate in lines else ' not'}"
     above: list[str] = []
@@ -229,7 +229,7 @@ def find_table_faults(rows: dict[str, str], lines: dict[str, list[str]]) -> Iter
 
 
 def find_logic_faults(text: str, version_text: str) -> Iterator[str]:
-    """Returns the places where README.md names another logic than `rt version`."""
+    """Yields the places where README.md names another logic than `rt version`."""
     named_here, by_rt = (re.search(r"\blogic [0-9a-f]{16}\b", it) for it in (text, version_text))
     if not named_here or by_rt and named_here[0] != by_rt[0]:
         yield f"README.md names '{named_here and named_here[0]}', and `rt version` '{by_rt and by_rt[0]}'"
@@ -244,7 +244,7 @@ def read_version() -> str:
 
 
 def find_name_faults(names: Names) -> Iterator[str]:
-    """Returns the names that do not exist, a line each."""
+    """Yields the names that do not exist, a line each."""
     for document in DOCUMENTS:
         for name, in_contracts in dict.fromkeys(list_quoted(read_file(f"{HOME}/docs/{document}.md"))):
             if names.exists(name, in_contracts) is False:

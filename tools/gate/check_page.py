@@ -81,7 +81,7 @@ HttpAnswer = Tuple[Optional[int], Dict[str, str], bytes]
 Field = Union[str, List[str], None]
 
 
-class Ran(TypedDict):
+class ProgramAnswer(TypedDict):
     """The server's answer on a run: the exit status, what was printed, and the line of the fault, or None."""
 
     status: int
@@ -181,12 +181,12 @@ def read_answer(connection: socket.socket) -> HttpAnswer:
     return status, {name.lower(): value for name, _, value in (it.partition(": ") for it in fields)}, content
 
 
-def ask_lw(text: str, *arguments: str) -> Ran:
+def ask_lw(text: str, *arguments: str) -> ProgramAnswer:
     """Returns the program's output on a text, in the form of a run of the page."""
     return ask_program(PROGRAM, text, *arguments)
 
 
-def ask_program(program: str, text: str, *arguments: str) -> Ran:
+def ask_program(program: str, text: str, *arguments: str) -> ProgramAnswer:
     """Returns a program's output on a text, in the form of a run of the page."""
     ran = subprocess.run([program, *arguments], input=text.encode(), capture_output=True, timeout=60, check=False)
     return {"status": ran.returncode, "printed": ran.stdout.decode(), "fault": ran.stderr.decode().rstrip("\n") or None}

@@ -78,7 +78,7 @@ def check_verdicts(seed: str) -> Iterator[Comparison]:
         yield f"the source form of test {index} of {seed}", list_accesses(test.text), list_accesses(source)
 
 
-def check_page(page: str, tests: list[quiz.Asked]) -> Iterator[Comparison]:
+def check_page(page: str, tests: list[quiz.QuizTest]) -> Iterator[Comparison]:
     """Checks the page as a whole."""
     data = read_data(page)
     yield "the same bytes again", True, page == make_quiz.make_page(TESTS, "1", quiz.make_report_by_program)
@@ -94,7 +94,7 @@ def check_page(page: str, tests: list[quiz.Asked]) -> Iterator[Comparison]:
     yield "no answer has a symbol of its own", True, len(symbols) > len({it.encode_answers() for it in tests})
 
 
-def check_reasons(data: quiz.Data, tests: list[quiz.Asked]) -> Iterator[Comparison]:
+def check_reasons(data: quiz.Data, tests: list[quiz.QuizTest]) -> Iterator[Comparison]:
     """Checks why each test can end so or can't: a run if it can, which ends so, and a cycle if it can't. None is in plain sight."""
     for index, (other_reason, reason_read) in enumerate(zip(tests, quiz.read_reasons(data)), 1):
         kinds = ["run" if verdict else "cycle" for verdict in (other_reason.interleaved, other_reason.on_x86)]
@@ -106,7 +106,7 @@ def check_reasons(data: quiz.Data, tests: list[quiz.Asked]) -> Iterator[Comparis
                 run_read = plain.X86Replay(test, "mesi")
                 for event in plain.read_schedule(str(reason["schedule"]), test.locations):
                     run_read.execute_event(*event)
-                yield f"the run of test {index} ends as it asks", True, plain.is_true(test.proposition, run_read.make_outcome())
+                yield f"the run of test {index} ends as it asks", True, plain.is_true_in(test.proposition, run_read.make_outcome())
         ways = [reasons.list_asked_schedules(test, plain.make_x86_start, moves) for moves in (plain.list_interleaved_moves, plain.list_x86_moves)]
         yield f"runs by tools/plain.py that end as test {index} asks", [other_reason.interleaved, other_reason.on_x86], [bool(runs) for runs in ways]
     words = ("store buffer", "steps", "events", "memory")
@@ -131,12 +131,12 @@ def run_and_split(text: str, *arguments: str) -> tuple[list[list[str]], str, int
 def check_codes(page: str, folder: str) -> Iterator[Comparison]:
     """Codes, as the page's own JavaScript makes them and as they are read."""
     data, rights = read_data(page), quiz.read_answers(read_data(page))
-    code_of_page = codes.HandedIn(data["mark"], data["seed"], STUDENT, make_answers(rights, WRONG))
+    code_of_page = codes.CodeContents(data["mark"], data["seed"], STUDENT, make_answers(rights, WRONG))
     code = codes.make_code(code_of_page)
     yield "a code has letters and digits", True, bool(re.fullmatch(r"[0-9A-Z]{12,40}", code))
     yield "a code is read", code_of_page, codes.read_code(code)
     for students in ("a", "z" * codes.MAX_LETTERS, "0", "007"):
-        handed_in = codes.HandedIn(data["mark"], "z" * quiz.MAX_SEED_LETTERS, students, rights)
+        handed_in = codes.CodeContents(data["mark"], "z" * quiz.MAX_SEED_LETTERS, students, rights)
         yield f"a code of {students} is read", handed_in, codes.read_code(codes.make_code(handed_in))
     for quiz_word in (f"{folder}/quiz.html", "1"):
         yield f"read_codes.py {quiz_word[-9:]}", ([HEADING, ["1", *ROW]], "", 0), run_and_split(f"{code}\n", quiz_word)
@@ -169,10 +169,10 @@ def check_node(page: str, code: str, rights: list[int]) -> Iterator[Comparison]:
         ran = subprocess.run(
             [NODE, "-"], input=(require_match(SCRIPT.search(page))[1] + script).encode(), capture_output=True, timeout=60, check=False
         )
-        handed_in = codes.HandedIn(data["mark"], data["seed"], name, answers)
+        handed_in = codes.CodeContents(data["mark"], data["seed"], name, answers)
         yield f"the page's code of {name}", codes.make_code(handed_in), ran.stdout.decode().strip()
         yield f"the code of {name} is read", handed_in, codes.read_code(ran.stdout.decode().strip())
-    handed_in = codes.HandedIn(data["mark"], data["seed"], STUDENT, answers)
+    handed_in = codes.CodeContents(data["mark"], data["seed"], STUDENT, answers)
     lines = [codes.make_code(handed_in._replace(student=name)) for name in (STUDENT, "ä é", "李明", "z" * codes.MAX_LETTERS)]
     others = [
         (" -".join(lines[0].lower()), ROW), (lines[0][:-1], [SUM_IS_WRONG]), ("", ["a code is longer"]), ("a*b", ["no code has *"]),
@@ -203,7 +203,7 @@ def list_mistyped(code: str) -> Iterator[str]:
         yield code[:index] + code[index + 1 :]
 
 
-def check_bad_codes(code: str, handed_in: codes.HandedIn, folder: str) -> Iterator[Comparison]:
+def check_bad_codes(code: str, handed_in: codes.CodeContents, folder: str) -> Iterator[Comparison]:
     """Checks that each kind of bad code is refused with its place and its cause, and that good ones beside them are read."""
     yield "no mistyped code is read", [], [it for it in list_mistyped(code) if can_read(it)]
     kinds = [

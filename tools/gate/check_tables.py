@@ -75,7 +75,7 @@ def parse_case(command: str, line: str) -> Case | None:
 
 
 def read_cases(table: str) -> Iterator[tuple[str, Case | None]]:
-    """Returns the cases of a table, each with its line."""
+    """Yields the cases of a table, each with its line."""
     command = ""
     with open(table, encoding="utf-8", newline="\n") as lines:
         for line in lines.read().split("\n"):
@@ -136,7 +136,7 @@ def check_table_names() -> Iterator[Comparison]:
 
 
 def make_comparisons(program: str, name: str) -> Iterator[Comparison]:
-    """Returns, for each case of a table, what is compared, what is expected, and what was found. A table without cases is a fault."""
+    """Yields, for each case of a table, what is compared, what is expected, and what was found. A table without cases is a fault."""
     cases = list(read_cases(f"{HOME}/tables/{name}.txt"))
     yield f"tables/{name}.txt has cases", True, bool(cases)
     for line, case in cases:
@@ -144,7 +144,7 @@ def make_comparisons(program: str, name: str) -> Iterator[Comparison]:
 
 
 def compare_folder(program: str, name: str) -> Iterator[Comparison]:
-    """Returns, for each file of a folder, what is compared, what is expected, and what was found. A folder without files is a fault."""
+    """Yields, for each file of a folder, what is compared, what is expected, and what was found. A folder without files is a fault."""
     files = sorted(os.listdir(f"{HOME}/tables/{name}"))
     yield f"tables/{name} has cases", True, bool(files)
     for file_name in files:

@@ -48,7 +48,7 @@ def read_dependencies() -> dict[str, list[str]]:
 
 
 def list_files(crate: str) -> Iterator[tuple[str, str]]:
-    """Returns the source files, definitions and proofs of a crate, with their text."""
+    """Yields the source files, definitions and proofs of a crate, with their text."""
     for folder in ("src", "specs", "proofs"):
         for path_of_folder, _, names in sorted(os.walk(f"{HOME}/crates/{crate}/{folder}")):
             for name in sorted(names):

@@ -119,7 +119,7 @@ def count_edits(crate: str) -> int:
 
 
 def format_minutes(minutes: dict[Work, float], total: float) -> Iterator[str]:
-    """Returns a line for each crate: its minutes by part, if there are any, and the number of its wrong bodies; and one for the rest."""
+    """Yields a line for each crate: its minutes by part, if there are any, and the number of its wrong bodies; and one for the rest."""
     format_seconds = lambda taken: "-" if taken is None else f"{taken:.1f}"
     for crate in read_crates():
         proof, wrong, tests = (format_seconds(minutes.get((crate, part))) for part in PARTS)

@@ -19,7 +19,7 @@ from typing import NamedTuple
 
 import given
 from c.compiler import compile_to_assembly, demangle_assembly
-from c.condition import Global, Seen
+from c.condition import Global, ThreadValue
 from c.convert import Converter
 from c.refused import Refused
 from c.report import make_answer
@@ -135,10 +135,10 @@ def list_objects(converter: Converter) -> list[tuple[str, int, bool]]:
     return [(name, it.length, name in stored) for name, it in objects if not name.startswith(".") and it.length]
 
 
-def make_declarations(converter: Converter, sites: list[Seen | Global]) -> str:
+def make_declarations(converter: Converter, sites: list[ThreadValue | Global]) -> str:
     """Returns the harness's tables of a program: its functions, objects and values."""
     objects = list_objects(converter)
-    names = sorted({site.name for site in sites if isinstance(site, Seen) and site.name != "return"})
+    names = sorted({site.name for site in sites if isinstance(site, ThreadValue) and site.name != "return"})
     count = len(converter.program.threads)
     lines = [f"enum {{ THREADS = {count} }};"]
     lines += [f'extern char object_{number}[] __asm__("{name}");' for number, (name, _, _) in enumerate(objects)]
@@ -159,9 +159,9 @@ def make_declarations(converter: Converter, sites: list[Seen | Global]) -> str:
     return "\n".join(lines)
 
 
-def make_expression(converter: Converter, site: Seen | Global, names: list[str], objects: list[tuple[str, int, bool]]) -> str:
+def make_expression(converter: Converter, site: ThreadValue | Global, names: list[str], objects: list[tuple[str, int, bool]]) -> str:
     """Returns the expression for a site's value after a run."""
-    if isinstance(site, Seen):
+    if isinstance(site, ThreadValue):
         return f"results[{site.thread}][{len(names) if site.name == 'return' else names.index(site.name)}]"
     base, _, offset = site.name.partition("+")
     size = converter.program.find_asked_size(converter.program.asked_addresses[site.name])
@@ -188,14 +188,14 @@ def run_native(converter: Converter, assembly: str, compiler: str, seconds: floa
     return parse_native(ran.stdout.decode(), sites)
 
 
-def parse_native(printed: str, sites: list[Seen | Global]) -> Native:
+def parse_native(printed: str, sites: list[ThreadValue | Global]) -> Native:
     """Reads what the harness printed."""
     objects = {int(address) % 2**32: name for name, address in re.findall(r"^object (\S+) (\d+)$", printed, re.M)}
     counts: dict[str, int] = {}
     for line in re.findall(r"^state (.*)$", printed, re.M):
         count, *words = map(int, line.split())
         values = [f"&{strip_prefix(objects[word % 2**32])}" if word > 65535 and word % 2**32 in objects else str(word) for word in words]
-        names = [f"{site.thread}:{site.name}" if isinstance(site, Seen) else strip_prefix(site.name) for site in sites]
+        names = [f"{site.thread}:{site.name}" if isinstance(site, ThreadValue) else strip_prefix(site.name) for site in sites]
         key = " ".join(sorted(f"{name}={word};" for name, word in zip(names, values)))
         counts[key] = counts.get(key, 0) + count
     return Native(counts)

@@ -46,7 +46,7 @@ class ListedState(TypedDict):
 
 
 class NoAnswer(Exception):
-    """There is no answer: why, and what else is answered."""
+    """There is no answer: why, and in `more` the further fields of what is answered."""
 
     def __init__(self, why: str, **fields: object) -> None:
         super().__init__(why)
@@ -54,11 +54,11 @@ class NoAnswer(Exception):
 
 
 def remember(ask_once: Callable[[list[str], bytes], str]) -> Callable[[list[str], bytes], str]:
-    """Returns a function that asks the program once for the same words and text."""
+    """Returns a function that calls `ask_once` only once for the same words and text, and then answers from memory."""
     results = {}
 
     def ask(arguments: list[str], text: bytes) -> str:
-        """Returns the program's output, which is kept for the next time."""
+        """Returns the program's output."""
         key = (tuple(arguments), text)
         if key not in results:
             results[key] = ask_once(arguments, text)
@@ -98,13 +98,13 @@ def make_marker(text: bytes) -> Callable[[str], bool | None]:
     def holds(line: str) -> bool | None:
         """Returns whether the proposition is true in the state of a line. None if that is not known."""
         words = [int(word) for word in re.findall(r"=(\d+);", line)]
-        return plain.is_true(test.proposition, plain.make_outcome_from_words(test, words))
+        return plain.is_true_in(test.proposition, plain.make_outcome_from_words(test, words))
 
     return holds
 
 
 def make_report(text: bytes) -> Answer:
-    """Returns the report of a test. Kept are the first states, as many with a true proposition, and the last lines."""
+    """Returns the report of a test. It has at most MAX_STATES states of each kind: the first ones, and the first in which the proposition is true."""
     lines = ask(["states"], text).splitlines()
     head, number = lines[:2], int(lines[1].split()[1])
     positive = int(require_match(re.match(r"Positive: (\d+)", lines[2 + number + 1]))[1])
@@ -264,7 +264,7 @@ def answer_fences(text: bytes, everything: bool) -> Answer:
     test = plain.read_test(ask(["compile"], text))
     compared = fences.show_everything(test) if everything else test
     texts = [plain.format_canonical_text(fences.remove_fences(compared, [fence])) for fence in fences.list_fences(compared)]
-    table = fences.make_table(compared)
+    table = fences.make_fence_table(compared)
     # The page makes lists that the program refuses by a plain interpreter of its own, and not by a search.
     table["answered_by"] = sorted({it if it == "program" else "plain" for it in table["answered_by"]})
     return {"table": table, "condition": plain.format_condition(test), "texts": texts, "language": read_language(text)}
@@ -280,7 +280,7 @@ def answer_more_fences(text: bytes) -> Answer:
     sets = fences.find_helping_sets(test) if fences.count_unwanted_states(test) else []
     shown = [
         {
-            "places": [fences.format_load_place(test, place) for place in places],
+            "places": [fences.format_new_place(test, place) for place in places],
             "text": plain.format_canonical_text(fenced(places)),
             "states": len(fences.list_states(fenced(places))),
         }
@@ -326,7 +326,7 @@ def answer_why_not(text: bytes, state: str) -> Answer:
     except given.Fault as why:
         message = why.cause
         raise NoAnswer(f"{message[0].upper()}{message[1:]}.") from None
-    drawn = [{"graph": it.picture, "words": it.words, "kind": it.kind} for it in cycles]
+    drawn = [{"graph": it.picture, "words": it.words, "kind": it.drawbacks} for it in cycles]
     return {"lines": lines, "cycles": drawn, "language": read_language(text)}
 
 

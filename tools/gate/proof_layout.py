@@ -366,7 +366,7 @@ def check_file(path: str, is_writing: bool) -> bool:
 
 
 def make_comparisons() -> Iterator[Comparison]:
-    """Returns how each text of layout_texts.py is laid out, and the proofs that are not in this layout: for tools/check_documents.py."""
+    """Yields how each text of layout_texts.py is laid out, and the proofs that are not in this layout: for tools/check_documents.py."""
     for text, expected in TEXTS:
         yield "a proof's layout (tools/gate/proof_layout.py)", (expected, expected), (lay_out_text(text), lay_out_text(expected))
     paths = antt.list_files("proofs/**/*.antt")

@@ -103,7 +103,7 @@ class Statement:
     target: int = 0
 
 
-Written = Tuple[str, List[Statement]]
+WrittenCode = Tuple[str, List[Statement]]
 
 
 class Program:
@@ -155,7 +155,7 @@ class Program:
         """Returns a random expression."""
         return self.random.choice(list(EXPRESSIONS))
 
-    def make_statement(self, thread: int) -> Written:
+    def make_statement(self, thread: int) -> WrittenCode:
         """Returns a statement that is no branch: its text, and its effect."""
         random = self.random
         choices = [self.make_plain_statement] * 8 + [self.make_own_statement] * 2 + [
@@ -163,7 +163,7 @@ class Program:
         ] * (3 * self.has_pointer) + [self.make_array_statement] * (3 * self.has_array)
         return random.choice(choices)(thread)
 
-    def make_plain_statement(self, _thread: int) -> Written:
+    def make_plain_statement(self, _thread: int) -> WrittenCode:
         """Returns a statement on one of the first locations."""
         random = self.random
         location_index, register = random.randrange(sum(name in "xyz" for name in self.names)), random.randrange(2)
@@ -185,7 +185,7 @@ class Program:
         sets = None if kind_of_statement == "store" or kind_of_statement == "fetch" and not fetched else register
         return texts[kind_of_statement], [Statement(kind_of_statement, location_index, sets, first, second, operation)]
 
-    def make_own_statement(self, thread: int) -> Written:
+    def make_own_statement(self, thread: int) -> WrittenCode:
         """Returns a statement on the thread's own structure."""
         field, register, first = self.random.choice((OWN_A, OWN_B)), self.random.randrange(2), self.make_expression()
         name = f"own{thread}.{'ab'[field - OWN_A]}"
@@ -193,7 +193,7 @@ class Program:
             return f"{name} = {first};", [Statement("set", 0, field, first)]
         return f"r{register} = {name};", [Statement("copy", 0, register, target=field)]
 
-    def make_pointer_statement(self, _thread: int) -> Written:
+    def make_pointer_statement(self, _thread: int) -> WrittenCode:
         """Returns a statement on the pointer, or through it."""
         register, first, target = self.random.randrange(2), self.make_expression(), self.random.randrange(2)
         follow = Statement("load", self.pointer, ADDRESS)
@@ -203,7 +203,7 @@ class Program:
             (f"*p = {first};", [follow, Statement("store through", 0, None, first)]),
         ])
 
-    def make_array_statement(self, _thread: int) -> Written:
+    def make_array_statement(self, _thread: int) -> WrittenCode:
         """Returns a statement on an element of the array."""
         register, first = self.random.randrange(2), self.make_expression()
         return self.random.choice([
@@ -211,7 +211,7 @@ class Program:
             (f"arr[r0 & 1] = {first};", [Statement("store in", self.array, None, first)]),
         ])
 
-    def make_body(self, thread: int, lengths: tuple[int, ...]) -> Written:
+    def make_body(self, thread: int, lengths: tuple[int, ...]) -> WrittenCode:
         """Returns the statements of a thread, and their text."""
         texts: list[str] = []
         code: list[Statement] = []

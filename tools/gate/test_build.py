@@ -48,7 +48,7 @@ def make_plan(record: dict[str, Any], processors: int = PROCESSORS) -> Plan:
 
 
 def list_moments(pace: float) -> Iterator[tuple[Bounds, float]]:
-    """Returns a build with the record's times, multiplied by a pace: at its start, and at the end of each crate except the last, the bounds
+    """Yields a build with the record's times, multiplied by a pace: at its start, and at the end of each crate except the last, the bounds
     of the minutes to go, and the actual ones.
     """
     plan, jobs = make_plan(RECORD), dict.fromkeys(RECORD, 0)

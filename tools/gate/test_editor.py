@@ -75,7 +75,7 @@ console.log(JSON.stringify(JSON.parse(fs.readFileSync(0, "utf8")).map(pieces)));
 
 # A rule of a grammar, as JSON has it; a match by one of two libraries; and what compiles a pattern for it.
 Rule = Dict[str, Any]
-Found = Union[Match, "re.Match[str]"]
+FoundMatch = Union[Match, "re.Match[str]"]
 Compiler = Callable[[str], Union[Pattern, "re.Pattern[str]"]]
 
 
@@ -97,7 +97,7 @@ class Colours:
             scopes += self.find_line_scopes(line)
         return scopes
 
-    def find_match(self, pattern: str, line: str, index: int) -> Found | None:
+    def find_match(self, pattern: str, line: str, index: int) -> FoundMatch | None:
         """Returns the first match of a pattern from an index on. None if there is none."""
         if pattern not in self.compiled:
             self.compiled[pattern] = self.compiler(pattern)
@@ -113,7 +113,7 @@ class Colours:
             else:
                 yield rule
 
-    def find_next_rule(self, line: str, index: int) -> tuple[Rule, bool, Found] | None:
+    def find_next_rule(self, line: str, index: int) -> tuple[Rule, bool, FoundMatch] | None:
         """Returns the rule that matches first from an index on, whether it ends what is open, and the match; `None` if none does."""
         inner = self.open[-1] if self.open else {"patterns": self.rules}
         tried = [(inner, True, inner["end"])] if self.open else []
@@ -141,7 +141,7 @@ class Colours:
                 self.open.append(rule)
 
     @staticmethod
-    def find_match_scopes(rule: Rule, match: Found, captures: dict[str, dict[str, str]]) -> list[str | None]:
+    def find_match_scopes(rule: Rule, match: FoundMatch, captures: dict[str, dict[str, str]]) -> list[str | None]:
         """Returns, for each letter of a match, its innermost scope, or `None`."""
         scopes = [None if rule.get("name", "meta.").startswith("meta.") else rule["name"]] * len(match[0])
         for number, capture in captures.items():

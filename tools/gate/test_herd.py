@@ -31,7 +31,7 @@ import random_tests
 from gate import cases
 from gate.examples import TOOLS, examples, read, run
 from gate.herd_rows import SpelledRow, WideRow, make_wide_threads
-from herd.convert import Converted, convert
+from herd.convert import ConversionResult, convert
 from herd.rewrite import REWRITINGS
 from herd.together import make_merged_report
 from herd.widths import ACTIONS
@@ -81,7 +81,7 @@ class WrittenTests(cases.Case):
 
 
 def list_random_x86_tests() -> Iterator[tuple[str, str]]:
-    """Returns names and texts of random x86 tests."""
+    """Yields names and texts of random x86 tests."""
     for seed in range(1, RANDOM_TESTS + 1):
         yield f"random x86 test {seed}", random_tests.Writer("X86", seed).draw_test()
 
@@ -197,7 +197,7 @@ class Rows(cases.Case):
                 self.assertEqual(expected, lines)
 
 
-def list_only_state(conversion: Converted) -> list[str]:
+def list_only_state(conversion: ConversionResult) -> list[str]:
     """Returns the only state of a converted test of one thread without loads of others."""
     return plain.make_report(conversion.conversions[0].test).splitlines()[1:3]
 
@@ -255,7 +255,7 @@ def list_cells(text: str, is_att: bool | None = None) -> list[str]:
 
 def list_order_notes(text: str) -> list[str]:
     """Returns the positions and the first words of the notes on the order of operands."""
-    notes = [(given.format_place(text, offset), says) for offset, says in convert(text).notes if "operands" in says]
+    notes = [(given.format_line_and_column(text, offset), says) for offset, says in convert(text).notes if "operands" in says]
     return [f"{place} {says.partition(' order')[0]}" if says.startswith("operands") else f"{place} {says}" for place, says in notes]
 
 

@@ -26,7 +26,7 @@ from machine.assembly import Code
 from machine.faults import NotRun
 from machine.laboratory import list_threads
 from machine.plans import Limits
-from machine.runs import Seen, Sighting
+from machine.runs import Sightings, Sighting
 from machine.subjects import Subject
 from machine.summary import Result
 from search.explore import Search
@@ -368,10 +368,10 @@ def read_subject(path: str) -> Subject:
     return subjects.make_subject(read(path), everything=False)
 
 
-def make_seen(counts: dict[Shown, int], **facts: int) -> Seen:
+def make_seen(counts: dict[Shown, int], **facts: int) -> Sightings:
     """Returns the sightings of SB-x86 in two seconds."""
     states: dict[tuple[int, ...], Sighting] = {words: Sighting(count, 0.001, runs.KINDS[0]) for words, count in counts.items()}
-    return Seen(states, sum(counts.values()), 2.0, {**FACTS, **facts})
+    return Sightings(states, sum(counts.values()), 2.0, {**FACTS, **facts})
 
 
 def make_result(counts: dict[tuple[int, int], int], against: str = "") -> Result:

@@ -26,7 +26,7 @@ from fencing.together import CombinedTest, Part
 from gate import cases
 from gate.examples import examples, run
 from gate.test_assume import extend_with_cmpxchg, make_machine, make_random_cmpxchg, make_report_by_machine
-from herd.convert import Converted, convert
+from herd.convert import ConversionResult, convert
 from herd.lines import Text, find_origins, format_runs
 from interpreter import machines
 from shared import answers
@@ -59,7 +59,7 @@ NO_TESTS = (
 )
 
 
-def make_together(conversion: Converted) -> CombinedTest:
+def make_together(conversion: ConversionResult) -> CombinedTest:
     """Returns a converted test as one answer."""
     return CombinedTest([Part(it, find_origins(it), it.begins) for it in conversion.conversions], lambda line: line)
 

@@ -243,7 +243,7 @@ def make_test(language: str, cells: list[str]) -> bytes:
 
 
 def list_no_tests() -> Iterator[tuple[bytes, str]]:
-    """Returns all texts that are no tests: bytes, and the message."""
+    """Yields all texts that are no tests: bytes, and the message."""
     yield from ((text.encode(), message) for text, message in TEXTS)
     yield from ((make_test(language, [cell]), message) for language, cell, message in CELLS)
     yield from ((make_test(language, [cell] * number), message) for language, cell, number, message in MANY)

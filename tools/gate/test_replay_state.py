@@ -77,7 +77,7 @@ process.stdout.write(JSON.stringify(JSON.parse(readFileSync(0, "utf-8")).map(sta
 
 
 def list_pages() -> Iterator[str]:
-    """Returns the pages of replays: of all examples by some schedules."""
+    """Yields the pages of replays: of all examples by some schedules."""
     for _, text in examples():
         test = plain.read_test(text)
         for schedule in SCHEDULES:
@@ -93,7 +93,7 @@ def make_two_pages() -> list[str]:
 
 
 def list_wrong_pages() -> Iterator[str]:
-    """Returns pages that no replay prints."""
+    """Yields pages that no replay prints."""
     for page in make_two_pages():
         lines = page.splitlines(keepends=True)
         for index, line in enumerate(lines):

@@ -271,7 +271,7 @@ class Answers(cases.Case):
             with self.subTest(number):
                 test = self.quiz[int(number) - 1].test
                 is_final, outcome = random_tests.find_end(test, schedule)
-                self.assertEqual((True, True), (is_final, plain.is_true(test.proposition, outcome)))
+                self.assertEqual((True, True), (is_final, plain.is_true_in(test.proposition, outcome)))
 
 
 class Command(cases.Case):

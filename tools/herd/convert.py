@@ -27,9 +27,10 @@ UNSET_FLAG = "the zero flag is read here before an instruction has set it: it is
 
 
 @dataclass
-class Conversion:
-    """A test of lw, its question without marks, the marks, the guesses that it stands for, the filter, and the sites that only the
-    filter and the marks name."""
+class ConvertedTest:
+    """A test of lw under a guess; its question without marks; the marks; the guess of each LOCK CMPXCHG, set if it succeeds; the filter, if there is
+    one; and the sites that only the filter and the marks name.
+    """
 
     test: plain.Test
     question: plain.Test
@@ -44,12 +45,13 @@ class Conversion:
 
 
 @dataclass
-class Converted:
-    """The result of a conversion: the tests, the notes, the number of copies of each loop, if there is one, and all registers and locations
-    of the text, as sites of its tests."""
+class ConversionResult:
+    """The result of a conversion: the tests, one for each guess; the notes, each with its place; the old and the new name of what is renamed; the
+    number of copies of each loop, 0 if there is none; and all registers and locations of the text, as sites of its tests.
+    """
 
     frame: Frame
-    conversions: list[Conversion]
+    conversions: list[ConvertedTest]
     notes: list[tuple[int, str]]
     renamed: list[tuple[str, str]]
     tries: int = 0
@@ -81,7 +83,7 @@ class ThreadCode:
 
 
 def rewrite_thread(code: list[Instruction], initial: dict[str, str], guesses: dict[int, bool]) -> ThreadCode:
-    """Returns a thread's instructions of lw. Jumps lead to the numbers of the text's instructions."""
+    """Returns a thread's instructions of lw. Jumps still target the indices of the text's instructions."""
     thread_code, addresses, read = ThreadCode(), compute_held_addresses(code, initial), find_read_flags(code)
     for index, instruction in enumerate(code):
         rewriter = Rewriter(instruction, index, addresses[index], read[index], guesses.get(index))
@@ -132,8 +134,8 @@ class Converter:
         return [rewrite_thread(code, addresses, guesses_of_thread) for code, addresses, guesses_of_thread in zip(self.codes, self.held, by_thread)]
 
     def number_registers(self, thread: int, extremes: list[ThreadCode]) -> dict[str, int]:
-        """Returns the number of each register of a thread, and of its mark if there is room for one. `extremes` is the thread's code if
-        all guesses succeed, and if all fail.
+        """Returns the index of each register of a thread, and of its mark if there is room for one. `extremes` is the thread's code if
+        all guesses succeed, and if all fail: together they name all its registers.
         """
         names: dict[str, int] = {}
         for code in extremes:
@@ -163,7 +165,7 @@ class Converter:
         return LocationSite(self.locations.number_location(f"{MARK}{thread}")) if number is None else RegisterSite(thread, number)
 
     def number_thread(self, number: int, thread_code: ThreadCode) -> tuple[Statement, ...]:
-        """Returns the instructions of a thread, with numbers for all names."""
+        """Returns the instructions of a thread, with indices in place of names, and at their end the one that sets the mark, if the thread has one."""
         end, last = len(thread_code.statements), []
         if self.has_mark[number]:
             site = self.find_mark_site(number)
@@ -175,7 +177,7 @@ class Converter:
         return (*(self.number_statement(number, it, thread_code.begins, end) for it in thread_code.statements), *last)
 
     def number_statement(self, thread: int, statement: Statement, starts: list[int], end: int) -> Statement:
-        """Returns an instruction with numbers for its names."""
+        """Returns an instruction with indices in place of names. `end` is the index after the thread's code, to which a run jumps that is given up."""
         registers = self.registers[thread]
         return replace(
             statement,
@@ -195,7 +197,7 @@ class Converter:
         """Returns a proposition whose sites are indices."""
         return plain.replace_atoms(proposition, lambda atom: Eq(self.number_site(atom.site), atom.word))
 
-    def make_conversion(self, guesses: tuple[bool, ...]) -> Conversion:
+    def make_conversion(self, guesses: tuple[bool, ...]) -> ConvertedTest:
         """Returns the test of lw under a guess."""
         frame, threads = self.frame, self.rewrite_threads(guesses)
         registers = [[0] * 6 for _ in threads]
@@ -222,12 +224,12 @@ class Converter:
         further = {*marks, *plain.list_sites(filter_of_test or Constant(True))} - named
         test = replace(question, name=name, proposition=marked)
         places, starts = [it.places for it in threads], [it.begins[:-1] for it in threads]
-        return Conversion(test, question, marks, guesses, filter_of_test, sorted(further, key=plain.site_sort_key), places, starts)
+        return ConvertedTest(test, question, marks, guesses, filter_of_test, sorted(further, key=plain.site_sort_key), places, starts)
 
     def list_sites(self) -> list[Site]:
         """Returns all registers and locations of the text, as sites of its tests."""
         registers = [RegisterSite(t, number) for t, names in enumerate(self.registers) for name, number in names.items() if name[0] != "("]
-        return [*registers, *(LocationSite(number) for name, number in self.locations.of.items() if name[0] != "(")]
+        return [*registers, *(LocationSite(number) for name, number in self.locations.index_of.items() if name[0] != "(")]
 
 
 def list_width_notes(frame: Frame) -> list[tuple[int, str]]:
@@ -244,7 +246,7 @@ def read_back(test: plain.Test, offset: int) -> None:
         raise Refused(f"the converted test is too large, or not one of lw: {fault.cause}", offset) from None
 
 
-def convert(text: str, tries: int = 0, is_att: bool | None = None) -> Converted:
+def convert(text: str, tries: int = 0, is_att: bool | None = None) -> ConversionResult:
     """Returns the conversion of a text in herd's form. Raises Refused, or another fault of a text, if there is none."""
     frame = read_frame(text)
     order = find_order(text, frame.language, frame.threads) if is_att is None else Order(is_att)
@@ -265,7 +267,7 @@ def convert(text: str, tries: int = 0, is_att: bool | None = None) -> Converted:
         notes.append((0, "the filter is a part of the condition: states that it leaves out are listed too"))
     renamed = [*converter.locations.list_renamed(), *(pair for t, it in enumerate(converter.registers) for pair in list_renamed_registers(t, it))]
     has_loop = any(code and list(find_loops(make_graph(code)))[:1] for code, _ in read)
-    return Converted(frame, conversions, sorted(set(notes)), renamed, tries if has_loop else 0, converter.list_sites())
+    return ConversionResult(frame, conversions, sorted(set(notes)), renamed, tries if has_loop else 0, converter.list_sites())
 
 
 def list_renamed_registers(thread: int, registers: dict[str, int]) -> list[tuple[str, str]]:

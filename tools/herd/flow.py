@@ -9,12 +9,12 @@ from plain import Register
 GIVE_UP = -1
 READS_FLAG = ("JE", "JNE", "CMOVE", "CMOVNE")
 SETS_FLAG = ("ADD", "SUB", "INC", "DEC", "XOR", "AND", "OR", "CMP", "TEST", "XADD", "CMPXCHG")
-# A register that holds no address, and one that holds one on some ways only.
+# In place of a location: of a register that holds no address, and of one that holds an address on some ways only.
 NUMBER, EITHER = "a number", "either"
 
 
 def list_successors(instruction: Instruction, index: int) -> list[int]:
-    """Returns the indices of the instructions that may follow one, which has an index."""
+    """Returns the indices of the instructions that may follow the one at an index; GIVE_UP is among them if a jump abandons the run."""
     if instruction.target is None:
         return [index + 1]
     return [instruction.target] if instruction.mnemonic == "JMP" else [index + 1, instruction.target]
@@ -78,7 +78,7 @@ def list_written_registers(instruction: Instruction) -> list[str]:
 
 
 def update_held(instruction: Instruction, addresses: dict[str, str]) -> dict[str, str]:
-    """Returns which registers hold which addresses after an instruction."""
+    """Returns the locations whose addresses registers hold after an instruction, by the registers' names; `addresses` has those before it."""
     written, after, location = list_written_registers(instruction), dict(addresses), None
     source = instruction.operands[1] if len(instruction.operands) > 1 else None
     for register in written:
@@ -93,7 +93,7 @@ def update_held(instruction: Instruction, addresses: dict[str, str]) -> dict[str
 
 
 def intersect_held(first: dict[str, str] | None, second: dict[str, str]) -> dict[str, str]:
-    """Returns the addresses that registers hold where two ways meet."""
+    """Returns the addresses that registers hold where two ways meet; `first` is `None` if only the second way is known so far."""
     if first is None:
         return dict(second)
     names = {*first, *second}

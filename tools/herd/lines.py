@@ -6,7 +6,7 @@ from collections.abc import Iterator
 from typing import Any
 
 import plain
-from herd.convert import Conversion, Converted
+from herd.convert import ConvertedTest, ConversionResult
 from herd.together import list_marked_states, parse_state
 from shared import answers
 
@@ -17,9 +17,9 @@ VISIBLE = {"load": "the load", "store": "the store", "xchg": None, "xadd": None,
 class Text:
     """The text of a test, and what it is converted to."""
 
-    def __init__(self, text: str, conversion: Converted) -> None:
-        """Remembers a text in herd's form, and what it is converted to."""
-        self.text, self.conversion = text, conversion
+    def __init__(self, text: str, result: ConversionResult) -> None:
+        """Makes the text of a test in herd's form, with what it is converted to."""
+        self.text, self.result = text, result
 
     def find_line(self, offset: int) -> int:
         """Returns the number of the line in which an offset is."""
@@ -27,7 +27,7 @@ class Text:
 
     def read_instruction(self, offset: int) -> str:
         """Returns the instruction that begins at an offset, as the text has it."""
-        cells = [cell for thread in self.conversion.frame.threads for cell in thread]
+        cells = [cell for thread in self.result.frame.threads for cell in thread]
         end = next(cell[-1].offset for cell in cells if cell[0].offset <= offset < cell[-1].offset)
         return " ".join(self.text[offset:end].split())
 
@@ -40,15 +40,15 @@ class Text:
         return f"P{place[0]} line {self.find_line(place[1])}"
 
 
-def find_origins(conversion: Conversion) -> list[list[int | None]]:
+def find_origins(conversion: ConvertedTest) -> list[list[int | None]]:
     """Returns of each thread's instructions the places from which they come. The last one has none if it sets the thread's mark."""
     return [places + [None] * (len(code) - len(places)) for code, places in zip(conversion.test.threads, conversion.places)]
 
 
 def format_runs(text: Text) -> dict[str, list[str]]:
-    """Returns of each state of the report a run: its events, by the lines of the text."""
+    """Returns, for each state of the report, a run to it: its events, by the lines of the text."""
     runs: dict[str, list[str]] = {}
-    for conversion in text.conversion.conversions:
+    for conversion in text.result.conversions:
         listed = answers.make_answer(["schedules"], conversion.test).text.splitlines()[2:]
         question = {plain.format_site(conversion.test, site) for site in plain.list_observed_sites(conversion.question)}
         for state, schedule in zip(listed[::2], listed[1::2]):
@@ -58,7 +58,7 @@ def format_runs(text: Text) -> dict[str, list[str]]:
     return runs
 
 
-def list_visible_events(text: Text, conversion: Conversion, schedule: list[str]) -> Iterator[str]:
+def list_visible_events(text: Text, conversion: ConvertedTest, schedule: list[str]) -> Iterator[str]:
     """Yields the events of a schedule, without instructions that no other thread can see, and without those that set marks."""
     state, origins = plain.make_x86_start(conversion.test), find_origins(conversion)
     is_visible: list[list[bool]] = [[] for _ in conversion.test.threads]
@@ -78,7 +78,7 @@ def list_visible_events(text: Text, conversion: Conversion, schedule: list[str])
         state = dict(plain.list_x86_moves(conversion.test, state))[event]
 
 
-def describe_step(text: Text, conversion: Conversion, origins: list[Any], place: tuple[int, int]) -> str:
+def describe_step(text: Text, conversion: ConvertedTest, origins: list[Any], place: tuple[int, int]) -> str:
     """Returns the instruction of the text from which one of lw comes, and which part of it this is, or whether a guessed exchange succeeds.
     The place is a thread and a position.
     """

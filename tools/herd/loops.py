@@ -66,7 +66,7 @@ def find_predecessors(nodes: list[Node], reached: list[int]) -> dict[int, list[i
 
 
 def find_loops(nodes: list[Node]) -> Iterator[tuple[set[int], int]]:
-    """Yields the largest loops that can be entered: the nodes of each, and the first of those by which it is entered."""
+    """Yields the largest loops that the thread can reach: the nodes of each, and the first of those by which it is entered."""
     reached = list(list_reachable(nodes, 0))
     before, seen = find_predecessors(nodes, reached), set()
     for first in reversed(reached):
@@ -134,14 +134,14 @@ def sort_nodes(nodes: list[Node]) -> list[int]:
 def write_node(instruction: Instruction, node: Node, following: int) -> list[tuple[Instruction, int | None]]:
     """Returns the instructions of a node, each with the node to which it jumps, if it does; `following` is the node that is written next.
     """
-    goes_on = lambda target: [] if target == following else [(Instruction("JMP", (), instruction.offset), target)]
+    jump_to = lambda target: [] if target == following else [(Instruction("JMP", (), instruction.offset), target)]
     if instruction.target is None:
-        return [(instruction, None), *goes_on(node.after)]
+        return [(instruction, None), *jump_to(node.after)]
     if instruction.mnemonic == "JMP" or node.after == node.target:
-        return goes_on(node.target)
+        return jump_to(node.target)
     if node.target == following:
         return [(replace(instruction, mnemonic=OPPOSITE[instruction.mnemonic]), node.after)]
-    return [(instruction, node.target), *goes_on(node.after)]
+    return [(instruction, node.target), *jump_to(node.after)]
 
 
 def unroll_code(code: list[Instruction], tries: int) -> list[Instruction]:

@@ -25,7 +25,8 @@ def number_registers(thread: int, names: dict[str, int], mark_name: str | None) 
 
 
 def number_initial_register(name: str, numbers: dict[str, int]) -> int | None:
-    """Returns the index of a register that the initial block names; one that the thread does not use keeps its own, or has none. `None` in this case.
+    """Returns the index of a register that the initial block names. A register that the thread does not use has its own index, or `None` if another
+    register has that.
     """
     if name in numbers or name not in SIX or SIX.index(name) in numbers.values():
         return numbers.get(name)
@@ -36,25 +37,24 @@ class LocationNames:
     """The table of locations: names of the text, each with a name that lw accepts."""
 
     def __init__(self) -> None:
-        self.of: dict[str, int] = {}
+        self.index_of: dict[str, int] = {}  # by the names of the text
         self.names: list[str] = []
 
     def number_location(self, name: str) -> int:
         """Returns the index of a location, which is appended to the table if it is new."""
-        if name not in self.of:
+        if name not in self.index_of:
             self.insert_location(name)
-        return self.of[name]
+        return self.index_of[name]
 
     def insert_location(self, name: str, shown: str | None = None) -> None:
-        """Inserts a location into the table, by a name that is free and that lw accepts, and is like its own or like the one that is shown.
-        """
+        """Appends a location to the table. Its name there is free, lw accepts it, and it is like `shown`, or like the location's own name."""
         candidate = re.sub(r"\W", "_", shown or name)[:28]
         while plain.RESERVED.fullmatch(candidate) or candidate in self.names or candidate[:1].isdigit():
             candidate = f"{candidate}_"
-        self.of[name] = len(self.names)
+        self.index_of[name] = len(self.names)
         self.names.append(candidate)
 
     def list_renamed(self) -> list[tuple[str, str]]:
         """Returns the locations that have another name in lw: both names."""
-        shown = {name: number for name, number in self.of.items() if not name.startswith("(")}
+        shown = {name: number for name, number in self.index_of.items() if not name.startswith("(")}
         return [(name, self.names[number]) for name, number in shown.items() if name != self.names[number]]

@@ -131,15 +131,15 @@ def has_bare_name(cell: list[Token]) -> bool:
 
 
 def refuse_contradiction(text: str, att: Mark, intel: Mark) -> Refused:
-    """Returns two marks that say different orders."""
+    """Returns the refusal of a test with two marks that say different orders."""
     first, second = sorted((att, intel), key=lambda it: it.offset)
-    other = f"{first.words} at {given.format_place(text, first.offset)} says {NAMES[first.is_att]}"
+    other = f"{first.words} at {given.format_line_and_column(text, first.offset)} says {NAMES[first.is_att]}"
     says = f"{second.words} says {NAMES[second.is_att]} order of operands, and {other}"
     return Refused(f"{says}: name the order by --order intel or --order att", second.offset)
 
 
 def find_order(text: str, language: str, threads: list[list[list[Token]]]) -> Order:
-    """Returns the order of a test's operands. The test is refused if its marks contradict one another."""
+    """Returns the order of a test's operands. Raises Refused if its marks contradict one another, and the order changes something."""
     cells = [cell for thread in threads for cell in thread]
     marks = sorted((mark for cell in cells for mark in find_marks(cell)), key=lambda it: it.offset)
     att, intel = [it for it in marks if it.is_att], [it for it in marks if not it.is_att]

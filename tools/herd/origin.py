@@ -10,7 +10,7 @@ from collections.abc import Iterable, Iterator
 from dataclasses import dataclass, field
 
 import plain
-from herd.convert import MARK, Conversion, Converted
+from herd.convert import MARK, ConvertedTest, ConversionResult
 from herd.rewrite import SCRATCH
 from herd.together import make_outcome, parse_state
 
@@ -19,7 +19,7 @@ GUESSES = {"succeeds": True, "fails": False}
 TRIES = re.compile(r"Runs that go through a loop more often than (\d+) times are given up\.")
 
 
-def make_comment(original: Converted, conversion: Conversion) -> str:
+def make_comment(original: ConversionResult, conversion: ConvertedTest) -> str:
     """Returns the comment of a converted test, one sentence in each line."""
     lines = [f"From the {original.frame.language} test {original.frame.name}."]
     lines += [f"{old} is {new} here." for old, new in original.renamed if not old.endswith((SCRATCH, MARK))]
@@ -84,9 +84,9 @@ def parse_proposition(test: plain.Test, text: str) -> plain.Proposition:
 
 
 @dataclass
-class Translated:
-    """The states of one original test: lines in its names, the names that only its filter and marks have, the guesses that exist, and the
-    number of copies of each loop.
+class TranslatedStates:
+    """The states of one original test, from those of its converted tests: lines in its names, the names that only its filter and marks have, the guesses
+    for which there is a test, and the number of copies of each loop.
     """
 
     lines: list[str] = field(default_factory=list)
@@ -105,15 +105,15 @@ def translate_states(test: plain.Test, origin: Origin, lines: Iterable[str]) -> 
     condition = parse_proposition(test, f"({origin.marks}) /\\ ({origin.filter})")
     for line in lines:
         words = parse_state(line)
-        if plain.is_true(condition, make_outcome(test, words)):
+        if plain.is_true_in(condition, make_outcome(test, words)):
             yield " ".join(f"{origin.names.get(name, name)}={word};" for name, word in words.items())
 
 
-def add_states(translations: dict[str, Translated], origin: Origin, text: str, lines: Iterable[str]) -> None:
+def add_states(translations: dict[str, TranslatedStates], origin: Origin, text: str, lines: Iterable[str]) -> None:
     """Adds the states of a converted test to those of its original. Fails if the comment names what the test does not have."""
     test = plain.read_test(text)
     states = list(translate_states(test, origin, lines))
-    original = translations.setdefault(origin.name, Translated())
+    original = translations.setdefault(origin.name, TranslatedStates())
     original.lines += states
     original.is_twice |= original.guesses.setdefault(origin.guesses, set(states)) != set(states)
     original.tries = origin.tries

@@ -85,7 +85,9 @@ def make_conjunction(parts: Sequence[Proposition]) -> Proposition:
 
 
 def restrict(quantifier: str, conditions: Sequence[Proposition], proposition: Proposition) -> Proposition:
-    """Returns a proposition restricted to those states in which some conditions hold."""
+    """Returns the proposition that asks the same of only those states in which some conditions hold: of `forall` they are premises, otherwise they hold
+    too.
+    """
     if not conditions:
         return proposition
     if quantifier == "forall":

@@ -17,7 +17,7 @@ INSTRUCTION_POINTERS = ("RIP", "EIP")
 
 
 def parse_register(text: str) -> tuple[str, int] | None:
-    """Returns the register that a name means, and its bits; `None` if it means none."""
+    """Returns the register that a name means, by its name of 32 bits, and the bits of the name; `None` if it means none."""
     return NAMES.get(text.upper())
 
 

@@ -30,12 +30,14 @@ class Rewriter:
     """A rewriter of one instruction of a thread."""
 
     def __init__(self, instruction: Instruction, index: int, addresses: dict[str, str], is_flag_read: bool, guess: bool | None) -> None:
-        """Rewrites the instruction at an index. `addresses` says which registers hold the address of which location."""
+        """Prepares the instruction at an index. `addresses` says which registers hold the address of which location, `is_flag_read` whether a later branch
+        may read its zero flag, and `guess` whether a CMPXCHG succeeds.
+        """
         self.instruction = instruction
-        self.index = index  # its number
-        self.held = addresses  # which registers hold which addresses
+        self.index = index
+        self.held = addresses
         self.is_flag_read = is_flag_read
-        self.guess = guess  # of a CMPXCHG
+        self.guess = guess
         self.notes: list[tuple[int, str]] = []
 
     def make_refusal(self, cause: str) -> Refused:
@@ -43,7 +45,7 @@ class Rewriter:
         return Refused(cause, self.instruction.offset)
 
     def rewrite_statements(self) -> list[Statement]:
-        """Returns the instructions of lw."""
+        """Returns the instructions of lw that do what the instruction does. Raises Refused if it is not converted."""
         if self.instruction.is_locked:
             return self.rewrite_locked()
         return REWRITINGS[self.instruction.mnemonic](self)
@@ -85,11 +87,11 @@ class Rewriter:
         return Statement("load", SCRATCH, self.rewrite_location(operand))
 
     def clear_register(self, register: str) -> list[Statement]:
-        """Sets a register to 0, and the zero flag if it is read."""
+        """Returns instructions that set a register to 0, and the zero flag if it is read."""
         return [Statement("set", register, value=Number(0)), *self.set_flag(register)]
 
     def set_flag(self, register: str) -> list[Statement]:
-        """Sets the zero flag by whether a register is 0, if the flag is read."""
+        """Returns instructions that set the zero flag by whether a register is 0; none unless the flag is read."""
         return [Statement("cmp", register, value=Number(0))] if self.is_flag_read else []
 
     def check_flag_unread(self) -> None:

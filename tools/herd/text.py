@@ -76,7 +76,7 @@ class Reader:
 
     def __init__(self, tokens: list[Token]) -> None:
         self.tokens = tokens
-        self.number = 0
+        self.number = 0  # the index of the next token
 
     @property
     def token(self) -> Token:
@@ -84,7 +84,7 @@ class Reader:
         return self.tokens[min(self.number, len(self.tokens) - 1)]
 
     def peek(self, number: int) -> str:
-        """Returns the text of a token after the next one."""
+        """Returns the text of the token that is `number` tokens after the next one; empty at the end."""
         offset = self.number + number
         return self.tokens[offset].text if offset < len(self.tokens) else ""
 

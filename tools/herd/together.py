@@ -5,7 +5,7 @@ import re
 from collections.abc import Callable, Iterable
 
 import plain
-from herd.convert import Conversion, Converted
+from herd.convert import ConvertedTest, ConversionResult
 from shared import answers
 
 WORD = re.compile(r"(\S+?)=(\d+);")
@@ -22,19 +22,19 @@ def make_outcome(test: plain.Test, words: dict[str, int]) -> plain.Outcome:
     return plain.make_outcome_from_words(test, [words[plain.format_site(test, site)] for site in plain.list_observed_sites(test)])
 
 
-def list_marked_states(conversion: Conversion, lines: Iterable[str]) -> list[dict[str, int]]:
-    """Returns the states that are not given up."""
+def list_marked_states(conversion: ConvertedTest, lines: Iterable[str]) -> list[dict[str, int]]:
+    """Returns the states, each as words by names, in which all marks are set: those of runs that are not given up."""
     names = [plain.format_site(conversion.test, site) for site in conversion.marks]
     states = [parse_state(line) for line in lines]
     return [words for words in states if all(words[name] == 1 for name in names)]
 
 
-def collect_answers(conversions: list[Conversion]) -> list[answers.Answer]:
+def collect_answers(conversions: list[ConvertedTest]) -> list[answers.Answer]:
     """Returns the reports of tests, each with its maker."""
     return [answers.make_answer(["states"], it.test) for it in conversions]
 
 
-def merge_reports(conversions: list[Conversion], reports: list[answers.Answer]) -> str:
+def merge_reports(conversions: list[ConvertedTest], reports: list[answers.Answer]) -> str:
     """Returns the report of the question, from the reports of the tests."""
     question = conversions[0].question
     outcomes: set[plain.Outcome] = set()
@@ -43,19 +43,19 @@ def merge_reports(conversions: list[Conversion], reports: list[answers.Answer]) 
     return plain.make_report(question, outcomes)
 
 
-def make_merged_report(conversions: list[Conversion]) -> tuple[str, set[answers.Maker]]:
+def make_merged_report(conversions: list[ConvertedTest]) -> tuple[str, set[answers.Maker]]:
     """Returns the report of the question, and the makers of the lists from which it results."""
     reports = collect_answers(conversions)
     return merge_reports(conversions, reports), {it.by for it in reports}
 
 
-def make_renamer(original: Converted) -> Callable[[str], str]:
-    """Returns a function that writes a line in the names of the original test."""
+def make_renamer(original: ConversionResult) -> Callable[[str], str]:
+    """Returns a function that writes the line of a state or a condition in the names of the original test."""
     names = {new: old for old, new in original.renamed}
     return lambda line: NAME.sub(lambda it: names.get(it[0], it[0]), line)
 
 
-def translate_report(report: str, original: Converted) -> str:
+def translate_report(report: str, original: ConversionResult) -> str:
     """Returns a report in the names of the original test."""
     rename, lines = make_renamer(original), report.splitlines()
     end = 2 + len(answers.filter_state_lines(report))

@@ -28,15 +28,15 @@ def list_sites(proposition: Proposition) -> set[Site]:
     return set() if isinstance(proposition, Constant) else set().union(*map(list_sites, list_parts(proposition)))
 
 
-def is_true(proposition: Proposition, outcome: Outcome) -> bool:
+def is_true_in(proposition: Proposition, outcome: Outcome) -> bool:
     """Returns whether a proposition is true in an outcome."""
     if isinstance(proposition, Eq):
         return read_word(proposition.site, outcome) == proposition.word
     if isinstance(proposition, And):
-        return is_true(proposition.left, outcome) and is_true(proposition.right, outcome)
+        return is_true_in(proposition.left, outcome) and is_true_in(proposition.right, outcome)
     if isinstance(proposition, Or):
-        return is_true(proposition.left, outcome) or is_true(proposition.right, outcome)
-    return not is_true(proposition.part, outcome) if isinstance(proposition, Not) else proposition.is_true
+        return is_true_in(proposition.left, outcome) or is_true_in(proposition.right, outcome)
+    return not is_true_in(proposition.part, outcome) if isinstance(proposition, Not) else proposition.is_true
 
 
 def read_word(site: Site, outcome: Outcome) -> int:

@@ -73,6 +73,7 @@ class Caches:
     def __init__(self, processors: int, words: Words, protocol: str) -> None:
         """Creates empty caches of some processors over the words of memory. The protocol is `mesi` or `moesi`."""
         self.memory = list(words)
+        # For each processor, the letter of each location's line, and the line's word, which counts unless the letter is `I`.
         self.states = [["I"] * len(words) for _ in range(processors)]
         self.copies = [[0] * len(words) for _ in range(processors)]
         self.keeps_owner = protocol == "moesi"
@@ -99,7 +100,7 @@ class Caches:
         return self.copies[cpu][location]
 
     def share_line(self, cpu: int, location: int) -> None:
-        """Downgrades a line that another cache loads."""
+        """Downgrades the line of a processor's cache, since another cache loads it: a modified line is written back, or stays owned by MOESI."""
         state = self.states[cpu][location]
         if state == "M" and self.keeps_owner:
             self.states[cpu][location] = "O"

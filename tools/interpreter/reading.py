@@ -18,6 +18,9 @@ BLANKS = re.compile(r"[ \t\r\n]*")
 LANGUAGE = re.compile(r"(SRC|X86)(?!\w)")
 NAME_OF_TEST = re.compile(r"[!-~]{1,128}(?![^ \t\r\n])")
 MAX_BYTES = 65536
+MAX_THREADS = 4
+MAX_LOCATIONS = 8
+MAX_LETTERS = 32  # of a name
 MAX_ROWS = 64
 MAX_NODES = 256
 MAX_STATEMENTS = {"SRC": 16, "X86": 32}
@@ -66,7 +69,8 @@ class Reader:
         return self.make_fault(f"found {end if text is None else quote(text)}, expected {expected}")
 
     def take_token(self, expected: str | None = None) -> str:
-        """Reads the next token, which must be the wanted one, if one is. Returns its text, which is empty at the end. Raises NoTest if it is another.
+        """Reads the next token, which must be `expected` unless that is `None`. Returns its text, which is empty at the end. Raises NoTest if it is
+        another token.
         """
         text = self.peek_text()
         if expected is not None and text != expected:
@@ -89,8 +93,8 @@ class Reader:
         """Reads a name. `expected` says in a fault what is missing. Raises NoTest if it is none, or too long."""
         if self.peek_kind() != "name":
             raise self.make_misplaced_fault(expected)
-        if len(self.peek_text() or "") > 32:
-            raise self.make_fault("the name has more than 32 letters")
+        if len(self.peek_text() or "") > MAX_LETTERS:
+            raise self.make_fault(f"the name has more than {MAX_LETTERS} letters")
         return self.take_token()
 
     def find_register(self, text: str) -> int | None:
@@ -113,8 +117,8 @@ class Reader:
             raise self.make_fault_at_last(f"{self.quote_last()} is a reserved name, and no location")
         if name not in self.test.locations:
             self.test.locations.append(name)
-        if len(self.test.locations) > 8:
-            raise self.make_fault_at_last("there are more than 8 locations")
+        if len(self.test.locations) > MAX_LOCATIONS:
+            raise self.make_fault_at_last(f"there are more than {MAX_LOCATIONS} locations")
         return self.test.locations.index(name)
 
     def read_bracketed_location(self) -> int:
@@ -136,15 +140,15 @@ class Reader:
         return LocationSite(self.read_location())
 
     def read_entries(self, read_entry: Callable[[], Entry], end: str) -> Iterator[Entry]:
-        """Reads the entries up to the closing bracket, each ended by `;`, which may be absent after the last."""
+        """Yields the entries up to the closing bracket `end`, each by `read_entry` and ended by `;`, which may be absent after the last."""
         while self.peek_text() != end:
             yield read_entry()
             if self.peek_text() != end:
                 self.take_token(";")
         self.take_token(end)
 
-    def read_initial_entry(self) -> tuple[Site, int]:
-        """Reads a site, `=` and a number."""
+    def read_equation(self) -> tuple[Site, int]:
+        """Reads a site, `=` and a number, as the initial block and atoms have them. Returns the site and the number."""
         site = self.read_site()
         self.take_token("=")
         return site, self.read_number()
@@ -155,15 +159,15 @@ class Reader:
         while True:
             self.take_token(f"P{threads}")
             threads += 1
-            if threads > 4:
-                raise self.make_fault_at_last("there are more than 4 threads")
+            if threads > MAX_THREADS:
+                raise self.make_fault_at_last(f"there are more than {MAX_THREADS} threads")
             if self.peek_text() != "|":
                 self.take_token(";")
                 return threads
             self.take_token("|")
 
     def read_rows(self, threads: int) -> list[list[Cell]]:
-        """Reads the rows of the program. Returns the cells of each thread. Raises NoTest if there are too many."""
+        """Reads the rows of the program. Returns the cells of each thread. Raises NoTest if there are too many rows, or a row has no end."""
         columns: list[list[Cell]] = [[] for _ in range(threads)]
         while self.peek_text() not in ("locations", "exists", "forall", "filter", "~"):
             if len(columns[0]) == MAX_ROWS and self.peek_text() is not None:
@@ -217,7 +221,7 @@ class Reader:
         if self.peek_text() in ("true", "false"):
             return Constant(self.take_node() == "true")
         self.count_node()
-        return Eq(*self.read_initial_entry())
+        return Eq(*self.read_equation())
 
     def read_conjunction(self) -> Proposition:
         r"""Reads atoms between which there is `/\`."""
@@ -364,23 +368,23 @@ class Reader:
         if len(statements) == max_statements:
             raise self.make_fault(f"the thread has more than {max_statements} {'statements' if self.test.language == 'SRC' else 'instructions'}")
 
-    def resolve_jump(self, statement: Statement, position: int, labels: dict[str, int], token: int) -> Statement:
-        """Returns a statement with the position that its jump targets in place of the label, which is the token at an index. Raises NoTest if there
-        is no such label, or it does not follow.
+    def resolve_jump(self, statement: Statement, position: int, labels: dict[str, int], token_index: int) -> Statement:
+        """Returns the statement at a position, with the position that its jump targets in place of the label, which is the token at `token_index`.
+        Raises NoTest if there is no such label, or the target does not follow the statement.
         """
         if statement.target is None:
             return statement
         if statement.target not in labels:
-            raise self.make_fault(f"the thread has no label {quote(statement.target)}", token)
+            raise self.make_fault(f"the thread has no label {quote(statement.target)}", token_index)
         if labels[statement.target] <= position:
-            raise self.make_fault(f"the jump to {quote(statement.target)} does not go forward", token)
+            raise self.make_fault(f"the jump to {quote(statement.target)} does not go forward", token_index)
         return replace(statement, target=labels[statement.target])
 
     def read(self) -> Test:
         """Reads the whole test. Raises NoTest if it is none."""
         test = self.test
         self.take_token("{")
-        initial = dict(self.read_entries(self.read_initial_entry, "}"))
+        initial = dict(self.read_entries(self.read_equation, "}"))
         threads = self.read_header()
         columns = self.read_rows(threads)
         test.columns = [[self.tokens[begin:end] for begin, end in cells] for cells in columns]
@@ -397,7 +401,7 @@ class Reader:
             if thread >= threads:
                 raise self.make_fault(f"there is no thread {thread}", index)
         test.threads = [self.read_thread(cells) for cells in columns]
-        test.registers = [tuple(initial.get(RegisterSite(thread, number), 0) for number in range(6)) for thread in range(threads)]
+        test.registers = [tuple(initial.get(RegisterSite(thread, number), 0) for number in range(len(self.names))) for thread in range(threads)]
         test.words = tuple(initial.get(LocationSite(number), 0) for number in range(len(test.locations)))
         return test
 

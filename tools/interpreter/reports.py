@@ -5,7 +5,7 @@ from collections.abc import Iterable, Sequence
 
 
 from interpreter.compiling import compile_test
-from interpreter.conditions import format_condition, format_site, is_true, list_sites, read_word, site_sort_key
+from interpreter.conditions import format_condition, format_site, is_true_in, list_sites, read_word, site_sort_key
 from interpreter.tests import REGISTERS, Outcome, RegisterSite, Site, Test, join_lines
 from interpreter.walks import explore_states, list_interleaved_moves, list_outcomes, list_x86_moves, make_schedule, make_x86_start
 
@@ -44,7 +44,7 @@ def collect_states(test: Test, reached: Iterable[Outcome]) -> list[tuple[tuple[i
 def make_report(test: Test, reached: Iterable[Outcome] | None = None) -> str:
     """Returns the report of a test, by default of all outcomes that it has."""
     states = collect_states(test, list_outcomes(test) if reached is None else reached)
-    holding = sum(is_true(test.proposition, outcome) for _, outcome in states)
+    holding = sum(is_true_in(test.proposition, outcome) for _, outcome in states)
     others = len(states) - holding
     is_ok = {"exists": holding > 0, "~exists": holding == 0, "forall": others == 0}[test.quantifier]
     often = "Never" if holding == 0 else "Sometimes" if others else "Always"
@@ -75,7 +75,7 @@ def find_verdicts(test: Test) -> tuple[str, str]:
 
 def find_verdict(test: Test, reached: Iterable[Outcome]) -> str:
     """Returns the verdict of outcomes on a test's condition: `allowed`, `forbidden`, `required` or `not required`."""
-    truths = [is_true(test.proposition, outcome) for outcome in reached]
+    truths = [is_true_in(test.proposition, outcome) for outcome in reached]
     if test.quantifier == "forall":
         return "required" if all(truths) else "not required"
     return "allowed" if any(truths) else "forbidden"

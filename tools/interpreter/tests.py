@@ -48,7 +48,7 @@ Site = Union[RegisterSite, LocationSite]
 
 @dataclass(frozen=True)
 class Number:
-    """A word that a statement has."""
+    """A word that is written in a statement."""
 
     word: int
 
@@ -125,7 +125,7 @@ class Statement:
     location: Any = None  # a location's index
     value: Value | None = None
     left: Any = None  # the index of the first register of a sum
-    target: Any = None  # the index that a jump leads to; while a thread is read, its label
+    target: Any = None  # the position that a jump targets, in its thread; while the thread is read, the label
 
 
 @dataclass

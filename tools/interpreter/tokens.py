@@ -11,9 +11,11 @@ TOKEN = re.compile(
     r"(?P<blank>[ \t\r\n]+)|(?P<number>0x[0-9a-fA-F]+|[0-9]+)(?![A-Za-z0-9_])|(?P<name>[A-Za-z_][A-Za-z0-9_]*)"
     r"|(?P<symbol>:=|!=|/\\|\\/|[{}\[\]()|;:,$=+~])"
 )
+# A line `Key=value` among the notes.
 KEY = re.compile(r"[A-Za-z0-9_-]+[ \t]*=[^\n]*")
 # A token's kind and its text.
 Token = Tuple[str, str]
+# What a fault quotes of a text: a word, or at most 32 letters of it, or one other character.
 LETTERS = re.compile(r"\w{1,32}|.", re.S)
 
 
@@ -34,7 +36,7 @@ def skip_comment(text: str, offset: int) -> int:
     while True:
         opens, closes = text.find("(*", offset), text.find("*)", offset)
         if closes < 0:
-            raise NoTest(f"the comment that begins at {given.format_place(text, begin)} is left open", len(text))
+            raise NoTest(f"the comment that begins at {given.format_line_and_column(text, begin)} is left open", len(text))
         if 0 <= opens < closes:
             depth, offset = depth + 1, opens + 2
         else:
@@ -84,5 +86,5 @@ def skip_quoted(text: str, offset: int) -> int:
     """Returns the offset of the end of the quoted text that starts at an offset. Raises NoTest if it has no end."""
     end = text.find('"', offset + 1)
     if end < 0:
-        raise NoTest(f"the quoted text that begins at {given.format_place(text, offset)} is left open", len(text))
+        raise NoTest(f"the quoted text that begins at {given.format_line_and_column(text, offset)} is left open", len(text))
     return end + 1

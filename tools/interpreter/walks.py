@@ -47,7 +47,7 @@ def make_x86_start(test: Test) -> State:
 
 
 def list_interleaved_moves(test: Test, state: State) -> Iterator[Move]:
-    """Yields the successors by interleaving on one memory: each store is drained at once."""
+    """Yields the successors of an x86 test's state by interleaving on one memory, each with its event: a store is drained at once."""
     for event, (processors, words) in list_x86_moves(test, state):
         cpu = int(event[1])
         memory = OneMemory(words)
@@ -63,8 +63,8 @@ def make_outcome(state: State) -> Outcome:
 
 
 def explore_states(test: Test, start: State, moves: Callable[[Test, State], Iterator[Move]]) -> tuple[dict[Outcome, State], Origins]:
-    """Walks through all states that a test reaches. Returns all outcomes, each with a final state that has it, and the origin of each state
-    on a shortest way.
+    """Walks through all states that a test reaches from a start; `moves` yields the successors of a state. Returns all outcomes, each with a final
+    state that has it, and the origin of each state on a shortest way.
     """
     origins: Origins = {start: None}
     finals: dict[Outcome, State] = {}

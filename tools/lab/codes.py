@@ -27,7 +27,7 @@ class BadCode(Exception):
     """A fault of a code: the cause, and its place in the text, from 0."""
 
 
-class HandedIn(NamedTuple):
+class CodeContents(NamedTuple):
     """The contents of a code: the mark of the tests, the seed, the student, and the answers on each test: 1 for interleaving, plus 2 for x86."""
 
     mark: int
@@ -48,7 +48,7 @@ def encode_student(student: str) -> list[tuple[int, int]]:
     return [*encode_letters(""), *((BYTES, it + 1) for it in student.encode()), (BYTES, 0)]
 
 
-def encode_digits(handed_in: HandedIn) -> list[tuple[int, int]]:
+def encode_digits(handed_in: CodeContents) -> list[tuple[int, int]]:
     """Returns the digits of a code, each with its base."""
     header = [(MARKS, handed_in.mark), (MAX_TESTS + 1, len(handed_in.answers))]
     return [*header, *encode_letters(handed_in.seed), *encode_student(handed_in.student), *((4, answer) for answer in handed_in.answers)]
@@ -63,7 +63,7 @@ def format_number(number: int, least: int = 0) -> str:
     return text
 
 
-def make_code(handed_in: HandedIn) -> str:
+def make_code(handed_in: CodeContents) -> str:
     """Returns the code of what is handed in."""
     number = 1
     for base, digit in reversed(encode_digits(handed_in)):
@@ -116,7 +116,7 @@ def take_student(digits: Digits) -> str:
         return ""
 
 
-def read_code(line: str) -> HandedIn:
+def read_code(line: str) -> CodeContents:
     """Returns the contents of a line's code. Raises BadCode if it is too long, mistyped, or of no quiz."""
     begin = next((index for index, letter in enumerate(line) if letter not in BETWEEN), 0)
     values = read_symbols(line)
@@ -132,7 +132,7 @@ def read_code(line: str) -> HandedIn:
         raise BadCode("the check sum is wrong: the code is mistyped, or a part of it is missing", begin)
     digits = Digits(number)
     mark, count = digits.take_digit(MARKS), digits.take_digit(MAX_TESTS + 1)
-    handed_in = HandedIn(mark, digits.take_letters(MAX_LETTERS), take_student(digits), [digits.take_digit(4) for _ in range(count)])
+    handed_in = CodeContents(mark, digits.take_letters(MAX_LETTERS), take_student(digits), [digits.take_digit(4) for _ in range(count)])
     if digits.rest != 1 or not (count and handed_in.seed and handed_in.student) or values[0] == 0:
         raise BadCode("the check sum is right, and yet this is no code of a quiz", begin)
     return handed_in

@@ -41,7 +41,7 @@ class NoQuiz(Exception):
     """There is no quiz, and why."""
 
 
-class Asked(NamedTuple):
+class QuizTest(NamedTuple):
     """A test of the quiz: its text, and whether it can end this way by interleaving and on x86."""
 
     text: str
@@ -114,12 +114,12 @@ def list_other_ends(text: str) -> list[str]:
     return other_ends
 
 
-def ask_test(text: str, report: Report) -> Asked:
+def ask_test(text: str, report: Report) -> QuizTest:
     """Returns a test with its verdicts."""
-    return Asked(text, is_possible(make_source_form(text), report), is_possible(text, report))
+    return QuizTest(text, is_possible(make_source_form(text), report), is_possible(text, report))
 
 
-def make_possible_by_interleaving(text: str, random: Random, report: Report) -> Asked:
+def make_possible_by_interleaving(text: str, random: Random, report: Report) -> QuizTest:
     """Returns the test with another end, which is possible by interleaving; unchanged, if there is none."""
     others = list_other_ends(text)
     random.shuffle(others)
@@ -129,7 +129,7 @@ def make_possible_by_interleaving(text: str, random: Random, report: Report) -> 
     return ask_test(text, report)
 
 
-def make_tests(count: int, seed: str, report: Report) -> list[Asked]:
+def make_tests(count: int, seed: str, report: Report) -> list[QuizTest]:
     """Returns the tests of a quiz. The same seed makes the same tests, with any program. Raises NoQuiz if the seed or the count is not allowed."""
     if not re.fullmatch(f"[0-9a-z]{{1,{MAX_SEED_LETTERS}}}", seed):
         raise NoQuiz(f"a seed has up to {MAX_SEED_LETTERS} letters, all small, and digits")
@@ -183,7 +183,7 @@ def hash_tests(texts: list[str], seed: str) -> int:
     return int(hashlib.sha256(json.dumps([seed, texts]).encode()).hexdigest(), 16) % MARKS
 
 
-def make_data(seed: str, tests: list[Asked]) -> Data:
+def make_data(seed: str, tests: list[QuizTest]) -> Data:
     """Returns the contents of a quiz's page. No answer is in plain sight; readers of the page's code can read all."""
     texts = [it.text for it in tests]
     hidden = "".join(SYMBOLS[hash_text(seed + it.text) ^ it.encode_answers()] for it in tests)

@@ -25,7 +25,7 @@ Reason = Dict[str, Union[str, List[str]]]
 def list_asked_schedules(test: plain.Test, start: Callable[[plain.Test], State], moves: Moves) -> list[str]:
     """Returns the schedules to the states in which a test's condition holds, the shortest first."""
     finals, origins = plain.explore_states(test, start(test), moves)
-    holding = [state for outcome, state in finals.items() if plain.is_true(test.proposition, outcome)]
+    holding = [state for outcome, state in finals.items() if plain.is_true_in(test.proposition, outcome)]
     return sorted((plain.make_schedule(it, origins) for it in holding), key=lambda it: (len(it), it))
 
 
@@ -43,7 +43,7 @@ def find_shortest_cycle(test: plain.Test, find: Callable[[executions.Execution],
     """
     cycles = []
     for execution in executions.list_candidates(test, MAX_CANDIDATES):
-        if plain.is_true(test.proposition, execution.make_outcome()):
+        if plain.is_true_in(test.proposition, execution.make_outcome()):
             names, cycle = Names(execution), find(execution)
             assert cycle, f"no run of {test.name} ends this way, and an execution does"
             cycles.append([names.format_event(edge.source).partition(": ")[2] for edge in cycle])

@@ -39,15 +39,15 @@ def list_threads(subject: Subject, knobs: Knobs) -> list[Code]:
     return [assembly.make_stores_nontemporal(code) for code in threads]
 
 
-class Ran(NamedTuple):
+class MeasuredRun(NamedTuple):
     """The sightings of a run, its plan, and the processors on which it ran."""
 
-    seen: runs.Seen
+    seen: runs.Sightings
     plan: Plan
     here: processors.Processors
 
 
-def list_notes(seen: runs.Seen, ran: Ran, settings: Settings) -> list[str]:
+def list_notes(seen: runs.Sightings, ran: MeasuredRun, settings: Settings) -> list[str]:
     """Returns the notes that qualify the sightings of runs, of which one is passed."""
     control = [NONTEMPORAL] * bool(settings.knobs["stores"])
     return control + processors.list_obstacles(ran.here, len(ran.plan.threads)) + runs.list_missing(seen, ran.plan)
@@ -67,11 +67,11 @@ class Laboratory:
         is_scarce = len(processors_here.allowed) < len(threads)
         return Plan(subject, threads, listed, led, placements, processors_here.has_clock, is_scarce, settings.limits, knobs)
 
-    def run(self, subject: Subject, settings: Settings, states: Sequence[Words]) -> Ran:
+    def run(self, subject: Subject, settings: Settings, states: Sequence[Words]) -> MeasuredRun:
         """Runs a test, of which some states are looked for."""
         processors_here = processors.read_processors()
         plan = self.make_plan(subject, settings, states, processors_here)
-        return Ran(runs.run_plan(self.builder.build_program(plan.threads, subject.x86.registers), plan), plan, processors_here)
+        return MeasuredRun(runs.run_plan(self.builder.build_program(plan.threads, subject.x86.registers), plan), plan, processors_here)
 
     def run_and_compare(self, file: str, text: str, settings: Settings) -> Result:
         """Runs a test, and compares it with its list or that of another test."""

@@ -6,19 +6,19 @@ that was seen contradicts them.
 from __future__ import annotations
 
 
-from machine.runs import Seen
+from machine.runs import Sightings
 from machine.subjects import Subject
 
 ASKED = {"exists": "Allowed", "~exists": "Forbidden", "forall": "Required"}
 
 
-def count_runs(subject: Subject, seen: Seen) -> list[int]:
+def count_runs(subject: Subject, seen: Sightings) -> list[int]:
     """Counts the runs in which the proposition was true, and those in which it was not."""
     positive = sum(sight.times for words, sight in seen.states.items() if subject.is_true(words))
     return [positive, sum(sight.times for sight in seen.states.values()) - positive]
 
 
-def format_log(subject: Subject, seen: Seen) -> list[str]:
+def format_log(subject: Subject, seen: Sightings) -> list[str]:
     """Returns the lines of a run's log, in litmus7's form."""
     test = subject.shown
     positive, negative = count_runs(subject, seen)

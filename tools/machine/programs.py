@@ -17,11 +17,11 @@ from c.compiler import choose_compiler
 from c.refused import NoRun
 from c.report import Answer, Names, describe_answer
 from c.source import is_herd_form, read_source
-from herd.convert import Conversion
+from herd.convert import ConvertedTest
 from machine.faults import NotRun
-from machine.laboratory import Laboratory, Ran, Settings, list_notes
+from machine.laboratory import Laboratory, MeasuredRun, Settings, list_notes
 from machine.plans import Limits
-from machine.runs import Seen, Sighting, merge_sights
+from machine.runs import Sightings, Sighting, merge_sights
 from machine.subjects import Listed, Subject, Words, make_list, make_other_list
 from machine.summary import Result, format_contradiction
 from many.files import is_program
@@ -34,7 +34,7 @@ INSTEAD = "What is run is the tests of lw that the program is converted to, and 
 class Part(NamedTuple):
     """One of a program's tests, with its list."""
 
-    conversion: Conversion
+    conversion: ConvertedTest
     subject: Subject
     listed: Listed
 
@@ -59,7 +59,7 @@ def is_converted(file: str, text: str) -> bool:
     return is_program(file) or is_herd_form(text)
 
 
-def make_part(conversion: Conversion) -> Part:
+def make_part(conversion: ConvertedTest) -> Part:
     """Returns a test with its list."""
     subject = Subject(conversion.test, conversion.test, plain.list_observed_sites(conversion.test))
     return Part(conversion, subject, make_list(subject))
@@ -103,7 +103,7 @@ def divide_limits(limits: Limits, count: int) -> Limits:
     return limits._replace(seconds=limits.seconds and limits.seconds / count, runs=-(-limits.runs // count))
 
 
-def run_parts(laboratory: Laboratory, program: Program, settings: Settings) -> Iterator[tuple[Part, Ran]]:
+def run_parts(laboratory: Laboratory, program: Program, settings: Settings) -> Iterator[tuple[Part, MeasuredRun]]:
     """Runs the tests of a program. Until all states are seen, each test is run for those that it lists and that no test before it has shown."""
     part_settings = settings._replace(limits=divide_limits(settings.limits, len(program.parts)))
     seen = set()
@@ -117,7 +117,7 @@ def run_parts(laboratory: Laboratory, program: Program, settings: Settings) -> I
             yield part, ran
 
 
-def merge_seen(done: Sequence[tuple[Part, Ran]]) -> Seen:
+def merge_seen(done: Sequence[tuple[Part, MeasuredRun]]) -> Sightings:
     """Returns the states of the program that were seen in the runs of its tests. Seconds are counted from the start of the first one."""
     states: dict[Words, Sighting] = {}
     seconds = 0.0
@@ -131,10 +131,10 @@ def merge_seen(done: Sequence[tuple[Part, Ran]]) -> Seen:
     facts = {name: max(it[name] for it in all_facts) for name in all_facts[0]}
     facts["switches"] = sum(it["switches"] for it in all_facts)
     facts["is_pinned"] = min(it["is_pinned"] for it in all_facts)
-    return Seen(states, sum(ran.seen.runs for _, ran in done), seconds, facts)
+    return Sightings(states, sum(ran.seen.runs for _, ran in done), seconds, facts)
 
 
-def format_contradictions(done: Sequence[tuple[Part, Ran]], known: Sequence[Words]) -> Iterator[str]:
+def format_contradictions(done: Sequence[tuple[Part, MeasuredRun]], known: Sequence[Words]) -> Iterator[str]:
     """Yields the lines on states of tests that are seen and not listed there, except those that show states of the program that are known."""
     for part, ran in done:
         for words in sorted(set(ran.seen.states) - set(part.listed.states)):

@@ -27,7 +27,7 @@ class Sighting(NamedTuple):
     kind: str
 
 
-class Seen(NamedTuple):
+class Sightings(NamedTuple):
     """The sightings of a run: how each state was seen; the number of runs, the seconds, and the facts that the harness reports."""
 
     states: dict[Words, Sighting]
@@ -47,7 +47,7 @@ def merge_sights(first: Sighting, second: Sighting) -> Sighting:
     return Sighting(first.times + second.times, earlier.first, earlier.kind)
 
 
-def parse_seen(lines: list[str]) -> Seen:
+def parse_seen(lines: list[str]) -> Sightings:
     """Reads what the harness prints. Raises NotRun if its last line is missing."""
     states: dict[Words, Sighting] = {}
     facts: dict[str, int] = {}
@@ -60,7 +60,7 @@ def parse_seen(lines: list[str]) -> Seen:
             states[words] = merge_sights(states[words], sight) if words in states else sight
     if "runs" not in facts:
         raise NotRun("the harness ends without its line of facts")
-    return Seen(states, facts.pop("runs"), facts.pop("microseconds") / 1e6, facts)
+    return Sightings(states, facts.pop("runs"), facts.pop("microseconds") / 1e6, facts)
 
 
 def choose_patience(plan: Plan) -> float | None:
@@ -75,7 +75,7 @@ def explain_status(status: int, printed: bytes) -> str:
     return read_last_line(printed)
 
 
-def run_plan(program: str, plan: Plan) -> Seen:
+def run_plan(program: str, plan: Plan) -> Sightings:
     """Runs the program of a test by a plan. Raises NotRun if it does not start, fails, or does not end in time."""
     patience = choose_patience(plan)
     try:
@@ -91,7 +91,7 @@ def run_plan(program: str, plan: Plan) -> Seen:
     return parse_seen(ran.stdout.decode().splitlines())
 
 
-def list_missing(seen: Seen, plan: Plan) -> list[str]:
+def list_missing(seen: Sightings, plan: Plan) -> list[str]:
     """Returns what was missing in a run, each in a sentence."""
     facts, sentences = seen.facts, []
     lost = facts["switches"] / seen.seconds if seen.seconds else 0.0

@@ -41,7 +41,7 @@ class Subject(NamedTuple):
 
     def is_true(self, words: Words) -> bool:
         """Returns whether the proposition is true in a state."""
-        return plain.is_true(self.shown.proposition, plain.make_outcome_from_words(self.shown, words))
+        return plain.is_true_in(self.shown.proposition, plain.make_outcome_from_words(self.shown, words))
 
 
 class Listed(NamedTuple):

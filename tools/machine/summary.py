@@ -5,7 +5,7 @@ from collections.abc import Sequence
 from typing import NamedTuple
 
 from machine import logs
-from machine.runs import Seen
+from machine.runs import Sightings
 from machine.subjects import Listed, Subject, Words
 
 MAX_RARE_STATES = 3
@@ -20,7 +20,7 @@ class Result(NamedTuple):
     file: str
     subject: Subject
     listed: Listed
-    seen: Seen
+    seen: Sightings
     processors: int
     against: str = ""
     notes: Sequence[str] = ()
@@ -71,7 +71,7 @@ def format_summary(result: Result) -> list[str]:
     return [*lines, *(format_contradiction(seen, words, result.subject.format_state(words)) for words in result.list_not_listed()), *result.others]
 
 
-def format_contradiction(seen: Seen, words: Words, line: str) -> str:
+def format_contradiction(seen: Sightings, words: Words, line: str) -> str:
     """Returns the line on a state that is not listed."""
     sight = seen.states[words]
     return f"  {NOT_LISTED}: {sight.times} of {seen.runs}, first after {sight.first:.3f} s {sight.kind}: {line}"

@@ -9,11 +9,11 @@ TYPE_CHECKING = False
 if TYPE_CHECKING:
     from collections.abc import Callable
 
-    from many.rows import Answered, Row
+    from many.rows import FileAnswer, Row
     from shared.logs import ListedTests, State
 
 
-def read_lists_and_log(answers: list[Answered], name: str) -> tuple[ListedTests, dict[str, set[State]]]:
+def read_lists_and_log(answers: list[FileAnswer], name: str) -> tuple[ListedTests, dict[str, set[State]]]:
     """Returns the states of each test that is listed here, and of each that is in a log."""
     from shared import logs
 
@@ -29,7 +29,7 @@ def read_lists_and_log(answers: list[Answered], name: str) -> tuple[ListedTests,
         return lists, logs.read_states(file)
 
 
-def report_differences(answers: list[Answered], name: str) -> int:
+def report_differences(answers: list[FileAnswer], name: str) -> int:
     """Reports what differs from a log. Returns the exit status."""
     from shared import logs
 
@@ -41,7 +41,7 @@ def report_differences(answers: list[Answered], name: str) -> int:
     return 1 if differences else 0
 
 
-def report_machine_log(answers: list[Answered], name: str) -> int:
+def report_machine_log(answers: list[FileAnswer], name: str) -> int:
     """Reports the tests of which a machine showed a state that is not listed. Returns the exit status."""
     from shared import logs
 
@@ -59,7 +59,7 @@ def report_machine_log(answers: list[Answered], name: str) -> int:
     return SEEN_AND_NOT_LISTED if contradicting else 1 if not_compared or not common else 0
 
 
-def can_be_run(answer: Answered) -> bool:
+def can_be_run(answer: FileAnswer) -> bool:
     """Returns whether an answer can be run: that of a program, or of one test of lw, as it is or converted, whose runs are all runs."""
     converted = answer.row.converted
     is_one_test = converted is None or converted.startswith("from_c.py") or len(answer.tests) == 1 and not answer.tries
@@ -67,7 +67,7 @@ def can_be_run(answer: Answered) -> bool:
 
 
 def add_seen_column(
-    answers: list[Answered], seconds: float, report: Callable[[str], None], compiler: str | None, tries: int
+    answers: list[FileAnswer], seconds: float, report: Callable[[str], None], compiler: str | None, tries: int
 ) -> tuple[list[Row], int]:
     """Runs each answer's test on this machine, if anything can be run. Returns the rows with what was seen, and the exit status. Files that are
     refused are not run, nor such as are converted from herd's form to several tests."""

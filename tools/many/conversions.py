@@ -72,7 +72,7 @@ def describe_no_run(tries: int) -> str:
     return f"no run goes through every loop within {tries} tr{'ies' if tries != 1 else 'y'}"
 
 
-def answer_file(choices: Choices, job: tuple[str, spawn.Run | None]) -> rows.Answered:
+def answer_file(choices: Choices, job: tuple[str, spawn.Run | None]) -> rows.FileAnswer:
     """Returns the answer of a file, of which lw's run is known if it was asked."""
     file, run = job
     try:
@@ -95,7 +95,7 @@ def answer_file(choices: Choices, job: tuple[str, spawn.Run | None]) -> rows.Ans
 # Tests in herd's form.
 
 
-def answer_test(file: str, text: str, choices: Choices, run: spawn.Run) -> rows.Answered:
+def answer_test(file: str, text: str, choices: Choices, run: spawn.Run) -> rows.FileAnswer:
     """Returns the answer of a test that lw refuses: converted from herd's form, or refused."""
     clock, fault_offset = Clock(), batch.find_fault(text)
     if fault_offset is None:
@@ -120,7 +120,7 @@ def answer_test(file: str, text: str, choices: Choices, run: spawn.Run) -> rows.
         report = answers.format_no_verdict(result.conversions[0].question, describe_no_run(choices.tries))
     row = rows.make_row(file, report, clock.measure_seconds(), choose_method(it.by for it in test_answers))
     tests = [(from_herd.write_converted_text(result, it), answer.text) for it, answer in zip(result.conversions, test_answers)]
-    return rows.Answered(row._replace(converted=description, notes=list(notes)), report, tests, result.tries)
+    return rows.FileAnswer(row._replace(converted=description, notes=list(notes)), report, tests, result.tries)
 
 
 def choose_fault(file: str, text: str, run: spawn.Run, lw_offset: int, fault: given.Fault) -> str:
@@ -140,7 +140,7 @@ def choose_fault(file: str, text: str, run: spawn.Run, lw_offset: int, fault: gi
 # Programs.
 
 
-def answer_program(file: str, text: str, choices: Choices) -> rows.Answered:
+def answer_program(file: str, text: str, choices: Choices) -> rows.FileAnswer:
     """Returns the answer of a program, by the compiler that is chosen, or by that of tools/from_c.py."""
     import from_c
     from c.compiler import choose_compiler
@@ -157,7 +157,7 @@ def answer_program(file: str, text: str, choices: Choices) -> rows.Answered:
     except NoRun as why:
         report = from_c.format_no_run(source, why.cause)
         row = rows.make_row(file, report, clock.measure_seconds(), None)
-        return rows.Answered(row._replace(converted=description), report, [], choices.tries)
+        return rows.FileAnswer(row._replace(converted=description), report, [], choices.tries)
     except Refused as why:
         return rows.make_refusal(file, why.format_line(file), description)
     tries = choices.tries if answer.bounded else 0
@@ -165,4 +165,4 @@ def answer_program(file: str, text: str, choices: Choices) -> rows.Answered:
     row = rows.make_row(file, report, clock.measure_seconds(), choose_method(answer.makers))
     description = f"{description}: {describe_tests(len(answer.tests), tries)}"
     notes = [f"{file}: note: {note}" for note in answer.notes]
-    return rows.Answered(row._replace(converted=description, notes=notes), report, [], tries)
+    return rows.FileAnswer(row._replace(converted=description, notes=notes), report, [], tries)

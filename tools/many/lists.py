@@ -53,7 +53,7 @@ def run_tests(files: list[str], report: Callable[[str], None]) -> list[tuple[spa
 
 def convert_and_answer(
     jobs: list[tuple[str, spawn.Run | None]], choices: Choices, report: Callable[[str], None]
-) -> list[rows.Answered]:
+) -> list[rows.FileAnswer]:
     """Returns the answers of files that are converted before, side by side. A job is a file, and why lw refuses it, if it was asked."""
     if not jobs:
         return []
@@ -72,7 +72,7 @@ def convert_and_answer(
     return done
 
 
-def answer_all(files: list[str], choices: Choices, report: Callable[[str], None]) -> list[rows.Answered]:
+def answer_all(files: list[str], choices: Choices, report: Callable[[str], None]) -> list[rows.FileAnswer]:
     """Returns the answers of all files, in their sequence. Tests that lw does not read are converted, if they are in herd's form."""
     tests = [index for index, file in enumerate(files) if not is_program(file)]
     runs = dict(zip(tests, run_tests([files[index] for index in tests], report)))

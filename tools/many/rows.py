@@ -17,7 +17,7 @@ Row = namedtuple("Row", "file name asked verdict observation states milliseconds
 ALWAYS, MORE = Row._fields[:8], Row._fields[8:11]
 # A file's answer: its row, its report, and its tests of lw with their reports, if it was converted from herd's form; whether its loops have a
 # limit of tries. The report of a file that is refused is empty.
-Answered = namedtuple("Answered", "row report tests tries")
+FileAnswer = namedtuple("FileAnswer", "row report tests tries")
 
 
 def format_name(file: str) -> str:
@@ -42,17 +42,17 @@ def make_row(file: str, report: str, seconds: float, method: str | None) -> Row:
     return Row(file, name, question, verdict, observation, states, milliseconds, method, None, None, None, [], lines[2 : 2 + states])
 
 
-def make_answer(run: spawn.Run, method: str) -> Answered | None:
+def make_answer(run: spawn.Run, method: str) -> FileAnswer | None:
     """Returns the answer of a run that has a report. `None` if the run has none."""
     if run.status != 0 or len(run.out.splitlines()) < 6:
         return None
-    return Answered(make_row(run.file, run.out, run.seconds, method), run.out, [], 0)
+    return FileAnswer(make_row(run.file, run.out, run.seconds, method), run.out, [], 0)
 
 
-def make_refusal(file: str, line: str, converted: str | None = None, notes: tuple = ()) -> Answered:
+def make_refusal(file: str, line: str, converted: str | None = None, notes: tuple = ()) -> FileAnswer:
     """Returns the answer of a file that has none, of which a line `FILE:LINE:COLUMN: cause` says why."""
     cause = line[len(file) + 1 :].strip() if line.startswith(f"{file}:") else line
-    return Answered(make_refused_row(file, cause, converted, notes), "", [], 0)
+    return FileAnswer(make_refused_row(file, cause, converted, notes), "", [], 0)
 
 
 def format_refusal(row: Row) -> str:

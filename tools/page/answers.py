@@ -65,7 +65,7 @@ def list_states(test: Test) -> Listed:
     """Returns the states of a test."""
     states = plain.collect_states(test, plain.list_outcomes(test))
     names = [plain.format_site(test, it) for it in plain.list_observed_sites(test)]
-    return Listed(names, [(list(words), plain.is_true(test.proposition, outcome)) for words, outcome in states])
+    return Listed(names, [(list(words), plain.is_true_in(test.proposition, outcome)) for words, outcome in states])
 
 
 def find_missing(test: Test, listed: Listed) -> list[int] | None:

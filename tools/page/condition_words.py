@@ -72,7 +72,7 @@ def describe_thread(test: Test, atoms: list[Atom]) -> str:
     return " and ".join(parts)
 
 
-def join_threads(said: list[tuple[int, str]]) -> list[str]:
+def make_thread_phrases(said: list[tuple[int, str]]) -> list[str]:
     """Returns a phrase for each thread, of which `said` has what it does, and one for all threads that end with the same words."""
     phrases = []
     for thread, words in said:
@@ -91,7 +91,7 @@ def describe_alternative(test: Test, atoms: list[Atom]) -> str:
         atoms_of_thread = [it for it in atoms if isinstance(it.site, RegisterSite) and it.site.thread == thread]
         if atoms_of_thread:
             said.append((thread, describe_thread(test, atoms_of_thread)))
-    phrases = join_threads(said)
+    phrases = make_thread_phrases(said)
     words = [format_atom(format_site(test, it.site), it) for it in atoms if isinstance(it.site, LocationSite)]
     if words:
         phrases.append(f"memory ends with {' and '.join(words)}")

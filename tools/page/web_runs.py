@@ -35,7 +35,7 @@ WITH_SERVER = ["setpriv", "--pdeathsig", "KILL"]
 PAUSE = 0.1
 
 
-class Ran(NamedTuple):
+class EndedRun(NamedTuple):
     """A process that has ended: its status, which is negative if a signal ended it, and what it printed on both streams."""
 
     status: int
@@ -99,7 +99,7 @@ class Runs:
             why = complaint.decode("utf-8", "replace").rstrip("\n").rpartition("\n")[2] or f"it ended with status {status}"
             raise NoRun(500, f"The test was not run on this machine: {why}") from None
 
-    def run_process(self, arguments: list[str], text: bytes, connection: socket.socket, places: threading.BoundedSemaphore) -> Ran:
+    def run_process(self, arguments: list[str], text: bytes, connection: socket.socket, places: threading.BoundedSemaphore) -> EndedRun:
         """Runs a command on a text, once there is a place for it. Gone is raised if the connection is closed meanwhile."""
         wait_for_place(places, connection)
         try:
@@ -191,7 +191,7 @@ class Communication:
             self.ready.register(stream, selectors.EVENT_READ)
         os.set_blocking(self.input.fileno(), False)
 
-    def communicate(self, text: bytes) -> Ran:
+    def communicate(self, text: bytes) -> EndedRun:
         """Gives the text to the process, and returns its status and what it prints, to the end of both streams. Raises Gone if the client has gone or
         says more, and NoRun if the time is over or the answer too long.
         """
@@ -205,7 +205,7 @@ class Communication:
                         raise Gone
                     elif not self.read_part(key.fileobj):
                         open_streams -= 1
-        return Ran(self.wait_for_status(), *map(bytes, self.heard.values()))
+        return EndedRun(self.wait_for_status(), *map(bytes, self.heard.values()))
 
     def wait_for_streams(self) -> list[tuple[selectors.SelectorKey, int]]:
         """Returns which streams are ready. Raises NoRun if the time is over."""

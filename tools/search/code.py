@@ -24,7 +24,7 @@ class ThreadState(NamedTuple):
 
 
 class Code:
-    """A thread's statements, with what each position still needs."""
+    """A thread's statements, with what each position still needs: what of the thread's state may matter for the rest of the run."""
 
     def __init__(self, test: Test, thread: int) -> None:
         """Computes, from the end of a thread back, what each of its positions needs."""
@@ -60,7 +60,7 @@ class Code:
                 masks[position] |= 1 << statement.location
 
     def waits(self, state: ThreadState) -> bool:
-        """Returns whether the next statement waits for an empty store buffer."""
+        """Returns whether the next statement, which the thread must have, has to wait, since it needs an empty store buffer."""
         return bool(state.buffer) and self.statements[state.position].kind in ("mfence", "xchg", "xadd")
 
     def run_locally(self, state: ThreadState) -> tuple[ThreadState, int]:

@@ -20,12 +20,14 @@ State = Tuple[int, ...]
 Move = Tuple[int, int, int, int, int]
 
 
-class Found(NamedTuple):
-    """The result of a search: for each final state the observed words, and a schedule; whether it is complete; the number of states."""
+class SearchResult(NamedTuple):
+    """The result of a search: a schedule to each final state, by the words of the observed sites; whether all states were explored; and the number of
+    states that were found, explored or not.
+    """
 
     schedules: dict[tuple[int, ...], str]
     is_whole: bool
-    seen: int
+    state_count: int
 
 
 def make_drain(node: ThreadNode) -> Move:
@@ -41,13 +43,15 @@ class Search:
         """Starts a search with the start of a test as its only state."""
         self.test = test
         self.threads = [Thread(test, number) for number in range(len(test.threads))]
-        self.memories: dict[tuple[int, ...], int] = {test.words: 0}
+        # All contents of memory that were found, by their indices, and the index of each.
         self.words: list[tuple[int, ...]] = [test.words]
-        self.stored: dict[tuple[int, int, int], int] = {}
+        self.memories: dict[tuple[int, ...], int] = {test.words: 0}
+        self.stored: dict[tuple[int, int, int], int] = {}  # the memory after another one, a location, and a word that is stored there
         start = (0, *(thread.start for thread in self.threads))
         self.numbers: dict[State, int] = {start: 0}
         self.states: list[State] = [start]
-        # For each state, except the start, the number of the one before, a thread, a kind of move, and the number of statements.
+        # For each state, except the start, the index of the state before it, and of the move between them the thread, the kind, and the number of
+        # statements executed.
         self.origins: list[tuple[int, int, int, int]] = [(0, 0, STEP, 0)]
 
     def replace_word(self, memory: int, location: int, word: int) -> int:
@@ -64,7 +68,7 @@ class Search:
         return after
 
     def make_step(self, thread: Thread, node: ThreadNode, words: tuple[int, ...]) -> Move:
-        """Returns the step of a thread."""
+        """Returns the step of a thread, which has one, in a memory with these words."""
         kind, location = node.kind, node.location
         if kind == FORWARD:
             return (STEP, -1, 0) + node.end
@@ -105,7 +109,7 @@ class Search:
         watched = writes if node.kind in (FORWARD, LOAD) else reads | writes
         return None if watched >> node.location & 1 else self.make_step(self.threads[index], node, words)
 
-    def explore(self, max_states: int, report: Callable[[int, int], None]) -> Found:
+    def explore(self, max_states: int, report: Callable[[int, int], None]) -> SearchResult:
         """Explores at most `max_states` states. Calls `report` from time to time with the numbers of the explored and of the known states."""
         explored = 0
         finals: dict[tuple[int, ...], int] = {}
@@ -126,7 +130,7 @@ class Search:
             if not explored & 0x3FFF:
                 report(explored, len(self.states))
         is_whole = explored == len(self.states)
-        return Found({words: self.make_schedule(number) for words, number in finals.items()}, is_whole, len(self.states))
+        return SearchResult({words: self.make_schedule(number) for words, number in finals.items()}, is_whole, len(self.states))
 
     def read_word(self, state: State, site: plain.Site) -> int:
         """Returns the word of a site in a final state."""

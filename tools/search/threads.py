@@ -8,7 +8,7 @@ from search.code import Code, ThreadState
 
 # Kinds of steps: none, a load that is forwarded from the own newest store, a load, a store to memory, and an exchange.
 NONE, FORWARD, LOAD, STORE, EXCHANGE = range(5)
-# A move's end: the index of the node after it, and the number of statements executed.
+# The end of a move: the index of the node after it, and the number of statements executed, local ones included.
 End = Tuple[int, int]
 
 
@@ -18,7 +18,7 @@ class ThreadNode:
     __slots__ = ("state", "kind", "location", "word", "end", "ends", "drain", "reads", "writes")
 
     def __init__(self, state: ThreadState, code: Code) -> None:
-        """Makes a node whose moves are not known yet: Thread.fill computes them."""
+        """Makes a node whose moves are not known yet: Thread.compute_moves computes them."""
         self.state = state
         self.kind = NONE
         self.location = 0
@@ -54,7 +54,8 @@ class Thread:
         return self.numbers[state], steps + local_steps
 
     def compute_moves(self, node: ThreadNode) -> None:
-        """Computes the moves of a node."""
+        """Computes the moves of a node, and the nodes that they reach. The end of a load or an exchange depends on the word that it finds: `finish_read`
+        computes it."""
         state = node.state
         if state.buffer:
             location, word = state.buffer[0]
@@ -80,9 +81,7 @@ class Thread:
         return ThreadState(state.position + 1, registers, state.zero if zero is None else zero, state.buffer)
 
     def finish_read(self, node: ThreadNode, word: int) -> tuple[int, int, int]:
-        """Returns what a load or an exchange does that finds a word: the word after it in memory, the index of the node after it, and the
-        number of statements.
-        """
+        """Returns what a load or an exchange does that finds a word: the word after it in memory, and its end. Records it in the node's `ends`."""
         statement, state, new = self.code.statements[node.state.position], node.state, word
         zero = None
         if node.kind == EXCHANGE:

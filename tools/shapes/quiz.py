@@ -127,7 +127,7 @@ def format_reason(question: Question) -> str:
 def format_answer(question: Question, number: int) -> str:
     """Returns the answer to a question, for a teacher."""
     finals, origins = plain.explore_states(question.test, plain.make_x86_start(question.test), plain.list_x86_moves)
-    holding = [outcome for outcome in sorted(finals) if plain.is_true(question.test.proposition, outcome)]
+    holding = [outcome for outcome in sorted(finals) if plain.is_true_in(question.test.proposition, outcome)]
     yes_or_no = "Yes" if question.is_allowed else "No"
     lines = [f"{number}. {yes_or_no}. {LEVELS[question.level]}. {question.name}: {question.cycle}", f"   {format_reason(question)}."]
     if holding:

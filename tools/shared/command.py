@@ -111,4 +111,4 @@ def for_one(tool: str, name: str, work: Callable[[str, str], int | None]) -> int
 
 def format_note(name: str, text: str, offset: int, says: str) -> str:
     """Returns a line for standard error that says something about a position in a text, and is no fault."""
-    return f"{name}:{given.format_place(text, offset)}: note: {says}"
+    return f"{name}:{given.format_line_and_column(text, offset)}: note: {says}"

@@ -108,10 +108,14 @@ def do_overlap(first: Box, second: Box) -> bool:
 
 
 class GraphLayout:
-    """A layout: `texts` are those of the events, `edges` what is drawn, `initial` the reads of the initial word."""
+    """The layout of a picture: the boxes of events, the routes of edges (`routes`) and of arrows from initial words (`starts`), and the places of
+    labels.
+    """
 
     def __init__(self, execution: Execution, texts: dict[Event, str], edges: Sequence[Edge], initial: Sequence[Event]) -> None:
-        """Lays the picture of an execution out: upright, or if it has many threads and is wide, turned if that is much narrower."""
+        """Lays the picture of an execution out: upright, or if it has many threads and is wide, turned if that is much narrower. `texts` are those of
+        the events, `edges` what is drawn, `initial` the reads of the initial word.
+        """
         events = execution.list_events()
         self.threads = [[it for it in events if it.thread == thread] for thread in range(len(execution.paths))]
         self.rows = {event: row for thread in self.threads for row, event in enumerate(thread)}
@@ -128,8 +132,8 @@ class GraphLayout:
             self.place_threads_closely(self.size[0])
         self.sort_ends()
         self.taken = [(*self.find_corner(it), *self.box) for it in events] + [self.make_title_box(thread) for thread in range(len(self.threads))]
-        # For each route points along its arrow.
-        self.passed = {it.number: self.sample_arrow(it) for it in [*self.routes, *self.starts]}
+        # For each route, by its number, points along its arrow.
+        self.arrow_points = {it.number: self.sample_arrow(it) for it in [*self.routes, *self.starts]}
 
     # Which way an edge goes.
 
@@ -151,13 +155,13 @@ class GraphLayout:
         return self.record_ends(route, 1, 0) if start < end else self.record_ends(route, 0, 1)
 
     def count_routes_of_pair(self, *events: Event) -> int:
-        """Returns how many edges go around a side between the same two events already."""
+        """Counts one more edge that goes around a side between two events. Returns how many such edges there were before it."""
         key = tuple(sorted(events))
         self.pairs[key] = self.pairs.get(key, -1) + 1
         return self.pairs[key]
 
     def record_ends(self, route: Route, source_side: int, target_side: int) -> Route:
-        """Notes at which sides of its events a route ends: 0 is that of the thread before, 1 that of the thread after."""
+        """Records at which sides of its events a route ends: 0 is that of the thread before, 1 that of the thread after. Returns the route."""
         route.sides = source_side, target_side
         self.ends.setdefault((route.source, source_side), []).append((route, 0))
         self.ends.setdefault((route.target, target_side), []).append((route, 1))
@@ -216,7 +220,7 @@ class GraphLayout:
         return self.to_picture(self.find_spot(event))
 
     def find_title(self, thread: int) -> Point:
-        """Returns the start of a thread's name, at its base."""
+        """Returns the point at which the name of a thread starts, on its base line."""
         return (EDGE, self.lefts[thread] + BASE) if self.is_turned else (self.lefts[thread], EDGE + LINE - 4)
 
     def make_title_box(self, thread: int) -> Box:
@@ -233,11 +237,11 @@ class GraphLayout:
     # Where on the side of its box an edge ends.
 
     def sort_ends(self) -> None:
-        """Puts the ends at each side of a box apart, in the order of their sources."""
+        """Sets the ports of all routes: at each side of a box its ends are evenly apart, in the order of the places from which they come."""
         middle = lambda event: self.find_spot(event)[1] + self.deep / 2
 
         def sort_key(item: tuple[Route, int]) -> tuple[float, int]:
-            """Returns the source of an end, and the number of its route."""
+            """Returns the place from which an end comes, along program order, and the number of its route."""
             route, end = item
             position = self.find_lane(route) if route.way == "lane" else middle(route.source if end else route.target)
             return position, route.number
@@ -281,7 +285,7 @@ class GraphLayout:
 
     def place_label(self, route: Route, letters: int) -> Point:
         """Returns the middle of a label of `letters` letters, near an edge: inside the picture, over no box and no other label, and over
-        no arrow of another edge, if there is such a place.
+        no arrow of another edge, if there is such a place. Later labels stay off this one.
         """
         width = letters * LETTER + APART
         spots = self.list_label_spots(route, width)
@@ -298,11 +302,11 @@ class GraphLayout:
         return is_inside and not any(do_overlap(box, it) for it in self.taken)
 
     def count_crossed_arrows(self, box: Box, route: Route) -> int:
-        """Returns how many arrows pass below a label of a route: those of other routes, and its own if that has its head there."""
+        """Counts the arrows that pass below the box of a route's label: those of other routes, and its own if the head of that is there."""
         x, y, width, height = box
         is_in = lambda point: x - CLEAR < point[0] < x + width + CLEAR and y - CLEAR < point[1] < y + height + CLEAR
-        others = sum(any(map(is_in, points)) for number, points in self.passed.items() if number != route.number)
-        end = self.passed[route.number][-1]
+        others = sum(any(map(is_in, points)) for number, points in self.arrow_points.items() if number != route.number)
+        end = self.arrow_points[route.number][-1]
         return others + do_overlap(box, (end[0] - HEAD, end[1] - HEAD, 2 * HEAD, 2 * HEAD))
 
     def sample_arrow(self, route: Route) -> list[Point]:

@@ -6,7 +6,7 @@ from collections.abc import Iterable, Iterator
 from typing import FrozenSet, NamedTuple
 
 import given
-from herd.origin import Translated, add_states, read_origin
+from herd.origin import TranslatedStates, add_states, read_origin
 from herd.registers import parse_register
 from shared import answers
 
@@ -118,7 +118,7 @@ def is_log_of_converted(own: Listed, original: Listed, seen: set[State]) -> bool
 def collect_lists(reports: Iterable[tuple[str, str]]) -> ListedTests:
     """Returns the states of reports of lw, each with the text of its test."""
     tests = ListedTests({}, {}, {})
-    translations: dict[str, Translated] = {}
+    translations: dict[str, TranslatedStates] = {}
     for text, report in reports:
         for name, states in read_states(report.splitlines()).items():
             is_other = name in tests.own and tests.own[name].states != states

@@ -70,7 +70,7 @@ def number_of(subjects: Iterable[type[PageCase]]) -> int:
 def make_comparisons(
     address: str, subjects: Iterable[type[PageCase]], where: str = "in a browser", start: Start | None = None
 ) -> Iterator[Comparison]:
-    """Returns all comparisons on the page at an address, for tools/check_documents.py: what is compared, what is expected, and what was
+    """Yields all comparisons on the page at an address, for tools/check_documents.py: what is compared, what is expected, and what was
     found.
     """
     with tempfile.TemporaryDirectory(prefix="lw-browser-") as room:
@@ -84,7 +84,7 @@ def make_comparisons(
 
 
 def try_twice(suite: unittest.TestSuite, where: str) -> Iterator[Comparison]:
-    """Returns the comparisons of tests. A test that fails is printed and run once more."""
+    """Yields the comparisons of tests. A test that fails is printed and run once more."""
     tests = list(suite)
     for test in tests:
         assert isinstance(test, PageCase)

@@ -40,7 +40,7 @@ new MutationObserver(record).observe(place, { childList: true, subtree: true, ch
 Driver = Any
 # Starts a browser that saves files in a folder.
 Start = Callable[..., Driver]
-Found = TypeVar("Found")
+FoundValue = TypeVar("FoundValue")
 
 
 class Element(Protocol):
@@ -180,7 +180,7 @@ class User:
         """Returns the first element that is shown, once there is one."""
         return self.wait(lambda: next(iter(self.all(css)), None), css)
 
-    def wait(self, condition: Callable[[], Found | None], description: str = "a condition") -> Found:
+    def wait(self, condition: Callable[[], FoundValue | None], description: str = "a condition") -> FoundValue:
         """Waits until a condition returns something that counts as true, and returns that. Raises TimeoutError with the description if it
         does not.
         """
