@@ -10,7 +10,7 @@ It calls the static library of crates/lw_library by ctypes, as a shared object:
     cc -shared -o liblw.so -Wl,--whole-archive crates/lw_library/out/liblw_library.a -Wl,--no-whole-archive
 
 The bytes of `Workbench.run` are the program's. What is read from them here (reports, states, schedules) is not proved: a text of
-another form than the program's is refused. A fault is an exception, which tells of a fault of the text its line and its column.
+another form than the program's is refused. A fault is an exception, which has the line and the column of a fault of the text.
 
 A test is bytes, as a file opened in mode "rb" gives them, and no `str`: faults count its bytes. A schedule is bytes, or a `str`, which is
 taken as UTF-8. Other arguments raise TypeError or ValueError, and nothing is called.
@@ -46,19 +46,23 @@ REPORT = re.compile(
 
 
 class _Memory(ctypes.Structure):
+    """`struct lw_memory` of include/lw.h."""
+
     _fields_ = [("at", ctypes.c_void_p), ("size", ctypes.c_size_t)]
 
 
 class _CallResult(ctypes.Structure):
+    """`struct lw_told` of include/lw.h."""
+
     _fields_ = [("status", ctypes.c_uint32), ("kind", ctypes.c_uint32), ("length", ctypes.c_size_t)]
 
 
 class Fault(Exception):
-    """Why there is no answer: the program's line and exit status.
+    """Why there is no answer: the program's line (`told`) and exit status.
 
-    `kind` is text, cell, schedule or limit, or memory, or read, or budget; if there is a cause, `number` and `cause` name it, and `number` is
-    the budget of a search that exceeds it. `at` is the
-    byte of the text or of the schedule that is refused, and `line` and `column` its place, counted from 1, in bytes.
+    `kind` is text, cell, schedule, limit, memory, read or budget, or None if the line has another form. If there is a cause, `number` and `cause` are
+    its number and its name; if a search exceeds its budget, `number` is the budget. `at` is the byte of the text or of the schedule that is refused,
+    and `line` and `column` its place, counted from 1, in bytes; they are None if no byte is refused.
     """
 
     def __init__(self, told, status, text=b"", schedule=b""):
@@ -76,7 +80,7 @@ class Fault(Exception):
 
 
 class State(NamedTuple):
-    """A state of a list: the value of each observed name, in the report's order."""
+    """A state of a list: pairs of an observed name and its value, in the report's order. `state[name]` is the value of a name."""
 
     values: tuple
 
@@ -116,16 +120,18 @@ class Report:
     text: bytes
 
 
-def _state(line):
-    """Returns the state of a line."""
+def _parse_state(line):
+    """Returns the state of a report's line. Raises ValueError if the line is none."""
     found = re.findall(r"(\S+)=([0-9]+);", line)
     if " ".join(f"{name}={value};" for name, value in found) != line:
         raise ValueError(f"no state: {line!r}")
     return State(tuple((name, int(value)) for name, value in found))
 
 
-def _lines_of(made, what):
-    """Returns the lines of some bytes, and the number of states in the second one."""
+def _split_lines(made, what):
+    """Returns the lines of what the library has made, and the number of states that the second one says. Raises ValueError, which names `what` is
+    expected, if it says none.
+    """
     lines = made.decode("ascii").split("\n")
     count = re.fullmatch(r"States ([0-9]+)", lines[1]) if len(lines) > 1 else None
     if not count or lines[-1]:
@@ -134,46 +140,46 @@ def _lines_of(made, what):
 
 
 def report_of(made):
-    """Returns the report that some bytes are."""
-    lines, count = _lines_of(made, "report")
+    """Returns the report that the bytes of a report are read as. Raises ValueError if they are none."""
+    lines, count = _split_lines(made, "report")
     found = REPORT.fullmatch("\n".join([lines[0], *lines[2 + count :]]))
     if not found:
         raise ValueError("no report")
     positive, negative = int(found["positive"]), int(found["negative"])
     if positive + negative != count or found["numbers"] != f"{positive} {negative}" or found["same"] != found["name"]:
         raise ValueError("a report that contradicts itself")
-    states = tuple(_state(it) for it in lines[2 : 2 + count])
+    states = tuple(_parse_state(it) for it in lines[2 : 2 + count])
     verdict, condition, observation = found["verdict"], found["condition"], found["observation"]
     return Report(found["name"], found["question"], states, verdict, positive, negative, condition, observation, made)
 
 
 def schedules_of(made):
-    """Returns the states and schedules that some bytes list."""
-    lines, count = _lines_of(made, "list of schedules")
+    """Returns the states and schedules that some bytes list. Raises ValueError if they are no list of schedules."""
+    lines, count = _split_lines(made, "list of schedules")
     if not re.fullmatch(r"Test \S+", lines[0]) or len(lines) != 2 + 2 * count:
         raise ValueError("no list of schedules")
     pairs = zip(lines[2::2], lines[3::2])
-    return [Schedule(_state(state), words.strip()) for state, words in pairs]
+    return [Schedule(_parse_state(state), words.strip()) for state, words in pairs]
 
 
 def marks_of(made):
-    """Returns the states that some bytes list, each with whether the proposition is true in it."""
+    """Returns the states that some bytes list, each with whether the proposition is true in it. Raises ValueError if they are no list of marks."""
     lines = made.decode("ascii").split("\n")
     if lines.pop() or any(line[:2] not in ("+ ", "- ") for line in lines):
         raise ValueError("no list of marks")
-    return [Mark(_state(line[2:]), line[0] == "+") for line in lines]
+    return [Mark(_parse_state(line[2:]), line[0] == "+") for line in lines]
 
 
-def _pages_of(film):
-    """Returns the pages of a film. Each is followed by an empty line, and has none."""
+def _split_pages(film):
+    """Returns the pages of a film's bytes. Each is followed by an empty line, and has none inside. Raises ValueError if the last one is not."""
     pages = film.decode("ascii").split("\n\n")
     if pages.pop():
         raise ValueError("no film")
     return [f"{page}\n".encode() for page in pages]
 
 
-def _bytes_of(text):
-    """Returns a test as bytes."""
+def _require_bytes(text):
+    """Returns a test as bytes. Raises TypeError if it has none."""
     if isinstance(text, str):
         raise TypeError("a test has to be bytes, and not str: open its file in mode 'rb', or encode it")
     if not isinstance(text, (bytes, bytearray, memoryview)):
@@ -181,8 +187,10 @@ def _bytes_of(text):
     return bytes(text)
 
 
-def _schedule_of(command, schedule, protocol):
-    """Returns the bytes of a schedule and the number of a protocol, as a command takes them: none unless it is a replay."""
+def _make_replay_arguments(command, schedule, protocol):
+    """Returns the bytes of a schedule and the number of a protocol, as a replay takes them; nothing for another command. Raises ValueError or TypeError
+    if the command does not exist or takes other arguments.
+    """
     if command not in COMMANDS:
         raise ValueError(f"no command: {command!r}; there are {', '.join(COMMANDS)}")
     if command != "replay":
@@ -198,15 +206,15 @@ def _schedule_of(command, schedule, protocol):
     return (schedule.encode() if isinstance(schedule, str) else schedule, PROTOCOLS[protocol or "mesi"])
 
 
-def _version_of(calls):
-    """Returns the version of a library that is loaded."""
-    calls.lw_version.argtypes, calls.lw_version.restype = [], ctypes.c_uint32
-    return "{}.{}".format(*divmod(calls.lw_version(), 100))
+def _read_version(library):
+    """Returns the version of a library that is loaded, such as `1.0`."""
+    library.lw_version.argtypes, library.lw_version.restype = [], ctypes.c_uint32
+    return "{}.{}".format(*divmod(library.lw_version(), 100))
 
 
 def version(library=LIBRARY):
     """Returns the version of the shared object at a path, such as `1.0`."""
-    return _version_of(ctypes.CDLL(library))
+    return _read_version(ctypes.CDLL(library))
 
 
 class Workbench:
@@ -217,7 +225,7 @@ class Workbench:
         if not isinstance(memory, int) or memory < 0:
             raise ValueError(f"memory has to be a number of bytes, and not {memory!r}")
         self._calls = ctypes.CDLL(library)
-        self.version = _version_of(self._calls)
+        self.version = _read_version(self._calls)
         self._block = ctypes.create_string_buffer(memory + 16)
         self._memory = _Memory((ctypes.addressof(self._block) + 15) & ~15, memory)
         self._room = ctypes.create_string_buffer(LEAST_ROOM)
@@ -236,17 +244,18 @@ class Workbench:
     def run(self, command, text, schedule=None, protocol=None):
         """Runs a command. Returns its exit status and its bytes, those of the program. A fault is raised. `schedule` and `protocol` are for
         `replay` only, which takes MESI if no protocol is named."""
-        return self._answer(command, _bytes_of(text), _schedule_of(command, schedule, protocol))
+        return self._answer(command, _require_bytes(text), _make_replay_arguments(command, schedule, protocol))
 
-    def _answer(self, name, text, more):
-        """Returns the exit status and the bytes of a call by its name. A fault is raised."""
-        given = [self._memory, text, len(text)]
-        if more:
-            given += [more[0], len(more[0]), more[1]]
+    def _answer(self, name, text, replay_arguments):
+        """Returns the exit status and the bytes of the function `lw_NAME`. A fault is raised."""
+        arguments = [self._memory, text, len(text)]
+        schedule = replay_arguments[0] if replay_arguments else b""
+        if replay_arguments:
+            arguments += [schedule, len(schedule), replay_arguments[1]]
         with self._lock:
-            result, made = self._call(getattr(self._calls, f"lw_{name}"), given)
+            result, made = self._call(getattr(self._calls, f"lw_{name}"), arguments)
         if result.kind == FAULT:
-            raise Fault(made.decode(), result.status, text, more[0] if more else b"")
+            raise Fault(made.decode(), result.status, text, schedule)
         return result.status, made
 
     def reach(self, output, text, budget=DEFAULT_BUDGET):
@@ -256,18 +265,18 @@ class Workbench:
             raise ValueError(f"no output: {output!r}; there are {', '.join(OUTPUTS)}")
         if not isinstance(budget, int) or not 0 <= budget <= LARGEST_BUDGET:
             raise ValueError(f"a budget has to be a number from 0 to {LARGEST_BUDGET}, and not {budget!r}")
-        text = _bytes_of(text)
+        text = _require_bytes(text)
         with self._lock:
             result, made = self._call(getattr(self._calls, f"lw_reach_{output}"), [self._memory, text, len(text), budget])
         if result.kind == FAULT:
             raise Fault(made.decode(), result.status, text)
         return made
 
-    def _call(self, call, given):
-        """Makes a call, with as much room as it needs. Returns its result and its bytes."""
+    def _call(self, call, arguments):
+        """Calls a function of the library, again with more room if its result does not fit. Returns the result and its bytes."""
         result = _CallResult()
         while True:
-            call(*given, self._room, len(self._room), ctypes.byref(result))
+            call(*arguments, self._room, len(self._room), ctypes.byref(result))
             if result.kind != ROOM_TOO_SMALL:
                 return result, self._room[: result.length]
             self._room = ctypes.create_string_buffer(result.length)
@@ -295,4 +304,4 @@ class Workbench:
 
     def film(self, text, schedule, protocol=None):
         """Returns the pages of the replays by all prefixes of a schedule, the shortest first: what the machine does, event by event."""
-        return _pages_of(self._answer("film", _bytes_of(text), _schedule_of("replay", schedule, protocol))[1])
+        return _split_pages(self._answer("film", _require_bytes(text), _make_replay_arguments("replay", schedule, protocol))[1])

@@ -7,7 +7,8 @@
 FOLDER/lw.wasm has a 64-bit memory: it is lw_library, built by `rt lib` in a copy of the repository whose crates.txt says wasm64
 where this one says staticlib. If wasm-opt is installed (Debian's package binaryen), it makes FOLDER/lw32.wasm from it, for browsers
 without 64-bit memories. Without FOLDER they go to crates/lw_library/out, where the page and the tools look for them. The compiler
-for WebAssembly and wasm-opt are not proved; tools/gate/check_site.py compares what the modules answer with the program's bytes.
+for WebAssembly and wasm-opt are not proved; tools/gate/check_site.py compares what the modules answer with the program's bytes. The file
+FOLDER/modules-of has a checksum of the sources of which the modules are made: tools/page/web_files.py uses modules only of the present sources.
 
 The copy is in the folder for temporary files, and begins with what is built here, so only what is not proved yet is proved there.
 
@@ -44,7 +45,7 @@ def list_needed_crates(lines: dict[str, tuple[str, list[str]]], crate: str) -> l
 
 
 def hash_sources() -> str:
-    """Returns a checksum of the library's code and contracts, and of the graph of crates."""
+    """Returns a checksum of the library's code and contracts, and of the graph of crates; as hexadecimal digits, which `modules-of` has."""
     lines, checksum = read_crates(), hashlib.sha256()
     for name in list_needed_crates(lines, LIBRARY):
         checksum.update(repr((name, lines[name])).encode())

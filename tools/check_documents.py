@@ -178,7 +178,7 @@ Check = Tuple[Any, ...]
 # Each check yields its comparisons: what is compared, what is expected, and what is found.
 
 
-def run_command(command: Sequence[str | bytes], stdin: bytes = b"", **options: Any) -> tuple[bytes, bytes, int]:
+def capture_streams(command: Sequence[str | bytes], stdin: bytes = b"", **options: Any) -> tuple[bytes, bytes, int]:
     """Returns what a command prints on both streams, and its exit status."""
     ran = subprocess.run(command, input=stdin, capture_output=True, cwd=HOME, timeout=60, **options)
     return ran.stdout, ran.stderr, ran.returncode
@@ -218,7 +218,7 @@ def check_transcript(name: str, block: list[str]) -> Iterator[Comparison]:
             lines = lines[:-1]
         out = "".join(f"{it}\n" for it in lines if not it.startswith("2> ")).encode()
         err = "".join(f"{it[3:]}\n" for it in lines if it.startswith("2> ")).encode()
-        yield f"{name}: {shell_command}", (out, err, status), run_command(["sh", "-c", shell_command])
+        yield f"{name}: {shell_command}", (out, err, status), capture_streams(["sh", "-c", shell_command])
 
 
 def unescape(text: str) -> bytes:
@@ -242,7 +242,7 @@ def check_fault(kind: str, number: int, name: str, example: str, language: str =
         stdin = language.encode() + b" G\n{}\n P0 ;\n" + stdin + b"\nexists (true)\n"
     if kind == "schedule":
         stdin, schedule = TWO_THREADS, stdin.decode()
-    out, err, status = run_command([PROGRAM, "replay", schedule], stdin)
+    out, err, status = capture_streams([PROGRAM, "replay", schedule], stdin)
     line = re.sub(rb"\d+\n$", b"", err) if position is None else err
     expected = f"lw: {kind} {number} {name} at {position or ''}" + ("\n" if position else "")
     yield f"docs/FORMAT.md, {kind} fault {number}", (b"", expected.encode(), 1), (out, line, status)
@@ -251,21 +251,21 @@ def check_fault(kind: str, number: int, name: str, example: str, language: str =
 def check_limit(number: int, name: str, example: str) -> Iterator[Comparison]:
     """Compares the program's answer on a row of the table of limits."""
     for lw_command in ("states", "schedules"):
-        printed = run_command([PROGRAM, lw_command], IN_WORDS[example])
+        printed = capture_streams([PROGRAM, lw_command], IN_WORDS[example])
         yield f"docs/FORMAT.md, limit {number}", (b"", f"lw: limit {number} {name}\n".encode(), 3), printed
 
 
 def check_end(number: str, name: str, schedule: str, test: str) -> Iterator[Comparison]:
     """Compares a row of the table of ends: the schedule's last event is refused."""
     with open(f"{HOME}/examples/{test}.litmus", "rb") as file:
-        out, _, status = run_command([PROGRAM, "replay", schedule], file.read())
+        out, _, status = capture_streams([PROGRAM, "replay", schedule], file.read())
     expected = f"End Stopped at {len(schedule.split()) - 1} by {number} {name}"
     yield f"docs/FORMAT.md, end {number}", ([expected], 1), (out.decode().splitlines()[2:3], status)
 
 
 def check_mistake(text: str, line: str) -> Iterator[Comparison]:
     """Compares the program's answer on a row of the table of common mistakes."""
-    printed = run_command([PROGRAM, "replay", ""], unescape(text))
+    printed = capture_streams([PROGRAM, "replay", ""], unescape(text))
     yield f"docs/FORMAT.md, a mistake: {text}", (b"", f"{line}\n".encode(), 1), printed
 
 
@@ -325,7 +325,7 @@ def check_index() -> Iterator[Comparison]:
         test = read_file(f"examples/{name}.litmus")
         yield f"examples/INDEX.md, {name} on x86-TSO", make_pages.match_fixed_words(test)["x86"], word
         program = BEYOND if name.startswith(make_pages.PAST_LIMITS) else PROGRAM
-        report = run_command([program, "states"], test.encode())[0].decode().splitlines()
+        report = capture_streams([program, "states"], test.encode())[0].decode().splitlines()
         yield f"examples/INDEX.md, the report of {name}", [f"Observation {os.path.basename(name)} {observed}"], report[-1:]
 
 
@@ -387,18 +387,18 @@ def check_compiled(name: str) -> Iterator[Comparison]:
     """Compares a source test with its compiled program."""
     source = read_file(name)
     stdin, random = source.encode(), Random(name)
-    compiled = run_command([PROGRAM, "compile"], stdin)[0]
-    yield f"{name}, compiled twice", (compiled, b"", 0), run_command([PROGRAM, "compile"], compiled)
-    report = run_command([PROGRAM, "states"], stdin)[0].decode()
+    compiled = capture_streams([PROGRAM, "compile"], stdin)[0]
+    yield f"{name}, compiled twice", (compiled, b"", 0), capture_streams([PROGRAM, "compile"], compiled)
+    report = capture_streams([PROGRAM, "states"], stdin)[0].decode()
     in_x86 = re.sub(r"\b(\d):r([0-5])\b", lambda it: f"{it[1]}:{plain.REGISTERS['X86'][int(it[2])]}", report)
-    yield f"{name}, compiled, its report", (in_x86.encode(), b"", 0), run_command([PROGRAM, "states"], compiled)
-    threads = len(read_state_words(run_command([PROGRAM, "replay", ""], stdin)[0].decode())[0])
+    yield f"{name}, compiled, its report", (in_x86.encode(), b"", 0), capture_streams([PROGRAM, "states"], compiled)
+    threads = len(read_state_words(capture_streams([PROGRAM, "replay", ""], stdin)[0].decode())[0])
     sizes = [measure_statements(source, compiled.decode(), thread) for thread in range(threads)]
     for _ in range(5):
         order: list[str] = []
         events: list[str] = []
         while True:
-            page = run_command([PROGRAM, "replay", " ".join(order)], stdin)[0].decode()
+            page = capture_streams([PROGRAM, "replay", " ".join(order)], stdin)[0].decode()
             index, *end = read_state_words(page)
             running = [thread for thread in range(threads) if index[thread] < len(sizes[thread])]
             if not running:
@@ -407,7 +407,7 @@ def check_compiled(name: str) -> Iterator[Comparison]:
             size, is_store = sizes[thread][index[thread]]
             order.append(f"P{thread}")
             events += [f"P{thread}"] * size + [f"D{thread}"] * is_store
-        out, _, status = run_command([PROGRAM, "replay", " ".join(events)], compiled)
+        out, _, status = capture_streams([PROGRAM, "replay", " ".join(events)], compiled)
         yield f"{name}, compiled, by {' '.join(events)}", (end, 0), (list(read_state_words(out.decode())[1:]), status)
 
 
@@ -415,13 +415,13 @@ def check_refused_memory(program: str, test: str, *arguments: str) -> Iterator[C
     """Refuses every call for memory of a run in turn, up to the first run that makes fewer calls."""
     stdin = open(f"{HOME}/examples/{test}.litmus", "rb").read()
     name = f"{os.path.basename(program)} on {test}, {' '.join(arguments)}"
-    refused, unlimited = (b"", b"lw: memory\n", 4), run_command([program, *arguments], stdin)
+    refused, unlimited = (b"", b"lw: memory\n", 4), capture_streams([program, *arguments], stdin)
     with tempfile.TemporaryDirectory() as folder:
         library, mark_file = f"{folder}/refuse_memory.so", f"{folder}/mark"
         subprocess.run(["cc", "-O1", "-shared", "-fPIC", "-o", library, f"{HOME}/tools/gate/refuse_memory.c"], check=True)
         for nth in range(1, 10000):
             refusing = {"LD_PRELOAD": library, "REFUSED_CALL": str(nth), "REFUSED_MARK": mark_file}
-            printed = run_command([program, *arguments], stdin, env={**os.environ, **refusing})
+            printed = capture_streams([program, *arguments], stdin, env={**os.environ, **refusing})
             if not os.path.exists(mark_file):
                 break
             os.remove(mark_file)
@@ -509,20 +509,20 @@ def check_words() -> Iterator[Comparison]:
     for program in (PROGRAM, BEYOND):
         for name in (None, "states", "state"):
             words = [name] if name else []
-            printed = run_command([b"lw\xff", *words], executable=program)
+            printed = capture_streams([b"lw\xff", *words], executable=program)
             yield f"{format_command(program, words)} by a name that is no UTF-8", (b"", b"lw: read failed\n", 4), printed
-        yield f"{format_command(program, words)}, words that are no UTF-8", (b"", b"lw: read failed\n", 4), run_command([program, b"states\xff"])
+        yield f"{format_command(program, words)}, words that are no UTF-8", (b"", b"lw: read failed\n", 4), capture_streams([program, b"states\xff"])
     for others in ([b"replay", b"\xff"], [b"\xff"], [b"states", b"P0\xc3"], [b"replay", b"P0", b"--protocol", b"me\xffsi"]):
-        yield f"lw {others}", (b"", b"lw: read failed\n", 4), run_command([PROGRAM, *others])
+        yield f"lw {others}", (b"", b"lw: read failed\n", 4), capture_streams([PROGRAM, *others])
     stdin = read_file("examples/SB-x86.litmus").encode()
-    by_default = run_command([PROGRAM, "replay", "P0 P0 D0 P1 P1 D1"], stdin)
+    by_default = capture_streams([PROGRAM, "replay", "P0 P0 D0 P1 P1 D1"], stdin)
     yield "a replay by default", (0, b""), (by_default[2], by_default[1])
-    yield "lw replay --protocol mesi", by_default, run_command([PROGRAM, "replay", "P0 P0 D0 P1 P1 D1", "--protocol", "mesi"], stdin)
+    yield "lw replay --protocol mesi", by_default, capture_streams([PROGRAM, "replay", "P0 P0 D0 P1 P1 D1", "--protocol", "mesi"], stdin)
 
 
 def check_measured(name: str, expected: str) -> Iterator[Comparison]:
     """Compares the number of states of a test of bench/ with that of its table."""
-    printed = run_command([PROGRAM, "states"], read_file(f"bench/{name}.litmus").encode())[0]
+    printed = capture_streams([PROGRAM, "states"], read_file(f"bench/{name}.litmus").encode())[0]
     number = re.search(rb"^States (\d+)$", printed, re.M)
     yield f"the states of bench/{name}.litmus", expected, number[1].decode() if number else "-"
 
@@ -642,7 +642,7 @@ def check_theorem_on_bytes() -> Iterator[Comparison]:
     source = read_file("crates/lw_bench/specs/Examples.antt")
     text, report = (read_spec_text(source, f"store_buffering_{it}") for it in ("text", "report"))
     yield "examples/SB-x86.litmus is the text of the law on bytes", read_file("examples/SB-x86.litmus"), text
-    yield "its report is that of the law on bytes", (report.encode(), b"", 0), run_command([PROGRAM, "states"], text.encode())
+    yield "its report is that of the law on bytes", (report.encode(), b"", 0), capture_streams([PROGRAM, "states"], text.encode())
     shown = [
         "".join(f"{line}\n" for line in block[1:])
         for block in list_blocks(read_file("README.md")) if block[0] == "$ ./lw states < examples/SB-x86.litmus"

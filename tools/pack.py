@@ -70,7 +70,7 @@ class NoPack(Exception):
     """The pack can't be made, and why."""
 
 
-def run_command(*arguments: str) -> list[str]:
+def capture_lines(*arguments: str) -> list[str]:
     """Returns the lines that a command prints; none if it fails."""
     ran = subprocess.run(arguments, cwd=HOME, stdout=subprocess.PIPE, stderr=subprocess.DEVNULL, text=True, check=False)
     return ran.stdout.splitlines() if ran.returncode == 0 else []
@@ -81,10 +81,10 @@ def run_command(*arguments: str) -> list[str]:
 
 def read_commit() -> str:
     """Returns the commit of the sources. Fails if files differ from it."""
-    commit = run_command("git", "rev-parse", "HEAD")
+    commit = capture_lines("git", "rev-parse", "HEAD")
     if not commit:
         raise NoPack("this is no checkout of the repository")
-    if run_command("git", "status", "--porcelain"):
+    if capture_lines("git", "status", "--porcelain"):
         raise NoPack("files differ from the commit's: commit them, or put them away")
     return commit[0]
 
@@ -102,7 +102,7 @@ def read_licences() -> dict[str, bytes]:
     ours = {os.path.basename(it) for it in glob.glob(f"{HOME}/crates/*")}
     tests = re.compile(r"\w+_tests|lw_test_reader")
     crates = {it for name, (_, below) in read_crates().items() if not tests.fullmatch(name) for it in below}
-    doc = run_command("rt", "doc")
+    doc = capture_lines("rt", "doc")
     if not doc:
         raise NoPack("the toolchain's command rt does not run")
     kit = os.path.dirname(doc[0])
@@ -168,7 +168,7 @@ def make_contents(made_by: str, gate: str) -> dict[str, bytes]:
         if not is_built(program):
             raise NoPack(f"there is no program {program.name} of these sources: run ./{program.name}")
     ended = f"{gate}\n           ({NO_LIBRARY})" if gate == NO_GATE else gate
-    description = TOLD.format(commit=made_by, toolchain=" ".join(run_command("rt", "version")), gate=ended)
+    description = TOLD.format(commit=made_by, toolchain=" ".join(capture_lines("rt", "version")), gate=ended)
     files = {**read_taken_files(), **make_files(), **read_licences(), "PACK.txt": description.encode()}
     sums = "".join(f"{hashlib.sha256(files[name]).hexdigest()}  {name}\n" for name in sorted(files))
     return {**files, "SHA256SUMS": sums.encode()}

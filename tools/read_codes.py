@@ -49,7 +49,7 @@ class Quizzes:
             self.seed = self.page["seed"]
 
     def find_quiz(self, count: int) -> quiz.Data:
-        """Returns the quiz with this number of tests."""
+        """Returns the quiz of the page, whatever the number; of a seed, the quiz with this number of tests."""
         if self.page:
             return self.page
         if count not in self.known:

@@ -11,6 +11,7 @@ import lw
 
 
 def main():
+    """Prints the answers on the file that the command line names, by the library that it names."""
     bench = lw.Workbench(sys.argv[1])
     with open(sys.argv[2], "rb") as it:
         text = it.read()

@@ -64,7 +64,7 @@ class Missing:
         for file in self.files.all:
             for name in list_offered_names(file):
                 self.add(name, file.crate, file.module)
-            for short, (module, name) in file.brings.items():
+            for short, (module, name) in file.imports.items():
                 module, name = self.files.find_origin(module, name)
                 if module not in self.files.by_module and short == name:
                     self.add(name, file.crate, std if module.startswith("Rattle.std.") and name in in_std else module)
@@ -93,7 +93,7 @@ class Missing:
             file = queue.pop()
             if file is lower:
                 return True
-            for module in {*file.modules.values(), *(module for module, _ in file.brings.values())} - seen:
+            for module in {*file.modules.values(), *(module for module, _ in file.imports.values())} - seen:
                 seen.add(module)
                 queue += [self.files.by_module[module]] if module in self.files.by_module else []
         return False
@@ -118,7 +118,7 @@ class Missing:
         """Returns whether a module has a name; nothing is known of modules outside of the repository."""
         file = self.files.by_module.get(module)
         name = name.split(" as ")[0]
-        return file is None or "." in name or name in file.own or name in file.brings or name in list_offered_names(file)
+        return file is None or "." in name or name in file.own_names or name in file.imports or name in list_offered_names(file)
 
     def remove_false_imports(self, file: File) -> Iterator[str]:
         """Yields the lines of a file without imports of names that their module lacks."""
@@ -129,7 +129,7 @@ class Missing:
                 yield line
                 continue
             for name in lacking:
-                file.brings.pop(name.split(" as ")[-1], None)
+                file.imports.pop(name.split(" as ")[-1], None)
             names = [it for it in split_names(use[2]) if it not in lacking]
             if names:
                 yield f"use {use[1]}.{{{', '.join(names)}}}"

@@ -23,7 +23,8 @@ a build left in crates/*/out of the checkout --built (this one), so that only wh
 
 Results are appended to the file --results, a line of JSON each. --table prints them as a table in Markdown, without those whose
 mutation has changed since. A mutation takes about a minute; one that nothing notices takes as long as the proof of all crates above it.
-The exit status is 0 if each mutation was noticed, 1 if one was not, and 2 if a crate is not proved with nothing mutated.
+The exit status is 0 if each mutation was noticed, 1 if one was not or if the file of mutations has a fault, and 2 if a crate is not proved with
+nothing mutated or the file has a block of another form.
 """
 from __future__ import annotations
 
@@ -350,7 +351,12 @@ def parse_arguments() -> Namespace:
 
 def main() -> int:
     """Runs the command that the arguments describe. Returns the exit status."""
-    words, listed = parse_arguments(), list_mutations()
+    words = parse_arguments()
+    try:
+        listed = list_mutations()
+    except Unusable as why:
+        print(why, file=sys.stderr)
+        return 2
     faults = find_faults(listed)
     for fault in faults:
         print(fault)

@@ -92,7 +92,7 @@ class Checkout:
         defaults: dict[str, Any] = {"stdin": subprocess.PIPE, "stdout": subprocess.PIPE, "stderr": subprocess.PIPE, "env": self.environment}
         return subprocess.Popen([f"{self.home}/{arguments[0]}", *arguments[1:]], start_new_session=True, **{**defaults, **options})
 
-    def run_command(self, *arguments: str) -> tuple[bytes, str, list[str]]:
+    def capture_streams_and_record(self, *arguments: str) -> tuple[bytes, str, list[str]]:
         """Returns the output of ./lw, or of a command, on both streams, and its calls of the stand-in."""
         streams = self.start_command(arguments or ("lw", "states")).communicate(b"text\n", timeout=60)
         return streams[0], streams[1].decode(), self.take_record()
@@ -138,7 +138,7 @@ def list_dependents(crate: str) -> list[str]:
 
 def check_builds(checkout: Checkout) -> Iterator[Comparison]:
     """Compares what builds ask the stand-in to do: all of the program, what has changed, and nothing."""
-    out, errors, record = checkout.run_command()
+    out, errors, record = checkout.capture_streams_and_record()
     yield "the first call answers by the program", ANSWER, out
     first, *others = errors.splitlines()
     pattern = rf"lw: crates to prove: {len(checkout.crates)}; on \d+ processors that takes \d+ to \d+ minutes, by docs/TIMES\.md"
@@ -148,18 +148,18 @@ def check_builds(checkout: Checkout) -> Iterator[Comparison]:
     yield "the first call builds each crate once", sorted(checkout.crates), list_begun_crates(record)
     yield "each crate begins after those that it depends on", True, is_in_order(record)
     yield "crates are built beside each other", True, record.index("begins lw_memory") < record.index("ends lw_text")
-    yield "the second call builds nothing", (ANSWER, "", []), checkout.run_command()
+    yield "the second call builds nothing", (ANSWER, "", []), checkout.capture_streams_and_record()
     checkout.change_source(CHANGED)
-    out, _, record = checkout.run_command()
+    out, _, record = checkout.capture_streams_and_record()
     yield "a changed crate has those above it built", (ANSWER, list_dependents(CHANGED)), (out, list_begun_crates(record))
 
 
 def check_copies(checkout: Checkout, folder: str) -> Iterator[Comparison]:
     """Checks that a tree with the same content answers at once: at other times, with other modes, elsewhere, without rt, and read-only."""
     os.utime(f"{checkout.home}/crates/{CHANGED}/src/lib.rt")
-    yield "a file of another time with the same content has nothing built", (ANSWER, "", []), checkout.run_command()
+    yield "a file of another time with the same content has nothing built", (ANSWER, "", []), checkout.capture_streams_and_record()
     subprocess.run(["chmod", "-R", "go-rwx", checkout.home], check=True)
-    yield "other modes have nothing built", (ANSWER, "", []), checkout.run_command()
+    yield "other modes have nothing built", (ANSWER, "", []), checkout.capture_streams_and_record()
     without_rt = {**checkout.environment, "PATH": os.environ["PATH"].replace(os.path.dirname(shutil.which("rt") or "/none/rt"), "/none")}
     for flag in ("-a", "-r"):
         copy = f"{folder}/copy{flag}"
@@ -173,7 +173,7 @@ def check_copies(checkout: Checkout, folder: str) -> Iterator[Comparison]:
             yield f"a copy by cp {flag} answers without rt{', read only' if who else ''}", (ANSWER, b"", 3), printed
     checkout.change_source(CHANGED)
     os.utime(f"{checkout.home}/crates/{CHANGED}/src/lib.rt", (0, 0))
-    yield "a changed file of an old time has those above it built", list_dependents(CHANGED), list_begun_crates(checkout.run_command()[2])
+    yield "a changed file of an old time has those above it built", list_dependents(CHANGED), list_begun_crates(checkout.capture_streams_and_record()[2])
 
 
 def check_failures(checkout: Checkout) -> Iterator[Comparison]:
@@ -187,7 +187,7 @@ def check_failures(checkout: Checkout) -> Iterator[Comparison]:
     yield "a build that fails says where", True, err.decode().endswith(message)
     yield "a build that fails goes no further", [CHANGED], list_begun_crates(checkout.take_record())
     os.remove(f"{checkout.kit}/fails-{CHANGED}")
-    yield "the next call goes on", list_dependents(CHANGED), list_begun_crates(checkout.run_command()[2])
+    yield "the next call goes on", list_dependents(CHANGED), list_begun_crates(checkout.capture_streams_and_record()[2])
     checkout.change_source(CHANGED)
     checkout.write_file(f"{checkout.kit}/hangs-{CHANGED}", "")
     ran = checkout.start_command()
@@ -238,25 +238,25 @@ def check_first_answer(checkout: Checkout, folder: str) -> Iterator[Comparison]:
 
 def check_other_program(checkout: Checkout, folder: str) -> Iterator[Comparison]:
     """Checks ./beyond, when ./lw is built."""
-    checkout.run_command()
+    checkout.capture_streams_and_record()
     file = f"{folder}/a test"
     checkout.write_file(file, "in a file\n")
-    out, errors, record = checkout.run_command("beyond", "states")
+    out, errors, record = checkout.capture_streams_and_record("beyond", "states")
     yield "./beyond answers by its program", ANSWER, out
     yield "./beyond says which program it builds", {"beyond"}, {it.partition(":")[0] for it in errors.splitlines()}
     yield "./beyond builds what ./lw has not built, and nothing else", sorted(checkout.further), list_begun_crates(record)
-    yield "the second ./beyond builds nothing", (ANSWER, "", []), checkout.run_command("beyond", "states")
+    yield "the second ./beyond builds nothing", (ANSWER, "", []), checkout.capture_streams_and_record("beyond", "states")
     for words in (["states"], ["--budget", "7", "--method", "schedules"], ["--search", "--budget", "states", "states"]):
         expected: tuple[bytes, str, list[str]] = f"proved: {' '.join(words)}\nin a file\n".encode(), "", []
-        yield f"./beyond {' '.join(words)} FILE", expected, checkout.run_command("beyond", *words, file)
+        yield f"./beyond {' '.join(words)} FILE", expected, checkout.capture_streams_and_record("beyond", *words, file)
     for words in (["states", file, file], ["--budget", "states"], [file], ["states", ""]):
         expected = f"proved: {' '.join(words)}\ntext\n".encode(), "", []
-        yield f"./beyond {' '.join(words)}, which names no file", expected, checkout.run_command("beyond", *words)
-    printed = checkout.run_command("beyond", "states", f"{folder}/none")
+        yield f"./beyond {' '.join(words)}, which names no file", expected, checkout.capture_streams_and_record("beyond", *words)
+    printed = checkout.capture_streams_and_record("beyond", "states", f"{folder}/none")
     yield "./beyond of a file that isn't there", (b"", f"beyond: {folder}/none can't be opened\n", []), printed
     checkout.change_source("lw_search")
-    yield "./lw takes no notice of a crate of ./beyond's", (ANSWER, "", []), checkout.run_command()
-    yield "./beyond does", sorted(checkout.further), list_begun_crates(checkout.run_command("beyond", "states")[2])
+    yield "./lw takes no notice of a crate of ./beyond's", (ANSWER, "", []), checkout.capture_streams_and_record()
+    yield "./beyond does", sorted(checkout.further), list_begun_crates(checkout.capture_streams_and_record("beyond", "states")[2])
 
 
 def make_comparisons() -> Iterator[Comparison]:

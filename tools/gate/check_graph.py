@@ -93,7 +93,9 @@ def list_schedules(path: str, test: plain.Test) -> list[str]:
 
 
 def check_schedules(path: str) -> list[Comparison]:
-    """Returns, for each listed state, its execution."""
+    """Returns the comparisons of an example's listed states: of the execution of each schedule, what it reads, its outcome, its picture and its
+    sentences.
+    """
     test, name = read_compiled(path), os.path.basename(path)
     results: list[Comparison] = []
     for schedule in list_schedules(path, test):
@@ -174,7 +176,7 @@ def list_curve_points(path: str) -> Iterator[tuple[float, float]]:
 
 
 def compare_outcomes(name: str, test: plain.Test) -> list[Comparison]:
-    """Returns the outcomes by the axioms, and why others are none."""
+    """Returns the comparisons of the outcomes and states by the axioms with those of tools/plain.py; none if there are too many candidates."""
     try:
         allowed = executions.list_allowed_outcomes(test, MAX_CANDIDATES)
     except executions.TooMany:

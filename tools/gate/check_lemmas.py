@@ -74,8 +74,8 @@ class Named:
         """
         bodies = [it for it in file.sentences if not IMPORTS.match(it.text)]
         words = {part for it in bodies for word in read_words(it) for part in list_name_candidates(word)}
-        for name, (module, name_there) in file.brings.items():
-            if name not in file.passes or name in words:
+        for name, (module, name_there) in file.imports.items():
+            if name not in file.reexports or name in words:
                 self.abroad.add(self.files.find_origin(module, name_there))
         for word in words:
             module, _, name = self.files.find_meaning(file, word).rpartition(".")

@@ -38,7 +38,7 @@ PAST_LIMITS = f"{HOME}/bench/beyond/TryLock3-x86.litmus"
 Answer = Callable[[List[str], bytes], Tuple[int, bytes, bytes]]
 
 
-def run_command(command: list[str], text: bytes, **settings: str) -> tuple[int, bytes, bytes]:
+def capture_status_and_streams(command: list[str], text: bytes, **settings: str) -> tuple[int, bytes, bytes]:
     """Returns the exit status of a command and what it prints on both streams."""
     ran = subprocess.run(command, input=text, capture_output=True, check=False, env={**os.environ, **settings})
     return ran.returncode, ran.stdout, ran.stderr
@@ -49,7 +49,7 @@ def list_cases() -> Iterator[tuple[str, list[str], bytes]]:
     for path in sorted(glob.glob(f"{HOME}/examples/*.litmus")):
         with open(path, "rb") as file:
             text = file.read()
-        listed = run_command([PROGRAM, "schedules"], text)[1].decode().split("\n")
+        listed = capture_status_and_streams([PROGRAM, "schedules"], text)[1].decode().split("\n")
         schedule = next((it.strip() for it in listed if it.startswith(" ")), "P0")
         for words in (
             ["states"],
@@ -67,7 +67,7 @@ def build_c_example(folder: str) -> Answer:
     program = f"{folder}/lw-in-c"
     words = ["-O1", "-Wall", "-Wextra", "-I", f"{HOME}/include", f"{HOME}/examples/c/use.c", LIBRARY, "-o", program]
     subprocess.run(["cc", *words], check=True)
-    return lambda words, text: run_command([program, *words], text)
+    return lambda words, text: capture_status_and_streams([program, *words], text)
 
 
 def load_python_module(folder: str) -> Answer:
@@ -98,7 +98,7 @@ def compare_limits(answer_with: Callable[..., tuple[int, bytes, bytes]]) -> Iter
     """Compares what is reported if memory or room is short: an answer, that memory ran out, and nothing else."""
     with open(f"{HOME}/examples/SB-x86.litmus", "rb") as file:
         text = file.read()
-    unlimited = run_command([PROGRAM, "states"], text)
+    unlimited = capture_status_and_streams([PROGRAM, "states"], text)
     short = (4, b"", b"lw: memory\n")
     results = [answer_with(text, LW_MEMORY=str(size)) for size in (0, 1, 15, 16, 100, *range(512, 40000, 1024))]
     first = results.index(unlimited) if unlimited in results else len(results)
@@ -112,9 +112,9 @@ def compare_python_example(folder: str) -> Iterator[Comparison]:
     """Compares what examples/python/use.py prints: for each state its schedule, and a fault's place."""
     with open(f"{HOME}/examples/SB-x86.litmus", "rb") as file:
         text = file.read()
-    states = run_command([PROGRAM, "states"], text)[1].decode().splitlines()
+    states = capture_status_and_streams([PROGRAM, "states"], text)[1].decode().splitlines()
     words = [sys.executable, f"{HOME}/examples/python/use.py", f"{folder}/liblw.so", f"{HOME}/examples/SB-x86.litmus"]
-    printed = run_command(words, b"", PYTHONPATH=f"{HOME}/python")
+    printed = capture_status_and_streams(words, b"", PYTHONPATH=f"{HOME}/python")
     lines = printed[1].decode().splitlines()
     yield "the example in Python ends", (0, b""), (printed[0], printed[2])
     yield "the example in Python has the states", sorted(it for it in states if "=" in it and "(" not in it), sorted(
@@ -133,9 +133,9 @@ def compare_c_ends(folder: str) -> Iterator[Comparison]:
     replays = [["replay", "P0", *options] for options in (["--protocol"], ["--protocol", "msi"], ["--protocol", "MOESI"], ["--protocols", "mesi"])]
     others: list[list] = [[], ["state"], ["states", "P0"], ["replay"], *replays, ["replay", b"P0 \xff"], ["replay", ""]]
     for words in others:
-        yield f"the library from C: {words}", run_command([PROGRAM, *words], text), run_command([program, *words], text)
+        yield f"the library from C: {words}", capture_status_and_streams([PROGRAM, *words], text), capture_status_and_streams([program, *words], text)
     for redirection in ("<.", ">/dev/full"):
-        by_program, by_library = (run_command(["sh", "-c", f'exec "$0" states {redirection}', it], text) for it in (PROGRAM, program))
+        by_program, by_library = (capture_status_and_streams(["sh", "-c", f'exec "$0" states {redirection}', it], text) for it in (PROGRAM, program))
         yield f"the library from C: states {redirection}", by_program, by_library
 
 
@@ -147,7 +147,7 @@ def compare_versions(folder: str) -> Iterator[Comparison]:
     with open(source, "w", encoding="utf-8") as file:
         file.write(VERSION_IN_C)
     subprocess.run(["cc", "-I", f"{HOME}/include", source, LIBRARY, "-o", program], check=True)
-    yield "the library from C: its version is that of lw.h", (0, b"0\n", b""), run_command([program], b"")
+    yield "the library from C: its version is that of lw.h", (0, b"0\n", b""), capture_status_and_streams([program], b"")
     yield "the library from Python: its version is that of packages", tree.read_library_version(), lw.version(f"{folder}/liblw.so")
 
 
@@ -156,8 +156,8 @@ def check_stack(folder: str) -> Iterator[Comparison]:
     cells = " | ".join(f"XCHG [{name}],EAX" for name in "abcd")
     text = f"X86 Deep\n{{}}\n P0 | P1 | P2 | P3 ;\n{f' {cells} ;' * 32}\nexists (a=1)\n".encode()
     for lw_command in ("states", "schedules"):
-        limited = run_command(["sh", "-c", f'ulimit -s 256 && exec "$0" {lw_command}', f"{folder}/lw-in-c"], text)
-        yield f"the library: {lw_command} with a stack of 256 KiB", run_command([PROGRAM, lw_command], text), limited
+        limited = capture_status_and_streams(["sh", "-c", f'ulimit -s 256 && exec "$0" {lw_command}', f"{folder}/lw-in-c"], text)
+        yield f"the library: {lw_command} with a stack of 256 KiB", capture_status_and_streams([PROGRAM, lw_command], text), limited
 
 
 def compare_threads(folder: str) -> Iterator[Comparison]:
@@ -200,14 +200,14 @@ def compare_lists(folder: str) -> Iterator[Comparison]:
     bench = lw.Workbench(f"{folder}/liblw.so")
     for name, words, text in list_cases():
         if words in (["states"], ["schedules"]):
-            yield f"the library: reach {words[0]}, {name}", run_command([PROGRAM, *words], text), reach_states(bench, words[0], text, 0)
+            yield f"the library: reach {words[0]}, {name}", capture_status_and_streams([PROGRAM, *words], text), reach_states(bench, words[0], text, 0)
     if not os.path.exists(BEYOND):
         return
     with open(PAST_LIMITS, "rb") as file:
         text = file.read()
     for output in ("states", "schedules", "marks"):
         for budget in (100_000, 10, 0):
-            expected = run_command([BEYOND, "--budget", str(budget), output], text)
+            expected = capture_status_and_streams([BEYOND, "--budget", str(budget), output], text)
             yield f"the library: reach {output} within {budget} states", expected, reach_states(bench, output, text, budget)
     for arguments in (("compile", text), ("states", text, -1), ("states", text, 1 << 64), ("states", text, "10")):
         try:
@@ -227,7 +227,7 @@ def compare_films(folder: str) -> Iterator[Comparison]:
             command, schedule, *option = words
             events = schedule.split()
             prefixes = [" ".join(events[:count]) for count in range(len(events) + 1)]
-            printed = [run_command([PROGRAM, command, it, *option], text) for it in prefixes]
+            printed = [capture_status_and_streams([PROGRAM, command, it, *option], text) for it in prefixes]
             refused = [(status, err) for status, _, err in printed if err]
             try:
                 film = bench.film(text, schedule, *option[1:])
@@ -258,11 +258,11 @@ def make_all_comparisons() -> Iterator[Comparison]:
     """Yields all comparisons of the library, in C and in Python."""
     with tempfile.TemporaryDirectory(prefix="lw-library-") as folder, ThreadPoolExecutor(2) as pool:
         cases = list(list_cases())
-        expected_answers = list(pool.map(lambda it: run_command([PROGRAM, *it[1]], it[2]), cases))
+        expected_answers = list(pool.map(lambda it: capture_status_and_streams([PROGRAM, *it[1]], it[2]), cases))
         for language, answer in (("C", build_c_example(folder)), ("Python", load_python_module(folder))):
             for (name, words, _), expected_answer, actual_answer in zip(cases, expected_answers, pool.map(lambda it: answer(it[1], it[2]), cases)):
                 yield f"the library from {language}: {name}, {' '.join(words)}", expected_answer, actual_answer
-        for subject, expected, actual in compare_limits(lambda text, **settings: run_command([f"{folder}/lw-in-c", "states"], text, **settings)):
+        for subject, expected, actual in compare_limits(lambda text, **settings: capture_status_and_streams([f"{folder}/lw-in-c", "states"], text, **settings)):
             yield f"the library: {subject}", expected, actual
         yield from compare_c_ends(folder)
         yield from compare_versions(folder)

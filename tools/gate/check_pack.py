@@ -82,7 +82,7 @@ def make_script_command(folder: str, text: str, *arguments: str) -> list[str]:
     return ["sh", "-c", f'PYTHONPATH={folder} exec python3 -c "$@"', "sh", text, *arguments]
 
 
-def run_command(arguments: list[str], path: str, home: str, system: System) -> tuple[int, bytes]:
+def run_on_system(arguments: list[str], path: str, home: str, system: System) -> tuple[int, bytes]:
     """Runs a command with a file of the repository as its input. Returns its exit status, and what it prints."""
     with open(f"{HOME}/{path}", "rb") as file:
         with system.start_command(arguments, home, stdin=file, stdout=subprocess.PIPE, stderr=subprocess.STDOUT) as ran:
@@ -128,13 +128,13 @@ print(*read_origin())
 def check_calls(home: str, system: System) -> Iterator[Comparison]:
     """Compares what commands of a pack print with what they print here."""
     for words, text in CALLS:
-        yield " ".join(words), run_command(words, text, HOME, HostSystem()), run_command(words, text, home, system)
+        yield " ".join(words), run_on_system(words, text, HOME, HostSystem()), run_on_system(words, text, home, system)
     words = make_script_command("tools", BY_LAB)
-    yield "what a class needs", run_command(words, TEST, HOME, HostSystem()), run_command(words, TEST, home, system)
-    printed = run_command(make_script_command("tools", BY_ORIGIN), TEST, home, system)
+    yield "what a class needs", run_on_system(words, TEST, HOME, HostSystem()), run_on_system(words, TEST, home, system)
+    printed = run_on_system(make_script_command("tools", BY_ORIGIN), TEST, home, system)
     yield "where it comes from", (0, f"{'0' * 40} False {GATE}\n".encode()), printed
     words = make_script_command("python", BY_LIBRARY, TEST)
-    yield "the library from Python", run_command(["./lw", "states"], TEST, HOME, HostSystem()), run_command(words, TEST, home, system)
+    yield "the library from Python", run_on_system(["./lw", "states"], TEST, HOME, HostSystem()), run_on_system(words, TEST, home, system)
 
 
 def check_server(home: str, system: System) -> Iterator[Comparison]:

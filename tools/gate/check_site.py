@@ -463,7 +463,7 @@ def check_by_browser() -> Iterator[Comparison]:
     if not is_there():
         yield from report_missing("a browser")
     if web_files.read_module():
-        answer = lambda words, text: format_answer(check_library.run_command([check_library.PROGRAM, *words], text))
+        answer = lambda words, text: format_answer(check_library.capture_status_and_streams([check_library.PROGRAM, *words], text))
         cases = [(name, words, text, answer(words, text)) for name, words, text in check_library.list_cases()]
         with tempfile.TemporaryDirectory(prefix="lw-sites-") as folder:
             modules = web_files.read_modules()

@@ -36,7 +36,7 @@ LIMIT = 130
 FILLED = {"∷", "++", "+", "-", "*", "/", "%", "^"}
 MARKS = {"pattern", "unfoldable", "abbrev", "pub", "axiom"}
 # The first words of sentences that are neither signatures nor clauses.
-KEPT = {"use", "mod", "open", "infix", "infixl", "infixr", "unfolding", "ruleset", "mutual", "deriving", "where"}
+NO_DECLARATION = {"use", "mod", "open", "infix", "infixl", "infixr", "unfolding", "ruleset", "mutual", "deriving", "where"}
 BLOCKS = {"module", "record", "data"}
 
 
@@ -298,7 +298,7 @@ def lay_out(sentence: Sentence) -> list[str]:
     nodes = group_tokens(antt.read_tokens(sentence.text))
     words = [it for it in nodes if it not in MARKS]
     page = Page(sentence.indent)
-    if not isinstance(words[0], str) or words[0] in KEPT:
+    if not isinstance(words[0], str) or words[0] in NO_DECLARATION:
         return sentence.lines
     if words[0] in BLOCKS:
         put_block(page, nodes)

@@ -119,7 +119,7 @@ class Sentences(cases.Case):
     def setUp(self) -> None:
         """Replaces the program by one that prints a wrong report."""
         printed_by = lambda command, *_: WRONG if "states" in command else None
-        program = mock.patch.multiple(answers, run_command=printed_by, load_library=lambda: None)
+        program = mock.patch.multiple(answers, capture_output=printed_by, load_library=lambda: None)
         for patch in (program, mock.patch.object(spawn, "is_current", lambda *_: self.is_current)):
             self.addCleanup(patch.stop)
             patch.start()

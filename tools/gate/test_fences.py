@@ -295,7 +295,7 @@ class Spare(BySearch):
 class Makers(cases.Case):
     """By whom lists are made."""
 
-    def run_command(
+    def list_printed_lines(
         self, path: str, choices: fences.Choices = fences.Choices(), program: str | None = None, beyond: str | None = None
     ) -> list[str]:
         """Returns the output of the command on a file, with other programs if they are named."""
@@ -308,7 +308,7 @@ class Makers(cases.Case):
     def test_not_proved(self) -> None:
         """Without the programs each list is one of the search, and the first line and the last say that it is not proved."""
         for path, number in (("examples/SB-x86.litmus", 4), ("examples/SB.litmus", 3), ("tools/search/tests/Peterson3.litmus", 3)):
-            head, *_, last = self.run_command(path, program="/no/program", beyond="/no/program")
+            head, *_, last = self.list_printed_lines(path, program="/no/program", beyond="/no/program")
             with self.subTest(path):
                 self.assertTrue(head.endswith(" (not proved)"))
                 why = "since lw and beyond are not built here, or refuse these tests"
@@ -317,7 +317,7 @@ class Makers(cases.Case):
     def test_beyond_limits(self) -> None:
         """A test that lw refuses for its size is said to be not proved if beyond is not built, with lw and without."""
         for path in glob.glob(os.path.join(TOOLS, "search", "tests", "*.litmus")):
-            head, *_, last = self.run_command(path, beyond="/no/program")
+            head, *_, last = self.list_printed_lines(path, beyond="/no/program")
             with self.subTest(path):
                 self.assertTrue(head.endswith(" (not proved)"))
                 self.assertIn("Not proved: ", last)
@@ -326,9 +326,9 @@ class Makers(cases.Case):
     def test_by_beyond(self) -> None:
         """It is proved if beyond is built, with lw and without, and the states are the same as those of the search."""
         for path in glob.glob(os.path.join(TOOLS, "search", "tests", "*.litmus")):
-            searched = self.run_command(path, program="/no/program", beyond="/no/program")
+            searched = self.list_printed_lines(path, program="/no/program", beyond="/no/program")
             for program in (None, "/no/program"):
-                output = self.run_command(path, program=program)
+                output = self.list_printed_lines(path, program=program)
                 with self.subTest(path, program=program):
                     self.assertEqual([searched[0].replace(" (not proved)", ""), *searched[1:-1]], output)
                     self.assertEqual({answers.Maker.BEYOND}, fences.list_makers())
@@ -337,7 +337,7 @@ class Makers(cases.Case):
     def test_proved(self) -> None:
         """A test within the limits is not, if the program is built."""
         for path in ("examples/SB-x86.litmus", "examples/Dekker.litmus"):
-            output = self.run_command(path, fences.Choices(exchanges=True))
+            output = self.list_printed_lines(path, fences.Choices(exchanges=True))
             with self.subTest(path):
                 self.assertFalse("ot proved" in "".join(output))
 

@@ -296,7 +296,7 @@ class Scripts(cases.Case):
     def test_found(self) -> None:
         """If neither program lists schedules, a search finds as many."""
         test = plain.read_test(read("examples/MP-x86.litmus"))
-        with mock.patch.multiple(answers, ask_program=lambda *_: None, run_command=lambda *_: None):
+        with mock.patch.multiple(answers, ask_program=lambda *_: None, capture_output=lambda *_: None):
             schedules_made = scripts.list_schedules(test, plain.format_canonical_text(test))
         self.assertEqual(sorted(Search(test).explore(1000, lambda *_: None).schedules.values()), sorted(schedules_made))
 

@@ -112,8 +112,8 @@ def has_module(module: str) -> bool:
     return importlib.util.find_spec(module) is not None
 
 
-def run_command(arguments: list[str], file: str | None = None, **options: Any) -> tuple[str, int]:
-    """Returns the output of a command on standard output, and its exit status. Its input is a file, or nothing."""
+def capture_merged(arguments: list[str], file: str | None = None, **options: Any) -> tuple[str, int]:
+    """Returns what a command prints on both streams together, and its exit status. Its input is a file, or nothing."""
     with open(file or os.devnull, "rb") as stream:
         ran = subprocess.run(arguments, stdin=stream, stdout=subprocess.PIPE, stderr=subprocess.STDOUT, check=False, **options)
     return ran.stdout.decode(), ran.returncode
@@ -128,8 +128,8 @@ def find_status(main: Callable[[], int]) -> object:
 
 
 def run_program(*arguments: str, file: str = TEST) -> tuple[str, int]:
-    """Returns the output of the program."""
-    return run_command([PROGRAM, *arguments], file)
+    """Returns what the program prints on a file, on both streams together, and its exit status."""
+    return capture_merged([PROGRAM, *arguments], file)
 
 
 class Packed(cases.Case):
@@ -183,7 +183,7 @@ class Origins(cases.Case):
         for sum_of_gate, gate in (("the sum of others", pack.NO_GATE), (None, pack.NO_GATE), ("the sum of these", "5 passed, 0 failed")):
             ended = [sum_of_gate, "5 passed, 0 failed"] if sum_of_gate else []
             read_lines = lambda path, ended=ended: ended if path.endswith("/gate") else made_of
-            with mock.patch.multiple(pack, read_commit=lambda: ORIGIN.commit, run_command=lambda *_: ["5"], read_lines=read_lines):
+            with mock.patch.multiple(pack, read_commit=lambda: ORIGIN.commit, capture_lines=lambda *_: ["5"], read_lines=read_lines):
                 self.assertEqual((ORIGIN.commit, 5, "5", gate), tuple(tree.read_origin()))
 
     def test_refusals(self) -> None:
@@ -287,22 +287,22 @@ class Wheel(Packed):
             (["python", "-c", BY_LIBRARY, TEST], run_program("states")),
             (["python", "-c", VERSION_BY_LIBRARY], (f"{tree.read_library_version()}\n", 0)),
             (["lw-plain", "states", TEST], run_program("states")),
-            (["lw-fences", FENCED], run_command([sys.executable, f"{HOME}/tools/fences.py", FENCED])),
-            (["python", "-m", "lw", "fences", FENCED], run_command([sys.executable, f"{HOME}/tools/fences.py", FENCED])),
+            (["lw-fences", FENCED], capture_merged([sys.executable, f"{HOME}/tools/fences.py", FENCED])),
+            (["python", "-m", "lw", "fences", FENCED], capture_merged([sys.executable, f"{HOME}/tools/fences.py", FENCED])),
         ):
             with self.subTest(words):
-                self.assertEqual(expected, run_command([f"{bin}/{words[0]}", *words[1:]], TEST, **self.settings))
+                self.assertEqual(expected, capture_merged([f"{bin}/{words[0]}", *words[1:]], TEST, **self.settings))
         if tree.BEYOND in self.files:
-            expected = run_command([f"{HOME}/{tree.BEYOND}", "states"], PAST_LIMITS)
-            self.assertEqual(expected, run_command([f"{bin}/beyond", "states"], PAST_LIMITS, **self.settings))
-            self.assertEqual(expected, run_command([f"{bin}/python", "-m", "lw", "beyond", "states", PAST_LIMITS], **self.settings))
+            expected = capture_merged([f"{HOME}/{tree.BEYOND}", "states"], PAST_LIMITS)
+            self.assertEqual(expected, capture_merged([f"{bin}/beyond", "states"], PAST_LIMITS, **self.settings))
+            self.assertEqual(expected, capture_merged([f"{bin}/python", "-m", "lw", "beyond", "states", PAST_LIMITS], **self.settings))
         self.check_commands(bin)
 
     def check_commands(self, bin: str) -> None:
         """Checks that each tool is a command that leads to a module, and that `python -m lw --help` has its name."""
         expected = "".join(f"{tree.name_command(it)} {it} True\n" for it in tree.TOOLS)
-        self.assertEqual((expected, 0), run_command([f"{bin}/python", "-c", ENTRY_POINTS], **self.settings))
-        listed = run_command([f"{bin}/python", "-m", "lw", "--help"], **self.settings)
+        self.assertEqual((expected, 0), capture_merged([f"{bin}/python", "-c", ENTRY_POINTS], **self.settings))
+        listed = capture_merged([f"{bin}/python", "-m", "lw", "--help"], **self.settings)
         self.assertTrue(listed[0].endswith("".join(f"    {tree.name_command(it)[3:]}\n" for it in tree.TOOLS)))
         closed, writing = os.pipe()
         os.close(closed)
@@ -310,7 +310,7 @@ class Wheel(Packed):
         os.close(writing)
         self.assertEqual((b"", start.CLOSED), (ran.stderr, ran.returncode))
         for tool in ("from_c", "run_all"):
-            printed = run_command([f"{bin}/{tree.name_command(tool)}", "--help"], **self.settings)
+            printed = capture_merged([f"{bin}/{tree.name_command(tool)}", "--help"], **self.settings)
             self.assertEqual((True, 0), (f"tools/{tool}.py" in printed[0], printed[1]))
 
     def install(self) -> str:
@@ -320,7 +320,7 @@ class Wheel(Packed):
         subprocess.run([sys.executable, "-m", "venv", *(["--without-pip", "--system-site-packages"] if has_module("pip") else []), venv], check=True)
         settings = {**self.settings, "env": {**self.settings["env"], "PIP_CONFIG_FILE": os.devnull}}
         pip = [f"{venv}/bin/python", "-m", "pip", "install", "--no-index", "--no-deps", "--no-compile", "--disable-pip-version-check"]
-        printed = run_command([*pip, self.path], None, **settings)
+        printed = capture_merged([*pip, self.path], None, **settings)
         self.assertEqual(("", 0), ("" if printed[1] == 0 else printed[0], printed[1]))
         return f"{venv}/bin"
 
@@ -342,7 +342,7 @@ class Debian(Packed):
 
     def test_description(self) -> None:
         """Its description has what apt needs, and says how the gate ended and that no licence is chosen."""
-        printed = email.message_from_string(run_command(["dpkg-deb", "-f", self.path])[0])
+        printed = email.message_from_string(capture_merged(["dpkg-deb", "-f", self.path])[0])
         self.assertEqual(("lw", ORIGIN.version, "amd64"), (printed["Package"], printed["Version"], printed["Architecture"]))
         self.assertTrue(re.fullmatch(r"libc6 \(>= 2\.\d+\), python3 \(>= 3\.8\)", printed["Depends"]))
         for part in (ORIGIN.commit, ORIGIN.toolchain, ORIGIN.gate, "No licence has been chosen yet"):
@@ -350,7 +350,7 @@ class Debian(Packed):
 
     def test_files(self) -> None:
         """The checksums are those of its files, each link leads to a file, and nothing of the sources is in it."""
-        self.assertEqual(("", 0), run_command(["md5sum", "--quiet", "-c", "DEBIAN/md5sums"], cwd=self.unpacked_folder))
+        self.assertEqual(("", 0), capture_merged(["md5sum", "--quiet", "-c", "DEBIAN/md5sums"], cwd=self.unpacked_folder))
         paths = glob.glob(f"{self.unpacked_folder}/usr/**", recursive=True)
         self.assertTrue(len(paths) > 700)
         self.assertEqual([], [it for it in paths if not os.path.exists(it)])
@@ -369,10 +369,10 @@ class Debian(Packed):
         """Unpacked in a folder, the program, a tool and the library answer as they do here."""
         share = f"{self.unpacked_folder}/usr/share/lw"
         settings = {**self.settings, "env": {**self.settings["env"], "PYTHONPATH": f"{self.unpacked_folder}/{make_deb.PYTHON}"}}
-        self.assertEqual(run_program("states"), run_command([f"{self.unpacked_folder}/usr/bin/lw", "states"], TEST))
-        self.assertEqual(run_program("states"), run_command([sys.executable, "-c", BY_LIBRARY, TEST], None, **settings))
-        fences = run_command([sys.executable, f"{HOME}/tools/fences.py", FENCED])
-        self.assertEqual(fences, run_command([sys.executable, f"{share}/tools/fences.py", FENCED], **self.settings))
+        self.assertEqual(run_program("states"), capture_merged([f"{self.unpacked_folder}/usr/bin/lw", "states"], TEST))
+        self.assertEqual(run_program("states"), capture_merged([sys.executable, "-c", BY_LIBRARY, TEST], None, **settings))
+        fences = capture_merged([sys.executable, f"{HOME}/tools/fences.py", FENCED])
+        self.assertEqual(fences, capture_merged([sys.executable, f"{share}/tools/fences.py", FENCED], **self.settings))
 
     def test_c(self) -> None:
         """A program in C takes the header, and the library that pkg-config names."""
@@ -381,12 +381,12 @@ class Debian(Packed):
         self.assertEqual({"Cflags": "-I${includedir}", "Libs": "-L${libdir} -llw"}, flags)
         if shutil.which("pkg-config"):
             environment = {"PKG_CONFIG_LIBDIR": f"{self.unpacked_folder}/{make_deb.LIB}/pkgconfig", "PATH": os.environ["PATH"]}
-            self.assertEqual((f"{ORIGIN.version}\n", 0), run_command(["pkg-config", "--modversion", "lw"], env=environment))
-            self.assertEqual(("", 0), run_command(["pkg-config", f"--atleast-version={tree.read_library_version()}", "lw"], env=environment))
+            self.assertEqual((f"{ORIGIN.version}\n", 0), capture_merged(["pkg-config", "--modversion", "lw"], env=environment))
+            self.assertEqual(("", 0), capture_merged(["pkg-config", f"--atleast-version={tree.read_library_version()}", "lw"], env=environment))
         lib, program = f"{self.unpacked_folder}/{make_deb.LIB}", os.path.join(self.room, "lw-in-c")
         words = ["cc", "-I", f"{self.unpacked_folder}/usr/include", f"{HOME}/examples/c/use.c", "-L", lib, "-llw", "-o", program]
         subprocess.run(words, check=True)
-        self.assertEqual(run_program("states"), run_command([program, "states"], TEST, env={"LD_LIBRARY_PATH": lib}))
+        self.assertEqual(run_program("states"), capture_merged([program, "states"], TEST, env={"LD_LIBRARY_PATH": lib}))
 
     def test_in_container(self) -> None:
         """With only glibc, a shell and Python, its commands answer by their names."""
@@ -397,7 +397,7 @@ class Debian(Packed):
             for words, expected in (
                 (["lw", "states"], run_program("states")),
                 (["lw-plain", "states", "/usr/share/lw/examples/SB-x86.litmus"], run_program("states")),
-                (["lw-fences"], run_command([sys.executable, f"{HOME}/tools/fences.py"], TEST)),
+                (["lw-fences"], capture_merged([sys.executable, f"{HOME}/tools/fences.py"], TEST)),
             ):
                 with self.subTest(words), open(TEST, "rb") as text:
                     with system.start_command(words, "/", stdin=text, stdout=subprocess.PIPE, stderr=subprocess.STDOUT) as ran:

@@ -28,7 +28,9 @@ class BadCode(Exception):
 
 
 class CodeContents(NamedTuple):
-    """The contents of a code: the mark of the tests, the seed, the student, and the answers on each test: 1 for interleaving, plus 2 for x86."""
+    """The contents of a code: the mark of the tests, the seed, the student, and a number for each test: 1 if the answer is that the end is possible by
+    interleaving, plus 2 if it is that the end is possible on x86.
+    """
 
     mark: int
     seed: str
@@ -48,14 +50,14 @@ def encode_student(student: str) -> list[tuple[int, int]]:
     return [*encode_letters(""), *((BYTES, it + 1) for it in student.encode()), (BYTES, 0)]
 
 
-def encode_digits(handed_in: CodeContents) -> list[tuple[int, int]]:
+def encode_digits(contents: CodeContents) -> list[tuple[int, int]]:
     """Returns the digits of a code, each with its base."""
-    header = [(MARKS, handed_in.mark), (MAX_TESTS + 1, len(handed_in.answers))]
-    return [*header, *encode_letters(handed_in.seed), *encode_student(handed_in.student), *((4, answer) for answer in handed_in.answers)]
+    header = [(MARKS, contents.mark), (MAX_TESTS + 1, len(contents.answers))]
+    return [*header, *encode_letters(contents.seed), *encode_student(contents.student), *((4, answer) for answer in contents.answers)]
 
 
 def format_number(number: int, least: int = 0) -> str:
-    """Returns a number in the symbols of codes."""
+    """Returns a number in the symbols of codes, of at least `least` symbols."""
     text = ""
     while number or len(text) < least:
         number, digit = divmod(number, len(SYMBOLS))
@@ -63,10 +65,10 @@ def format_number(number: int, least: int = 0) -> str:
     return text
 
 
-def make_code(handed_in: CodeContents) -> str:
+def make_code(contents: CodeContents) -> str:
     """Returns the code of what is handed in."""
     number = 1
-    for base, digit in reversed(encode_digits(handed_in)):
+    for base, digit in reversed(encode_digits(contents)):
         number = number * base + digit
     return format_number(number) + format_number(number % PRIME, LENGTH_OF_SUM)
 
@@ -96,7 +98,7 @@ class Digits:
         return digit
 
     def take_letters(self, max_letters: int) -> str:
-        """Returns the letters up to the one that ends."""
+        """Returns the letters up to the digit 0, which ends them; of more than `max_letters` only the first ones."""
         text = ""
         while (digit := self.take_digit(len(LETTERS) + 1)) and len(text) < max_letters:
             text += LETTERS[digit - 1]
@@ -132,7 +134,7 @@ def read_code(line: str) -> CodeContents:
         raise BadCode("the check sum is wrong: the code is mistyped, or a part of it is missing", begin)
     digits = Digits(number)
     mark, count = digits.take_digit(MARKS), digits.take_digit(MAX_TESTS + 1)
-    handed_in = CodeContents(mark, digits.take_letters(MAX_LETTERS), take_student(digits), [digits.take_digit(4) for _ in range(count)])
-    if digits.rest != 1 or not (count and handed_in.seed and handed_in.student) or values[0] == 0:
+    contents = CodeContents(mark, digits.take_letters(MAX_LETTERS), take_student(digits), [digits.take_digit(4) for _ in range(count)])
+    if digits.rest != 1 or not (count and contents.seed and contents.student) or values[0] == 0:
         raise BadCode("the check sum is right, and yet this is no code of a quiz", begin)
-    return handed_in
+    return contents

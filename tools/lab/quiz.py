@@ -42,7 +42,7 @@ class NoQuiz(Exception):
 
 
 class QuizTest(NamedTuple):
-    """A test of the quiz: its text, and whether it can end this way by interleaving and on x86."""
+    """A test of the quiz: its text, and whether it can end as its condition says by interleaving and on x86."""
 
     text: str
     interleaved: bool
@@ -101,12 +101,12 @@ def make_source_form(text: str) -> str:
 
 
 def is_possible(text: str, report: Report) -> bool:
-    """Returns whether a report has a state of which the condition speaks."""
+    """Returns whether a test can end as its condition says, by the report that a function makes."""
     return require_match(POSITIVE.search(report(text)))[1] != "0"
 
 
 def list_other_ends(text: str) -> list[str]:
-    """Returns the test with one word of its condition changed, in all ways."""
+    """Returns the texts of the test with one word of its condition changed, in all ways."""
     front, asks, question = text.rpartition("exists")
     other_ends = []
     for digit in WORD.finditer(question):
@@ -148,10 +148,10 @@ def make_tests(count: int, seed: str, report: Report) -> list[QuizTest]:
 
 def hash_text(text: str) -> int:
     """Returns a number of five bits that a text gives, by which its answer is hidden."""
-    mixed_so_far = 2166136261
+    state = 2166136261
     for byte in text.encode():
-        mixed_so_far = (mixed_so_far ^ byte) * 16777619 % 2**32
-    return mixed_so_far >> 16 & 31
+        state = (state ^ byte) * 16777619 % 2**32
+    return state >> 16 & 31
 
 
 def scramble(content: bytes, text: str) -> bytes:

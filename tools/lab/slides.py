@@ -152,7 +152,7 @@ def embed_picture(svg: str) -> str:
 
 
 def make_figure(part: Film | Graph, kind: str, svg: str) -> str:
-    """Returns a picture that says of what it is."""
+    """Returns a picture as a figure, with attributes that name its kind, its test and its schedule for checks."""
     return f'<figure data-kind="{kind}" data-test="{part.test}" data-schedule="{part.schedule}">{embed_picture(svg)}</figure>\n'
 
 

@@ -22,7 +22,7 @@ def read_file(name: str) -> str:
 
 
 def list_examples(lab: str) -> dict[str, str]:
-    """Returns of each neutral name its example."""
+    """Returns the example of each neutral name in the table of docs/LAB.md."""
     return dict(ROW.findall(find_section(lab, "For the teacher")))
 
 
@@ -46,5 +46,5 @@ def align_columns(text: str) -> str:
 
 
 def make_tests(lab: str) -> dict[str, str]:
-    """Returns of each neutral name the text of its test."""
+    """Returns the text of the test of each neutral name."""
     return {name: neutralize(name, example) for name, example in list_examples(lab).items()}

@@ -18,7 +18,7 @@ NAMES = ("eax", "ebx", "ecx", "edx", "esi", "edi")
 # Location k has its address in register number 8 + k.
 FIRST_ADDRESS = 8
 # A thread has its results' place in %rbp. Of the registers that a function must restore, these may hold others' addresses.
-KEPT_ADDRESSES = range(12, 16)
+SAVED_ADDRESSES = range(12, 16)
 # The register of a number that MOVNTI stores. It has the address of the last location in a test of eight.
 SCRATCH = 15
 Code = Tuple[Statement, ...]
@@ -91,18 +91,20 @@ def list_registers(code: Code) -> set[int]:
     return registers | {it.value.register for it in code if isinstance(it.value, Register)}
 
 
-def list_kept_registers(code: Code, places: Sequence[int], registers: set[int]) -> list[str]:
+def list_saved_registers(code: Code, places: Sequence[int], registers: set[int]) -> list[str]:
     """Returns the registers that a thread's function must restore: %rbp, in which it has its results' place, and those of its code."""
     saved = ["rbp"] + ["rbx"] * (NAMES.index("ebx") in registers)
     addresses = {FIRST_ADDRESS + it for it in places} | ({SCRATCH} if any(it.kind == "scratch" for it in code) else set())
-    return saved + [f"r{it}" for it in KEPT_ADDRESSES if it in addresses]
+    return saved + [f"r{it}" for it in SAVED_ADDRESSES if it in addresses]
 
 
 def format_function(code: Code, first: Sequence[int], thread: int, variant: Variant) -> list[str]:
-    """Returns the lines of a thread's function. The zero flag is clear when the test's code begins."""
+    """Returns the lines of a thread's function. `first` has the words with which its registers begin. The zero flag is clear when the test's code
+    begins.
+    """
     places = sorted({it.location for it in code if it.location is not None})
     registers = list_registers(code)
-    saved = list_kept_registers(code, places, registers)
+    saved = list_saved_registers(code, places, registers)
     targets, label = {it.target for it in code}, f".L{variant.function}{thread}_"
     lines = [f"    pushq %{it}" for it in saved] + ["    movq %rsi,%rbp"]
     lines += [f"    movq {8 * it}(%rdi),%r{FIRST_ADDRESS + it}" for it in places]

@@ -25,7 +25,7 @@ class Column(NamedTuple):
 
 
 def format_cell(result: Result) -> str:
-    """Returns the column's text for a run."""
+    """Returns the column's text for a run: how many of the listed states were seen, and how many that are not listed."""
     beyond = len(result.list_not_listed()) + len(result.others)
     return f"{len(result.list_seen_and_listed())} of {len(result.listed.states)}" + (f", and {beyond} not listed" if beyond else "")
 

@@ -35,7 +35,7 @@ class Listing(NamedTuple):
 
 
 def parse_listing(text: str) -> Listing:
-    """Reads what objdump prints."""
+    """Returns what objdump prints, as a listing."""
     labels: dict[str, int] = {}
     instructions: dict[int, str] = {}
     for line in text.splitlines():
@@ -62,7 +62,7 @@ Operand = Union[Number, Register, Cell, Scratch, None]
 
 
 def parse_operand(text: str) -> Operand:
-    """Reads an operand of 32 bits."""
+    """Returns the operand of 32 bits that a text names, or None if it is one that no test has."""
     cell = CELL.fullmatch(text)
     if cell and cell[1] in CELLS:
         return Cell(CELLS[cell[1]])

@@ -9,7 +9,7 @@ from collections.abc import Sequence
 from plain import Register, Statement
 
 REGISTERS = ("eax", "ebx", "ecx", "edx", "esi", "edi")
-KEPT = ("rbx", "rbp", "r12", "r13", "r14", "r15")
+RESTORED_REGISTERS = ("rbx", "rbp", "r12", "r13", "r14", "r15")
 ADDRESS = re.compile(r"mov\s+r(\d+),QWORD PTR \[rdi(?:\+0x([0-9a-f]+))?\]")
 WORD = re.compile(r"mov\s+(e\w\w),0x([0-9a-f]+)")
 RESULT = re.compile(r"mov\s+DWORD PTR \[rbp\+0x([0-9a-f]+)\],(e\w\w)")
@@ -19,7 +19,7 @@ SET_TRAP_FLAG = ("pushf", "or QWORD PTR [rsp],0x100", "popf", "nop")
 
 
 def take_leading_matches(pattern: re.Pattern[str], texts: list[str]) -> list[re.Match[str]]:
-    """Removes the instructions of one kind from the front of a list, and returns their matches."""
+    """Removes the instructions that a pattern matches from the front of a list. Returns their matches."""
     matches = []
     while texts and (match := pattern.fullmatch(texts[0])):
         matches.append(match)
@@ -37,7 +37,7 @@ def list_unsaved_changes(code: Sequence[Statement], saved: list[str]) -> list[st
     """Returns the registers that a thread's function changes, must restore, and does not save."""
     numbers = {8 + it.location for it in code if it.location is not None} | ({15} if any(it.kind == "scratch" for it in code) else set())
     changed = {"rbp", *(f"r{it}" for it in numbers)} | ({"rbx"} if 1 in list_used_registers(code) else set())
-    return sorted(changed & {*KEPT} - {*saved})
+    return sorted(changed & {*RESTORED_REGISTERS} - {*saved})
 
 
 def find_fault_before(texts: list[str], code: Sequence[Statement], first: Sequence[int], is_trapped: bool) -> str | None:
@@ -70,7 +70,9 @@ def find_fault_after(texts: list[str], code: Sequence[Statement], saved: list[st
 
 
 def find_fault(before: list[str], after: list[str], code: Sequence[Statement], first: Sequence[int], is_trapped: bool) -> str | None:
-    """Returns the fault of the instructions around a test's, or None."""
+    """Returns the fault of the instructions around a test's, or None. `before` and `after` are their texts, `first` the words with which the registers
+    begin.
+    """
     before, after = ([re.sub(r"\s+", " ", it) for it in texts] for texts in (before, after))
     saved = [it[1] for it in take_leading_matches(SAVED, before)]
     lacking = list_unsaved_changes(code, saved)

@@ -19,8 +19,8 @@ NONTEMPORAL = "A CONTROL: stores are MOVNTI, which go past the caches, in place 
 
 
 class Settings(NamedTuple):
-    """How tests are run: until when, with which knobs, whether all registers and locations are shown, and the test with whose list they are
-    compared, if that is another.
+    """How a test is run: until when, with which knobs, whether all registers and locations are shown, and another test with whose list it is
+    compared, if there is one.
     """
 
     limits: Limits = Limits()
@@ -40,7 +40,7 @@ def list_threads(subject: Subject, knobs: Knobs) -> list[Code]:
 
 
 class MeasuredRun(NamedTuple):
-    """The sightings of a run, its plan, and the processors on which it ran."""
+    """A run that has ended: its sightings, its plan, and the processors on which it ran."""
 
     seen: runs.Sightings
     plan: Plan
@@ -48,7 +48,7 @@ class MeasuredRun(NamedTuple):
 
 
 def list_notes(seen: runs.Sightings, ran: MeasuredRun, settings: Settings) -> list[str]:
-    """Returns the notes that qualify the sightings of runs, of which one is passed."""
+    """Returns the notes that qualify sightings: of one run, or of several, of which one is `ran`."""
     control = [NONTEMPORAL] * bool(settings.knobs["stores"])
     return control + processors.list_obstacles(ran.here, len(ran.plan.threads)) + runs.list_missing(seen, ran.plan)
 
@@ -68,7 +68,7 @@ class Laboratory:
         return Plan(subject, threads, listed, led, placements, processors_here.has_clock, is_scarce, settings.limits, knobs)
 
     def run(self, subject: Subject, settings: Settings, states: Sequence[Words]) -> MeasuredRun:
-        """Runs a test, of which some states are looked for."""
+        """Runs a test, which looks for some states: with `until_complete` it ends when all of them were seen."""
         processors_here = processors.read_processors()
         plan = self.make_plan(subject, settings, states, processors_here)
         return MeasuredRun(runs.run_plan(self.builder.build_program(plan.threads, subject.x86.registers), plan), plan, processors_here)

@@ -17,8 +17,8 @@ INVARIANT_CLOCK = {"constant_tsc", "nonstop_tsc"}
 
 
 class Processors(NamedTuple):
-    """The processors that this process may use, the core and the node of each, the flags of /proc/cpuinfo, the share of them that a quota
-    of the process's group leaves, or 0 if there is none.
+    """The processors that this process may use; the core and the node of each; the flags of /proc/cpuinfo; and how many processors' time a quota of
+    the process's group leaves, 0 if there is none.
     """
 
     allowed: tuple[int, ...]

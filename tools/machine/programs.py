@@ -88,8 +88,9 @@ def compile_program(file: str, text: str, compiler: str | None, tries: int) -> P
         raise NotRun(f"no run goes through every loop within {tries} tr{'ies' if tries != 1 else 'y'}")
     parts = [make_part(it.conversion) for it in answer.tests]
     question = parts[0].conversion.question
-    names, listed = Names(converter, question).translate_line, merge_lists(parts, compiler)
-    subject = Subject(question, question, plain.list_observed_sites(question), named=names, asked=converter.condition.text, listed=listed)
+    rename_line, listed = Names(converter, question).translate_line, merge_lists(parts, compiler)
+    sites, condition = plain.list_observed_sites(question), converter.condition.text
+    subject = Subject(question, question, sites, rename_line=rename_line, condition_text=condition, listed=listed)
     return Program(subject, parts, list_program_notes(answer, compiler, tries))
 
 
@@ -99,12 +100,14 @@ def list_program_notes(answer: Answer, compiler: str, tries: int) -> list[str]:
 
 
 def divide_limits(limits: Limits, count: int) -> Limits:
-    """Returns the limits of each of some tests, among which those of the program are divided."""
+    """Returns the limits of the run of one of `count` tests, among which the seconds and runs of a program are divided."""
     return limits._replace(seconds=limits.seconds and limits.seconds / count, runs=-(-limits.runs // count))
 
 
 def run_parts(laboratory: Laboratory, program: Program, settings: Settings) -> Iterator[tuple[Part, MeasuredRun]]:
-    """Runs the tests of a program. Until all states are seen, each test is run for those that it lists and that no test before it has shown."""
+    """Yields the tests of a program, each after its run, with that. If the runs end when all states are seen, a test is run only for states that it
+    lists and that no test before it has shown, and is left out if there are none.
+    """
     part_settings = settings._replace(limits=divide_limits(settings.limits, len(program.parts)))
     seen = set()
     for part in program.parts:

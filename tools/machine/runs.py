@@ -42,13 +42,13 @@ class Sightings(NamedTuple):
 
 
 def merge_sights(first: Sighting, second: Sighting) -> Sighting:
-    """Returns how a state was seen, if two threads have counted it."""
+    """Returns the sighting of a state that was counted twice, by two threads or in two runs."""
     earlier = min(first, second, key=lambda it: it.first)
     return Sighting(first.times + second.times, earlier.first, earlier.kind)
 
 
 def parse_seen(lines: list[str]) -> Sightings:
-    """Reads what the harness prints. Raises NotRun if its last line is missing."""
+    """Returns the sightings that the harness prints. Raises NotRun if its line of facts, the last one, is missing."""
     states: dict[Words, Sighting] = {}
     facts: dict[str, int] = {}
     for line in lines:
@@ -92,7 +92,7 @@ def run_plan(program: str, plan: Plan) -> Sightings:
 
 
 def list_missing(seen: Sightings, plan: Plan) -> list[str]:
-    """Returns what was missing in a run, each in a sentence."""
+    """Returns what a run lacked that would have shown more, each in a sentence."""
     facts, sentences = seen.facts, []
     lost = facts["switches"] / seen.seconds if seen.seconds else 0.0
     if lost > MAX_SWITCHES and not plan.is_scarce:

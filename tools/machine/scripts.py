@@ -20,7 +20,7 @@ MAX_STATES = 100_000
 
 def list_schedules(test: plain.Test, text: str) -> list[str]:
     """Returns a schedule for each listed state. Without one of the programs a search makes them, and some may be missing."""
-    listed = answers.ask_program(["schedules"], text) or answers.run_command([BEYOND, "schedules"], text)
+    listed = answers.ask_program(["schedules"], text) or answers.capture_output([BEYOND, "schedules"], text)
     if listed is None:
         return list(Search(test).explore(MAX_STATES, lambda *_: None).schedules.values())
     return [line for line in listed.splitlines()[2:] if line.startswith(" ")]

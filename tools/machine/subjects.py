@@ -14,33 +14,33 @@ Words = Tuple[int, ...]
 
 
 class Subject(NamedTuple):
-    """A test whose names are printed, its x86 test, what is observed at the end, and who compiled it if it is a source test. Of a program also how a
-    state's line is said in its names, its condition's text, and its list.
+    """What is run and compared with a list: a test whose names are printed (`shown`), its x86 test, the sites that are observed at the end, and who
+    compiled it if it is a source test. Of a program also how a state's line is written in its names, its condition's text, and its list.
     """
 
     shown: plain.Test
     x86: plain.Test
     sites: list[plain.Site]
     compiled_by: answers.Maker | None = None
-    named: Callable[[str], str] = str
-    asked: str = ""
+    rename_line: Callable[[str], str] = str
+    condition_text: str = ""
     listed: 'Listed' | None = None
 
     @property
     def condition(self) -> str:
         """Returns the text of the condition."""
-        return self.asked or plain.format_condition(self.shown)
+        return self.condition_text or plain.format_condition(self.shown)
 
     def format_state(self, words: Words) -> str:
         """Returns a state as a line."""
-        return self.named(plain.format_state(self.shown, words))
+        return self.rename_line(plain.format_state(self.shown, words))
 
     def list_names(self) -> list[str]:
         """Returns the names that states mention."""
-        return [self.named(f"{plain.format_site(self.shown, site)}=0;").partition("=")[0] for site in self.sites]
+        return [self.rename_line(f"{plain.format_site(self.shown, site)}=0;").partition("=")[0] for site in self.sites]
 
     def is_true(self, words: Words) -> bool:
-        """Returns whether the proposition is true in a state."""
+        """Returns whether the proposition is true in a state, by the words of `sites`, in their order."""
         return plain.is_true_in(self.shown.proposition, plain.make_outcome_from_words(self.shown, words))
 
 
@@ -82,7 +82,7 @@ def make_list(subject: Subject) -> Listed:
 
 
 def make_other_list(subject: Subject, other: Subject) -> Listed:
-    """Returns the list of another test, and refuses one of other names."""
+    """Returns the list of another test. Raises Fault if the states of the two do not have the same names."""
     if subject.list_names() != other.list_names():
         names = " ".join(other.list_names())
         raise given.Fault(f"it is held against a test that speaks of other names: {names}, and not {' '.join(subject.list_names())}", 0)

@@ -14,7 +14,7 @@ if TYPE_CHECKING:
 
 
 def read_lists_and_log(answers: list[FileAnswer], name: str) -> tuple[ListedTests, dict[str, set[State]]]:
-    """Returns the states of each test that is listed here, and of each that is in a log."""
+    """Returns the states of each test that is listed here, and those of each test in the log of a name."""
     from shared import logs
 
     texts, converted = [], [it for it in answers if it.row.converted is not None]
@@ -30,7 +30,7 @@ def read_lists_and_log(answers: list[FileAnswer], name: str) -> tuple[ListedTest
 
 
 def report_differences(answers: list[FileAnswer], name: str) -> int:
-    """Reports what differs from a log. Returns the exit status."""
+    """Reports on standard error what differs from the log of a name. Returns the exit status."""
     from shared import logs
 
     listed, logged = read_lists_and_log(answers, name)

@@ -68,12 +68,12 @@ def describe_tests(count: int, tries: int) -> str:
 
 
 def describe_no_run(tries: int) -> str:
-    """Says why no run is left."""
+    """Returns the words on why no run is left."""
     return f"no run goes through every loop within {tries} tr{'ies' if tries != 1 else 'y'}"
 
 
 def answer_file(choices: Choices, job: tuple[str, spawn.Run | None]) -> rows.FileAnswer:
-    """Returns the answer of a file, of which lw's run is known if it was asked."""
+    """Returns the answer of a file that lw does not read. A job is the file, and lw's run of it, or None of a program, which lw is not asked about."""
     file, run = job
     try:
         with open(file, "rb") as source_file:

@@ -27,14 +27,14 @@ def read_expectations(name: str) -> dict[str, str]:
     expectations: Dict[str, str] = {}
     with open(name, encoding="utf-8", errors="replace") as file:
         for number, line in enumerate(file, 1):
-            its, _, word = line.partition("#")[0].strip().rpartition(" ")
-            its, position = its.strip(), f"{name}:{number}"
-            if not its and not word:
+            test, _, word = line.partition("#")[0].strip().rpartition(" ")
+            test, position = test.strip(), f"{name}:{number}"
+            if not test and not word:
                 continue
-            if not its or word not in WORDS:
+            if not test or word not in WORDS:
                 raise NoTable(f"{position}: a line has a name and one of {', '.join(WORDS)}")
-            if expectations.setdefault(its, word) != word:
-                raise NoTable(f"{position}: '{its}' is expected to be {expectations[its]} before")
+            if expectations.setdefault(test, word) != word:
+                raise NoTable(f"{position}: '{test}' is expected to be {expectations[test]} before")
     return expectations
 
 

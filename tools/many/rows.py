@@ -15,8 +15,8 @@ REFUSED, NO_VERDICT, AS_ASKED = "Refused", "None", "Ok"
 # The columns of each row, and those of only some tables: the listed states seen on this machine, how a file was converted, why it is refused.
 Row = namedtuple("Row", "file name asked verdict observation states milliseconds method seen converted cause notes listed")
 ALWAYS, MORE = Row._fields[:8], Row._fields[8:11]
-# A file's answer: its row, its report, and its tests of lw with their reports, if it was converted from herd's form; whether its loops have a
-# limit of tries. The report of a file that is refused is empty.
+# A file's answer: its row, its report, the texts of its tests of lw with their reports, if it was converted from herd's form, and how often a run
+# passes each loop at most, 0 if that has no limit. The report of a file that is refused is empty.
 FileAnswer = namedtuple("FileAnswer", "row report tests tries")
 
 
@@ -50,7 +50,7 @@ def make_answer(run: spawn.Run, method: str) -> FileAnswer | None:
 
 
 def make_refusal(file: str, line: str, converted: str | None = None, notes: tuple = ()) -> FileAnswer:
-    """Returns the answer of a file that has none, of which a line `FILE:LINE:COLUMN: cause` says why."""
+    """Returns the answer of a file that is refused, of which a line `FILE:LINE:COLUMN: cause` says why."""
     cause = line[len(file) + 1 :].strip() if line.startswith(f"{file}:") else line
     return FileAnswer(make_refused_row(file, cause, converted, notes), "", [], 0)
 

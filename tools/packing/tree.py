@@ -62,8 +62,8 @@ def read_library_version() -> str:
 def read_origin() -> Origin:
     """Returns the origin of the sources. They have to be those of the commit."""
     commit = pack.read_commit()
-    seconds = int(pack.run_command("git", "show", "-s", "--format=%ct", commit)[0])
-    return Origin(commit, seconds, " ".join(pack.run_command("rt", "version")), pack.describe_gate())
+    seconds = int(pack.capture_lines("git", "show", "-s", "--format=%ct", commit)[0])
+    return Origin(commit, seconds, " ".join(pack.capture_lines("rt", "version")), pack.describe_gate())
 
 
 def name_command(tool: str) -> str:

@@ -27,11 +27,11 @@ class Origin(NamedTuple):
 
 def read_origin() -> Origin:
     """Returns the origin of the sources. The gate counts only if it has passed for these sources in this checkout."""
-    is_checkout = run_command("git", "rev-parse", "--show-toplevel") == [os.path.realpath(HOME)]
+    is_checkout = capture_lines("git", "rev-parse", "--show-toplevel") == [os.path.realpath(HOME)]
     if not is_checkout and (description := read_lines(f"{HOME}/PACK.txt")):
         return parse_origin(description)
-    commit = next(iter(run_command("git", "rev-parse", "HEAD")), None) if is_checkout else None
-    is_changed = commit is not None and bool(run_command("git", "status", "--porcelain"))
+    commit = next(iter(capture_lines("git", "rev-parse", "HEAD")), None) if is_checkout else None
+    is_changed = commit is not None and bool(capture_lines("git", "status", "--porcelain"))
     made_of, ended = read_lines(f"{OUT}/made-of"), read_lines(f"{OUT}/gate")
     has_passed = len(made_of) > 3 and len(ended) == 2 and ended[0] == made_of[3]
     return Origin(commit, is_changed, ended[1] if has_passed else None)
@@ -54,7 +54,7 @@ def describe_origin(origin: Origin) -> str:
     return f"The program, its sources and its proof are in the repository that this site was made from{commit}{changed}. {gate} {NO_ADDRESS} {NO_LICENCE}"
 
 
-def run_command(*arguments: str) -> list[str]:
+def capture_lines(*arguments: str) -> list[str]:
     """Returns the lines that a command prints; none if it fails or is missing."""
     try:
         ran = subprocess.run(arguments, cwd=HOME, stdout=subprocess.PIPE, stderr=subprocess.DEVNULL, text=True, check=True)

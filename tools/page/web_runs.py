@@ -70,7 +70,7 @@ class Runs:
         """Returns whether a program is that of the sources as they are."""
         return self.run_process([*IS_CURRENT, name], b"", connection, self.place_of_current).status == 0
 
-    def run_command(self, arguments: list[str], text: bytes, connection: socket.socket) -> dict[str, object]:
+    def run_program(self, arguments: list[str], text: bytes, connection: socket.socket) -> dict[str, object]:
         """Returns the program's answer to the words of a command and a text: its exit status, its output, and the line of a fault. Raises
         NoRun if the program fails or is ended.
         """

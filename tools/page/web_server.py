@@ -366,7 +366,7 @@ class Server:
             return {"is_current": self.runs.is_current(connection)}
         if path == "/machine":
             return self.runs.run_on_machine(*parse_machine_run(body), connection)
-        return self.runs.run_command(*parse_run(body), connection)
+        return self.runs.run_program(*parse_run(body), connection)
 
     def find_file(self, path: str) -> tuple[int, str, bytes]:
         """Returns a file by the path of a request, which may have a query. Raises Refusal if there is none."""

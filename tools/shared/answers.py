@@ -4,7 +4,7 @@ The program lw makes it if it is built, or the library in a pack, which has no s
 program beyond makes a list of states if it is built, and if that is not whole either, the search of tools/beyond.py; every other answer is
 made by tools/plain.py. The two programs are proved if they are those of the sources, which is asked once; the search and the interpreter are
 not. So each answer carries its maker, and each command says which of its answers are not proved. A further maker is added to `Maker` and to
-`answer`.
+`make_answer`.
 """
 from __future__ import annotations
 
@@ -40,7 +40,7 @@ class Maker(Enum):
 
     @property
     def is_proved(self) -> bool:
-        """Returns whether what it makes is proved to be the answer."""
+        """Returns whether the answers of this maker are proved."""
         return self in (Maker.PROGRAM, Maker.BEYOND)
 
 
@@ -106,11 +106,13 @@ def ask_program(arguments: list[str], text: str) -> str | None:
     bench = load_library()
     if bench:
         return ask_library(bench, arguments, text)
-    return run_command([PROGRAM, *arguments], text, arguments[0] == "replay")
+    return capture_output([PROGRAM, *arguments], text, arguments[0] == "replay")
 
 
-def run_command(command: list[str], text: str, may_stop: bool = False) -> str | None:
-    """Returns a command's output, or None if it does not start, or ends with another status than 0, unless it may stop before its end."""
+def capture_output(command: list[str], text: str, may_stop: bool = False) -> str | None:
+    """Returns what a command prints on standard output. None if it does not start, prints nothing, or ends with another status than 0; with `may_stop`,
+    as of a replay, the status may be any.
+    """
     try:
         ran = subprocess.run(command, input=text.encode(), stdout=subprocess.PIPE, stderr=subprocess.DEVNULL, check=False)
     except OSError:
@@ -128,7 +130,7 @@ def ask_beyond(text: str) -> str | None:
             return bench.reach("states", text.encode()).decode()
         except python_lw.load_lw().Fault:
             pass
-    return run_command([BEYOND, "states"], text)
+    return capture_output([BEYOND, "states"], text)
 
 
 def search_states(test: plain.Test) -> str:
@@ -166,7 +168,7 @@ def format_makers(makers: Iterable[Maker]) -> str:
 
 
 def are_proved(makers: Iterable[Maker]) -> bool:
-    """Returns whether all of them are proved."""
+    """Returns whether the answers of all makers are proved."""
     return all(it.is_proved for it in makers)
 
 

@@ -72,7 +72,7 @@ class Reader:
         self.opens = False  # whether the next line starts a block
 
     def starts_sentence(self, line: str) -> bool:
-        """Returns whether a line starts a sentence."""
+        """Returns whether a line, which has words, starts a sentence."""
         indent = count_indent(line)
         if self.depth:
             return False

@@ -126,7 +126,7 @@ def list_file_names(file: File) -> set[str]:
     """Returns the names that a whole file has: what it imports and declares, the parts of its operators, and what its heads and records
     bind.
     """
-    known = {*BUILT_IN, *BRACKETS, *file.brings, *file.modules, *(declaration.name for declaration in file.declarations)}
+    known = {*BUILT_IN, *BRACKETS, *file.imports, *file.modules, *(declaration.name for declaration in file.declarations)}
     for declaration in file.declarations:
         for part in declaration.parts:
             head, sign = split_head(read_words(part))

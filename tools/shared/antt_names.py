@@ -10,7 +10,8 @@ from shared.antt_terms import Group, find_index, group_tokens
 from shared.home import HOME, read_crates
 
 MARKS = {"pattern", "unfoldable", "abbrev", "pub", "axiom"}
-KEPT = {"use", "mod", "open", "infix", "infixl", "infixr", "unfolding", "ruleset", "mutual", "deriving", "where"}
+# The first words of sentences that declare no lemma or definition.
+NO_DECLARATION = {"use", "mod", "open", "infix", "infixl", "infixr", "unfolding", "ruleset", "mutual", "deriving", "where"}
 IMPORT = re.compile(r"^\s*(?:unfoldable )?(pub )?use ([^\s{]+?)(?:\.\{([^}]*)\}| as (\S+))?\s*$", re.M)
 
 
@@ -23,9 +24,9 @@ class Block(NamedTuple):
 
 
 class Declaration:
-    """A lemma, a definition, a record or a type: its signature or head, and its clauses or fields.
+    """A lemma, a definition, a record or a type: its signature or head (`head`, at the line `number`), and its clauses or fields (`parts`).
 
-    `scope` are the heads of the modules around it; `owner` is the sentence whose `where` it is in, if any.
+    `scope` are the heads of the modules around the declaration; `owner` is the sentence whose `where` it is in, if any.
     """
 
     def __init__(self, file: File, name: str, sentence: antt.Sentence, scope: list[antt.Sentence], owner: antt.Sentence | None) -> None:
@@ -58,15 +59,15 @@ class File:
         inner = os.path.relpath(path, f"{HOME}/crates")[: -len(".antt")]
         self.crate = inner.split("/")[0]
         self.module = "Rattle." + re.sub(r"/Lib$", "", inner).replace("/", ".")
-        self.everything = antt.read_sentences(self.text)
-        self.sentences = [it for it in self.everything if not it.is_between]
-        self.brings: dict[str, tuple[str, str]] = {}  # for each name that is imported, its module and its name there
+        self.all_sentences = antt.read_sentences(self.text)  # with the lines between them
+        self.sentences = [it for it in self.all_sentences if not it.is_between]
+        self.imports: dict[str, tuple[str, str]] = {}  # for each name that is imported, its module and its name there
         self.modules: dict[str, str] = {}  # for each name of a module that is imported, the whole name
-        self.passes: set[str] = set()  # the names that are exported again
+        self.reexports: set[str] = set()  # the names that are exported again
         self.read_imports()
         self.declarations: list[Declaration] = []
         self.read_declarations()
-        self.own = {it.name for it in self.declarations if it.owner is None}
+        self.own_names = {it.name for it in self.declarations if it.owner is None}
 
     def read_imports(self) -> None:
         """Reads the `use` lines: names with the module and the name that each has there, and modules; and which names are exported again.
@@ -78,9 +79,9 @@ class File:
             for item in filter(None, map(str.strip, group.split(","))):
                 name, _, renamed = item.partition(" as ")
                 path, _, last = f"{module}.{name}".rpartition(".")
-                self.brings[renamed or last] = path, last
+                self.imports[renamed or last] = path, last
                 if public:
-                    self.passes.add(renamed or last)
+                    self.reexports.add(renamed or last)
 
     def read_declarations(self) -> None:
         """Reads the sentences, with the blocks that contain each: their indents, heads and kinds."""
@@ -108,7 +109,7 @@ class File:
             elif self.declarations:
                 self.declarations[-1].parts.append(sentence)
             return
-        if rest[0] in KEPT or rest[0] == "module":
+        if rest[0] in NO_DECLARATION or rest[0] == "module":
             if words[0] == "unfolding" and self.declarations:
                 self.declarations[-1].parts.append(sentence)
             return
@@ -150,18 +151,18 @@ class Files:
         while module in self.by_module and (module, name) not in seen:
             seen.add((module, name))
             file = self.by_module[module]
-            if name in file.own or name not in file.brings:
+            if name in file.own_names or name not in file.imports:
                 break
-            module, name = file.brings[name]
+            module, name = file.imports[name]
         return module, name
 
     def find_meaning(self, file: File, word: str) -> str:
         """Returns the meaning of a word in a file: a whole name, or the word itself if the file does not import it."""
         first, dot, rest = word.partition(".")
-        if first in file.own:
+        if first in file.own_names:
             return f"{file.module}.{word}"
-        if first in file.brings:
-            return ".".join(self.find_origin(*file.brings[first])) + dot + rest
+        if first in file.imports:
+            return ".".join(self.find_origin(*file.imports[first])) + dot + rest
         if first in file.modules:
             return ".".join(self.find_origin(file.modules[first], rest))
         return word

@@ -31,7 +31,7 @@ def run_function(report_of: Callable[[plain.Test], str], file: str) -> spawn.Run
 
 
 def run_function_on_all(report_of: Callable[[plain.Test], str], files: Sequence[str], report: Callable[[str], None]) -> list[spawn.Run]:
-    """Returns the runs of all files by a function, such as `plain.report` or `answers.made_by_search`. Calls `report` with each file that
+    """Returns the runs of all files by a function, such as `plain.make_report` or `answers.search_states`. Calls `report` with each file that
     is done.
     """
     done = []

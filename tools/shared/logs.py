@@ -28,7 +28,7 @@ class Difference(NamedTuple):
 
 
 def format_atom(match: tuple[str, str, str]) -> str:
-    """Returns a name and its word, in one spelling for all tools, of the groups of a match of ATOM."""
+    """Returns a name and its word, in one spelling for all tools, by the groups of a match of ATOM."""
     thread, name, word = match
     register = parse_register(name) if thread else None
     site = f"{thread.lstrip('P') + ':' if thread else ''}{register[0] if register else name}"
