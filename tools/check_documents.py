@@ -179,7 +179,7 @@ Check = Tuple[Any, ...]
 
 
 def capture_streams(command: Sequence[str | bytes], stdin: bytes = b"", **options: Any) -> tuple[bytes, bytes, int]:
-    """Returns what a command prints on both streams, and its exit status."""
+    """Returns what a command prints on standard output and on standard error, and its exit status."""
     ran = subprocess.run(command, input=stdin, capture_output=True, cwd=HOME, timeout=60, **options)
     return ran.stdout, ran.stderr, ran.returncode
 
@@ -708,7 +708,7 @@ def list_program_checks() -> Iterator[Check]:
     """Yields the checks of what the programs print, whatever they are asked and however they are run."""
     yield (check_handles,)
     yield (check_counts,)
-    yield from check_beyond.checks()
+    yield from check_beyond.list_checks()
     for usage in USAGES:
         yield check_usage, *usage
     yield (check_words,)

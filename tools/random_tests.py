@@ -211,13 +211,13 @@ Comparison = Tuple[str, object, object]
 
 
 def run_program(arguments: list[str], text: str) -> Printed:
-    """Runs the program on a text."""
+    """Returns what the program prints on a text, and its exit status."""
     ran = subprocess.run([PROGRAM, *arguments], input=text.encode(), capture_output=True, timeout=120)
     return Printed(ran.stdout.decode(), ran.stderr.decode(), ran.returncode)
 
 
 def compare_replays(subject: str, text: str, test: plain.Test, schedule: str) -> Iterator[Comparison]:
-    """Compares the replays of one schedule by both, over both protocols."""
+    """Compares the replays of one schedule by plain.py and by the program, over both protocols."""
     for protocol in PROTOCOLS:
         words = ["replay", schedule, "--protocol", protocol]
         yield f"{subject}, {' '.join(words)}\n{text}", replay_by_plain(test, schedule, protocol), run_program(words, text)
@@ -233,7 +233,7 @@ def replay_by_plain(test: plain.Test, schedule: str, protocol: str) -> Printed:
 
 
 def compare_mistaken(subject: str, text: str) -> Iterator[Comparison]:
-    """Compares both on a text that may be no test: whether they accept it, and its first page."""
+    """Compares plain.py with the program on a text that may be no test: whether they accept it, and if so the page of an empty schedule."""
     out, err, status = run_program(["replay", ""], text)
     try:
         expected = replay_by_plain(plain.read_test(text), "", "mesi")

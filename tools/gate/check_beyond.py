@@ -248,8 +248,8 @@ def check_seconds() -> Iterator[Comparison]:
     yield "its report", True, printed.startswith("Test ") and printed.count("\n") > 100_000
 
 
-def checks() -> Iterator[tuple[Any, ...]]:
-    """Yields all checks: functions with their arguments. What takes long comes first."""
+def list_checks() -> Iterator[tuple[Any, ...]]:
+    """Yields all list_checks: functions with their arguments. What takes long comes first."""
     yield (check_index,)
     yield (check_seconds,)
     for row in sorted(read_rows(), key=lambda it: it[2], reverse=True):
@@ -268,7 +268,7 @@ def checks() -> Iterator[tuple[Any, ...]]:
 
 def make_comparisons() -> Iterator[Comparison]:
     """Yields all comparisons: what is compared, what is expected, and what was found."""
-    for check, *words in checks():
+    for check, *words in list_checks():
         yield from check(*words)
 
 

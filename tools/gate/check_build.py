@@ -93,7 +93,7 @@ class Checkout:
         return subprocess.Popen([f"{self.home}/{arguments[0]}", *arguments[1:]], start_new_session=True, **{**defaults, **options})
 
     def capture_streams_and_record(self, *arguments: str) -> tuple[bytes, str, list[str]]:
-        """Returns the output of ./lw, or of a command, on both streams, and its calls of the stand-in."""
+        """Returns what `./lw states`, or a command, prints on standard output and on standard error, and its calls of the stand-in."""
         streams = self.start_command(arguments or ("lw", "states")).communicate(b"text\n", timeout=60)
         return streams[0], streams[1].decode(), self.take_record()
 

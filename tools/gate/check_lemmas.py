@@ -57,7 +57,7 @@ def list_name_candidates(word: str) -> set[str]:
     return {word, *(".".join(parts[:many]) for many in range(1, len(parts)))}
 
 
-class Named:
+class UsedNames:
     """The names that are used, and their places."""
 
     def __init__(self, files: Files) -> None:
@@ -140,7 +140,7 @@ def split_path(crate: str, path: str) -> tuple[str, str]:
 
 def list_unnamed(files: Files) -> Iterator[Declaration]:
     """Yields the declarations that nothing names."""
-    names_in_use = Named(files)
+    names_in_use = UsedNames(files)
     for file in filter(is_proof, files.all):
         for declaration in file.declarations:
             if not is_answer(declaration) and not names_in_use.is_named(declaration):
@@ -151,7 +151,7 @@ def list_unnamed(files: Files) -> Iterator[Declaration]:
 
 
 class Statement:
-    """Words in which bound variables have numbers, and other names their meaning."""
+    """The statement of a declaration as words, in which bound variables have numbers, and other names their meaning: so equal ones say the same."""
 
     def __init__(self, files: Files, file: File) -> None:
         """Starts a statement of a file."""

@@ -39,7 +39,7 @@ Answer = Callable[[List[str], bytes], Tuple[int, bytes, bytes]]
 
 
 def capture_status_and_streams(command: list[str], text: bytes, **settings: str) -> tuple[int, bytes, bytes]:
-    """Returns the exit status of a command and what it prints on both streams."""
+    """Returns the exit status of a command, and what it prints on standard output and on standard error. `settings` are added to its environment."""
     ran = subprocess.run(command, input=text, capture_output=True, check=False, env={**os.environ, **settings})
     return ran.returncode, ran.stdout, ran.stderr
 

@@ -83,7 +83,9 @@ def make_script_command(folder: str, text: str, *arguments: str) -> list[str]:
 
 
 def run_on_system(arguments: list[str], path: str, home: str, system: System) -> tuple[int, bytes]:
-    """Runs a command with a file of the repository as its input. Returns its exit status, and what it prints."""
+    """Runs a command on a system, in a folder, with a file of the repository as its input. Returns its exit status, and what it prints on both streams
+    together.
+    """
     with open(f"{HOME}/{path}", "rb") as file:
         with system.start_command(arguments, home, stdin=file, stdout=subprocess.PIPE, stderr=subprocess.STDOUT) as ran:
             out = ran.communicate(timeout=300)[0]

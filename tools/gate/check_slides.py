@@ -7,7 +7,7 @@
 - What is shown of a test is what the program says of it: each list is that of its report, with the verdict, and each picture of the
   machine has the registers, the store buffers and the words of its replay. An execution's loads have the words that the replay ends with.
 - The slides are in the order of the timetable. Before the tasks none shows a test of tasks 2 to 4, except the text of A1 and A2 and the
-  list of A1 by turns, and no picture shows cache lines. Slide and sheet ask the same.
+  list of A1 by interleaving, and no picture shows cache lines. Slide and sheet ask the same.
 - In Chromium, if it is there with its driver and python3-selenium: keys, clicks and two buttons lead from slide to slide, the buttons cover
   nothing, a key shows notes, they are dark if the system is, and each is a white page of paper.
 

@@ -110,7 +110,7 @@ int main(int count, char **words) {
 """
 
 
-class Native(NamedTuple):
+class NativeStates(NamedTuple):
     """The seen states of a program: lines, each with its count."""
 
     counts: dict[str, int]
@@ -169,7 +169,7 @@ def make_expression(converter: Converter, site: ThreadValue | Global, names: lis
     return f"*(uint{8 * size}_t *)(object_{number} + {offset or 0})"
 
 
-def run_native(converter: Converter, assembly: str, compiler: str, seconds: float) -> Native:
+def run_native(converter: Converter, assembly: str, compiler: str, seconds: float) -> NativeStates:
     """Runs a program for some seconds. The compiler assembles and links it. Raises Refused if it does not build."""
     sites = list(dict.fromkeys(it.site for it in converter.condition.list_atoms()))
     text = make_declarations(converter, sites)
@@ -188,8 +188,8 @@ def run_native(converter: Converter, assembly: str, compiler: str, seconds: floa
     return parse_native(ran.stdout.decode(), sites)
 
 
-def parse_native(printed: str, sites: list[ThreadValue | Global]) -> Native:
-    """Reads what the harness printed."""
+def parse_native(printed: str, sites: list[ThreadValue | Global]) -> NativeStates:
+    """Returns the states that the harness printed, each with its count."""
     objects = {int(address) % 2**32: name for name, address in re.findall(r"^object (\S+) (\d+)$", printed, re.M)}
     counts: dict[str, int] = {}
     for line in re.findall(r"^state (.*)$", printed, re.M):
@@ -198,11 +198,13 @@ def parse_native(printed: str, sites: list[ThreadValue | Global]) -> Native:
         names = [f"{site.thread}:{site.name}" if isinstance(site, ThreadValue) else strip_prefix(site.name) for site in sites]
         key = " ".join(sorted(f"{name}={word};" for name, word in zip(names, values)))
         counts[key] = counts.get(key, 0) + count
-    return Native(counts)
+    return NativeStates(counts)
 
 
 def compare_with_list(path: str, compiler: str, seconds: float, tries: int) -> tuple[list[str], int, int, int, bool]:
-    """Returns the states of a program that are seen and not listed, how many of the listed states were seen, and the number of runs."""
+    """Runs a program by a compiler. Returns the states that were seen and are not listed; the numbers of listed states that were seen, of all listed
+    states, and of runs; and whether runs go through a loop at most `tries` times, so that the list lacks states.
+    """
     with open(path, encoding="utf-8") as file:
         source = read_source(path, file.read())
     raw = compile_to_assembly(source, compiler, 0, os.path.dirname(os.path.abspath(path)))

@@ -55,8 +55,8 @@ class Page:
         return LIMIT - len(self.line)
 
     @property
-    def fresh(self) -> int:
-        """Returns the room of a continued line."""
+    def new_line_columns(self) -> int:
+        """Returns the number of columns that a term has on a new line that continues the sentence."""
         return LIMIT - self.base - 4
 
     @property
@@ -98,7 +98,7 @@ def fits(term: Term, columns: int, tail: int = 0) -> bool:
 
 def is_apart(term: Term | None, page: Page) -> bool:
     """Returns whether a term is a tuple that has a line for each item, if it starts a line."""
-    return isinstance(term, Rows) and not term.head and not fits(term, page.fresh)
+    return isinstance(term, Rows) and not term.head and not fits(term, page.new_line_columns)
 
 
 # How a term can start after other words, though it does not fit there: up to a bracket whose items have lines of their own.
@@ -139,14 +139,14 @@ def find_last_part(term: Term) -> Term:
     return find_last_part(term.others[-1][1]) if isinstance(term, Chain) else term
 
 
-def can_hang(term: Term, columns: int, fresh: int, tail: int) -> bool:
-    """Returns whether a term that does not fit on a line of its own can start in some room and end in lines of its own, where no bracket
-    that fits on a line is broken.
+def can_hang(term: Term, columns: int, new_line_columns: int, tail: int) -> bool:
+    """Returns whether a term that does not fit on a line of its own can start in the `columns` that are left and end in lines of its own, where no
+    bracket that fits on a line is broken. After the term come `tail` further columns.
     """
     opening, last = find_opening(term), find_last_part(term)
-    if opening is None or len(opening) > columns or fits(term, fresh, tail):
+    if opening is None or len(opening) > columns or fits(term, new_line_columns, tail):
         return False
-    return isinstance(last, Rows) and last.opening == "[" or not fits(last, fresh, tail)
+    return isinstance(last, Rows) and last.opening == "[" or not fits(last, new_line_columns, tail)
 
 
 # Writing terms. `tail` columns must fit after a term on its last line.
@@ -168,7 +168,7 @@ def put_term(page: Page, term: Term, tail: int) -> None:
 
 def put_after(page: Page, term: Term, tail: int) -> None:
     """Writes a term after other words: on their line if it fits there or can start there, otherwise on the next."""
-    if fits(term, page.columns_left - 1, tail) or can_hang(term, page.columns_left - 1, page.fresh, tail):
+    if fits(term, page.columns_left - 1, tail) or can_hang(term, page.columns_left - 1, page.new_line_columns, tail):
         page.write_text(" ")
     else:
         page.continue_on_new_line(term)
@@ -199,7 +199,7 @@ def put_item(page: Page, rows: Rows, words: str, term: Term) -> None:
 def put_application(page: Page, term: Application, tail: int) -> None:
     """Writes a function and its arguments: each argument whole, in as few lines as they fill."""
     *parts, last = term.parts
-    if can_hang(term, page.columns_left, page.fresh, tail):
+    if can_hang(term, page.columns_left, page.new_line_columns, tail):
         page.write_text("".join(f"{it.flat} " for it in parts))
         put_term(page, last, tail)
         return
@@ -217,7 +217,7 @@ def put_application(page: Page, term: Application, tail: int) -> None:
 def put_chain(page: Page, term: Chain, tail: int) -> None:
     """Writes terms with operators between them."""
     *others, (operator, last) = term.others
-    if operator in LEVELS and operator != "→" and can_hang(term, page.columns_left, page.fresh, tail):
+    if operator in LEVELS and operator != "→" and can_hang(term, page.columns_left, page.new_line_columns, tail):
         page.write_text(" ".join([term.first.flat, *(f"{mark} {it.flat}" for mark, it in others), operator, ""]))
         put_term(page, last, tail)
         return
@@ -279,7 +279,7 @@ def put_signature(page: Page, nodes: list[Node], colon: int) -> None:
     first = term.first if isinstance(term, Chain) else term
     has_binders = isinstance(first, Application) and isinstance(first.parts[0], Bracket)
     page.write_text(f"{format_pattern(nodes[:colon])} :")
-    if has_binders or fits(first, page.columns_left - 1) or not fits(first, page.fresh):
+    if has_binders or fits(first, page.columns_left - 1) or not fits(first, page.new_line_columns):
         page.write_text(" ")
     else:
         page.continue_on_new_line(None)

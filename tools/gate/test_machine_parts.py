@@ -378,7 +378,7 @@ def make_result(counts: dict[tuple[int, int], int], against: str = "") -> Result
     """Returns a result of SB-x86, compared with its list or that of another test."""
     subject = read_subject("examples/SB-x86.litmus")
     states = [(0, 0), (0, 1), (1, 0), (1, 1)]
-    listed = subjects.Listed([it for it in states if not against or it != (0, 0)], answers.Maker.SEARCH)
+    listed = subjects.StateList([it for it in states if not against or it != (0, 0)], answers.Maker.SEARCH)
     return summary.Result("F", subject, listed, make_seen(counts), 4, against, ("A note.",))
 
 
@@ -453,10 +453,10 @@ class Logs(cases.Case):
 
     def test_makers(self) -> None:
         """An answer says proved only of the programs, and of a source test only if its compiler is one."""
-        makers = [subjects.Listed([], it).describe_maker() for it in answers.Maker]
+        makers = [subjects.StateList([], it).describe_maker() for it in answers.Maker]
         not_proved = [f"{it.value}, not proved" for it in answers.Maker if it not in (answers.Maker.PROGRAM, answers.Maker.BEYOND)]
         self.assertEqual(["lw, proved complete", "beyond, proved complete", *not_proved], makers)
-        makers = [subjects.Listed([], answers.Maker.PROGRAM, it).describe_maker() for it in (answers.Maker.PROGRAM, answers.Maker.PLAIN)]
+        makers = [subjects.StateList([], answers.Maker.PROGRAM, it).describe_maker() for it in (answers.Maker.PROGRAM, answers.Maker.PLAIN)]
         self.assertEqual(["lw, of the test that lw compiled, proved complete", "lw, of the test that tools/plain.py compiled, not proved"], makers)
 
     def test_json(self) -> None:

@@ -22,7 +22,7 @@ from machine.faults import NotRun
 from machine.laboratory import Laboratory, MeasuredRun, Settings, list_notes
 from machine.plans import Limits
 from machine.runs import Sightings, Sighting, merge_sights
-from machine.subjects import Listed, Subject, Words, make_list, make_other_list
+from machine.subjects import StateList, Subject, Words, make_list, make_other_list
 from machine.summary import Result, format_contradiction
 from many.files import is_program
 from shared import answers
@@ -36,7 +36,7 @@ class Part(NamedTuple):
 
     conversion: ConvertedTest
     subject: Subject
-    listed: Listed
+    listed: StateList
 
     def find_program_state(self, words: Words) -> Words | None:
         """Returns the state of the program that a state of the test shows. None if its run is given up."""
@@ -65,14 +65,14 @@ def make_part(conversion: ConvertedTest) -> Part:
     return Part(conversion, subject, make_list(subject))
 
 
-def merge_lists(parts: Sequence[Part], compiler: str) -> Listed:
+def merge_lists(parts: Sequence[Part], compiler: str) -> StateList:
     """Returns the list of a program: the states of its tests that are not given up. Its maker is the weakest of theirs."""
     program_states = (part.find_program_state(words) for part in parts for words in part.listed.states)
     states = {it for it in program_states if it is not None}
     makers = {part.listed.by for part in parts}
     count = f"{len(parts)} tests" if len(parts) != 1 else "test"
     of_tests = f"of the {count} that tools/from_c.py makes of the code of {compiler}"
-    return Listed(sorted(states), [it for it in answers.Maker if it in makers][-1], of_tests=of_tests)
+    return StateList(sorted(states), [it for it in answers.Maker if it in makers][-1], of_tests=of_tests)
 
 
 def compile_program(file: str, text: str, compiler: str | None, tries: int) -> Program:

@@ -24,7 +24,7 @@ class Subject(NamedTuple):
     compiled_by: answers.Maker | None = None
     rename_line: Callable[[str], str] = str
     condition_text: str = ""
-    listed: 'Listed' | None = None
+    listed: 'StateList' | None = None
 
     @property
     def condition(self) -> str:
@@ -44,7 +44,7 @@ class Subject(NamedTuple):
         return plain.is_true_in(self.shown.proposition, plain.make_outcome_from_words(self.shown, words))
 
 
-class Listed(NamedTuple):
+class StateList(NamedTuple):
     """The listed states, who made the list, and who compiled its test, if that is a source test; or of which tests it is, if it is a program's."""
 
     states: list[Words]
@@ -72,16 +72,16 @@ def make_subject(text: str, everything: bool) -> Subject:
     return Subject(shown, x86, plain.list_observed_sites(x86), compiled_by)
 
 
-def make_list(subject: Subject) -> Listed:
+def make_list(subject: Subject) -> StateList:
     """Returns the list of the states of a test, or of a program."""
     if subject.listed:
         return subject.listed
     report = answers.make_answer(["states"], subject.x86)
     lines = answers.filter_state_lines(report.text)
-    return Listed([tuple(int(it.partition("=")[2]) for it in line.split(";")[:-1]) for line in lines], report.by, subject.compiled_by)
+    return StateList([tuple(int(it.partition("=")[2]) for it in line.split(";")[:-1]) for line in lines], report.by, subject.compiled_by)
 
 
-def make_other_list(subject: Subject, other: Subject) -> Listed:
+def make_other_list(subject: Subject, other: Subject) -> StateList:
     """Returns the list of another test. Raises Fault if the states of the two do not have the same names."""
     if subject.list_names() != other.list_names():
         names = " ".join(other.list_names())

@@ -6,7 +6,7 @@ from typing import NamedTuple
 
 from machine import logs
 from machine.runs import Sightings
-from machine.subjects import Listed, Subject, Words
+from machine.subjects import StateList, Subject, Words
 
 MAX_RARE_STATES = 3
 NOT_LISTED = "SEEN AND NOT LISTED"
@@ -19,7 +19,7 @@ class Result(NamedTuple):
 
     file: str
     subject: Subject
-    listed: Listed
+    listed: StateList
     seen: Sightings
     processors: int
     against: str = ""

@@ -43,7 +43,7 @@ LEAST_PART = 0.77
 TITLES = {"buffer": "'s buffer", "lines": "'s line"}
 
 
-class Listed(NamedTuple):
+class ListedStates(NamedTuple):
     """The states of a test, each with its words, and whether the condition holds there."""
 
     names: list[str]
@@ -61,14 +61,14 @@ def read_text(view: View) -> str:
         return file.read()
 
 
-def list_states(test: Test) -> Listed:
+def list_states(test: Test) -> ListedStates:
     """Returns the states of a test."""
     states = plain.collect_states(test, plain.list_outcomes(test))
     names = [plain.format_site(test, it) for it in plain.list_observed_sites(test)]
-    return Listed(names, [(list(words), plain.is_true_in(test.proposition, outcome)) for words, outcome in states])
+    return ListedStates(names, [(list(words), plain.is_true_in(test.proposition, outcome)) for words, outcome in states])
 
 
-def find_missing(test: Test, listed: Listed) -> list[int] | None:
+def find_missing(test: Test, listed: ListedStates) -> list[int] | None:
     """Returns the words of a state that the condition asks about and that the list lacks, if the condition names a word for each site; or None."""
     atoms = []
     parts = [test.proposition]

@@ -74,7 +74,7 @@ def list_names(states: Iterable[State]) -> set[str]:
     return {atom.rpartition("=")[0] for state in states for atom in state}
 
 
-class Listed(NamedTuple):
+class ListedTest(NamedTuple):
     """The states that are listed here for a test, those names that a log may lack, why they are not compared, if they are not, and how
     often a run passes each loop at most, or 0 if that has no limit.
     """
@@ -93,11 +93,11 @@ class ListedTests(NamedTuple):
     of each of these.
     """
 
-    own: dict[str, Listed]
-    originals: dict[str, Listed]
+    own: dict[str, ListedTest]
+    originals: dict[str, ListedTest]
     original_of: dict[str, str]
 
-    def match_log_names(self, log: dict[str, set[State]]) -> dict[str, Listed]:
+    def match_log_names(self, log: dict[str, set[State]]) -> dict[str, ListedTest]:
         """Returns the tests by the names that a log has for them: an earlier run's log names converted tests, other logs their originals."""
         chosen = {}
         for name, listed in self.own.items():
@@ -109,7 +109,7 @@ class ListedTests(NamedTuple):
         return chosen
 
 
-def is_log_of_converted(own: Listed, original: Listed, seen: set[State]) -> bool:
+def is_log_of_converted(own: ListedTest, original: ListedTest, seen: set[State]) -> bool:
     """Returns whether the states of a log are those of a converted test by its own names, and not those of its original."""
     names = list_names(seen)
     return seen == own.states or names == list_names(own.states) and names != list_names(original.states)
@@ -122,7 +122,7 @@ def collect_lists(reports: Iterable[tuple[str, str]]) -> ListedTests:
     for text, report in reports:
         for name, states in read_states(report.splitlines()).items():
             is_other = name in tests.own and tests.own[name].states != states
-            tests.own[name] = Listed(states, why=TWO_FILES if is_other else "")
+            tests.own[name] = ListedTest(states, why=TWO_FILES if is_other else "")
         origin = read_origin(text)
         if origin:
             try:
@@ -134,7 +134,7 @@ def collect_lists(reports: Iterable[tuple[str, str]]) -> ListedTests:
         missing = translation.count_missing_guesses()
         why = f"{missing} of the tests that stand for guesses of its LOCK CMPXCHG are missing, and it is not compared" if missing else ""
         extra = {format_atom((*split_site(site), "0"))[:-2] for site in translation.extra}
-        tests.originals[name] = Listed(
+        tests.originals[name] = ListedTest(
             {parse_state(line) for line in translation.lines}, extra, TWO_FILES if translation.is_twice else why, translation.tries
         )
     return tests
@@ -146,7 +146,7 @@ def add_converted(tests: ListedTests, report: str, converted: Iterable[tuple[str
     """
     for name, states in read_states(report.splitlines()).items():
         is_other = name in tests.own and tests.own[name].states != states
-        tests.own[name] = Listed(states, why=TWO_FILES if is_other else "", tries=tries)
+        tests.own[name] = ListedTest(states, why=TWO_FILES if is_other else "", tries=tries)
         originals = collect_lists(converted).originals
         if name in originals:
             tests.original_of[name] = name
@@ -178,7 +178,7 @@ def find_differences(listed: ListedTests, log: dict[str, set[State]]) -> Iterato
             yield from compare_states(name, tests[name], log[name])
 
 
-def compare_states(name: str, listed: Listed, seen: set[State]) -> Iterator[Difference]:
+def compare_states(name: str, listed: ListedTest, seen: set[State]) -> Iterator[Difference]:
     """Yields the differences between the states of a test that both have."""
     names = list_names(seen)
     states = restrict_states(listed.states, names) if seen else listed.states
