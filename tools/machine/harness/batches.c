@@ -11,10 +11,12 @@
 #define BATCHES_OF_PLACEMENT 64
 #define START_AFTER 4000 /* cycles from the last barrier to the first instance */
 
+/* An int in a cache line of its own. */
 struct line {
     volatile int value;
     char pad[LINE - sizeof(int)];
 };
+/* What the threads of a run share. */
 struct run {
     const struct plan *plan;
     struct summary *summary;
@@ -26,8 +28,8 @@ struct run {
     struct table tables[MAX_THREADS];
     struct listing listing;
     struct {
-        double worth;
-        uint64_t late;
+        double worth;  /* of the states that the thread has counted in the last batch */
+        uint64_t late; /* instances that it began late */
         char pad[LINE - 2 * 8];
     } batch[MAX_THREADS];
     struct cookbook book;
@@ -39,6 +41,7 @@ struct run {
     volatile uint64_t begin;
     volatile uint64_t clock;
 };
+/* What one thread of a run has for itself. */
 struct worker {
     struct run *run;
     int thread, sense, placement;
@@ -46,6 +49,7 @@ struct worker {
     char *ballast;
 };
 
+/* The barrier: waits until all threads have come here. */
 static void meet(struct worker *self)
 {
     struct run *run = self->run;
@@ -64,6 +68,7 @@ static void meet(struct worker *self)
     __atomic_thread_fence(__ATOMIC_SEQ_CST);
 }
 
+/* Returns the time-stamp counter, after all earlier instructions and before all later ones. */
 static uint64_t clock_now(void)
 {
     __builtin_ia32_lfence();
@@ -72,6 +77,7 @@ static uint64_t clock_now(void)
     return now;
 }
 
+/* Returns the number of instances of the batch that is run: fewer under the trap flag, which is slow. */
 static uint32_t instances_of(const struct run *run)
 {
     return run->recipe.kind == RACE ? run->plan->instances : run->plan->instances / LED_PART;

@@ -67,16 +67,17 @@ struct plan {
 };
 void read_plan(struct plan *plan);
 
+/* How the instances of a batch are run. */
 struct recipe {
-    uint8_t kind, sync;
+    uint8_t kind, sync;           /* of the enums of these names */
     uint8_t owner[MAX_LOCATIONS]; /* which thread writes the first words */
     uint8_t prepare[MAX_THREADS][MAX_LOCATIONS];
-    uint8_t ballast[MAX_THREADS]; /* stores to flushed lines before the test's: it waits behind them in the store buffer */
+    uint8_t ballast[MAX_THREADS]; /* stores to flushed lines before the test's: it waits after them in the store buffer */
     uint8_t halts[MAX_THREADS];
     int16_t halt_at[MAX_THREADS]; /* the instruction before which a thread halts first, or -1 for any */
     uint32_t halt_for;             /* cycles at most */
-    uint32_t delay[MAX_THREADS], jitter;
-    int script;
+    uint32_t delay[MAX_THREADS], jitter; /* cycles that a thread waits before an instance, and a mask of random ones that are added */
+    int script;                          /* the index of the script that leads the threads, or -1 */
 };
 #define POOL 64
 /* The recipes that showed new or rare states, and what the next one is drawn from. */
@@ -85,23 +86,25 @@ struct cookbook {
     int has_clock, has_traps, next_script;
     uint64_t random;
     struct recipe pool[POOL];
-    double worth[POOL];
+    double worth[POOL]; /* of each recipe of the pool; 0 if its place is free */
 };
 void draw_recipe(struct cookbook *book, struct recipe *recipe);
 void learn(struct cookbook *book, const struct recipe *recipe, double worth);
 
-/* The states that one thread has counted, by their words. */
+/* A state that a thread has counted: how often, after how many seconds first, and by which kind of recipe. */
 struct entry {
     uint64_t count;
     double first;
     int kind;
     uint32_t words[MAX_SITES];
 };
+/* The states that one thread has counted, by a hash of their words. */
 struct table {
     struct entry *entries;
     uint32_t filled;
     int is_full;
 };
+/* The listed states: each slot has the index of one, counted from 1, or 0; `seen` says of each whether some thread has counted it. */
 struct listing {
     const struct plan *plan;
     int *slots;
@@ -114,12 +117,13 @@ void make_table(struct table *table);
 double count_state(struct table *table, struct listing *listing, const uint32_t *words, double now, int kind);
 void print_table(const struct table *table, int sites);
 
-/* A thread that runs under the trap flag. */
+/* The halts of a thread under the trap flag: before which instruction it halts first, how often, and for how many cycles at most. */
 struct halt {
     int first, count;
     uint32_t most;
     uint64_t random;
 };
+/* The script that leads a thread under the trap flag, the piece of it that is due, and how many cycles the thread waits after its last piece. */
 struct lead {
     const struct script *script;
     volatile int *turn;
@@ -130,6 +134,7 @@ enum traps try_traps(const struct plan *plan);
 void run_with_halts(int thread, const struct plan *plan, char *const *at, uint32_t *registers, const struct halt *halt);
 void run_led(int thread, const struct plan *plan, char *const *at, uint32_t *registers, const struct lead *lead);
 
+/* The facts on a run that main.c prints. */
 struct summary {
     uint64_t runs, batches;
     double seconds;

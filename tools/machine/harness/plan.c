@@ -5,13 +5,15 @@
 #include <stdlib.h>
 #include <string.h>
 
+/* Ends the harness with status 2, since the plan lacks what is expected next. */
 static void refuse(const char *name)
 {
     fprintf(stderr, "harness: the plan has no '%s' where one is due\n", name);
     exit(2);
 }
 
-static int64_t number(const char *name)
+/* Reads a number. `name` says in a refusal what it belongs to. */
+static int64_t read_number(const char *name)
 {
     int64_t value;
     if (scanf("%" SCNd64, &value) != 1)
@@ -19,29 +21,32 @@ static int64_t number(const char *name)
     return value;
 }
 
-static void name(const char *expected)
+/* Reads a name, which has to be the expected one. */
+static void read_name(const char *expected)
 {
     char word[32];
     if (scanf("%31s", word) != 1 || strcmp(word, expected))
         refuse(expected);
 }
 
-static int64_t named(const char *expected)
+/* Reads a name, which has to be the expected one, and the number after it. */
+static int64_t read_named_number(const char *expected)
 {
-    name(expected);
-    return number(expected);
+    read_name(expected);
+    return read_number(expected);
 }
 
-/* Reads a count that is not above a limit. */
-static int count(const char *expected, int most)
+/* Reads a name, which has to be the expected one, and the count after it, from 0 to `most`. */
+static int read_count(const char *expected, int most)
 {
-    int64_t value = named(expected);
+    int64_t value = read_named_number(expected);
     if (value < 0 || value > most)
         refuse(expected);
     return (int)value;
 }
 
-static void *array(int items, size_t size)
+/* Returns memory for so many items of a size, all zero. Ends the harness with status 4 if there is none. */
+static void *make_array(int items, size_t size)
 {
     void *made = calloc((size_t)items + 1, size);
     if (!made) {
@@ -53,62 +58,62 @@ static void *array(int items, size_t size)
 
 static void read_test(struct plan *plan)
 {
-    plan->threads = count("threads", MAX_THREADS);
-    plan->locations = count("locations", MAX_LOCATIONS);
-    name("words");
+    plan->threads = read_count("threads", MAX_THREADS);
+    plan->locations = read_count("locations", MAX_LOCATIONS);
+    read_name("words");
     for (int k = 0; k < plan->locations; k++)
-        plan->first_words[k] = (uint32_t)number("words");
-    name("registers");
+        plan->first_words[k] = (uint32_t)read_number("words");
+    read_name("registers");
     for (int t = 0; t < plan->threads; t++)
         for (int r = 0; r < REGISTERS; r++)
-            plan->first_registers[t][r] = (uint32_t)number("registers");
-    name("lengths");
+            plan->first_registers[t][r] = (uint32_t)read_number("registers");
+    read_name("lengths");
     for (int t = 0; t < plan->threads; t++)
-        plan->lengths[t] = (int)number("lengths");
-    plan->sites = count("sites", MAX_SITES);
+        plan->lengths[t] = (int)read_number("lengths");
+    plan->sites = read_count("sites", MAX_SITES);
     for (int k = 0; k < plan->sites; k++) {
-        plan->site[k].thread = (int)number("sites");
-        plan->site[k].index = (int)number("sites");
+        plan->site[k].thread = (int)read_number("sites");
+        plan->site[k].index = (int)read_number("sites");
     }
 }
 
 static void read_lists(struct plan *plan)
 {
-    plan->listed = count("listed", 1 << 24);
-    plan->states = array(plan->listed * (plan->sites + 1), sizeof *plan->states);
+    plan->listed = read_count("listed", 1 << 24);
+    plan->states = make_array(plan->listed * (plan->sites + 1), sizeof *plan->states);
     for (int k = 0; k < plan->listed * plan->sites; k++)
-        plan->states[k] = (uint32_t)number("listed");
-    plan->scripts = count("scripts", 1 << 16);
-    plan->script = array(plan->scripts, sizeof *plan->script);
+        plan->states[k] = (uint32_t)read_number("listed");
+    plan->scripts = read_count("scripts", 1 << 16);
+    plan->script = make_array(plan->scripts, sizeof *plan->script);
     for (int k = 0; k < plan->scripts; k++) {
         struct script *script = &plan->script[k];
-        script->count = count("script", 1 << 16);
-        script->pieces = array(script->count, sizeof *script->pieces);
+        script->count = read_count("script", 1 << 16);
+        script->pieces = make_array(script->count, sizeof *script->pieces);
         for (int p = 0; p < script->count; p++) {
-            script->pieces[p].thread = (int)number("script");
-            script->pieces[p].count = (int)number("script");
+            script->pieces[p].thread = (int)read_number("script");
+            script->pieces[p].count = (int)read_number("script");
         }
     }
-    plan->placements = count("placements", 1 << 16);
-    plan->placement = array(plan->placements, sizeof *plan->placement);
+    plan->placements = read_count("placements", 1 << 16);
+    plan->placement = make_array(plan->placements, sizeof *plan->placement);
     for (int k = 0; k < plan->placements; k++)
         for (int t = 0; t < plan->threads; t++)
-            plan->placement[k][t] = (int)number("placements");
+            plan->placement[k][t] = (int)read_number("placements");
 }
 
 static void read_knobs(struct knobs *knobs)
 {
-    knobs->sync = count("sync", SYNC_MIXED);
-    knobs->prepare = count("prepare", 1);
-    knobs->ballast = count("ballast", 1);
-    knobs->delay = count("delay", 1);
-    knobs->stride = count("stride", 1 << 16);
-    knobs->learn = count("learn", 1);
-    knobs->move = count("move", 1);
-    knobs->halts = count("halts", 1);
-    knobs->schedules = count("schedules", 1);
-    knobs->light = count("light", 1);
-    knobs->pin = count("pin", 1);
+    knobs->sync = read_count("sync", SYNC_MIXED);
+    knobs->prepare = read_count("prepare", 1);
+    knobs->ballast = read_count("ballast", 1);
+    knobs->delay = read_count("delay", 1);
+    knobs->stride = read_count("stride", 1 << 16);
+    knobs->learn = read_count("learn", 1);
+    knobs->move = read_count("move", 1);
+    knobs->halts = read_count("halts", 1);
+    knobs->schedules = read_count("schedules", 1);
+    knobs->light = read_count("light", 1);
+    knobs->pin = read_count("pin", 1);
 }
 
 void read_plan(struct plan *plan)
@@ -117,13 +122,13 @@ void read_plan(struct plan *plan)
     read_test(plan);
     read_lists(plan);
     read_knobs(&plan->knobs);
-    plan->has_clock = count("clock", 1);
-    plan->is_scarce = count("scarce", 1);
-    plan->until_complete = count("complete", 1);
-    plan->instances = (uint32_t)count("instances", 1 << 20);
-    plan->runs = (uint64_t)named("runs");
-    plan->seconds = (double)named("milliseconds") / 1000;
-    name("end");
+    plan->has_clock = read_count("clock", 1);
+    plan->is_scarce = read_count("scarce", 1);
+    plan->until_complete = read_count("complete", 1);
+    plan->instances = (uint32_t)read_count("instances", 1 << 20);
+    plan->runs = (uint64_t)read_named_number("runs");
+    plan->seconds = (double)read_named_number("milliseconds") / 1000;
+    read_name("end");
     if (plan->instances < LED_PART || plan->instances & (plan->instances - 1))
         refuse("instances");
 }

@@ -7,23 +7,25 @@
 #define FADES 0.995
 static const uint32_t delays[] = {0, 0, 40, 100, 200, 400, 800, 1600};
 
+/* Returns a random number below a limit. */
 static uint64_t below(struct cookbook *book, uint64_t limit)
 {
     return next_random(&book->random) % limit;
 }
 
+/* Returns whether a draw that succeeds once in so many times succeeds. */
 static int one_in(struct cookbook *book, int times)
 {
     return below(book, (uint64_t)times) == 0;
 }
 
-/* A number of ones in binary, up to so many. */
+/* Returns a random mask: up to `most_bits` ones in binary. */
 static uint32_t jitter_of(struct cookbook *book, int most_bits)
 {
     return (1u << below(book, (uint64_t)most_bits + 1)) - 1;
 }
 
-/* Begins a recipe: who writes the first words. */
+/* Begins a recipe of a kind: draws which thread writes the first word of each location. */
 static void begin_recipe(struct cookbook *book, struct recipe *recipe, int kind)
 {
     memset(recipe, 0, sizeof *recipe);
@@ -34,7 +36,7 @@ static void begin_recipe(struct cookbook *book, struct recipe *recipe, int kind)
         recipe->owner[k] = (uint8_t)below(book, (uint64_t)book->plan->threads);
 }
 
-/* How threads come together: as the knob says. */
+/* Returns how threads come together: as the knob says, or one of the other three at random. */
 static uint8_t sync_of(struct cookbook *book)
 {
     int sync = book->plan->knobs.sync;

@@ -6,6 +6,7 @@
 #define SLOTS 65536
 #define NEW_STATE 100.0
 
+/* Returns a hash of the words of a state. */
 static uint32_t hash_of(const uint32_t *words, int sites)
 {
     uint64_t hash = 1469598103934665603ull;
@@ -45,8 +46,8 @@ void make_listing(struct listing *listing, const struct plan *plan)
     }
 }
 
-/* Notes that a state was seen. A state that is not listed is not noted. */
-static void note_seen(struct listing *listing, const uint32_t *words)
+/* Records that a state was seen, if it is listed. */
+static void record_seen(struct listing *listing, const uint32_t *words)
 {
     const struct plan *plan = listing->plan;
     uint32_t slots = slots_for(plan->listed), at = hash_of(words, plan->sites) & (slots - 1);
@@ -78,7 +79,7 @@ double count_state(struct table *table, struct listing *listing, const uint32_t 
     entry->first = now;
     entry->kind = kind;
     memcpy(entry->words, words, (size_t)sites * sizeof *words);
-    note_seen(listing, words);
+    record_seen(listing, words);
     return NEW_STATE;
 }
 
