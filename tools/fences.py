@@ -170,7 +170,7 @@ def make_fence_table(test: plain.Test) -> Table:
 
 def find_enough_sets(test: plain.Test, fences: list[Place], states: list[str]) -> list[list[Place]]:
     """Returns all smallest sets of fences that add no state."""
-    return find_smallest_sets(fences, lambda kept: list_states(remove_fences(test, [it for it in fences if it not in kept])) == states)
+    return find_smallest_sets(fences, lambda chosen: list_states(remove_fences(test, [it for it in fences if it not in chosen])) == states)
 
 
 def find_helping_sets(test: plain.Test) -> list[list[Place]]:

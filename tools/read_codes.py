@@ -38,7 +38,7 @@ class Quizzes:
 
     def __init__(self, word: str) -> None:
         """Reads the quiz of a page, or remembers a seed."""
-        self.known: dict[int, quiz.Data] = {}  # by the number of tests
+        self.quizzes: dict[int, quiz.Data] = {}  # by the number of tests
         self.page: quiz.Data | None = None
         self.seed = word
         if not re.fullmatch("[0-9a-z]+", word):
@@ -52,9 +52,9 @@ class Quizzes:
         """Returns the quiz of the page, whatever the number; of a seed, the quiz with this number of tests."""
         if self.page:
             return self.page
-        if count not in self.known:
-            self.known[count] = quiz.make_data(self.seed, quiz.make_tests(count, self.seed, quiz.choose_reporter()))
-        return self.known[count]
+        if count not in self.quizzes:
+            self.quizzes[count] = quiz.make_data(self.seed, quiz.make_tests(count, self.seed, quiz.choose_reporter()))
+        return self.quizzes[count]
 
     def make_row(self, line: str) -> Row:
         """Returns the contents of a line's code: the student, the numbers of answers and of right ones, and the wrong ones. Raises BadCode if

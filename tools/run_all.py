@@ -75,15 +75,15 @@ class Progress:
     """A line on a terminal that says how far the runs are."""
 
     def __init__(self, total: int) -> None:
-        self.total, self.done, self.shown = total, 0, 0.0
+        self.total, self.done_count, self.shown_at = total, 0, 0.0  # `shown_at` is the time of the monotonic clock
         self.is_terminal = sys.stderr.isatty()
 
     def count_run(self, name: str) -> None:
         """Counts one more run as done."""
-        self.done += 1
-        if self.is_terminal and time.monotonic() - self.shown > 0.1:
-            self.shown = time.monotonic()
-            print(f"\r{min(self.done, self.total)} of {self.total}: {name[-50:]:50}", end="", file=sys.stderr, flush=True)
+        self.done_count += 1
+        if self.is_terminal and time.monotonic() - self.shown_at > 0.1:
+            self.shown_at = time.monotonic()
+            print(f"\r{min(self.done_count, self.total)} of {self.total}: {name[-50:]:50}", end="", file=sys.stderr, flush=True)
 
     def remove_line(self) -> None:
         """Removes the line."""

@@ -20,7 +20,7 @@ RED_ZONE = 128
 class Access:
     """The base of the classes up to `Step`: an instruction on a path, which it changes; what other threads can see of it is in `effects`.
 
-    `done` is set when the instruction's load is done: the path on which the instruction continues from there, if it forks later, and the effect of
+    `finished_load` is set when the instruction's load is done: the path on which the instruction continues from there, if it forks later, and the effect of
     the load. `guess` is what an effect must find: a question, and the answer that does not abandon the run.
     """
 
@@ -30,7 +30,7 @@ class Access:
         """
         self.program, self.thread, self.stored_words, self.path, self.instruction = program, thread, stored_words, path, instruction
         self.effects: list[Effect] = []
-        self.done: tuple[ExecutionPath, Effect] | None = None
+        self.finished_load: tuple[ExecutionPath, Effect] | None = None
         self.guess: tuple[Question, bool] | None = None
 
     # Registers.
@@ -117,7 +117,7 @@ class Access:
         before = self.path.copy()
         before.position -= 1
         before.pending_value = (value,)
-        self.done = (before, effect)
+        self.finished_load = (before, effect)
         self.effects.append(effect)
 
     def store(self, address: int, size: int, value: Value) -> None:

@@ -64,7 +64,7 @@ class Converter:
         """Refuses a condition with a name that no path shows."""
         for number, names in self.condition.collect_names().items():
             nodes = [thread.graph.nodes[index] for thread in self.threads[number] for index in thread.graph.list_reachable()]
-            shown_names = {name for node in nodes if isinstance(node, End) for name, _ in node.seen}
+            shown_names = {name for node in nodes if isinstance(node, End) for name, _ in node.values}
             for name in sorted(names - shown_names):
                 if shown_names or any(isinstance(node, End) for node in nodes):
                     raise Refused(f"the condition asks about {number}:{name}, and no run of P{number} comes to lw_see({name}, ..)")

@@ -71,9 +71,9 @@ class Branch:
 
 @dataclass(frozen=True)
 class End:
-    """The thread's end: what the condition can mention, by name."""
+    """The thread's end: the values that the condition can mention, each with its name."""
 
-    seen: tuple[tuple[str, Value], ...]
+    values: tuple[tuple[str, Value], ...]
 
 
 @dataclass(frozen=True)
@@ -150,7 +150,7 @@ def list_used_symbols(node: Node) -> frozenset[int]:
         return frozenset() if isinstance(node.effect, (Load, Fence)) else symbols_in(node.effect.value)
     if isinstance(node, Branch):
         return frozenset((node.question.symbol, node.question.other) if isinstance(node.question, IsSame) else (node.question.symbol,))
-    return frozenset().union(*(symbols_in(value) for _, value in node.seen)) if isinstance(node, End) else frozenset()
+    return frozenset().union(*(symbols_in(value) for _, value in node.values)) if isinstance(node, End) else frozenset()
 
 
 def find_defined_symbol(node: Node) -> int | None:

@@ -14,7 +14,7 @@ class Registers:
 
     def __init__(self, graph: PathGraph, seen_registers: dict[str, int], mark: int | None, thread: int) -> None:
         """Chooses registers for the symbols of a thread's paths. `seen_registers` are those of what the condition mentions, by its name."""
-        self.graph, self.seen, self.mark, self.thread = graph, seen_registers, mark, thread
+        self.graph, self.seen_registers, self.mark, self.thread = graph, seen_registers, mark, thread
         self.live: dict[int, frozenset[int]] = {}  # for each node the symbols that are read in it or after it
         self.register_of: dict[int, int] = {}
         for node_index in graph.list_reachable():
@@ -44,9 +44,9 @@ class Registers:
         wishes: dict[int, list[int]] = {}
         for node_index in self.graph.list_reachable():
             node = self.graph.nodes[node_index]
-            for name, value in node.seen if isinstance(node, End) else ():
+            for name, value in node.values if isinstance(node, End) else ():
                 if isinstance(value, Symbol) and not value.added:
-                    wishes.setdefault(value.id, []).append(self.seen[name])
+                    wishes.setdefault(value.id, []).append(self.seen_registers[name])
         return wishes
 
     def refuse_too_many(self) -> Refused:
@@ -62,7 +62,7 @@ class Registers:
             if not free:
                 raise self.refuse_too_many()
             wish = [it for it in wishes.get(symbol, []) if it in free]
-            others_free = [it for it in free if it not in (*self.seen.values(), self.mark)]
+            others_free = [it for it in free if it not in (*self.seen_registers.values(), self.mark)]
             self.register_of[symbol] = (wish or others_free or [it for it in free if it != self.mark] or free)[0]
 
     def find_spare_register(self, node_index: int) -> int:
@@ -71,4 +71,4 @@ class Registers:
         free = [it for it in range(SIX) if it not in taken_registers and it != self.mark]
         if not free:
             raise self.refuse_too_many()
-        return ([it for it in free if it not in self.seen.values()] or free)[0]
+        return ([it for it in free if it not in self.seen_registers.values()] or free)[0]

@@ -23,11 +23,11 @@ from shared import answers
 VISIBLE = ("load", "store", "xchg", "xadd", "mfence")
 
 
-def restore_question(written: ProgramTest) -> plain.Test:
+def restore_question(program_test: ProgramTest) -> plain.Test:
     """Returns the test whose condition is that of the source. A run that is given up has no marks, and the condition leaves it out."""
-    question = written.conversion.question
-    proposition = restrict(question.quantifier, [plain.Eq(site, 1) for site in written.conversion.marks], question.proposition)
-    return replace(question, name=written.conversion.test.name, proposition=proposition)
+    question = program_test.conversion.question
+    proposition = restrict(question.quantifier, [plain.Eq(site, 1) for site in program_test.conversion.marks], question.proposition)
+    return replace(question, name=program_test.conversion.test.name, proposition=proposition)
 
 
 def format_lines(lines: Iterable[int]) -> str:
@@ -40,13 +40,13 @@ def format_tests(answer: Answer, converter: Converter) -> str:
     return "".join(format_test(it, converter) for it in answer.tests)
 
 
-def format_test(written: ProgramTest, converter: Converter) -> str:
+def format_test(program_test: ProgramTest, converter: Converter) -> str:
     """Returns the text of a test, with a comment that says what its names mean, and from which lines its instructions come."""
-    test = restore_question(written)
+    test = restore_question(program_test)
     heading, _, rest = plain.format_canonical_text(test).partition("\n")
     sites = Names(converter, test).sites
     rows = [f"{name} is {site} here." for site, name in sites.items() if name != site]
-    for thread, (code, lines) in enumerate(zip(test.threads, written.lines)):
+    for thread, (code, lines) in enumerate(zip(test.threads, program_test.lines)):
         texts = [plain.format_instruction(test, it) for it in code]
         rows += [f"P{thread} at {index}, {text}: {format_lines(lines[index])}" for index, text in enumerate(texts)]
     comment = "\n   ".join(rows)
@@ -57,12 +57,12 @@ def format_fences(answer: Answer, converter: Converter) -> str:
     """Returns what tools/fences.py says of the fences and exchanges of a program, with the lines of the source, and states in its names."""
     if len(answer.tests) != 1:
         return format_fences_together(answer, converter)
-    written, printed = answer.tests[0], io.StringIO()
-    test = restore_question(written)
+    program_test, printed = answer.tests[0], io.StringIO()
+    test = restore_question(program_test)
     with redirect_stdout(printed):
         fences.print_fences(fences.Choices(exchanges=True), plain.format_canonical_text(test))
     names = Names(converter, test)
-    with_line = lambda found: f"{found[0]} ({format_lines(written.lines[int(found[1])][int(found[2])])})"
+    with_line = lambda found: f"{found[0]} ({format_lines(program_test.lines[int(found[1])][int(found[2])])})"
     text = re.sub(r"\bP(\d) at (\d+)\b", with_line, printed.getvalue()).replace(plain.format_condition(test), converter.condition.text)
     text = re.sub(r"^( +)((?:[\w:]+=\d+;[ ]?)+)$", lambda found: found[1] + names.translate_line(found[2]), text, flags=re.M)
     places = [f"{name} is {site}" for name, site in names.sites.items() if name != site and ":" not in name]
@@ -86,10 +86,10 @@ def format_fences_together(answer: Answer, converter: Converter) -> str:
 def format_schedules(answer: Answer, converter: Converter) -> str:
     """Returns a run to each state of a report: its events, by the lines of the source."""
     runs: dict[str, list[str]] = {}
-    for written in answer.tests:
-        for state, schedule in list_schedules(written, converter):
+    for program_test in answer.tests:
+        for state, schedule in list_schedules(program_test, converter):
             if state not in runs:
-                runs[state] = list(list_visible_events(written, schedule.split()))
+                runs[state] = list(list_visible_events(program_test, schedule.split()))
     return "".join(f"{state}\n" + "".join(f"  {event}\n" for event in runs[state]) for state in answers.filter_state_lines(answer.report))
 
 
@@ -102,26 +102,26 @@ def render_film(answer: Answer, converter: Converter, number: int, source: list[
         raise NoFilm(f"the report has {len(states)} state{'s' * (len(states) != 1)}, and no state {number}")
     films.check_program()
     all_schedules = ((it, *schedule_pair) for it in answer.tests for schedule_pair in list_schedules(it, converter))
-    written, schedule = next((it, schedule) for it, state, schedule in all_schedules if state == states[number - 1])
+    program_test, schedule = next((it, schedule) for it, state, schedule in all_schedules if state == states[number - 1])
     try:
-        film = films.make_film(plain.format_canonical_text(restore_question(written)).encode(), schedule, "mesi")
+        film = films.make_film(plain.format_canonical_text(restore_question(program_test)).encode(), schedule, "mesi")
     except films.Refused as why:
         raise NoFilm(why.args[0]) from None
     for thread, cells in enumerate(film["cells"]):
         for cell in cells:
-            cell["text"] += f"  ({format_lines(written.lines[thread][cell['at']])})" if cell["at"] < len(written.lines[thread]) else ""
+            cell["text"] += f"  ({format_lines(program_test.lines[thread][cell['at']])})" if cell["at"] < len(program_test.lines[thread]) else ""
     for event, before, effect in zip(film["events"], film["states"], film["effects"]):
         if event[0] == "P":
-            lines = written.lines[int(event[1])][before["threads"][int(event[1])]["at"]]
+            lines = program_test.lines[int(event[1])][before["threads"][int(event[1])]["at"]]
             effect["words"] = " ".join([*(f"line {line}: {source[line - 1].strip()}" for line in sorted(lines)), f"({effect['words']})"])
     return draw_strip(film)
 
 
-def list_schedules(written: ProgramTest, converter: Converter) -> Iterator[tuple[str, str]]:
+def list_schedules(program_test: ProgramTest, converter: Converter) -> Iterator[tuple[str, str]]:
     """Yields the states of a test that are not given up, by the names of the source, each with a schedule."""
-    test, names = written.conversion.test, Names(converter, written.conversion.question)
-    shown = {plain.format_site(test, site) for site in plain.list_observed_sites(written.conversion.question)}
-    marks = [plain.format_site(test, site) for site in written.conversion.marks]
+    test, names = program_test.conversion.test, Names(converter, program_test.conversion.question)
+    shown = {plain.format_site(test, site) for site in plain.list_observed_sites(program_test.conversion.question)}
+    marks = [plain.format_site(test, site) for site in program_test.conversion.marks]
     lines = answers.make_answer(["schedules"], test).text.splitlines()[2:]
     for state, schedule in zip(lines[::2], lines[1::2]):
         words = parse_state(state)
@@ -130,9 +130,9 @@ def list_schedules(written: ProgramTest, converter: Converter) -> Iterator[tuple
             yield names.translate_line(shown_words), schedule.strip()
 
 
-def list_visible_events(written: ProgramTest, schedule: list[str]) -> Iterator[str]:
+def list_visible_events(program_test: ProgramTest, schedule: list[str]) -> Iterator[str]:
     """Yields the events of a schedule, without instructions that no other thread can see."""
-    test = written.conversion.test
+    test = program_test.conversion.test
     state = plain.make_x86_start(test)
     for event in schedule:
         thread, processor = int(event[1]), state[0][int(event[1])]
@@ -140,5 +140,5 @@ def list_visible_events(written: ProgramTest, schedule: list[str]) -> Iterator[s
             yield f"D{thread}: the oldest store of P{thread} reaches memory"
         elif test.threads[thread][processor.position].kind in VISIBLE:
             instruction = test.threads[thread][processor.position]
-            yield f"P{thread}, {format_lines(written.lines[thread][processor.position])}: {plain.format_instruction(test, instruction)}"
+            yield f"P{thread}, {format_lines(program_test.lines[thread][processor.position])}: {plain.format_instruction(test, instruction)}"
         state = dict(plain.list_x86_moves(test, state))[event]

@@ -77,10 +77,10 @@ class Thread:
             try:
                 step.execute()
             except Ask as ask:
-                if step.done is None:
+                if step.finished_load is None:
                     last = self.fork(path, ask.question, instruction.line)
                     break
-                path, effect = step.done
+                path, effect = step.finished_load
                 effects.append((effect, instruction.line))
                 continue
             except NextGuess as missing:  # the other guesses are followed later

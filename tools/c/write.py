@@ -18,13 +18,13 @@ def sort_nodes(graph: PathGraph) -> list[int]:
 
 
 class Writer:
-    """A writer of one thread. `locations` has the indices of locations by their addresses, `seen` the registers of what the condition mentions, by its
+    """A writer of one thread. `locations` has the indices of locations by their addresses, `seen_registers` the registers of what the condition mentions, by its
     name, and `origins` the node from which each statement comes.
     """
 
     def __init__(self, graph: PathGraph, seen_registers: dict[str, int], mark: int | None, locations: dict[int, int], thread: int) -> None:
         """Chooses the registers of a thread's symbols, and an order of its nodes."""
-        self.graph, self.seen, self.mark, self.locations = graph, seen_registers, mark, locations
+        self.graph, self.seen_registers, self.mark, self.locations = graph, seen_registers, mark, locations
         self.registers = Registers(graph, seen_registers, mark, thread)
         self.order = sort_nodes(graph)
         self.statements: list[Statement] = []
@@ -52,8 +52,8 @@ class Writer:
         """Returns instructions that put a value into a register. `registers` are those of the symbols."""
         if not isinstance(value, Symbol):
             return [Statement("set", register, value=Number(to_word(value)))]
-        moved = [] if registers[value.id] == register else [Statement("set", register, value=Register(registers[value.id]))]
-        return moved + ([Statement("add", register, value=Number(to_word(value.added)))] if value.added else [])
+        move = [] if registers[value.id] == register else [Statement("set", register, value=Register(registers[value.id]))]
+        return move + ([Statement("add", register, value=Number(to_word(value.added)))] if value.added else [])
 
     def make_operand(self, value: Value, node_index: int) -> Number | Register:
         """Returns a value as an operand of a node's instruction. A sum is computed in a register that is free."""
@@ -134,8 +134,8 @@ class Writer:
 
     def write_end(self, node: End) -> None:
         """Puts what the condition mentions into its registers, and sets the mark. Raises Refused if there is no free register for a ring of moves."""
-        values, registers = dict(node.seen), dict(self.registers.register_of)
-        moves = [(register, values.get(name, 0)) for name, register in self.seen.items()]
+        values, registers = dict(node.values), dict(self.registers.register_of)
+        moves = [(register, values.get(name, 0)) for name, register in self.seen_registers.items()]
         moves += [] if self.mark is None else [(self.mark, 1)]
         moves = [it for it in moves if it[1] != 0 or it[0] in self.written]
         while moves:
@@ -164,8 +164,8 @@ class Writer:
             if gone is None:
                 self.origins = origins
                 return tuple(code)
-            moved = lambda target: target - (target > gone)
-            code = [it if it.target is None else replace(it, target=moved(it.target)) for index, it in enumerate(code) if index != gone]
+            shift = lambda target: target - (target > gone)
+            code = [it if it.target is None else replace(it, target=shift(it.target)) for index, it in enumerate(code) if index != gone]
             origins = [it for index, it in enumerate(origins) if index != gone]
 
 

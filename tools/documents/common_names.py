@@ -49,7 +49,7 @@ class Crates:
         self.completed: dict[str, str] = {}  # for each proof its text with the imports that it lacked
         text = re.sub(r"#.*", "", read_text(f"{HOME}/crates.txt"))
         self.order = re.findall(r"^(\w+)[^:\n]*:", text, re.M)
-        self.passed = {it: self.read_passed_names(self.make_module_path(it)) for it in self.order}
+        self.exported = {it: self.read_exported_names(self.make_module_path(it)) for it in self.order}
 
     @staticmethod
     def make_module_path(crate: str) -> str:
@@ -57,7 +57,7 @@ class Crates:
         return f"{HOME}/crates/{crate}/proofs/Common.antt"
 
     @staticmethod
-    def read_passed_names(path: str) -> dict[str, str]:
+    def read_exported_names(path: str) -> dict[str, str]:
         """Returns the names that a Common exports again, each with its module."""
         return {name: module for module, group in PASSES.findall(read_text(path)) for name in split_names(group)}
 
@@ -69,9 +69,9 @@ class Crates:
         """Returns the module that defines a name, whatever exports it again."""
         while True:
             common = re.match(r"Rattle\.(\w+)\.proofs\.Common$", module)
-            if not common or name not in self.passed.get(common[1], {}):
+            if not common or name not in self.exported.get(common[1], {}):
                 return module
-            module = self.passed[common[1]][name]
+            module = self.exported[common[1]][name]
 
     def list_proofs(self, crate: str) -> Iterator[str]:
         """Yields the proofs of a crate, except its Common."""
@@ -123,12 +123,12 @@ class Names:
         self.crates, self.in_std = crates, in_std
         imports = {it: self.count_imports(it) for it in crates.order}
         # For each crate the names that its Common exports, each with its module.
-        self.passed: dict[str, dict[str, str]] = {}
+        self.exported: dict[str, dict[str, str]] = {}
         for crate in reversed(crates.order):
             best: dict[str, str] = {}
             for module, name in sorted(imports[crate], key=lambda it: (-imports[crate][it], it)):
                 best.setdefault(name, module)
-            self.passed[crate] = best
+            self.exported[crate] = best
             for name, module in best.items():
                 below = find_passing_crate(module)
                 if below != crate and crates.has_common(below):
@@ -162,9 +162,9 @@ class Names:
     def make_common(self, crate: str) -> str:
         """Returns the text of a crate's Common."""
         by_module: dict[str, list[str]] = {}
-        for name, module in self.passed[crate].items():
+        for name, module in self.exported[crate].items():
             below = find_passing_crate(module)
-            if below != crate and below in self.passed and self.passed[below].get(name) == module:
+            if below != crate and below in self.exported and self.exported[below].get(name) == module:
                 module = f"Rattle.{below}.proofs.Common"
             by_module.setdefault(module, []).append(name)
         order = self.crates.order
@@ -185,7 +185,7 @@ class Names:
         for module, name in self.list_imports(text):
             if name not in unfolded:
                 module = self.find_module(module, name.split(" as ")[0])
-            if " as " not in name and name not in unfolded and self.passed[crate].get(name) == module:
+            if " as " not in name and name not in unfolded and self.exported[crate].get(name) == module:
                 common.append(name)
             else:
                 others.setdefault(module, []).append(name)
@@ -200,7 +200,7 @@ class Names:
 def list_wanted_texts(crates: Crates, names: Names) -> Iterator[tuple[str, str]]:
     """Yields the files as they should be, by path."""
     for crate in crates.order:
-        if not names.passed[crate]:
+        if not names.exported[crate]:
             yield from ((path, crates.read_proof(path)) for path in crates.list_proofs(crate))
             continue
         yield crates.make_module_path(crate), names.make_common(crate)
@@ -219,7 +219,7 @@ def main() -> int:
     is_writing = reader.read().write
     doc = subprocess.run(["rt", "doc"], stdout=subprocess.PIPE, text=True, check=True).stdout.strip()
     kit = os.path.dirname(doc)
-    in_std = set(Crates.read_passed_names(f"{kit}/rattle/std/proofs/Common.antt"))
+    in_std = set(Crates.read_exported_names(f"{kit}/rattle/std/proofs/Common.antt"))
     crates = Crates()
     is_complete, lacking = crates.add_missing_imports(Missing(crates, STD, in_std))
     changed = [(path, text) for path, text in list_wanted_texts(crates, Names(crates, in_std)) if read_text(path) != text]

@@ -57,8 +57,8 @@ def replace_instruction(test: Test, place: Place, instructions: list[Statement])
     """Returns a test with other instructions in place of one."""
     thread, position = place
     growth = len(instructions) - 1
-    moved = lambda it: it if it.target is None or it.target <= position else replace(it, target=it.target + growth)
-    code = [moved(it) for it in test.threads[thread]]
+    shift_target = lambda it: it if it.target is None or it.target <= position else replace(it, target=it.target + growth)
+    code = [shift_target(it) for it in test.threads[thread]]
     threads = list(test.threads)
     threads[thread] = tuple(code[:position] + instructions + code[position + 1 :])
     return replace(test, threads=threads)

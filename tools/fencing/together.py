@@ -114,7 +114,7 @@ class CombinedTest:
     def find_enough_sets(self) -> list[list[Place]]:
         """Returns all smallest sets of fences that add no state."""
         fences, states = self.list_fences(), self.list_states()
-        return find_smallest_sets(fences, lambda kept: self.list_states_without(set(fences) - kept) == states)
+        return find_smallest_sets(fences, lambda chosen: self.list_states_without(set(fences) - chosen) == states)
 
     def find_helping_sets(self) -> list[list[Place]]:
         """Returns all smallest sets of places at which fences answer the question; none if no fence does."""

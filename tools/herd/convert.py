@@ -110,7 +110,7 @@ class Converter:
                 self.held[entry.site.thread][entry.site.register] = entry.value.location
         is_guessed = lambda instruction: instruction.mnemonic == "CMPXCHG" and instruction.is_locked
         self.guessed = [(t, index) for t, code in enumerate(codes) for index, it in enumerate(code) if is_guessed(it)]
-        self.sites = [*frame.listed, *frame.named]
+        self.sites = [*frame.listed, *frame.condition_sites]
         self.check_observed()
         extremes = [self.rewrite_threads((guess,) * len(self.guessed)) for guess in (SUCCEEDS, FAILS)]
         self.notes = [note for threads_of_guess in extremes[0] for note in threads_of_guess.notes]

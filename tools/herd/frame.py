@@ -49,7 +49,7 @@ class Frame:
     entries: list[Entry] = field(default_factory=list)
     threads: list[list[list[Token]]] = field(default_factory=list)  # for each thread, the tokens of its cells, each with an end
     listed: list[tuple[Site, int]] = field(default_factory=list)  # sites with their places
-    named: list[tuple[Site, int]] = field(default_factory=list)  # the sites of the condition and the filter, with their places
+    condition_sites: list[tuple[Site, int]] = field(default_factory=list)  # the sites of the condition and the filter, with their places
     filter: Proposition | None = None
     quantifier: str = "exists"
     proposition: Proposition = Constant(True)
@@ -261,7 +261,7 @@ class FrameReader(PropositionReader):
     def check_threads(self, count: int) -> None:
         """Checks that each thread that is named exists."""
         entries = [(it.site, it.offset) for it in self.frame.entries]
-        for site, offset in [*entries, *self.frame.listed, *self.frame.named]:
+        for site, offset in [*entries, *self.frame.listed, *self.frame.condition_sites]:
             if isinstance(site, RegisterSite) and site.thread >= count:
                 raise Refused(f"there is no thread {site.thread}", offset)
 

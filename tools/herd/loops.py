@@ -94,9 +94,9 @@ def add_copies(nodes: list[Node], loop: set[int], entry: int, tries: int) -> Non
         nodes += originals
     for copy, number in enumerate(numbers):
         next_entry = numbers[copy + 1][entry] if copy + 1 < tries else GIVE_UP
-        moved = lambda target: next_entry if target == entry else number.get(target, target)
+        redirect = lambda target: next_entry if target == entry else number.get(target, target)
         for node_index, node in zip(ordered, originals):
-            nodes[number[node_index]] = Node(node.origin, moved(node.after), moved(node.target))
+            nodes[number[node_index]] = Node(node.origin, redirect(node.after), redirect(node.target))
 
 
 def unroll_loops(nodes: list[Node], code: list[Instruction], tries: int) -> None:

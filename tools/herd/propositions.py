@@ -68,7 +68,7 @@ class PropositionReader(Reader):
             raise Refused("a location that a location leads to is not converted: name it", self.token.offset)
         offset = self.token.offset
         site = self.read_site()
-        self.frame.named.append((site, offset))
+        self.frame.condition_sites.append((site, offset))
         sign = self.take_token("=", "==", "<>", "!=").text
         if self.token.kind == "name" or self.is_next("[", "&") or self.peek(1) == ":":
             raise Refused("a comparison with an address or another name is not converted: use one atom for each number", self.token.offset)

@@ -361,7 +361,7 @@ class Widths:
 
     def check_observed(self) -> None:
         """Checks that each register that the condition mentions has a word of 32 bits at the end."""
-        for site, offset in [*self.frame.listed, *self.frame.named]:
+        for site, offset in [*self.frame.listed, *self.frame.condition_sites]:
             if self.find_range(site) is None:
                 assert isinstance(site, RegisterSite)  # a location always has a range
                 raise Refused(f"{site.thread}:{site.register} may end with a word of 64 bits that does not fit into 32", offset)
