@@ -1,14 +1,13 @@
-# Shell functions for the programs of the repository in $home, lw and beyond: whether there is one for the sources as they are. Read by
-# ./lw, ./beyond, test.sh and tools/program/build.py, which builds them.
+# Shell functions for the programs of the repository in $home, lw and beyond: they say whether a program is that of the sources as they are. ./lw,
+# ./beyond, test.sh and tools/program/build.py, which builds the programs, read this file.
 #
-# $made_of says what the program was made of: the files and folders, the toolchain's folder and its version, a checksum of all
-# files, and of each file its size and the time when its content changed last. It is made before the build begins, so a file that
-# changes during the build is seen to have changed. A copy of the repository, or one whose modes have changed, has the same content:
-# where times differ, the checksum decides. Beside it stand the names, and the sizes and times of when the program was last found
-# current, which make the next look short.
+# The file $made_of says of what the program was made: the files and folders, the toolchain's folder and its version, a checksum of all files, and of
+# each file its size and the time when its content changed last. It is written before the build begins, so a file that changes during the build is
+# seen to have changed. A copy of the repository, or one whose modes have changed, has the same content: if times differ, the checksum decides.
+# $made_of.names and $made_of.times have the names, sizes and times of when the program was last found current; with them the next check is short.
 unset CDPATH
 
-# Names the program that is meant from here on. It is lw where none is named.
+# Sets the program that the functions below are about, lw or beyond: $program_name, $program and $made_of.
 use_program() {
     program_name=$1
     program=$home/crates/$1/out/$1
@@ -16,13 +15,13 @@ use_program() {
 }
 use_program lw
 
-# Finds what there is in the sources $paths, and does with it what the words say.
+# Runs find on the sources $paths, without what is built and wrong bodies; the arguments say what find does with them.
 find_sources() {
     (cd "$home" && find $paths \( -name out -o -name must-fail \) -prune -o "$@")
 }
 
-# Prints of each file of the sources its size and the time when its content changed, in the order of the folders. (A copy's folders
-# may have another order: then the checksum decides.)
+# Prints, for each file of the sources, its name, its size and the time when its content changed, in the order in which folders have them. (A copy's
+# folders may have another order: then the checksum decides.)
 list_files() {
     find_sources -type f -printf '%p %s %T@\n'
 }
@@ -32,32 +31,33 @@ sum_files() {
     find_sources -type f -print | LC_ALL=C sort | (cd "$home" && xargs sha256sum) | sha256sum | cut -c 1-64
 }
 
-# Prints what a program of the sources $paths with the checksum $sum by the toolchain in $kit is made of, as they are now.
+# Prints what $made_of has of a program that is made now, of the sources $paths with the checksum $sum, by the toolchain in $kit.
 list_sources() {
     printf '%s\n%s\n%s\n%s\n' "$paths" "$kit" "$version" "$sum"
     list_files
 }
 
-# Whether the toolchain that is there, if one is, is the one that the program was made by.
+# Succeeds if there is no toolchain, or if it has the version by which the program was made, in whatever folder; $kit is then that folder.
 is_same_toolchain() {
     rt=$(command -v rt) || return 0
     [ "$rt" -ef "$kit/bin/rt" ] || kit=$(readlink -f "$rt") && kit=${kit%/bin/rt}
     [ ! -r "$kit/KIT-ID" ] || { read -r now <"$kit/KIT-ID" && [ "$now" = "$version" ]; }
 }
 
-# Prints the checksum $sum, and the sizes and times of the files and folders that the file $1 names; to be called in a subshell, which
-# goes on as find.
+# Prints the checksum $sum, and the sizes and times of the files and folders that the file $1 names. To be called in a subshell, since it becomes
+# the process of find.
 times_of() {
     echo "$sum"
     cd "$home" && exec find -files0-from "$1" -maxdepth 0 -printf '%s %T@\n'
 }
 
-# Whether all is as it was when the program was found current. (A name that has come or gone since has changed its folder's time.)
+# Succeeds if all sizes and times are those of when the program was last found current. (A name that has come or gone since has changed its
+# folder's time.)
 is_as_it_was() {
     [ -r "$made_of.names" ] && times_of "$look.names" 2>/dev/null | cmp -s - "$made_of.times"
 }
 
-# Whether the program is there, and what it was made of is as it was. Where there are no sources, it is what was handed on.
+# Succeeds if the program exists and is that of the sources as they are. If there are no sources, as in a pack, it is the program that was handed on.
 is_current() {
     [ -x "$program" ] || return 1
     [ -e "$home/crates.txt" ] || return 0
@@ -67,7 +67,7 @@ is_current() {
     is_same_toolchain || return 1
     kit=$made_by look=crates/$program_name/out/made-of
     is_as_it_was && return
-    # What is there now is kept for the next call, where that is possible and the content is the same.
+    # The names, sizes and times of now are stored for the next call, if the folder can be written and the content is the same.
     now=$look.$$
     { find_sources -print0 >"$home/$now.names" && (times_of "$now.names" >"$home/$now.times"); } 2>/dev/null || rm -f "$home/$now.names"
     list_sources 2>/dev/null | cmp -s - "$made_of" || [ "$(sum_files 2>/dev/null)" = "$sum" ]
@@ -77,14 +77,14 @@ is_current() {
     return "$same"
 }
 
-# The crates of the repository on which the crate $1 stands.
+# Prints the crates of the repository on which the crate $1 depends directly.
 crates_below() {
     for below in $(sed -n "s/^$1: *//p" "$home/crates.txt"); do
         [ ! -d "$home/crates/$below" ] || echo "$below"
     done
 }
 
-# The crate $1 and all on which it stands, each once.
+# Prints the crates on which the crate $1 depends, directly or not, lowest first, and then $1; some of them several times.
 crates_from() {
     for from in $(crates_below "$1"); do
         crates_from "$from"
@@ -92,7 +92,7 @@ crates_from() {
     echo "$1"
 }
 
-# Sets $paths, $kit, $version and $sum to what a program is made of now: its crates, lowest first.
+# Sets $paths, $kit, $version and $sum to what a program is made of now; $paths has its crates, lowest first. Fails if the toolchain is missing.
 look_at_sources() {
     kit=$(rt doc 2>/dev/null) || {
         echo "$program_name: the toolchain's command rt does not run" >&2
@@ -106,14 +106,14 @@ look_at_sources() {
     read -r version <"$kit/KIT-ID" && sum=$(sum_files)
 }
 
-# Whether somebody looks who would rather not wait, and what the program reads can be kept for it. What goes into a pipe is for a
-# program.
+# Succeeds if a first answer is of use: standard error is a terminal, at which somebody waits; standard input is none, so that it can be read ahead for
+# the program; and the output does not go into a pipe, where a program takes it.
 is_watched() {
     [ -t 2 ] && [ ! -t 0 ] && [ ! -p /dev/fd/1 ] && (true <&0) 2>/dev/null
 }
 
-# Goes on as the program with the words behind the first, and builds it before where there is none for the sources. The first is the
-# command that the words name: if it is one and somebody looks, an answer is shown before the proof.
+# Becomes the process of the program, with the arguments after the first. If the program is not that of the sources, builds it first. The first argument
+# is the command that the others name: if it is one of lw's and `is_watched` succeeds, an answer is shown before the proof.
 run_program() {
     command=$1
     shift
