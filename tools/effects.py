@@ -3,7 +3,7 @@ its thread's store buffer, that it reads. For tools/picture.py; on the page web/
 
 An effect is found by the text of the instruction, which is the program's own, or of the statement. It is stated only if the state after the
 event agrees with it. An effect is a mapping: `thread`; `words`, in which code is between backquotes; and, if the event has one, a `register` (its
-name), a `location` that is read from memory, or an `entry` that is read (its number in the buffer). If a word that is said to be in memory is in
+name), a `location` that is read from memory, or an `entry` that is read (its index in the buffer). If a word that is said to be in memory is in
 a cache, `cache` is the thread of that cache.
 """
 from __future__ import annotations

@@ -48,7 +48,7 @@ Description: {tree.SUMMARY}
  leads to each. No state is missing from a list, and some run ends in each
  state of it; that is proved.
  .
-{{told}}"""
+{{description}}"""
 PKG_CONFIG = f"""prefix=/usr
 includedir=${{{{prefix}}}}/include
 libdir=${{{{prefix}}}}/{LIB[len("usr/") :]}
@@ -146,7 +146,7 @@ def make_control_files(origin: Origin, files: Mapping[str, bytes], package: Inst
     size = sum(-(-len(it) // 1024) for it in regular_files.values())
     description = format_description(tree.describe_provenance(origin, tree.BEYOND in files))
     sums = "".join(f"{hashlib.md5(regular_files[name]).hexdigest()}  {name}\n" for name in sorted(regular_files))
-    return {"control": CONTROL.format(version=origin.version, size=size, libc=least, told=description).encode(), "md5sums": sums.encode()}
+    return {"control": CONTROL.format(version=origin.version, size=size, libc=least, description=description).encode(), "md5sums": sums.encode()}
 
 
 def list_folders(names: Iterable[str]) -> set[str]:

@@ -53,7 +53,7 @@ schedule that leads to each. No state is missing from a list, and some run ends 
     python -m lw --help         the tools
     import lw                   the library
 
-{{told}}"""
+{{provenance}}"""
 WHEEL = "Wheel-Version: 1.0\nGenerator: tools/make_wheel.py\nRoot-Is-Purelib: false\nTag: {tag}\n"
 # The time of each file in it: the earliest that a zip file can have.
 TIME = (1980, 1, 1, 0, 0, 0)
@@ -85,7 +85,7 @@ def list_contents(origin: Origin, files: Mapping[str, bytes]) -> tuple[dict[str,
         if path in files:
             wheel[f"{top}.data/scripts/{os.path.basename(path)}"] = files[path]
     scripts = "".join(f"{tree.name_command(it)} = lw.__main__:commands.{it}\n" for it in tree.TOOLS)
-    metadata = METADATA.format(version=origin.version, told=tree.describe_provenance(origin, tree.BEYOND in files))
+    metadata = METADATA.format(version=origin.version, provenance=tree.describe_provenance(origin, tree.BEYOND in files))
     described = {"METADATA": metadata, "WHEEL": WHEEL.format(tag=tag), "entry_points.txt": f"[console_scripts]\n{scripts}"}
     wheel.update({f"{top}.dist-info/{name}": text.encode() for name, text in described.items()})
     record = f"{top}.dist-info/RECORD"

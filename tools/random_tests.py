@@ -167,9 +167,9 @@ class Writer:
             tokens = re.findall(r"\s+|\w+|:=|/\\|\\/|!=|.", text) or [""]
             index = self.random.randrange(len(tokens))
             other = self.random.choice((self.random.choice(MISTAKES), self.random.choice(tokens)))
-            behind = self.random.choice(([], [other], [tokens[index], other], [f"{other} ", tokens[index]]))
+            replacement = self.random.choice(([], [other], [tokens[index], other], [f"{other} ", tokens[index]]))
             rest = [] if self.random.random() < 0.1 else tokens[index + 1 :]
-            text = "".join([*tokens[:index], *behind, *rest])
+            text = "".join([*tokens[:index], *replacement, *rest])
         return text
 
     def draw_schedule(self, test: plain.Test) -> str:

@@ -7,7 +7,7 @@
 It prints the state as JSON; the second form reads what a replay printed into a file. A state has
 
 - `name`, `steps`, and `end`: `kind` is Final, NotFinal or Stopped, and of a run that stopped `at`, `number` and `cause`;
-- `threads`: of each `at`, the number of its next statement, and `registers`, pairs of a name and a word; of an x86 test also
+- `threads`: of each `at`, the position of its next statement, and `registers`, pairs of a name and a word; of an x86 test also
   `buffer`, pairs of a location and a word, the oldest first, and `lines`, pairs of a location and its line's letter;
 - `memory` and `content`, pairs of a location and a word; a source test's content is its memory.
 

@@ -63,7 +63,7 @@ Operand = Union[Register, Number, AddressOf, InMemory]
 
 @dataclass(frozen=True)
 class Instruction:
-    """An instruction: its operands, and the target of its jump, the number of an instruction; while cells are read, a label.
+    """An instruction: its operands, and the target of its jump, the index of an instruction; while cells are read, a label.
 
     `bits` says how many bits it works on, and `address_bits` how many the registers of its address have; None if nothing says that.
     `number` is the number among its operands as the text has it, with its sign.

@@ -139,7 +139,7 @@ class Search:
         return self.threads[site.thread].nodes[state[1 + site.thread]].state.registers[site.register]
 
     def make_schedule(self, number: int) -> str:
-        """Returns the schedule that reaches a state, which has a number."""
+        """Returns the schedule that reaches the state with this index."""
         parts: list[str] = []
         while number:
             number, thread, kind, steps = self.origins[number]

@@ -138,7 +138,7 @@ class GraphLayout:
     # Which way an edge goes.
 
     def make_route(self, edge: Edge, number: int) -> Route:
-        """Returns the route of an edge, which has a number among all."""
+        """Returns the route of an edge; `number` distinguishes it from all other routes."""
         start, end = edge.source.thread, edge.target.thread
         rows = self.rows[edge.target] - self.rows[edge.source]
         route = Route(edge, number, "across", edge.source, edge.target)
