@@ -50,7 +50,7 @@ NO_GATE = "has not passed for these sources in this checkout; whether it has els
 # The warning in place of a comparison by the gate.
 NO_LIBRARY = "that the library is that of these sources was not checked"
 SHARED = ["cc", "-shared", "-Wl,--whole-archive", f"{HOME}/{LIBRARY}", "-Wl,--no-whole-archive", "-o"]
-TOLD = """lw, packed
+DESCRIPTION = """lw, packed
 
 Commit:    {commit}
 Toolchain: {toolchain}
@@ -168,7 +168,7 @@ def make_contents(made_by: str, gate: str) -> dict[str, bytes]:
         if not is_built(program):
             raise NoPack(f"there is no program {program.name} of these sources: run ./{program.name}")
     ended = f"{gate}\n           ({NO_LIBRARY})" if gate == NO_GATE else gate
-    description = TOLD.format(commit=made_by, toolchain=" ".join(capture_lines("rt", "version")), gate=ended)
+    description = DESCRIPTION.format(commit=made_by, toolchain=" ".join(capture_lines("rt", "version")), gate=ended)
     files = {**read_taken_files(), **make_files(), **read_licences(), "PACK.txt": description.encode()}
     sums = "".join(f"{hashlib.sha256(files[name]).hexdigest()}  {name}\n" for name in sorted(files))
     return {**files, "SHA256SUMS": sums.encode()}

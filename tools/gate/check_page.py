@@ -81,7 +81,7 @@ HttpAnswer = Tuple[Optional[int], Dict[str, str], bytes]
 Field = Union[str, List[str], None]
 
 
-class ProgramAnswer(TypedDict):
+class RunAnswer(TypedDict):
     """The server's answer on a run: the exit status, what was printed, and the line of the fault, or None."""
 
     status: int
@@ -181,12 +181,12 @@ def read_answer(connection: socket.socket) -> HttpAnswer:
     return status, {name.lower(): value for name, _, value in (it.partition(": ") for it in fields)}, content
 
 
-def ask_lw(text: str, *arguments: str) -> ProgramAnswer:
+def ask_lw(text: str, *arguments: str) -> RunAnswer:
     """Returns the program's output on a text, in the form of a run of the page."""
     return ask_program(PROGRAM, text, *arguments)
 
 
-def ask_program(program: str, text: str, *arguments: str) -> ProgramAnswer:
+def ask_program(program: str, text: str, *arguments: str) -> RunAnswer:
     """Returns a program's output on a text, in the form of a run of the page."""
     ran = subprocess.run([program, *arguments], input=text.encode(), capture_output=True, timeout=60, check=False)
     return {"status": ran.returncode, "printed": ran.stdout.decode(), "fault": ran.stderr.decode().rstrip("\n") or None}
@@ -379,7 +379,7 @@ def check_example(page: Page, name: str) -> Iterator[Comparison]:
 
 
 def check_answers(page: Page) -> Iterator[Comparison]:
-    """Answers to texts that are typed in: faults, limits, events that are refused, and a long list."""
+    """Compares the answers to texts that are typed in: faults, limits, events that are refused, and a long list."""
     yield "the program is that of the sources", {"is_current": True}, page.is_current()
     test = read_file("examples/SB.litmus")
     five = "SRC Five\n{}\n P0 | P1 ;\n" + " x := 1 | x := 2 ;\n" * 5 + "exists (x=1)\n"
@@ -445,7 +445,7 @@ def check_many(page: Page) -> Iterator[Comparison]:
 
 
 def check_slow(page: Page) -> Iterator[Comparison]:
-    """Connections that all say nothing, or too little, or stop in the body."""
+    """Opens connections that say nothing, or too little, or stop in the body. Compares what each is answered, and that others are answered meanwhile."""
     began = time.monotonic()
     posted = make_head("POST", "/run", page.make_fields("100"))
     slow = [page.connect() for _ in range(36)]

@@ -129,7 +129,9 @@ def run_and_split(text: str, *arguments: str) -> tuple[list[list[str]], str, int
 
 
 def check_codes(page: str, folder: str) -> Iterator[Comparison]:
-    """Codes, as the page's own JavaScript makes them and as they are read."""
+    """Checks that a code is read as what it was made of, also with letters that are misread for others, and what tools/read_codes.py prints of codes;
+    and the comparisons of `check_bad_codes` and `check_node`.
+    """
     data, rights = read_data(page), quiz.read_answers(read_data(page))
     code_of_page = codes.CodeContents(data["mark"], data["seed"], STUDENT, make_answers(rights, WRONG))
     code = codes.make_code(code_of_page)

@@ -114,7 +114,7 @@ def run_node(*words: str) -> str:
 
 
 def check_bundles() -> Iterator[Comparison]:
-    """Modules are put together, or refused."""
+    """Checks that modules are put together, or refused."""
     with tempfile.TemporaryDirectory(prefix="lw-web-") as web:
         for name, text in BUNDLED.items():
             make_site.write_file(f"{web}/{name}", text)

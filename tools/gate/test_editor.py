@@ -104,7 +104,7 @@ class Colours:
         return self.compiled[pattern].search(line, index)
 
     def expand_rules(self, rules: list[Rule]) -> Iterator[Rule]:
-        """Rules, with those that are included in their places."""
+        """Yields some rules; in place of one that includes others come those."""
         for rule in rules:
             if "include" in rule:
                 yield from self.expand_rules([self.repository[rule["include"][1:]]])
