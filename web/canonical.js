@@ -3,7 +3,7 @@
 //
 // A `Cell` has its `text` and `at`, the position of its statement, or of the next one if it only has a label.
 
-import { conditionText, siteName, sortedSites } from "./propositions.js";
+import { formatCondition, formatSite, sortedSites } from "./propositions.js";
 import { REGISTERS } from "./token_reader.js";
 
 /**
@@ -12,7 +12,7 @@ import { REGISTERS } from "./token_reader.js";
  * @param {Statement} instruction
  * @returns {string}
  */
-export function instructionText(test, instruction) {
+export function formatInstruction(test, instruction) {
   const names = REGISTERS.X86;
   const register = names[instruction.register] ?? "";
   const location = instruction.location === undefined ? "" : `[${test.locations[instruction.location]}]`;
@@ -26,9 +26,9 @@ export function instructionText(test, instruction) {
 }
 
 /** Returns the cells of a thread in the canonical text. */
-function cellsOfThread(test, code) {
+function formatCells(test, code) {
   const targets = new Set(code.map((it) => it.target));
-  const cells = code.map((it, index) => (targets.has(index) ? `L${index}: ` : "") + instructionText(test, it));
+  const cells = code.map((it, index) => (targets.has(index) ? `L${index}: ` : "") + formatInstruction(test, it));
   return targets.has(code.length) ? [...cells, `L${code.length}:`] : cells;
 }
 
@@ -37,18 +37,18 @@ function cellsOfThread(test, code) {
  * @param {Test} test
  * @returns {string}
  */
-export function canonicalText(test) {
+export function formatCanonicalText(test) {
   const row = (cells) => ` ${cells.join(" | ")} ;`;
-  const columns = test.threads.map((code) => cellsOfThread(test, code));
+  const columns = test.threads.map((code) => formatCells(test, code));
   const registers = test.registers.flatMap((words, thread) => words.map((word, index) => [`${thread}:${REGISTERS.X86[index]}`, word]));
   const words = test.locations.map((name, index) => [name, test.words[index]]);
   const block = [...registers.filter(([, word]) => word), ...words].map(([name, word]) => ` ${name}=${word};`);
   const height = Math.max(...columns.map((it) => it.length));
   const rows = Array.from({ length: height }, (_, at) => row(columns.map((column) => column[at] ?? "")));
-  const listed = sortedSites(test.listed).map((site) => `${siteName(test, site)};`);
+  const listed = sortedSites(test.listed).map((site) => `${formatSite(test, site)};`);
   const lines = [`X86 ${test.name}`, "{", ...block, "}", row(columns.map((_, thread) => `P${thread}`)), ...rows];
   if (listed.length) lines.push(`locations [${listed.join(" ")}]`);
-  return [...lines, conditionText(test)].map((line) => `${line}\n`).join("");
+  return [...lines, formatCondition(test)].map((line) => `${line}\n`).join("");
 }
 
 /**
@@ -56,7 +56,7 @@ export function canonicalText(test) {
  * @param {string} canonical
  * @returns {Cell[][]}
  */
-export function x86Cells(canonical) {
+export function listX86Cells(canonical) {
   const lines = canonical.slice(canonical.indexOf("\n}\n") + 3).split("\n").filter((line) => line.startsWith(" "));
   const [head, ...rows] = lines.map((line) => line.slice(1, -2).split(" | "));
   return head.map((_, thread) => rows.map((row, index) => ({ text: row[thread], at: index })).filter((it) => it.text));
@@ -67,11 +67,11 @@ export function x86Cells(canonical) {
  * @param {Test} test
  * @returns {Cell[][]}
  */
-export function sourceCells(test) {
+export function listSourceCells(test) {
   return test.columns.map((cells) => {
     let at = 0;
     return cells.filter((cell) => cell.length).map((cell) => {
-      const shown = { text: cellText(cell), at };
+      const shown = { text: formatCell(cell), at };
       at += hasStatement(cell) ? 1 : 0;
       return shown;
     });
@@ -94,7 +94,7 @@ function hasStatement(cell) {
  * @param {Token[]} cell
  * @returns {string}
  */
-function cellText(cell) {
+function formatCell(cell) {
   const text = cell.map((it) => it.text).join(" ").replaceAll(" : ", ": ");
   return text.endsWith(" :") ? `${text.slice(0, -2)}:` : text;
 }

@@ -8,7 +8,7 @@
  * @param {number} position
  * @returns {number[]}
  */
-function followers(statement, position) {
+function listSuccessors(statement, position) {
   if (statement.target === undefined) return [position + 1];
   return statement.kind === "goto" ? [statement.target] : [position + 1, statement.target];
 }
@@ -18,17 +18,17 @@ function followers(statement, position) {
  * @param {Statement[]} statements
  * @returns {Set<number>}
  */
-function fencedLoads(statements) {
+function findFencedLoads(statements) {
   const fenced = new Set();
   const reached = new Set();
-  const waiting = statements.flatMap((it, position) => (it.kind === "store" ? followers(it, position) : []));
+  const waiting = statements.flatMap((it, position) => (it.kind === "store" ? listSuccessors(it, position) : []));
   while (waiting.length) {
     const position = waiting.pop();
     if (position === statements.length || reached.has(position)) continue;
     reached.add(position);
     const { kind } = statements[position];
     if (kind === "load") fenced.add(position);
-    else if (kind !== "swap" && kind !== "fetchadd") waiting.push(...followers(statements[position], position));
+    else if (kind !== "swap" && kind !== "fetchadd") waiting.push(...listSuccessors(statements[position], position));
   }
   return fenced;
 }
@@ -38,7 +38,7 @@ function fencedLoads(statements) {
  * @param {Statement} statement
  * @returns {number}
  */
-function numberOfInstructions({ kind, register, value, left }) {
+function countInstructions({ kind, register, value, left }) {
   if (kind === "store" || kind === "load" || kind === "set" || kind === "goto") return 1;
   if (kind === "swap" || kind === "fetchadd") return value.register === register ? 1 : 2;
   if (kind === "sum") return left === register || value.register === register ? 1 : 2;
@@ -50,12 +50,12 @@ function numberOfInstructions({ kind, register, value, left }) {
  * @param {Statement[]} statements
  * @returns {number[]}
  */
-export function beginsOf(statements) {
-  const fenced = fencedLoads(statements);
+export function listStatementStarts(statements) {
+  const fenced = findFencedLoads(statements);
   let next = 0;
   return statements.map((statement, position) => {
     const begin = next;
-    next += (fenced.has(position) ? 1 : 0) + numberOfInstructions(statement);
+    next += (fenced.has(position) ? 1 : 0) + countInstructions(statement);
     return begin;
   });
 }

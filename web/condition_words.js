@@ -3,8 +3,8 @@
 //
 // An `Atom` is a site, a word, and whether the condition denies that the site has the word.
 
-import { holds, siteKey, siteName } from "./propositions.js";
-import { contentsOf } from "./replays.js";
+import { formatSite, isTrueIn, siteKey } from "./propositions.js";
+import { parseReportLine } from "./replays.js";
 import { readTest } from "./tests.js";
 
 const MAX_ATOMS = 6;
@@ -31,10 +31,10 @@ function testOf(text) {
  * @param {boolean} [isDenied]
  * @returns {Atom[][] | null}
  */
-export function alternativesOf({ kind, parts, site, word }, isDenied = false) {
+export function listAlternatives({ kind, parts, site, word }, isDenied = false) {
   if (kind === "Eq") return [[{ site, word, isDenied }]];
-  if (kind === "Not") return alternativesOf(parts[0], !isDenied);
-  const [first, second] = parts.map((it) => alternativesOf(it, isDenied));
+  if (kind === "Not") return listAlternatives(parts[0], !isDenied);
+  const [first, second] = parts.map((it) => listAlternatives(it, isDenied));
   if (!first || !second) return null;
   const isChoice = (kind === "Or") !== isDenied;
   const alternatives = isChoice ? [...first, ...second] : first.flatMap((it) => second.map((other) => [...it, ...other]));
@@ -47,7 +47,7 @@ export function alternativesOf({ kind, parts, site, word }, isDenied = false) {
  * @param {Site} site
  * @returns {Statement | null}
  */
-function readInto(test, { thread, register }) {
+function findRead(test, { thread, register }) {
   const code = test.threads[thread];
   if (code.some((it) => it.target !== undefined)) return null;
   const writes = code.flatMap((it, position) => (it.register === register && [...READS, ...SETS].includes(it.kind) ? [{ ...it, position }] : []));
@@ -61,13 +61,13 @@ function readInto(test, { thread, register }) {
  * @param {Atom[]} atoms
  * @returns {string}
  */
-function wordsOfThread(test, atoms) {
+function describeThread(test, atoms) {
   const isNamedOnce = ({ site }) => atoms.filter((it) => it.site.register === site.register).length === 1;
-  const observations = atoms.map((it) => ({ ...it, read: isNamedOnce(it) ? readInto(test, it.site) : null }));
+  const observations = atoms.map((it) => ({ ...it, read: isNamedOnce(it) ? findRead(test, it.site) : null }));
   const reads = observations.filter((it) => it.read).sort((first, second) => first.read.position - second.read.position);
-  const others = observations.filter((it) => !it.read).map((it) => codeOf(siteName(test, it.site).slice(2), it));
+  const others = observations.filter((it) => !it.read).map((it) => formatAtom(formatSite(test, it.site).slice(2), it));
   const parts = [];
-  if (reads.length) parts.push(`reads ${reads.map((it) => codeOf(test.locations[it.read.location], it)).join(", then ")}`);
+  if (reads.length) parts.push(`reads ${reads.map((it) => formatAtom(test.locations[it.read.location], it)).join(", then ")}`);
   if (others.length) parts.push(`ends with ${others.join(" and ")}`);
   return parts.join(" and ");
 }
@@ -77,7 +77,7 @@ function wordsOfThread(test, atoms) {
  * @param {[number, string][]} said The threads, each with what it does.
  * @returns {string[]}
  */
-function phrasesOf(said) {
+function makeThreadPhrases(said) {
   return said.flatMap(([thread, words]) => {
     const same = said.filter(([, other]) => other === words && words.startsWith("ends")).map(([it]) => `P${it}`);
     if (same.length < 2) return [`P${thread} ${words}`];
@@ -87,12 +87,12 @@ function phrasesOf(said) {
 }
 
 /**
- * Returns an atom as code, by the name of its site or of what is read.
+ * Returns an atom as code, by the name of its site, or of the location that its read reads.
  * @param {string} name
  * @param {Atom} atom
  * @returns {string}
  */
-function codeOf(name, { word, isDenied }) {
+function formatAtom(name, { word, isDenied }) {
   return `\`${name}${isDenied ? "≠" : "="}${word}\``;
 }
 
@@ -102,10 +102,10 @@ function codeOf(name, { word, isDenied }) {
  * @param {Atom[]} atoms
  * @returns {string}
  */
-function wordsOfAlternative(test, atoms) {
+function describeAlternative(test, atoms) {
   const threads = test.threads.map((_, thread) => atoms.filter(({ site }) => site.thread === thread));
-  const phrases = phrasesOf(threads.flatMap((atomsOfThread, thread) => (atomsOfThread.length ? [[thread, wordsOfThread(test, atomsOfThread)]] : [])));
-  const words = atoms.filter(({ site }) => site.location !== undefined).map((it) => codeOf(siteName(test, it.site), it));
+  const phrases = makeThreadPhrases(threads.flatMap((atomsOfThread, thread) => (atomsOfThread.length ? [[thread, describeThread(test, atomsOfThread)]] : [])));
+  const words = atoms.filter(({ site }) => site.location !== undefined).map((it) => formatAtom(formatSite(test, it.site), it));
   if (words.length) phrases.push(`memory ends with ${words.join(" and ")}`);
   return phrases.join(phrases.length > 2 ? "; " : " and ");
 }
@@ -115,10 +115,10 @@ function wordsOfAlternative(test, atoms) {
  * @param {string} text
  * @returns {string | null}
  */
-export function conditionWords(text) {
+export function describeCondition(text) {
   const test = testOf(text);
-  const alternatives = test && alternativesOf(test.proposition);
-  return alternatives && alternatives.map((it) => wordsOfAlternative(test, it)).join(", or ");
+  const alternatives = test && listAlternatives(test.proposition);
+  return alternatives && alternatives.map((it) => describeAlternative(test, it)).join(", or ");
 }
 
 /**
@@ -133,33 +133,33 @@ export function questionOf(text) {
   const wanted = test.quantifier !== "forall";
   const words = new Map();
   const collect = ({ kind, parts, site, word }) => {
-    if (kind === "Eq") words.set(siteName(test, site), [...(words.get(siteName(test, site)) ?? []), word]);
+    if (kind === "Eq") words.set(formatSite(test, site), [...(words.get(formatSite(test, site)) ?? []), word]);
     parts.forEach(collect);
   };
   collect(test.proposition);
-  return { isAsked: (line) => holds(test.proposition, outcomeOf(test, line)) === wanted, words };
+  return { isAsked: (line) => isTrueIn(test.proposition, outcomeOf(test, line)) === wanted, words };
 }
 
 /**
- * Returns the outcome that a report's line says.
+ * Returns the outcome with the words that a report's line has. What the line does not name is undefined in it.
  * @param {Test} test
  * @param {string} line
  * @returns {Outcome}
  */
 function outcomeOf(test, line) {
   const outcome = { registers: test.threads.map(() => ({})), words: {} };
-  const byName = new Map(contentsOf(line));
+  const byName = new Map(parseReportLine(line));
   for (const [location, name] of test.locations.entries()) if (byName.has(name)) outcome.words[location] = byName.get(name);
-  for (const site of sitesOf(test)) outcome.registers[site.thread][site.register] = byName.get(siteName(test, site));
+  for (const site of listShownRegisters(test)) outcome.registers[site.thread][site.register] = byName.get(formatSite(test, site));
   return outcome;
 }
 
 /**
- * Returns the registers that a test's list shows.
+ * Returns the registers that a test's list or its proposition names.
  * @param {Test} test
  * @returns {Site[]}
  */
-function sitesOf(test) {
+function listShownRegisters(test) {
   const sites = new Map();
   const add = (site) => site.location === undefined && sites.set(siteKey(site), site);
   const collect = ({ kind, parts, site }) => {

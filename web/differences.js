@@ -1,7 +1,7 @@
 // Finds the states that two reports have in common, and those that only one has. Registers have names by the language; that of a compiled program
 // represents that of its source with the same number. Not proved.
 
-import { registerNumber, contentsOf } from "./replays.js";
+import { parseRegister, parseReportLine } from "./replays.js";
 
 const OTHER_NAMES = "Not compared: the tests show different registers and locations.";
 const NOT_WHOLE = "The states are not compared, since not all of them are shown.";
@@ -12,9 +12,9 @@ const NOT_WHOLE = "The states are not compared, since not all of them are shown.
  * @returns {[string, number][]}
  */
 function pairsOf(line) {
-  const pairs = contentsOf(line).map(([name, word]) => {
+  const pairs = parseReportLine(line).map(([name, word]) => {
     const [, thread, register] = /^(\d):(\w+)$/.exec(name) ?? [];
-    return [thread === undefined ? name : `${thread}:${registerNumber(register)}`, word];
+    return [thread === undefined ? name : `${thread}:${parseRegister(register)}`, word];
   });
   return pairs.sort();
 }
@@ -28,7 +28,7 @@ export function keyOf(line) {
   return String(pairsOf(line));
 }
 
-/** Returns a key of the names that the states of a report have: the same for two reports if they show the same. */
+/** Returns a key of the sites that the states of a report show, by those of the first one: the same for two reports if they show the same sites. */
 function shownNames({ states }) {
   return String(pairsOf(states[0]?.line ?? "").map(([name]) => name));
 }

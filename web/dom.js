@@ -1,4 +1,4 @@
-// Makes elements. Whatever a test says becomes text nodes, and nothing else.
+// Makes elements. Whatever a test says becomes text nodes, and nothing else. The types `Node`, `Element` and `Event` are the browser's.
 
 /**
  * Makes an element with attributes, and children that are elements, texts or lists of them. A function is a listener, `true` is set.

@@ -2,7 +2,7 @@
 // its thread's store buffer, that it reads. An effect is found by the text of the instruction, which is lw's own, or of the statement; and
 // stated only if the state after the event agrees with it.
 //
-// An effect has a `thread`; `words`, in which code is between backquotes; and, if the event has one, a `register` (its name), a
+// An `Effect` has a `thread`; `words`, in which code is between backquotes; and, if the event has one, a `register` (its name), a
 // `location` that is read from memory, or an `entry` that is read (its number in the buffer). If a word that is said to be in memory is in
 // a cache, `cache` is the thread of that cache.
 
@@ -25,7 +25,7 @@ const REFUSALS = {
  * @param {number} number
  * @returns {string}
  */
-export function refusal(number) {
+export function describeRefusal(number) {
   return REFUSALS[number].replaceAll("`", "");
 }
 
@@ -37,7 +37,7 @@ export function refusal(number) {
  * @param {State} after
  * @returns {Effect}
  */
-export function effectOf(event, cells, before, after) {
+export function describeEvent(event, cells, before, after) {
   const thread = Number(event[1]);
   return { thread, ...effectOfThread(event, thread, cells, before, after) };
 }
@@ -72,7 +72,7 @@ class Step {
    * @param {string} text
    * @returns {number}
    */
-  value(text) {
+  readValue(text) {
     return this.registers.get(text) ?? Number(text.replace("$", ""));
   }
 
@@ -92,24 +92,24 @@ class Step {
    * @param {State} [state]
    * @returns {number}
    */
-  memory(location, state = this.before) {
+  readMemory(location, state = this.before) {
     return new Map(state.content).get(location);
   }
 
   /** Returns the property `cache`: the cache that has the word of a location, its own if that holds the line, otherwise the owner's. Empty if none has. */
-  cache(location) {
+  describeCache(location) {
     const letters = this.before.threads.map(({ lines }) => new Map(lines).get(location) ?? "I");
     const owner = letters.findIndex((it) => it === "M" || it === "O");
     return letters[this.thread] !== "I" ? { cache: this.thread } : owner < 0 ? {} : { cache: owner };
   }
 
-  /** Returns the number of the newest entry of a location in the own store buffer, or -1. */
+  /** Returns the index of the newest entry of a location in the own store buffer, or -1. */
   newest(location) {
     return (this.threadBefore.buffer ?? []).map(([name]) => name).lastIndexOf(location);
   }
 
-  /** Says what still waits of a location in the buffers of others. */
-  waiting(location) {
+  /** Returns the words on the entries for a location that wait in the buffers of other threads, to follow a sentence; empty if there are none. */
+  describeWaiting(location) {
     const entries = this.before.threads.flatMap(({ buffer }, thread) =>
       thread === this.thread ? [] : (buffer ?? []).filter(([name]) => name === location).map(([, word]) => ({ thread, word })),
     );
@@ -121,17 +121,17 @@ class Step {
 const FORMS = [
   [/^MOV \[(\w+)\],(\S+)$/, describeStore],
   [/^MOV (\w+),\[(\w+)\]$/, describeLoad],
-  [/^MOV (\w+),(\S+)$/, (step, register, value) => describeWordAssignment(step, register, step.value(value))],
+  [/^MOV (\w+),(\S+)$/, (step, register, value) => describeWordAssignment(step, register, step.readValue(value))],
   [/^ADD (\w+),(\S+)$/, describeAdd],
   [/^CMP (\w+),(\S+)$/, describeCompare],
   [/^MFENCE$/, (step) => ({ words: `${step.name} passes its fence, since its store buffer is empty` })],
   [/^J\w+ (L\d+)$/, describeJump],
-  [/^XCHG \[(\w+)\],(\w+)$/, (step, location, register) => describeWordExchange(step, register, location, step.value(register))],
+  [/^XCHG \[(\w+)\],(\w+)$/, (step, location, register) => describeWordExchange(step, register, location, step.readValue(register))],
   [/^LOCK XADD \[(\w+)\],(\w+)$/, (step, location, register) => describeFetchAndAdd(step, register, location, register)],
-  [/^(r\d) := swap (\w+) (\w+)$/, (step, register, location, value) => describeWordExchange(step, register, location, step.value(value))],
+  [/^(r\d) := swap (\w+) (\w+)$/, (step, register, location, value) => describeWordExchange(step, register, location, step.readValue(value))],
   [/^(r\d) := fetchadd (\w+) (\w+)$/, describeFetchAndAdd],
-  [/^(r\d) := (r\d) \+ (\w+)$/, (step, register, left, value) => describeWordAssignment(step, register, (step.value(left) + step.value(value)) % WORD)],
-  [/^(r\d) := (\d\w*|r\d)$/, (step, register, value) => describeWordAssignment(step, register, step.value(value))],
+  [/^(r\d) := (r\d) \+ (\w+)$/, (step, register, left, value) => describeWordAssignment(step, register, (step.readValue(left) + step.readValue(value)) % WORD)],
+  [/^(r\d) := (\d\w*|r\d)$/, (step, register, value) => describeWordAssignment(step, register, step.readValue(value))],
   [/^(r\d) := (\w+)$/, describeLoad],
   [/^(\w+) := (\w+)$/, describeStore],
   [/^if (r\d) (!?=) (\w+) goto (\w+)$/, describeConditionalJump],
@@ -160,8 +160,8 @@ function describeStatement(step, text) {
  * @returns {Effect | null}
  */
 function describeStore(step, location, value) {
-  const word = step.value(value);
-  const [name, stored] = step.threadAfter.buffer ? (step.threadAfter.buffer.at(-1) ?? []) : [location, step.memory(location, step.after)];
+  const word = step.readValue(value);
+  const [name, stored] = step.threadAfter.buffer ? (step.threadAfter.buffer.at(-1) ?? []) : [location, step.readMemory(location, step.after)];
   if (name !== location || stored !== word) return null;
   const [does, where] = step.threadAfter.buffer ? ["puts", "into its store buffer"] : ["writes", "to memory"];
   return { words: `${step.name} ${does} \`${location}=${word}\` ${where}` };
@@ -176,11 +176,11 @@ function describeStore(step, location, value) {
  */
 function describeLoad(step, register, location) {
   const entry = step.newest(location);
-  const word = entry < 0 ? step.memory(location) : step.threadBefore.buffer[entry][1];
+  const word = entry < 0 ? step.readMemory(location) : step.threadBefore.buffer[entry][1];
   if (!step.leaves(register, word)) return null;
   const read = `${step.name} reads \`${location}=${word}\``;
   if (entry >= 0) return { words: `${read} from its own store buffer into \`${register}\``, register, entry };
-  return { words: `${read} from memory into \`${register}\`${step.waiting(location)}`, register, location, ...step.cache(location) };
+  return { words: `${read} from memory into \`${register}\`${step.describeWaiting(location)}`, register, location, ...step.describeCache(location) };
 }
 
 /** Returns the effect of a step that sets a register, or null. */
@@ -196,9 +196,9 @@ function describeWordAssignment(step, register, word) {
  * @returns {Effect | null}
  */
 function describeAdd(step, register, value) {
-  const word = (step.value(register) + step.value(value)) % WORD;
+  const word = (step.readValue(register) + step.readValue(value)) % WORD;
   if (!step.leaves(register, word)) return null;
-  return { words: `${step.name} adds ${step.value(value)}, which makes \`${register}=${word}\``, register };
+  return { words: `${step.name} adds ${step.readValue(value)}, which makes \`${register}=${word}\``, register };
 }
 
 /**
@@ -209,7 +209,7 @@ function describeAdd(step, register, value) {
  * @returns {Effect}
  */
 function describeCompare(step, register, value) {
-  const [one, other] = [step.value(register), step.value(value)];
+  const [one, other] = [step.readValue(register), step.readValue(value)];
   const result = one === other ? "are equal" : "differ";
   return { words: `${step.name} compares \`${register}=${one}\` with ${other}: they ${result}` };
 }
@@ -222,7 +222,7 @@ function describeJump(step, label) {
 
 /** Returns the effect of `if r = n goto L`, or of one with `!=`; or null. */
 function describeConditionalJump(step, register, sign, number, label) {
-  const word = step.value(register);
+  const word = step.readValue(register);
   const jumps = (word === Number(number)) === (sign === "=");
   if (!jumps && step.threadAfter.at !== step.threadBefore.at + 1) return null;
   return { words: `${step.name} ${jumps ? `goes to \`${label}\`` : "does not jump"}, since \`${register}=${word}\`` };
@@ -230,15 +230,15 @@ function describeConditionalJump(step, register, sign, number, label) {
 
 /** Returns the effect of a step that reads a location into a register and writes a word to it, with nothing between; or null. */
 function describeWordExchange(step, register, location, word) {
-  const old = step.memory(location);
-  if (!step.leaves(register, old) || step.memory(location, step.after) !== word) return null;
+  const old = step.readMemory(location);
+  if (!step.leaves(register, old) || step.readMemory(location, step.after) !== word) return null;
   const read = `${step.name} reads \`${location}=${old}\` from memory into \`${register}\``;
-  return { words: `${read} and writes \`${location}=${word}\` in one step${step.waiting(location)}`, register, location, ...step.cache(location) };
+  return { words: `${read} and writes \`${location}=${word}\` in one step${step.describeWaiting(location)}`, register, location, ...step.describeCache(location) };
 }
 
 /** Returns the effect of a step that adds a value to a location and reads the old word into a register, or null. */
 function describeFetchAndAdd(step, register, location, value) {
-  return describeWordExchange(step, register, location, (step.memory(location) + step.value(value)) % WORD);
+  return describeWordExchange(step, register, location, (step.readMemory(location) + step.readValue(value)) % WORD);
 }
 
 /** Returns the effect of a drain: the oldest entry of a store buffer leaves it. */

@@ -1,8 +1,10 @@
 // Lists the executions of an x86 test by the axiomatic model of x86-TSO, and says which axioms they satisfy, as tools/executions.py. Not proved.
 //
 // An execution has for each thread the positions of its path (`paths`), for each read the write that it reads from, or null for the
-// initial word (`rf`), and for each location its writes in coherence order (`co`). An event is a number, thread * 64 + position. An edge
-// of a relation has a `kind`, a `source` and a `target`. A word that would depend on itself is null.
+// initial word (`rf`), and for each location its writes in coherence order (`co`). An event is a number, thread * 64 + position. A word that
+// would depend on itself is null.
+//
+// An `Edge`, a pair of a relation, has a `kind` (po, rf, co or fr), and two events, its `source` and its `target`. `Item` is any type.
 
 import { WORD } from "./token_reader.js";
 
@@ -24,7 +26,7 @@ export class TooMany extends Error {}
 export class Execution {
   constructor(test, paths, rf, co) {
     Object.assign(this, { test, paths, rf, co, read: new Map(), written: new Map() });
-    this.ends = this.findWords();
+    this.ends = this.computeWords();
   }
 
   /**
@@ -41,7 +43,7 @@ export class Execution {
    * @param {number} event
    * @returns {Statement}
    */
-  instruction(event) {
+  findInstruction(event) {
     return this.test.threads[threadOf(event)][positionOf(event)];
   }
 
@@ -49,41 +51,43 @@ export class Execution {
    * Returns the accesses to memory and the fences, thread by thread.
    * @returns {number[]}
    */
-  events() {
-    return eventsOnPaths(this.paths).filter((it) => isAccessOrFence(this.instruction(it)));
+  listEvents() {
+    return listEventsOnPaths(this.paths).filter((it) => isAccessOrFence(this.findInstruction(it)));
   }
 
   // Words.
 
   /**
-   * Returns, for each thread, its registers at its end, or null if a jump goes another way.
+   * Finds the words that events read and write: follows all paths until no word changes. Returns, for each thread, its registers at its end, or null
+   * if the words lead some thread elsewhere.
    * @returns {(number | null)[][] | null}
    */
-  findWords() {
+  computeWords() {
     for (;;) {
       const before = JSON.stringify([...this.written]);
-      const ends = this.paths.map((path, thread) => this.goAlong(thread, path));
+      const ends = this.paths.map((path, thread) => this.followPath(thread, path));
       if (ends.includes(null)) return null;
       if (JSON.stringify([...this.written]) === before) return ends;
     }
   }
 
   /**
-   * Returns the registers of a thread at the end of its path, or null if the words lead it elsewhere.
+   * Records the words that a thread's events read and write, as far as they are known. Returns the registers at the end of the path, or null if the
+   * words lead elsewhere.
    * @param {number} thread
    * @param {number[]} path
    * @returns {(number | null)[] | null}
    */
-  goAlong(thread, path) {
+  followPath(thread, path) {
     const code = this.test.threads[thread];
     let state = { at: 0, registers: this.test.registers[thread], zero: false };
     for (const position of path) {
       if (state.at !== position && state.at !== null) return null;
       const [event, instruction] = [eventOf(thread, position), code[position]];
-      const word = READS.includes(instruction.kind) ? this.wordRead(event) : null;
+      const word = READS.includes(instruction.kind) ? this.findReadWord(event) : null;
       this.read.set(event, word);
-      if (WRITES.includes(instruction.kind)) this.written.set(event, writtenWord(instruction, state.registers, word));
-      state = stateAfter(instruction, position, state, word);
+      if (WRITES.includes(instruction.kind)) this.written.set(event, computeWrittenWord(instruction, state.registers, word));
+      state = computeNextState(instruction, position, state, word);
     }
     return state.at === code.length || state.at === null ? state.registers : null;
   }
@@ -93,16 +97,16 @@ export class Execution {
    * @param {number} event
    * @returns {number | null}
    */
-  wordRead(event) {
+  findReadWord(event) {
     const source = this.rf.get(event);
-    return source === null ? this.test.words[this.instruction(event).location] : (this.written.get(source) ?? null);
+    return source === null ? this.test.words[this.findInstruction(event).location] : (this.written.get(source) ?? null);
   }
 
   /**
    * Returns all threads' registers and the locations' words.
    * @returns {Outcome}
    */
-  outcome() {
+  makeOutcome() {
     const words = this.test.words.map((word, location) => {
       const last = this.co.get(location)?.at(-1);
       return last === undefined ? word : this.written.get(last);
@@ -116,8 +120,8 @@ export class Execution {
    * Returns program order, all pairs.
    * @returns {Edge[]}
    */
-  po() {
-    const events = this.events();
+  listPoEdges() {
+    const events = this.listEvents();
     const pairs = events.flatMap((a) => events.filter((b) => threadOf(a) === threadOf(b) && a < b).map((b) => [a, b]));
     return pairs.map(edgeOf("po"));
   }
@@ -126,7 +130,7 @@ export class Execution {
    * Returns reads-from, except from the initial words.
    * @returns {Edge[]}
    */
-  rfEdges() {
+  listRfEdges() {
     return [...this.rf].filter(([, source]) => source !== null).map(([read, source]) => edgeOf("rf")([source, read]));
   }
 
@@ -134,7 +138,7 @@ export class Execution {
    * Returns coherence order, all pairs.
    * @returns {Edge[]}
    */
-  coEdges() {
+  listCoEdges() {
     return [...this.co.values()].flatMap((row) => row.flatMap((a, index) => row.slice(index + 1).map((b) => [a, b]))).map(edgeOf("co"));
   }
 
@@ -142,9 +146,9 @@ export class Execution {
    * Returns from-reads: from each read to the writes after the one that it reads from.
    * @returns {Edge[]}
    */
-  frEdges() {
+  listFrEdges() {
     return [...this.rf].flatMap(([read, source]) => {
-      const row = this.co.get(this.instruction(read).location) ?? [];
+      const row = this.co.get(this.findInstruction(read).location) ?? [];
       const later = source === null ? row : row.slice(row.indexOf(source) + 1);
       return later.filter((it) => it !== read).map((it) => edgeOf("fr")([read, it]));
     });
@@ -156,7 +160,7 @@ export class Execution {
    * @returns {boolean}
    */
   isPreserved({ source, target }) {
-    return !(this.instruction(source).kind === "store" && this.instruction(target).kind === "load");
+    return !(this.findInstruction(source).kind === "store" && this.findInstruction(target).kind === "load");
   }
 
   /**
@@ -165,37 +169,37 @@ export class Execution {
    * @returns {boolean}
    */
   hasFenceBetween({ source, target }) {
-    const between = this.events().filter((it) => source < it && it < target);
-    return between.some((it) => !["store", "load"].includes(this.instruction(it).kind));
+    const between = this.listEvents().filter((it) => source < it && it < target);
+    return between.some((it) => !["store", "load"].includes(this.findInstruction(it).kind));
   }
 
   /**
    * Returns the edges of the axiom of coherence.
    * @returns {Edge[]}
    */
-  coherence() {
-    const placeOf = (event) => this.instruction(event).location;
+  listCoherenceEdges() {
+    const placeOf = (event) => this.findInstruction(event).location;
     const isSame = ({ source, target }) => placeOf(source) !== undefined && placeOf(source) === placeOf(target);
-    return [...this.po().filter(isSame), ...this.rfEdges(), ...this.coEdges(), ...this.frEdges()];
+    return [...this.listPoEdges().filter(isSame), ...this.listRfEdges(), ...this.listCoEdges(), ...this.listFrEdges()];
   }
 
   /**
    * Returns the edges of the axiom of global happens-before.
    * @returns {Edge[]}
    */
-  happensBefore() {
-    const external = this.rfEdges().filter((it) => threadOf(it.source) !== threadOf(it.target));
-    return [...this.po().filter((it) => this.isPreserved(it)), ...external, ...this.coEdges(), ...this.frEdges()];
+  listHappensBeforeEdges() {
+    const external = this.listRfEdges().filter((it) => threadOf(it.source) !== threadOf(it.target));
+    return [...this.listPoEdges().filter((it) => this.isPreserved(it)), ...external, ...this.listCoEdges(), ...this.listFrEdges()];
   }
 
   /**
-   * Returns the first axiom that the execution breaks, with a shortest cycle; null if it keeps both.
+   * Returns the first axiom that the execution violates, with a shortest cycle; null if it satisfies both.
    * @returns {{axiom: string, cycle: Edge[]} | null}
    */
-  broken() {
-    const coherence = cycleIn(this.coherence());
+  findBrokenAxiom() {
+    const coherence = findShortestCycle(this.listCoherenceEdges());
     if (coherence) return { axiom: "coherence", cycle: coherence };
-    const order = cycleIn(this.happensBefore());
+    const order = findShortestCycle(this.listHappensBeforeEdges());
     return order && { axiom: "global happens-before", cycle: order };
   }
 
@@ -203,8 +207,8 @@ export class Execution {
    * Returns a shortest cycle of all relations together: there is one if the execution is not sequentially consistent.
    * @returns {Edge[] | null}
    */
-  cycle() {
-    return cycleIn([...this.po(), ...this.rfEdges(), ...this.coEdges(), ...this.frEdges()]);
+  findCycle() {
+    return findShortestCycle([...this.listPoEdges(), ...this.listRfEdges(), ...this.listCoEdges(), ...this.listFrEdges()]);
   }
 }
 
@@ -218,11 +222,11 @@ function isAccessOrFence(instruction) {
 }
 
 /**
- * Returns the events of paths, thread by thread.
+ * Returns the events of all instructions on paths, jumps among them, thread by thread.
  * @param {number[][]} paths
  * @returns {number[]}
  */
-function eventsOnPaths(paths) {
+function listEventsOnPaths(paths) {
   return paths.flatMap((path, thread) => path.map((position) => eventOf(thread, position)));
 }
 
@@ -234,7 +238,7 @@ function eventsOnPaths(paths) {
  * @param {(number | null)[]} registers
  * @returns {number | null}
  */
-function wordOf(value, registers) {
+function resolveValue(value, registers) {
   return value.number === undefined ? registers[value.register] : value.number;
 }
 
@@ -244,7 +248,7 @@ function wordOf(value, registers) {
  * @param {number | null} second
  * @returns {number | null}
  */
-function sumOf(first, second) {
+function addWords(first, second) {
   return first === null || second === null ? null : (first + second) % WORD;
 }
 
@@ -254,7 +258,7 @@ function sumOf(first, second) {
  * @param {number | null} second
  * @returns {boolean | null}
  */
-function isSame(first, second) {
+function areEqual(first, second) {
   return first === null || second === null ? null : first === second;
 }
 
@@ -264,39 +268,39 @@ function replaceItem(list, at, item) {
 }
 
 /**
- * Returns the word that an instruction writes to memory.
+ * Returns the word that a store or a locked instruction writes to memory, if it reads `word`; null if it is not known.
  * @param {Statement} instruction
  * @param {(number | null)[]} registers
  * @param {number | null} word
  * @returns {number | null}
  */
-function writtenWord(instruction, registers, word) {
-  if (instruction.kind === "store") return wordOf(instruction.value, registers);
-  return instruction.kind === "xchg" ? registers[instruction.register] : sumOf(word, registers[instruction.register]);
+function computeWrittenWord(instruction, registers, word) {
+  if (instruction.kind === "store") return resolveValue(instruction.value, registers);
+  return instruction.kind === "xchg" ? registers[instruction.register] : addWords(word, registers[instruction.register]);
 }
 
-/** Returns the position, the registers and the zero flag after an instruction that reads a word, if it reads one. */
-function stateAfter(instruction, position, { registers, zero }, word) {
+/** Returns the position, the registers and the zero flag of a thread after an instruction. `word` is the one that it reads, or null. */
+function computeNextState(instruction, position, { registers, zero }, word) {
   const next = position + 1;
   if (instruction.target !== undefined) {
-    const jumps = instruction.kind === "jmp" ? true : isSame(zero, instruction.kind === "je");
+    const jumps = instruction.kind === "jmp" ? true : areEqual(zero, instruction.kind === "je");
     return { at: jumps === null ? null : jumps ? instruction.target : next, registers, zero };
   }
   if (instruction.kind === "load" || instruction.kind === "xchg") {
     return { at: next, registers: replaceItem(registers, instruction.register, word), zero };
   }
   if (instruction.kind === "xadd") {
-    const sum = sumOf(word, registers[instruction.register]);
-    return { at: next, registers: replaceItem(registers, instruction.register, word), zero: isSame(sum, 0) };
+    const sum = addWords(word, registers[instruction.register]);
+    return { at: next, registers: replaceItem(registers, instruction.register, word), zero: areEqual(sum, 0) };
   }
   if (instruction.kind === "set") {
-    return { at: next, registers: replaceItem(registers, instruction.register, wordOf(instruction.value, registers)), zero };
+    return { at: next, registers: replaceItem(registers, instruction.register, resolveValue(instruction.value, registers)), zero };
   }
   if (instruction.kind === "add") {
-    const sum = sumOf(registers[instruction.register], wordOf(instruction.value, registers));
-    return { at: next, registers: replaceItem(registers, instruction.register, sum), zero: isSame(sum, 0) };
+    const sum = addWords(registers[instruction.register], resolveValue(instruction.value, registers));
+    return { at: next, registers: replaceItem(registers, instruction.register, sum), zero: areEqual(sum, 0) };
   }
-  if (instruction.kind === "cmp") return { at: next, registers, zero: isSame(registers[instruction.register], wordOf(instruction.value, registers)) };
+  if (instruction.kind === "cmp") return { at: next, registers, zero: areEqual(registers[instruction.register], resolveValue(instruction.value, registers)) };
   return { at: next, registers, zero };
 }
 
@@ -307,7 +311,7 @@ function stateAfter(instruction, position, { registers, zero }, word) {
  * @param {Edge[]} edges
  * @returns {Edge[] | null}
  */
-export function cycleIn(edges) {
+export function findShortestCycle(edges) {
   const edgesFrom = new Map();
   for (const edge of edges) {
     const targets = edgesFrom.get(edge.source) ?? edgesFrom.set(edge.source, new Map()).get(edge.source);
@@ -315,7 +319,7 @@ export function cycleIn(edges) {
   }
   if (isAcyclic(edgesFrom)) return null;
   const starts = [...edgesFrom.keys()].sort((a, b) => a - b);
-  const cycles = starts.map((start) => cycleFrom(start, edgesFrom)).filter(Boolean);
+  const cycles = starts.map((start) => findCycleThrough(start, edgesFrom)).filter(Boolean);
   return cycles.reduce((best, it) => (it.length < best.length ? it : best));
 }
 
@@ -342,12 +346,12 @@ function isAcyclic(edgesFrom) {
  * @param {Map<number, Map<number, Edge>>} edgesFrom
  * @returns {Edge[] | null}
  */
-function cycleFrom(start, edgesFrom) {
+function findCycleThrough(start, edgesFrom) {
   const cameBy = new Map();
   const queue = [start];
   for (const event of queue) {
     for (const [target, edge] of edgesFrom.get(event) ?? []) {
-      if (target === start) return wayBack(start, edge, cameBy);
+      if (target === start) return traceCycle(start, edge, cameBy);
       if (!cameBy.has(target)) {
         cameBy.set(target, edge);
         queue.push(target);
@@ -358,13 +362,13 @@ function cycleFrom(start, edgesFrom) {
 }
 
 /**
- * Returns the edges of a cycle that ends with an edge to its start. `cameBy` has the edge by which each event was reached.
+ * Returns the edges of a cycle from an event, given the `last` one, which leads back to it. `cameBy` has the edge by which each other event was reached.
  * @param {number} start
  * @param {Edge} last
  * @param {Map<number, Edge>} cameBy
  * @returns {Edge[]}
  */
-function wayBack(start, last, cameBy) {
+function traceCycle(start, last, cameBy) {
   const cycle = [last];
   while (cycle.at(-1).source !== start) cycle.push(cameBy.get(cycle.at(-1).source));
   return cycle.reverse();
@@ -399,11 +403,11 @@ function permutations(row) {
  * @param {number} [at]
  * @returns {number[][]}
  */
-function pathsOf(code, at = 0) {
+function listPaths(code, at = 0) {
   if (at === code.length) return [[]];
   const { kind, target } = code[at];
   const followers = target === undefined ? [at + 1] : kind === "jmp" || target === at + 1 ? [target] : [at + 1, target];
-  return followers.flatMap((next) => pathsOf(code, next).map((path) => [at, ...path]));
+  return followers.flatMap((next) => listPaths(code, next).map((path) => [at, ...path]));
 }
 
 /**
@@ -412,10 +416,10 @@ function pathsOf(code, at = 0) {
  * @param {number} limit
  * @returns {Generator<Execution>}
  */
-export function* candidates(test, limit) {
+export function* listCandidates(test, limit) {
   let number = 0;
-  for (const paths of choices(test.threads.map((code) => pathsOf(code)))) {
-    const events = eventsOnPaths(paths);
+  for (const paths of choices(test.threads.map((code) => listPaths(code)))) {
+    const events = listEventsOnPaths(paths);
     const instruction = (event) => test.threads[threadOf(event)][positionOf(event)];
     const writes = new Map();
     for (const it of events.filter((event) => WRITES.includes(instruction(event).kind))) {
@@ -440,12 +444,13 @@ export function* candidates(test, limit) {
 // The execution of a run.
 
 /**
- * Returns the execution of a run of an x86 test to its end, by the words of its schedule, each of which can be done.
+ * Returns the execution of a run of an x86 test to its end, by its schedule: each event, which has to be enabled, with the position of its thread after
+ * it.
  * @param {Test} test
  * @param {[string, number][]} schedule
  * @returns {Execution}
  */
-export function executionOf(test, schedule) {
+export function makeExecution(test, schedule) {
   const positions = test.threads.map(() => 0);
   const buffers = test.threads.map(() => []);
   const paths = test.threads.map(() => []);

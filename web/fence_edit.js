@@ -3,8 +3,8 @@
 //
 // A `TextCell` has the offsets of its `begin` and its `end`, its `labels` and its `instruction`.
 
-import { withFences } from "./fencing.js";
-import { without } from "./sparing.js";
+import { insertFences } from "./fencing.js";
+import { removeFences } from "./sparing.js";
 import { readTest } from "./tests.js";
 
 const FENCE = "MFENCE";
@@ -169,7 +169,7 @@ function applyChanges(text, places, change, changeTest) {
  * @returns {string | null}
  */
 export function textWithFences(text, places) {
-  return applyChanges(text, places, insertFence, (test) => withFences(test, places));
+  return applyChanges(text, places, insertFence, (test) => insertFences(test, places));
 }
 
 /**
@@ -179,5 +179,5 @@ export function textWithFences(text, places) {
  * @returns {string | null}
  */
 export function textWithoutFence(text, place) {
-  return applyChanges(text, [place], removeFence, (test) => without(test, [place]));
+  return applyChanges(text, [place], removeFence, (test) => removeFences(test, [place]));
 }

@@ -173,7 +173,10 @@ function fenceNames({ rows }) {
   });
 }
 
-/** Returns which fences are enough for the states that exist with all of them, and in how many of these the condition holds. */
+/**
+ * Returns, as children for `el`, the sentence on which fences are enough for the states that exist with all of them, and in how many of these states the
+ * condition holds. `names` are those of the fences, in the order of the rows.
+ */
 function verdictOnTable({ table, language }, names) {
   const { rows, enough, states, positive } = table;
   const program = language === "SRC" ? "the compiled program" : "the test";
@@ -185,6 +188,7 @@ function verdictOnTable({ table, language }, names) {
     return [`${fences} nothing: with ${all} ${program} ends in the same ${statesOf(states)}, and${holding}${states === 1 ? "it." : "them."}`];
   }
   if (enough.length < rows.length) {
+    // The comma keeps `P0 at 1` from being the start of `P0 at 12`.
     const kept = names.filter((_, index) => enough.some((it) => `${rows[index].place},`.startsWith(`${it},`)));
     const needed = `These are enough for the same ${statesOf(states)}, and none of them can be left out: ${kept.join("; ")}.`;
     return [`${needed} With them${holding}these states.`];

@@ -3,7 +3,7 @@
 //
 // A `Place` is a pair of a thread and a position: that of a fence, or of the instruction before which one is put.
 
-import { canonicalText, instructionText } from "./canonical.js";
+import { formatCanonicalText, formatInstruction } from "./canonical.js";
 import { NoAnswer } from "./program.js";
 
 const WAITS = ["mfence", "xchg", "xadd"];
@@ -17,7 +17,7 @@ const MAX_SETS = 6;
  * @param {number} position
  * @returns {number[]}
  */
-function followers({ kind, target }, position) {
+function listSuccessors({ kind, target }, position) {
   if (target === undefined) return [position + 1];
   return kind === "jmp" ? [target] : [position + 1, target];
 }
@@ -27,39 +27,39 @@ function followers({ kind, target }, position) {
  * @param {Statement[]} code
  * @returns {number[]}
  */
-function positionsAfterStores(code) {
+function findPositionsAfterStores(code) {
   const seen = new Set();
-  const queue = code.flatMap((it, index) => (it.kind === "store" ? followers(it, index) : []));
+  const queue = code.flatMap((it, index) => (it.kind === "store" ? listSuccessors(it, index) : []));
   while (queue.length) {
     const position = queue.pop();
     if (position >= code.length || seen.has(position)) continue;
     seen.add(position);
-    if (!WAITS.includes(code[position].kind)) queue.push(...followers(code[position], position));
+    if (!WAITS.includes(code[position].kind)) queue.push(...listSuccessors(code[position], position));
   }
   return [...seen].sort((a, b) => a - b);
 }
 
 /**
- * Returns the loads that are the first from a position on, on some way with nothing before them that waits.
+ * Returns the positions of the loads that are the first ones from a position on, on some way with nothing before them that waits.
  * @param {Statement[]} code
  * @param {number} position
  * @returns {number[]}
  */
-function nextLoads(code, position) {
+function findNextLoads(code, position) {
   if (position === code.length || WAITS.includes(code[position].kind)) return [];
   if (code[position].kind === "load") return [position];
-  return [...new Set(followers(code[position], position).flatMap((after) => nextLoads(code, after)))];
+  return [...new Set(listSuccessors(code[position], position).flatMap((after) => findNextLoads(code, after)))];
 }
 
 /**
- * Returns all places where a fence may help: a thread, and the number of the instruction after the fence.
+ * Returns all places where a fence may help: a thread, and the index of the instruction after the fence.
  * @param {Test} test
  * @returns {Place[]}
  */
-export function placesOf(test) {
-  const isBranch = (code, position) => ["je", "jne"].includes(code[position].kind) && nextLoads(code, position).length > 1;
+export function listFencePlaces(test) {
+  const isBranch = (code, position) => ["je", "jne"].includes(code[position].kind) && findNextLoads(code, position).length > 1;
   const isPlace = (code, position) => code[position].kind === "load" || isBranch(code, position);
-  return test.threads.flatMap((code, thread) => positionsAfterStores(code)
+  return test.threads.flatMap((code, thread) => findPositionsAfterStores(code)
     .filter((position) => isPlace(code, position))
     .map((position) => [thread, position]));
 }
@@ -70,7 +70,7 @@ export function placesOf(test) {
  * @param {Place[]} places
  * @returns {Test}
  */
-export function withFences(test, places) {
+export function insertFences(test, places) {
   const threads = test.threads.map((code, thread) => {
     const added = places.filter(([otherThread]) => otherThread === thread).map(([, position]) => position);
     const moved = (target) => target + added.filter((position) => position < target).length;
@@ -102,7 +102,7 @@ function* combinations(items, size, begin = 0) {
  * @param {function(Place[]): boolean} isEnough
  * @returns {Place[][]}
  */
-export function smallestSets(fences, isEnough) {
+export function findSmallestSets(fences, isEnough) {
   const inOrder = (chosen) => fences.filter((it) => chosen.includes(it));
   if (!isEnough(inOrder(fences))) return [];
   const needed = fences.filter((it) => !isEnough(fences.filter((other) => other !== it)));
@@ -115,15 +115,15 @@ export function smallestSets(fences, isEnough) {
       const candidate = inOrder([...needed, ...added]);
       if (tooFew.some((known) => candidate.every((it) => known.includes(it)))) continue;
       if (isEnough(candidate)) sets.push(candidate);
-      else tooFew.push(enlarge(candidate, others, inOrder, isEnough));
+      else tooFew.push(growInsufficientSet(candidate, others, inOrder, isEnough));
     }
     if (sets.length) return sets;
   }
   return [];
 }
 
-/** Returns an insufficient set, enlarged as long as it stays insufficient. */
-function enlarge(fences, others, inOrder, isEnough) {
+/** Returns an insufficient set, to which each of the others is added that leaves it insufficient. `inOrder` sorts a set. */
+function growInsufficientSet(fences, others, inOrder, isEnough) {
   let found = fences;
   for (const it of others) {
     const larger = inOrder([...found, it]);
@@ -141,10 +141,10 @@ function enlarge(fences, others, inOrder, isEnough) {
  * @param {function(string): ({lines: string[], positive: number} | null)} listOf
  * @returns {{number: number, isAnswered: boolean, sets: {places: string[], text: string, states: number}[], more: number}}
  */
-export function setsOfFences(test, listOf) {
+export function findHelpingSets(test, listOf) {
   const lists = new Map();
   const countsOf = (places) => {
-    const text = canonicalText(withFences(test, places));
+    const text = formatCanonicalText(insertFences(test, places));
     if (!lists.has(text)) {
       if (lists.size >= MAX_LISTS) throw new NoAnswer("There are too many places for fences to try them all here: `tools/fences.py` tries more.");
       lists.set(text, listOf(text));
@@ -154,9 +154,9 @@ export function setsOfFences(test, listOf) {
     return { text, states: list.lines.length, positive: list.positive };
   };
   const isAnswered = ({ states, positive }) => positive === (test.quantifier === "forall" ? states : 0);
-  const nameOf = ([thread, position]) => `P${thread} at ${position}, before ${instructionText(test, test.threads[thread][position])}`;
-  const candidates = placesOf(test);
-  const sets = isAnswered(countsOf([])) ? [] : smallestSets(candidates, (places) => isAnswered(countsOf(places)));
+  const nameOf = ([thread, position]) => `P${thread} at ${position}, before ${formatInstruction(test, test.threads[thread][position])}`;
+  const candidates = listFencePlaces(test);
+  const sets = isAnswered(countsOf([])) ? [] : findSmallestSets(candidates, (places) => isAnswered(countsOf(places)));
   const shown = sets.slice(0, MAX_SETS).map((places) => {
     const { text, states } = countsOf(places);
     return { places: places.map(nameOf), text, states };

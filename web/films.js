@@ -5,12 +5,12 @@
 // A `Film` has the `language` and the `text`, the `cells` of each thread, the `events` with their `effects`, the `states`, one more than the events,
 // the `protocol`, and `refused`, the event that ends it with its cause, or null.
 
-import { sourceCells, x86Cells } from "./canonical.js";
-import { beginsOf } from "./compiling.js";
-import { effectOf } from "./effects.js";
+import { listSourceCells, listX86Cells } from "./canonical.js";
+import { listStatementStarts } from "./compiling.js";
+import { describeEvent } from "./effects.js";
 import { isTooDeep } from "./lists.js";
 import { Fault, NoAnswer, languageOf, textOf } from "./program.js";
-import { endsIn, eventsIn } from "./replays.js";
+import { eventsIn, isFinalIn } from "./replays.js";
 import { readTest } from "./tests.js";
 import { NoTest } from "./tokens.js";
 
@@ -24,8 +24,8 @@ const MAX_ADDED = 200;
  * @param {Uint8Array} text
  * @returns {Cell[][]}
  */
-export function cellsOf(program, text) {
-  return languageOf(text) === "X86" ? x86Cells(program.ask(["compile"], text)) : sourceCells(readTest(textOf(text)));
+export function listCells(program, text) {
+  return languageOf(text) === "X86" ? listX86Cells(program.ask(["compile"], text)) : listSourceCells(readTest(textOf(text)));
 }
 
 /**
@@ -36,7 +36,7 @@ export function cellsOf(program, text) {
  * @param {string} protocol
  * @returns {Film}
  */
-export function filmOf(program, text, schedule, protocol) {
+export function makeFilm(program, text, schedule, protocol) {
   const scheduled = eventsIn(schedule);
   if (scheduled.length > MAX_STEPS) {
     throw new NoAnswer(`The schedule has ${scheduled.length} events; a film has at most ${MAX_STEPS}.`);
@@ -45,8 +45,8 @@ export function filmOf(program, text, schedule, protocol) {
   const refused = end.kind === "Stopped" ? { event: scheduled[end.at], at: end.at, number: end.number, cause: end.cause } : null;
   const events = scheduled.slice(0, refused?.at);
   const states = program.statesAlong(text, events, protocol);
-  const cells = cellsOf(program, text);
-  const effects = events.map((event, index) => effectOf(event, cells, states[index], states[index + 1]));
+  const cells = listCells(program, text);
+  const effects = events.map((event, index) => describeEvent(event, cells, states[index], states[index + 1]));
   return { language: languageOf(text), text: textOf(text), cells, events, effects, states, refused, protocol };
 }
 
@@ -79,8 +79,8 @@ export function toTheEnd(program, text, schedule) {
  * @returns {string | null}
  */
 export function compiledSchedule(program, compiled, test, schedule) {
-  const begins = test.threads.map((statements) => new Set(beginsOf(statements)));
-  const lengths = cellsOf(program, compiled).map((cells) => cells.filter(({ text }) => !text.endsWith(":")).length);
+  const begins = test.threads.map((statements) => new Set(listStatementStarts(statements)));
+  const lengths = listCells(program, compiled).map((cells) => cells.filter(({ text }) => !text.endsWith(":")).length);
   const events = [];
   for (const event of eventsIn(schedule)) {
     const thread = Number(event[1]);
@@ -102,8 +102,8 @@ export function compiledSchedule(program, compiled, test, schedule) {
  * @param {Film} film
  * @returns {string}
  */
-function sourceSchedule(test, film) {
-  const begins = test.threads.map((statements) => new Set(beginsOf(statements)));
+function makeSourceSchedule(test, film) {
+  const begins = test.threads.map((statements) => new Set(listStatementStarts(statements)));
   const beginsStatement = (event, at) => {
     const thread = Number(event[1]);
     return event[0] === "P" && begins[thread].has(film.states[at].threads[thread].at);
@@ -119,10 +119,10 @@ function sourceSchedule(test, film) {
  * @param {string} state
  * @returns {Film | null}
  */
-export function sourceFilm(program, text, compiledFilm, state) {
+export function makeSourceFilm(program, text, compiledFilm, state) {
   try {
-    const film = filmOf(program, text, sourceSchedule(readTest(textOf(text)), compiledFilm), "mesi");
-    return endsIn(film.states.at(-1), state) ? film : null;
+    const film = makeFilm(program, text, makeSourceSchedule(readTest(textOf(text)), compiledFilm), "mesi");
+    return isFinalIn(film.states.at(-1), state) ? film : null;
   } catch (error) {
     if (error instanceof NoTest || error instanceof Fault || isTooDeep(error)) return null;
     throw error;

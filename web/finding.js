@@ -1,6 +1,9 @@
 // Finds examples by words: in names, other names, families and descriptions, each by the first letters of its words. The best matches come first:
 // a whole name, then the start of a name, then a word of a name, then the description. The examples use other words for some words of users, and
 // some words mean things that the format lacks: then a note says what it has instead.
+//
+// A `Family` has the `tests` of a section of examples/INDEX.md, each an `Example`, and the `name` of the section and what that says of them (`about`), as
+// tools/page/web_files.py lists them.
 
 // Of a word that readers look for the words that the examples have for it, the best first.
 const SYNONYMS = {

@@ -1,5 +1,8 @@
 // Finds the words that move in a step of a run, each from one place of the machine to another. Places have keys: `c:0:2` is the instruction 2 of
-// thread 0, `b:0:1` the entry that its buffer takes second, `r:0:EAX` a register of it, `m:x` a location of memory.
+// thread 0, `b:0:1` the second entry that its buffer takes in the run, `r:0:EAX` a register of it, `m:x` a location of memory.
+//
+// `Shown` is what a machine is drawn from, as `shownOf` of run_view.js makes it. Of each thread `drained` has the number of entries that have left
+// its buffer, this step's among them.
 
 import { threadClass } from "./tint.js";
 
@@ -26,7 +29,7 @@ function flightOfDrain({ thread, threadBefore, drained, tints }) {
   return { from: `b:${thread}:${drained - 1}`, to: `m:${name}`, word: shown(name, word), kind: tints.of(name) };
 }
 
-/** Returns the flight of a store into the buffer. */
+/** Returns the flight of the entry that a step puts into the buffer of its thread, in a list that is empty if it puts none. */
 function flightsOfStore(step) {
   const { thread, threadBefore, threadAfter, drained, tints } = step;
   if (!threadAfter.buffer || threadAfter.buffer.length <= threadBefore.buffer.length) return [];
@@ -35,7 +38,10 @@ function flightsOfStore(step) {
   return [{ from: instructionOf(step), to, word: shown(name, word), kind: tints.of(name) }];
 }
 
-/** Returns the flight of a word to a register: from memory, from an entry of the own buffer, or from the instruction itself. */
+/**
+ * Returns the flight of a word to a register: from memory, from an entry of the own buffer, or from the instruction itself; in a list that is empty if
+ * the step sets no register.
+ */
 function flightsOfLoad(step) {
   const { thread, threadBefore, threadAfter, drained, tints, effect } = step;
   if (!effect.register) return [];
@@ -46,7 +52,7 @@ function flightsOfLoad(step) {
   return [{ from: `b:${thread}:${drained + effect.entry}`, to, word, kind: tints.of(threadBefore.buffer[effect.entry][0]) }];
 }
 
-/** Returns the flight of a word that changes memory at once: of a locked instruction, or of a store by turns. */
+/** Returns the flights of words that change memory at once: of a locked instruction, or of a store of a source test, which has no buffers. */
 function flightsToMemory(step) {
   const before = new Map(step.before.content);
   const changed = step.state.content.filter(([name, word]) => before.get(name) !== word);

@@ -22,14 +22,14 @@ path, path.marked { stroke: #ececec } path.po { stroke: #8d939c } text.relation 
 // Words.
 
 /** Returns a word as text, `?` if it is not known. */
-export const shown = (word) => (word === null || word === undefined ? "?" : String(word));
+export const formatWord = (word) => (word === null || word === undefined ? "?" : String(word));
 
 /** Names an execution's events by letters, and says what each does. */
 export class Names {
   constructor(execution) {
     this.execution = execution;
     const letterAt = (index) => (index < 26 ? LETTERS[index] : `${LETTERS[index % 26]}${Math.floor(index / 26)}`);
-    this.letters = new Map(execution.events().map((it, index) => [it, letterAt(index)]));
+    this.letters = new Map(execution.listEvents().map((it, index) => [it, letterAt(index)]));
   }
 
   /**
@@ -37,11 +37,11 @@ export class Names {
    * @param {number} event
    * @returns {string}
    */
-  deed(event) {
-    const { kind, location } = this.execution.instruction(event);
+  describeEvent(event) {
+    const { kind, location } = this.execution.findInstruction(event);
     if (kind === "mfence") return "MFENCE";
     const name = this.execution.test.locations[location];
-    const [read, written] = [shown(this.execution.read.get(event)), shown(this.execution.written.get(event))];
+    const [read, written] = [formatWord(this.execution.read.get(event)), formatWord(this.execution.written.get(event))];
     if (kind === "load") return `R ${name}=${read}`;
     return kind === "store" ? `W ${name}=${written}` : `U ${name}=${read}→${written}`;
   }
@@ -51,8 +51,8 @@ export class Names {
    * @param {number} event
    * @returns {string}
    */
-  line(event) {
-    return `${this.letters.get(event)}: P${threadOf(event)} ${this.deed(event)}`;
+  formatEvent(event) {
+    return `${this.letters.get(event)}: P${threadOf(event)} ${this.describeEvent(event)}`;
   }
 
   /**
@@ -60,7 +60,7 @@ export class Names {
    * @param {Edge[]} edges
    * @returns {string}
    */
-  cycle(edges) {
+  formatCycle(edges) {
     return this.letters.get(edges[0].source) + edges.map((it) => ` -${it.kind}-> ${this.letters.get(it.target)}`).join("");
   }
 }
@@ -70,22 +70,22 @@ export class Names {
  * @param {Edge[]} edges
  * @returns {Edge[]}
  */
-function nearEdges(edges) {
+function listDirectEdges(edges) {
   const leads = (a, b) => edges.some((it) => it.source === a && it.target === b);
   return edges.filter(({ source, target }) => !edges.some(({ target: mid }) => leads(source, mid) && leads(mid, target)));
 }
 
 /** Returns, for each read, the edge to the first write after the one that it reads from. */
-function nearFromReads(execution) {
+function listDirectFrEdges(execution) {
   const edges = new Map();
-  for (const it of execution.frEdges()) if (!edges.has(it.source)) edges.set(it.source, it);
+  for (const it of execution.listFrEdges()) if (!edges.has(it.source)) edges.set(it.source, it);
   return [...edges.values()];
 }
 
 const isSameEdge = (one) => (other) => one.kind === other.kind && one.source === other.source && one.target === other.target;
 
-/** Returns the pairs of program order in a cycle that are not preserved by themselves. */
-function unpreserved(execution, cycle) {
+/** Returns the pairs of program order in a cycle that x86-TSO does not preserve if no fence is between. */
+function listUnpreservedPairs(execution, cycle) {
   return (cycle ?? []).filter((it) => it.kind === "po" && !execution.isPreserved(it));
 }
 
@@ -95,8 +95,8 @@ function unpreserved(execution, cycle) {
  * @param {Edge[]} cycle
  * @returns {Edge[]}
  */
-function missingFences(execution, cycle) {
-  return unpreserved(execution, cycle).filter((it) => !execution.hasFenceBetween(it));
+function findMissingFences(execution, cycle) {
+  return listUnpreservedPairs(execution, cycle).filter((it) => !execution.hasFenceBetween(it));
 }
 
 /**
@@ -104,21 +104,21 @@ function missingFences(execution, cycle) {
  * @param {Execution} execution
  * @returns {string[]}
  */
-export function explanationOf(execution) {
-  const [names, cycle] = [new Names(execution), execution.cycle()];
+export function formatExecution(execution) {
+  const [names, cycle] = [new Names(execution), execution.findCycle()];
   const letter = (event) => names.letters.get(event);
-  const lines = execution.events().map((it) => names.line(it));
-  const relations = [["rf", execution.rfEdges()], ["co", nearEdges(execution.coEdges())], ["fr", nearFromReads(execution)]];
+  const lines = execution.listEvents().map((it) => names.formatEvent(it));
+  const relations = [["rf", execution.listRfEdges()], ["co", listDirectEdges(execution.listCoEdges())], ["fr", listDirectFrEdges(execution)]];
   for (const [kind, edges] of relations) {
     const pairs = edges.map((it) => `${letter(it.source)} -> ${letter(it.target)}`).join(", ");
     lines.push(`${NAMES[kind]} (${kind}): ${pairs || "none"}`);
   }
   const starts = [...execution.rf].filter(([, source]) => source === null).map(([read]) => letter(read));
-  lines.push(`reads of the initial word: ${starts.join(", ") || "none"}`, verdictOnExecution(execution, names));
+  lines.push(`reads of the initial word: ${starts.join(", ") || "none"}`, formatVerdict(execution, names));
   if (!cycle) return [...lines, "A run of interleaving: po, rf, co and fr have no cycle."];
-  lines.push(`No run of interleaving: ${names.cycle(cycle)}`);
+  lines.push(`No run of interleaving: ${names.formatCycle(cycle)}`);
   const advice = (it) => `An MFENCE between ${letter(it.source)} and ${letter(it.target)} would keep their order.`;
-  return [...lines, ...missingFences(execution, cycle).map(advice)];
+  return [...lines, ...findMissingFences(execution, cycle).map(advice)];
 }
 
 /**
@@ -127,10 +127,10 @@ export function explanationOf(execution) {
  * @param {Names} names
  * @returns {string}
  */
-function verdictOnExecution(execution, names) {
-  const broken = execution.broken();
+function formatVerdict(execution, names) {
+  const broken = execution.findBrokenAxiom();
   if (!broken) return "x86-TSO allows it: coherence and global happens-before have no cycle.";
-  return `x86-TSO forbids it: ${broken.axiom} has the cycle ${names.cycle(broken.cycle)}`;
+  return `x86-TSO forbids it: ${broken.axiom} has the cycle ${names.formatCycle(broken.cycle)}`;
 }
 
 // The picture.
@@ -141,12 +141,12 @@ function roundToTenth(number) {
 }
 
 /** Returns a point as a path has it. */
-function spot([x, y]) {
+function formatPoint([x, y]) {
   return `${digits(roundToTenth(x))} ${digits(roundToTenth(y))}`;
 }
 
-/** Returns the place of an event in its test, by which a page finds its instruction. */
-function eventPlace(event) {
+/** Returns the place of an event in its test, as THREAD:POSITION, by which a page finds its instruction. */
+function formatEventPlace(event) {
   return `${threadOf(event)}:${positionOf(event)}`;
 }
 
@@ -158,49 +158,49 @@ function isInternal({ kind, source, target }) {
 /** Draws an arrow along the curves of a route. */
 function drawEdge(drawing, layout, route, isMarked) {
   const { kind, source, target } = route.edge;
-  const [first, ...others] = layout.curvesOf(route);
-  const curve = ([, ...points]) => `C${points.map(spot).join(" ")}`;
-  const path = `M${spot(first[0])} ${[first, ...others].map(curve).join(" ")}`;
-  const ends = route.way === "start" ? `data-to="${eventPlace(target)}"` : `data-from="${eventPlace(source)}" data-to="${eventPlace(target)}"`;
+  const [first, ...others] = layout.makePictureCurves(route);
+  const curve = ([, ...points]) => `C${points.map(formatPoint).join(" ")}`;
+  const path = `M${formatPoint(first[0])} ${[first, ...others].map(curve).join(" ")}`;
+  const ends = route.way === "start" ? `data-to="${formatEventPlace(target)}"` : `data-from="${formatEventPlace(source)}" data-to="${formatEventPlace(target)}"`;
   drawing.elements.push(`<path class="${kind ?? "rf"}${isMarked ? " marked" : ""}" ${ends} marker-end="url(#to-${kind ?? "rf"})" d="${path}"/>`);
 }
 
 /** Writes the name of a relation at its arrow. */
 function drawLabel(drawing, layout, route, name) {
   const [x, y] = layout.placeLabel(route, name.length);
-  drawing.text(roundToTenth(x - (name.length * LETTER) / 2), roundToTenth(y + 4), name, "relation");
+  drawing.drawText(roundToTenth(x - (name.length * LETTER) / 2), roundToTenth(y + 4), name, "relation");
 }
 
 /** Returns the heads of the arrows, by relation. */
-function markers() {
+function makeMarkers() {
   const size = 'viewBox="0 0 8 8" refX="7" refY="4" markerWidth="9" markerHeight="9" orient="auto" markerUnits="userSpaceOnUse"';
   const head = (kind) => `<marker id="to-${kind}" ${size}><path class="${kind}" d="M1 1 L7 4 L1 7"/></marker>`;
   return `<defs>${Object.keys(NAMES).map(head).join("")}</defs>`;
 }
 
-/** Draws the events, thread by thread. */
+/** Draws the events, thread by thread, and marks those of a cycle. */
 function drawEvents(drawing, layout, execution, texts, inCycle) {
   for (const [thread, events] of layout.threads.entries()) {
-    drawing.text(...layout.titleAt(thread), `P${thread}`, "title");
+    drawing.drawText(...layout.findTitle(thread), `P${thread}`, "title");
     for (const event of events) {
-      const [x, y] = layout.corner(event);
-      const kind = execution.instruction(event).kind === "store" ? "entry" : "box";
-      drawing.elements.push(`<g data-at="${eventPlace(event)}">`);
-      drawing.box(x, y, ...layout.box, inCycle.has(event) ? `${kind} marked` : kind);
-      drawing.text(x + layout.room.beside, y + BASE, texts.get(event));
+      const [x, y] = layout.findCorner(event);
+      const kind = execution.findInstruction(event).kind === "store" ? "entry" : "box";
+      drawing.elements.push(`<g data-at="${formatEventPlace(event)}">`);
+      drawing.drawBox(x, y, ...layout.box, inCycle.has(event) ? `${kind} marked` : kind);
+      drawing.drawText(x + layout.room.beside, y + BASE, texts.get(event));
       drawing.elements.push("</g>");
     }
   }
 }
 
 /** Returns the edges of a picture: those of the relations, and those of a marked cycle. */
-function drawnEdges(execution, cycle) {
-  const edges = [...nearEdges(execution.po()), ...execution.rfEdges(), ...nearEdges(execution.coEdges()), ...nearFromReads(execution)];
+function listDrawnEdges(execution, cycle) {
+  const edges = [...listDirectEdges(execution.listPoEdges()), ...execution.listRfEdges(), ...listDirectEdges(execution.listCoEdges()), ...listDirectFrEdges(execution)];
   return [...edges, ...cycle.filter((it) => !edges.some(isSameEdge(it)))];
 }
 
-/** Returns the lines below a picture. */
-function linesBelow(names, cycle, broken, missing) {
+/** Returns the caption below a picture, line by line. */
+function formatCaption(names, cycle, broken, missing) {
   const noFence = (it) => `${names.letters.get(it.source)}, then ${names.letters.get(it.target)}: no fence between`;
   if (broken) return [`Marked: a cycle, against ${broken.axiom}.`];
   const verdict = cycle.length ? "Marked: a cycle, so no run of interleaving." : "No cycle: a run of interleaving, too.";
@@ -214,23 +214,23 @@ function linesBelow(names, cycle, broken, missing) {
  * @param {{axiom: string, cycle: Edge[]} | null} [broken]
  * @returns {string}
  */
-export function graphOf(execution, title, broken = null) {
-  const [names, cycle] = [new Names(execution), broken?.cycle ?? execution.cycle() ?? []];
-  const missing = broken ? [] : missingFences(execution, cycle);
-  const texts = new Map(execution.events().map((it) => [it, `${names.letters.get(it)}: ${names.deed(it)}`]));
+export function drawExecution(execution, title, broken = null) {
+  const [names, cycle] = [new Names(execution), broken?.cycle ?? execution.findCycle() ?? []];
+  const missing = broken ? [] : findMissingFences(execution, cycle);
+  const texts = new Map(execution.listEvents().map((it) => [it, `${names.letters.get(it)}: ${names.describeEvent(it)}`]));
   const initial = [...execution.rf].filter(([, source]) => source === null).map(([read]) => read);
-  const layout = new GraphLayout(execution, texts, drawnEdges(execution, broken ? cycle : unpreserved(execution, cycle)), initial);
+  const layout = new GraphLayout(execution, texts, listDrawnEdges(execution, broken ? cycle : listUnpreservedPairs(execution, cycle)), initial);
   const drawing = new Drawing();
-  drawing.elements.push(`<style>${STYLE}</style>`, markers());
+  drawing.elements.push(`<style>${STYLE}</style>`, makeMarkers());
   const isMarked = ({ edge }) => cycle.some(isSameEdge(edge));
   for (const it of [...layout.routes, ...layout.starts]) drawEdge(drawing, layout, it, it.way !== "start" && isMarked(it));
   drawEvents(drawing, layout, execution, texts, new Set(broken ? cycle.map((it) => it.source) : []));
   if (initial.length <= MAX_NAMED) for (const it of layout.starts) drawLabel(drawing, layout, it, "init");
   const named = layout.routes.filter((it) => it.edge.kind !== "po" || isMarked(it));
   for (const it of named) drawLabel(drawing, layout, it, isInternal(it.edge) ? "rfi" : it.edge.kind);
-  const lines = linesBelow(names, cycle, broken, missing);
+  const lines = formatCaption(names, cycle, broken, missing);
   const [wide, high] = layout.size;
-  for (const [at, line] of lines.entries()) drawing.text(EDGE, high + LINE * (at + 1) - 5, line, "faint");
+  for (const [at, line] of lines.entries()) drawing.drawText(EDGE, high + LINE * (at + 1) - 5, line, "faint");
   const width = Math.max(wide, ...lines.map((it) => it.length * LETTER + 2 * EDGE));
-  return drawing.svg(width, high + LINE * lines.length + EDGE, title);
+  return drawing.makeSvg(width, high + LINE * lines.length + EDGE, title);
 }

@@ -1,7 +1,7 @@
 // Says whether the reader still has to predict the answer on a test: a reader who has asked to predict first sees no answer before that. An
 // answer that is asked for meanwhile waits until the guess is made and answered, or until the reader does not want to predict any more.
 
-import { conditionWords } from "./condition_words.js";
+import { describeCondition } from "./condition_words.js";
 import { button, byId, el } from "./dom.js";
 import { propositionOf } from "./reports.js";
 import { codeNodes, testName, tintedSentence, tintsOf } from "./tint.js";
@@ -162,7 +162,7 @@ export function wait(text, place, notice, show, isUntilAnswered = false) {
  */
 export function questionParts(text, { report, words }) {
   const tints = tintsOf(text);
-  const inWords = conditionWords(text);
+  const inWords = describeCondition(text);
   const formula = el("code", {}, codeNodes(propositionOf(report), tints, null));
   const sign = el("span", { class: "sign", "aria-hidden": "true" }, "?");
   const asked = el("span", {}, el("strong", {}, `${words.question}:`), " ", inWords ? tintedSentence(inWords, tints) : formula, "?");

@@ -7,8 +7,8 @@
 // is true (`positive`), the `condition`, and the last lines (`tail`).
 
 import { Fault, NoAnswer } from "./program.js";
-import { conditionText, holds, observed, siteName, wordAt } from "./propositions.js";
-import { contentsOf } from "./replays.js";
+import { formatCondition, formatSite, isTrueIn, listObservedSites, readWord } from "./propositions.js";
+import { parseReportLine } from "./replays.js";
 import { readTest } from "./tests.js";
 
 const MAX_STATES = 200000;
@@ -63,11 +63,11 @@ function holdsBy(marked, line) {
 function foundHere(text) {
   try {
     const test = testOf(text);
-    const sites = observed(test);
+    const sites = listObservedSites(test);
     return (line) => {
       const outcome = { registers: test.threads.map(() => ({})), words: {} };
-      for (const [at, [, word]] of contentsOf(line).entries()) putWord(outcome, sites[at], word);
-      return holds(test.proposition, outcome);
+      for (const [at, [, word]] of parseReportLine(line).entries()) putWord(outcome, sites[at], word);
+      return isTrueIn(test.proposition, outcome);
     };
   } catch {
     return () => null;
@@ -168,8 +168,8 @@ export function endingOf(text, state) {
     const content = new Map(state.content);
     const registers = state.threads.map((it) => it.registers.map(([, word]) => word));
     const outcome = { registers, words: test.locations.map((name) => content.get(name)) };
-    const words = observed(test).map((site) => `${siteName(test, site)}=${wordAt(site, outcome)};`);
-    return { line: words.join(" "), condition: conditionText(test), holds: holds(test.proposition, outcome) };
+    const words = listObservedSites(test).map((site) => `${formatSite(test, site)}=${readWord(site, outcome)};`);
+    return { line: words.join(" "), condition: formatCondition(test), holds: isTrueIn(test.proposition, outcome) };
   } catch {
     return null;
   }

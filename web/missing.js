@@ -1,6 +1,6 @@
 // Finds a state that a list lacks, to ask about, and the state of the list that comes closest to it.
 
-import { contentsOf } from "./replays.js";
+import { parseReportLine } from "./replays.js";
 
 // Of how many states at most one that is missing is looked for, and how many combinations of words are tried.
 const MAX_LOOKED_AT = 2000;
@@ -8,7 +8,7 @@ const MAX_TRIED = 20000;
 
 /** Returns the words of each site: first those that the question names, then those that it has in the states of a report. */
 function columnsOf({ states }, wordsAsked) {
-  const lines = states.map(({ line }) => contentsOf(line));
+  const lines = states.map(({ line }) => parseReportLine(line));
   return (lines[0] ?? []).map(([name], index) => {
     const asked = wordsAsked.get(name) ?? [];
     const others = [...new Set(lines.map((it) => it[index][1]))].sort((a, b) => b - a);
@@ -49,8 +49,8 @@ export function missingState(report, { isAsked, words } = { isAsked: () => true,
  * @returns {number}
  */
 export function differing(line, other) {
-  const words = contentsOf(other);
-  return contentsOf(line).filter(([, word], at) => word !== words[at][1]).length;
+  const words = parseReportLine(other);
+  return parseReportLine(line).filter(([, word], at) => word !== words[at][1]).length;
 }
 
 /**

@@ -4,7 +4,7 @@
 // entry nearest to memory, and the cache lines that it holds, with their letters; below them the words that a load finds. What the last
 // event has changed or added is bold and underlined, and what it has read is bold and slanted.
 
-import { refusal } from "./effects.js";
+import { describeRefusal } from "./effects.js";
 
 // The width of a letter.
 export const LETTER = 7.9;
@@ -49,27 +49,27 @@ export class Drawing {
   }
 
   /** Draws a text, whose class is `kind`. */
-  text(x, y, text, kind = "") {
+  drawText(x, y, text, kind = "") {
     const attributes = kind ? ` class="${kind}"` : "";
     this.elements.push(`<text x="${digits(x)}" y="${digits(y)}"${attributes}>${escapeMarkup(text)}</text>`);
   }
 
   /** Draws a box with round corners, whose class is `kind`. */
-  box(x, y, width, height, kind = "box") {
+  drawBox(x, y, width, height, kind = "box") {
     const attributes = `x="${digits(x)}" y="${digits(y)}" width="${digits(width)}" height="${digits(height)}"`;
     this.elements.push(`<rect ${attributes} rx="4" class="${kind}"/>`);
   }
 
   /** Draws a text in a box of its own. Returns the end of the box. */
-  framed(x, y, text, kind, textKind) {
+  drawFramedText(x, y, text, kind, textKind) {
     const width = text.length * LETTER + 12;
-    this.box(x, y, width, LINE, kind);
-    this.text(x + 6, y + 14, text, textKind);
+    this.drawBox(x, y, width, LINE, kind);
+    this.drawText(x + 6, y + 14, text, textKind);
     return x + width;
   }
 
   /** Returns the picture as SVG. */
-  svg(width, height, title) {
+  makeSvg(width, height, title) {
     const [w, h] = [digits(width), digits(height)];
     const head = `<svg xmlns="http://www.w3.org/2000/svg" width="${w}" height="${h}" viewBox="0 0 ${w} ${h}" role="img">`;
     const named = `<title>${escapeMarkup(title)}</title>\n<style>${STYLE}</style>`;
@@ -80,14 +80,14 @@ export class Drawing {
 // The parts of a picture.
 
 /** Returns the registers that a thread's code names, or that have a word other than 0 at some time. */
-function registersInFilm(film, thread) {
+function listUsedRegisters(film, thread) {
   const named = new Set(film.cells[thread].flatMap((it) => it.text.match(/\w+/g) ?? []));
   const rows = film.states.map((state) => state.threads[thread].registers);
   return rows[0].map(([name]) => name).filter((name, index) => named.has(name) || rows.some((row) => row[index][1]));
 }
 
 /** Returns the title of a step of a strip: its event, with its code. */
-function titleOf(film, step) {
+function formatTitle(film, step) {
   if (!step) return "0  at the start";
   const event = film.events[step - 1];
   const thread = Number(event[1]);
@@ -97,7 +97,7 @@ function titleOf(film, step) {
 }
 
 /** Returns the effect of the event before a step, in lines of at most that number of letters. */
-function effectLines(film, step, letters) {
+function formatEffect(film, step, letters) {
   const lines = [];
   for (const word of step ? film.effects[step - 1].words.replaceAll("`", "").split(" ") : []) {
     const longer = lines.length ? `${lines.at(-1)} ${word}` : word;
@@ -108,12 +108,12 @@ function effectLines(film, step, letters) {
 }
 
 /** Returns the words on the event before which a film ends. */
-function endWordsOf({ refused }) {
-  return refused ? `Here ${refused.event} is refused: ${refusal(refused.number)}` : "";
+function formatRefusal({ refused }) {
+  return refused ? `Here ${refused.event} is refused: ${describeRefusal(refused.number)}` : "";
 }
 
 /** Returns the cache lines that a thread's cache holds, each as `x:M`. */
-function heldLines(thread) {
+function listHeldLines(thread) {
   return (thread.lines ?? []).filter(([, letter]) => letter !== "I").map(([name, letter]) => `${name}:${letter}`);
 }
 
@@ -121,13 +121,13 @@ function heldLines(thread) {
 class Measures {
   constructor(film) {
     const threadStates = film.states.flatMap((state) => state.threads);
-    this.used = film.cells.map((_, thread) => registersInFilm(film, thread));
+    this.used = film.cells.map((_, thread) => listUsedRegisters(film, thread));
     this.hasBuffers = "buffer" in film.states[0].threads[0];
     this.entries = this.hasBuffers ? Math.max(1, ...threadStates.map((it) => it.buffer.length)) : 0;
     this.code = Math.max(1, ...film.cells.map((column) => column.length));
     this.registers = Math.max(1, ...this.used.map((it) => it.length));
-    this.hasLines = threadStates.some((it) => heldLines(it).length > 0);
-    this.width = Math.max(...film.cells.map((_, thread) => this.widthOf(film, thread)));
+    this.hasLines = threadStates.some((it) => listHeldLines(it).length > 0);
+    this.width = Math.max(...film.cells.map((_, thread) => this.findWidth(film, thread)));
     this.height = LINE * (this.code + this.registers + 2) + EDGE * 2;
     this.height += this.hasBuffers ? (this.entries + 1) * (LINE + 3) : 0;
     this.height += this.hasLines ? LINE : 0;
@@ -137,12 +137,12 @@ class Measures {
   }
 
   /** Returns the width that a thread needs for its longest text. */
-  widthOf(film, thread) {
+  findWidth(film, thread) {
     const texts = ["store buffer", ...film.cells[thread].map((it) => `${it.text}  `)];
     for (const state of film.states) {
       const threadState = state.threads[thread];
       texts.push(...[...threadState.registers, ...(threadState.buffer ?? [])].map(([name, word]) => `${name}=${word}`));
-      texts.push(`lines ${heldLines(threadState).join(" ")}`);
+      texts.push(`lines ${listHeldLines(threadState).join(" ")}`);
     }
     return Math.max(...texts.map((it) => it.length)) * LETTER + EDGE * 2;
   }
@@ -155,21 +155,21 @@ function drawThread(drawing, film, step, thread, left, y, measures) {
   const state = film.states[step].threads[thread];
   const threadBefore = film.states[Math.max(step - 1, 0)].threads[thread];
   const effect = step && film.effects[step - 1].thread === thread ? film.effects[step - 1] : {};
-  drawing.box(left, y, measures.width, measures.height);
+  drawing.drawBox(left, y, measures.width, measures.height);
   const x = left + EDGE;
   let top = y + LINE;
-  drawing.text(x, top, `P${thread}`, "title");
+  drawing.drawText(x, top, `P${thread}`, "title");
   drawCode(drawing, film.cells[thread], state.at, x, top);
   top += LINE * (measures.code + 1) + 4;
   const [words, oldWords] = [new Map(state.registers), new Map(threadBefore.registers)];
   for (const [row, name] of measures.used[thread].entries()) {
     const word = words.get(name);
-    drawing.text(x, top + LINE * row, `${name}=${word}`, word !== oldWords.get(name) || name === effect.register ? "changed" : "");
+    drawing.drawText(x, top + LINE * row, `${name}=${word}`, word !== oldWords.get(name) || name === effect.register ? "changed" : "");
   }
   top += LINE * measures.registers;
   if (measures.hasLines) {
     const isChanged = JSON.stringify(state.lines) !== JSON.stringify(threadBefore.lines);
-    drawing.text(x, top, `lines ${heldLines(state).join(" ") || "none"}`, isChanged ? "changed" : "faint");
+    drawing.drawText(x, top, `lines ${listHeldLines(state).join(" ") || "none"}`, isChanged ? "changed" : "faint");
     top += LINE;
   }
   if (measures.hasBuffers) drawBuffer(drawing, state.buffer, threadBefore.buffer, effect.entry, x, top, measures);
@@ -180,18 +180,18 @@ function drawCode(drawing, cells, position, x, top) {
   for (const [row, cell] of cells.entries()) {
     const isNext = cell.at === position;
     const kind = isNext ? "next" : cell.at < position ? "faint" : "";
-    drawing.text(x, top + LINE * (row + 1), (isNext ? "▸ " : "  ") + cell.text, kind);
+    drawing.drawText(x, top + LINE * (row + 1), (isNext ? "▸ " : "  ") + cell.text, kind);
   }
 }
 
 /** Draws a store buffer as a queue: the oldest entry is lowest, next to memory. */
 function drawBuffer(drawing, buffer, bufferBefore, entryRead, x, top, measures) {
-  drawing.text(x, top, "store buffer", "faint");
-  if (!buffer.length) drawing.text(x, top + 6 + (measures.entries - 1) * (LINE + 3) + 14, "(empty)", "faint");
+  drawing.drawText(x, top, "store buffer", "faint");
+  if (!buffer.length) drawing.drawText(x, top + 6 + (measures.entries - 1) * (LINE + 3) + 14, "(empty)", "faint");
   for (const [number, [name, word]] of buffer.entries()) {
     const isNew = buffer.length > bufferBefore.length && number === buffer.length - 1;
     const y = top + 6 + (measures.entries - 1 - number) * (LINE + 3);
-    drawing.framed(x, y, `${name}=${word}`, "entry", isNew ? "changed" : number === entryRead ? "read" : "");
+    drawing.drawFramedText(x, y, `${name}=${word}`, "entry", isNew ? "changed" : number === entryRead ? "read" : "");
   }
 }
 
@@ -200,11 +200,11 @@ function drawState(drawing, film, step, left, y, measures) {
   for (const thread of film.cells.keys()) drawThread(drawing, film, step, thread, left + thread * (measures.width + GAP), y, measures);
   const before = new Map(film.states[Math.max(step - 1, 0)].content);
   const top = y + measures.height + GAP;
-  drawing.text(left, top + 14, measures.hasBuffers ? "content" : "memory", "title");
+  drawing.drawText(left, top + 14, measures.hasBuffers ? "content" : "memory", "title");
   let x = left + 9 * LETTER;
   for (const [name, word] of film.states[step].content) {
     const isRead = step && film.effects[step - 1].location === name;
-    x = drawing.framed(x, top, `${name}=${word}`, "word", before.get(name) !== word ? "changed" : isRead ? "read" : "") + 8;
+    x = drawing.drawFramedText(x, top, `${name}=${word}`, "word", before.get(name) !== word ? "changed" : isRead ? "read" : "") + 8;
   }
 }
 
@@ -214,21 +214,21 @@ function drawState(drawing, film, step, left, y, measures) {
  * @param {number} step
  * @returns {string}
  */
-export function pictureOf(film, step) {
+export function drawFilmState(film, step) {
   const drawing = new Drawing();
   const measures = new Measures(film);
   drawState(drawing, film, step, EDGE, EDGE, measures);
   const title = `${film.states[0].name} after ${film.events.slice(0, step).join(" ") || "no event"}`;
-  const refusal = step === film.events.length ? endWordsOf(film) : "";
+  const refusal = step === film.events.length ? formatRefusal(film) : "";
   const width = Math.max(measures.wholeWidth, refusal.length * LETTER);
   const height = measures.wholeHeight + 2 * EDGE + drawRefusal(drawing, refusal, measures.wholeHeight + EDGE);
-  return drawing.svg(width + 2 * EDGE, height, title);
+  return drawing.makeSvg(width + 2 * EDGE, height, title);
 }
 
 /** Draws why the event that a film ends before is refused. Returns the height that this takes. */
 function drawRefusal(drawing, refusal, y) {
   if (!refusal) return 0;
-  drawing.text(EDGE, y + 14, refusal, "changed");
+  drawing.drawText(EDGE, y + 14, refusal, "changed");
   return LINE;
 }
 
@@ -237,22 +237,22 @@ function drawRefusal(drawing, refusal, y) {
  * @param {Film} film
  * @returns {string}
  */
-export function stripOf(film) {
+export function drawStrip(film) {
   const drawing = new Drawing();
   const measures = new Measures(film);
   const number = Math.min(film.states.length, MAX_PANELS);
-  const titles = Array.from({ length: number }, (_, step) => titleOf(film, step));
+  const titles = Array.from({ length: number }, (_, step) => formatTitle(film, step));
   const width = Math.max(measures.wholeWidth, ...titles.map((it) => it.length * LETTER));
-  const captions = titles.map((title, step) => [title, ...effectLines(film, step, Math.floor(width / LETTER))]);
+  const captions = titles.map((title, step) => [title, ...formatEffect(film, step, Math.floor(width / LETTER))]);
   const rows = Math.max(...captions.map((it) => it.length));
   const height = measures.wholeHeight + LINE * rows + GAP;
   for (const [step, lines] of captions.entries()) {
     const [x, y] = [EDGE + (step % PANELS) * (width + 2 * GAP), EDGE + Math.floor(step / PANELS) * (height + GAP)];
-    for (const [row, line] of lines.entries()) drawing.text(x, y + 14 + LINE * row, line, row ? "" : "title");
+    for (const [row, line] of lines.entries()) drawing.drawText(x, y + 14 + LINE * row, line, row ? "" : "title");
     drawState(drawing, film, step, x, y + LINE * rows + 4, measures);
   }
   const [across, down] = [Math.min(number, PANELS), Math.ceil(number / PANELS)];
-  const refused = drawRefusal(drawing, endWordsOf(film), down * (height + GAP));
+  const refused = drawRefusal(drawing, formatRefusal(film), down * (height + GAP));
   const title = `${film.states[0].name}, event by event: ${film.events.join(" ")}`;
-  return drawing.svg(across * (width + 2 * GAP) - 2 * GAP + 2 * EDGE, down * (height + GAP) + EDGE + refused, title);
+  return drawing.makeSvg(across * (width + 2 * GAP) - 2 * GAP + 2 * EDGE, down * (height + GAP) + EDGE + refused, title);
 }

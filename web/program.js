@@ -5,7 +5,7 @@
 
 import { Trap } from "./module.js";
 import { readState } from "./replays.js";
-import { headingOf } from "./tokens.js";
+import { readHeading } from "./tokens.js";
 
 const FAULT = /^lw: (text|cell|schedule) (\d+) (\w+) at (\d+)$/;
 const LIMIT = /^lw: limit (\d+) (\w+)$/;
@@ -60,7 +60,7 @@ export function textOf(bytes) {
  * @returns {"SRC" | "X86"}
  */
 export function languageOf(text) {
-  return headingOf(textOf(text)).language;
+  return readHeading(textOf(text)).language;
 }
 
 /**

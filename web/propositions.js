@@ -1,11 +1,11 @@
 // The proposition of a test: the sites that it names, whether it is true in an outcome, and its text. Not proved.
 //
-// An outcome has the `registers` of all threads and the `words` of the locations, as far as they are known.
+// An `Outcome` has the `registers` of all threads and the `words` of the locations, as far as they are known.
 //
-// A proposition has a `kind`: Eq (a site has a word), Not, And, Or, True or False, as in tools/interpreter/tests.py. Its `parts` are the
+// A `Proposition` has a `kind`: Eq (a site has a word), Not, And, Or, True or False, as in tools/interpreter/tests.py. Its `parts` are the
 // propositions of which it consists. An Eq has a `site` and a `word`, and no parts.
 //
-// A site is a register, with its `thread` and the index `register`, or a location, with the index `location`.
+// A `Site` is a register, with its `thread` and the index `register`, or a location, with the index `location`.
 
 import { REGISTERS } from "./token_reader.js";
 
@@ -23,17 +23,17 @@ export function siteKey(site) {
  * @param {Proposition} proposition
  * @returns {Site[]}
  */
-export function sitesIn(proposition) {
-  return proposition.kind === "Eq" ? [proposition.site] : proposition.parts.flatMap(sitesIn);
+export function listSites(proposition) {
+  return proposition.kind === "Eq" ? [proposition.site] : proposition.parts.flatMap(listSites);
 }
 
 /**
- * Returns the number of atoms and connectives.
+ * Returns the number of nodes of a proposition: its atoms and connectives.
  * @param {Proposition} proposition
  * @returns {number}
  */
-export function nodesIn(proposition) {
-  return proposition.parts.reduce((sum, part) => sum + nodesIn(part), 1);
+export function countNodes(proposition) {
+  return proposition.parts.reduce((sum, part) => sum + countNodes(part), 1);
 }
 
 /**
@@ -51,8 +51,8 @@ export function sortedSites(sites) {
  * @param {Test} test
  * @returns {Site[]}
  */
-export function observed(test) {
-  return sortedSites([...test.listed, ...sitesIn(test.proposition)]);
+export function listObservedSites(test) {
+  return sortedSites([...test.listed, ...listSites(test.proposition)]);
 }
 
 /**
@@ -61,7 +61,7 @@ export function observed(test) {
  * @param {Outcome} outcome
  * @returns {number | undefined}
  */
-export function wordAt(site, outcome) {
+export function readWord(site, outcome) {
   return site.location === undefined ? outcome.registers[site.thread][site.register] : outcome.words[site.location];
 }
 
@@ -71,11 +71,11 @@ export function wordAt(site, outcome) {
  * @param {Outcome} outcome
  * @returns {boolean}
  */
-export function holds({ kind, parts, site, word }, outcome) {
-  if (kind === "Eq") return wordAt(site, outcome) === word;
-  if (kind === "And") return holds(parts[0], outcome) && holds(parts[1], outcome);
-  if (kind === "Or") return holds(parts[0], outcome) || holds(parts[1], outcome);
-  return kind === "Not" ? !holds(parts[0], outcome) : kind === "True";
+export function isTrueIn({ kind, parts, site, word }, outcome) {
+  if (kind === "Eq") return readWord(site, outcome) === word;
+  if (kind === "And") return isTrueIn(parts[0], outcome) && isTrueIn(parts[1], outcome);
+  if (kind === "Or") return isTrueIn(parts[0], outcome) || isTrueIn(parts[1], outcome);
+  return kind === "Not" ? !isTrueIn(parts[0], outcome) : kind === "True";
 }
 
 /**
@@ -84,7 +84,7 @@ export function holds({ kind, parts, site, word }, outcome) {
  * @param {Site} site
  * @returns {string}
  */
-export function siteName(test, site) {
+export function formatSite(test, site) {
   return site.location === undefined ? `${site.thread}:${REGISTERS[test.language][site.register]}` : test.locations[site.location];
 }
 
@@ -94,12 +94,12 @@ export function siteName(test, site) {
  * @param {Proposition} proposition
  * @returns {string}
  */
-function propositionText(test, { kind, parts, site, word }) {
+function formatProposition(test, { kind, parts, site, word }) {
   const part = (inner, kinds) => {
-    const text = propositionText(test, inner);
+    const text = formatProposition(test, inner);
     return kinds.includes(inner.kind) ? `(${text})` : text;
   };
-  if (kind === "Eq") return `${siteName(test, site)}=${word}`;
+  if (kind === "Eq") return `${formatSite(test, site)}=${word}`;
   if (kind === "Not") return `~${part(parts[0], ["And", "Or"])}`;
   if (kind === "And") return `${part(parts[0], ["Or"])} /\\ ${part(parts[1], ["And", "Or"])}`;
   if (kind === "Or") return `${part(parts[0], [])} \\/ ${part(parts[1], ["Or"])}`;
@@ -111,6 +111,6 @@ function propositionText(test, { kind, parts, site, word }) {
  * @param {Test} test
  * @returns {string}
  */
-export function conditionText(test) {
-  return `${test.quantifier} (${propositionText(test, test.proposition)})`;
+export function formatCondition(test) {
+  return `${test.quantifier} (${formatProposition(test, test.proposition)})`;
 }

@@ -5,23 +5,23 @@
 // An answer has `fault` if lw refuses the text, the schedule or the list, and `error` if there is no answer at all; `isBeyond` says that
 // the program itself may have one, and `refused` is the event of a schedule that is refused.
 
-import { canonicalText, sourceCells, x86Cells } from "./canonical.js";
-import { effectOf, refusal } from "./effects.js";
-import { executionOf } from "./executions.js";
-import { cellsOf, compiledSchedule, filmOf, sourceFilm, toTheEnd } from "./films.js";
-import { placesOf, setsOfFences, withFences } from "./fencing.js";
-import { graphOf, explanationOf } from "./graphs.js";
+import { formatCanonicalText, listSourceCells, listX86Cells } from "./canonical.js";
+import { describeEvent, describeRefusal } from "./effects.js";
+import { makeExecution } from "./executions.js";
+import { compiledSchedule, listCells, makeFilm, makeSourceFilm, toTheEnd } from "./films.js";
+import { findHelpingSets, insertFences, listFencePlaces } from "./fencing.js";
+import { drawExecution, formatExecution } from "./graphs.js";
 import { endingOf, isTooDeep, listOrNull, reportOf, scheduleTo } from "./lists.js";
-import { pictureOf, stripOf } from "./pictures.js";
+import { drawFilmState, drawStrip } from "./pictures.js";
 import { Fault, NoAnswer, bytesOf, languageOf, textOf } from "./program.js";
-import { conditionText } from "./propositions.js";
-import { endsIn, eventsIn } from "./replays.js";
-import { fencesOf, showingEverything, tableOfFences, without } from "./sparing.js";
+import { formatCondition } from "./propositions.js";
+import { eventsIn, isFinalIn } from "./replays.js";
+import { listFences, makeFenceTable, removeFences, showEverything } from "./sparing.js";
 import { readTest } from "./tests.js";
 import { REGISTERS } from "./token_reader.js";
 import { NoTest } from "./tokens.js";
 import { verdictOf } from "./verdicts.js";
-import { whyNot } from "./why_not.js";
+import { explainStates } from "./why_not.js";
 
 // One byte more than a text may have.
 const MAX_TEXT = 65537;
@@ -64,14 +64,14 @@ function ownFilmOrNull(program, text, schedule, how) {
 /** Returns the film of a schedule that a test has of its own; of a source test also that of the compiled program, which follows it. Or null. */
 function ownFilm(program, text, own, { protocol }) {
   const isSource = languageOf(text) === "SRC";
-  const film = filmOf(program, text, isSource ? own : toTheEnd(program, text, own), isSource ? "mesi" : protocol);
+  const film = makeFilm(program, text, isSource ? own : toTheEnd(program, text, own), isSource ? "mesi" : protocol);
   const state = endingOf(text, film.states.at(-1))?.line;
   if (film.refused || state === undefined) return null;
   if (!isSource) return { state, schedule: film.events.join(" "), films: { x86: film }, isOwn: true };
   const compiled = bytesOf(program.ask(["compile"], text));
   const schedule = compiledSchedule(program, compiled, readTest(textOf(text)), own);
-  const x86 = schedule === null ? null : filmOf(program, compiled, schedule, protocol);
-  return x86 && endsIn(x86.states.at(-1), state) ? { state, schedule, films: { x86, source: film }, isOwn: true } : null;
+  const x86 = schedule === null ? null : makeFilm(program, compiled, schedule, protocol);
+  return x86 && isFinalIn(x86.states.at(-1), state) ? { state, schedule, films: { x86, source: film }, isOwn: true } : null;
 }
 
 /** Returns the film to a state; of a source test that of its compiled program, and that of the source run. */
@@ -79,9 +79,9 @@ function listedFilm(program, text, { state, protocol, search = false }, onProgre
   const schedule = scheduleTo(program, text, state, { search, onProgress });
   const isSource = languageOf(text) === "SRC";
   const compiled = isSource ? bytesOf(program.ask(["compile"], text)) : text;
-  const films = { x86: filmOf(program, compiled, schedule, protocol) };
-  if (isSource) films.source = sourceFilm(program, text, films.x86, state);
-  if (!endsIn(films.x86.states.at(-1), state)) throw new NoAnswer("The schedule's replay does not end in that state.");
+  const films = { x86: makeFilm(program, compiled, schedule, protocol) };
+  if (isSource) films.source = makeSourceFilm(program, text, films.x86, state);
+  if (!isFinalIn(films.x86.states.at(-1), state)) throw new NoAnswer("The schedule's replay does not end in that state.");
   return { state, schedule, films };
 }
 
@@ -99,7 +99,7 @@ function answerMoves(program, text, { schedule, protocol, whole = false }) {
     const refused = end.kind === "Stopped" ? { number: end.number, cause: end.cause } : null;
     return { event, thread: Number(event[1]), refused };
   });
-  const cells = cellsOf(program, text);
+  const cells = listCells(program, text);
   const ending = endingOf(text, state);
   const registers = whole ? registersWritten(program, text, { schedule, protocol }, cells) : null;
   return { state, ...lastOf(program, text, { schedule, protocol }, cells, state), written: registers, ending, moves, cells, language };
@@ -119,7 +119,7 @@ function registersWritten(program, text, { schedule, protocol }, cells) {
   const states = program.statesAlong(text, events, protocol);
   const written = cells.map(() => []);
   for (const [index, event] of events.entries()) {
-    const { thread, register } = effectOf(event, cells, states[index], states[index + 1]);
+    const { thread, register } = describeEvent(event, cells, states[index], states[index + 1]);
     if (register !== undefined && !written[thread].includes(register)) written[thread].push(register);
   }
   return written;
@@ -133,7 +133,7 @@ function registersWritten(program, text, { schedule, protocol }, cells) {
  */
 function noAnswerOfRefusal({ at, number, cause }, events) {
   const refused = { event: events[at], at, number, cause };
-  return new NoAnswer(`Event ${at + 1} of the schedule, ${events[at]}, is refused: ${refusal(number)}.`, { refused });
+  return new NoAnswer(`Event ${at + 1} of the schedule, ${events[at]}, is refused: ${describeRefusal(number)}.`, { refused });
 }
 
 /**
@@ -150,7 +150,7 @@ function lastOf(program, text, { schedule, protocol }, cells, state) {
   const last = events.pop();
   if (!last) return { before: state, effect: null };
   const before = program.replayed(text, events.join(" "), protocol);
-  return { before, effect: effectOf(last, cells, before, state) };
+  return { before, effect: describeEvent(last, cells, before, state) };
 }
 
 /**
@@ -167,27 +167,27 @@ function eventsOfThread(thread, content) {
 function answerCompile(program, text) {
   const compiled = program.ask(["compile"], text);
   const test = readTest(compiled);
-  const fences = fencesOf(test);
-  const bare = canonicalText(without(test, fences));
+  const fences = listFences(test);
+  const bare = formatCanonicalText(removeFences(test, fences));
   const language = languageOf(text);
-  const answer = { language, compiled, bare, cells: x86Cells(compiled), bare_cells: x86Cells(bare), fences };
-  return language === "SRC" ? { ...answer, cells_of_source: sourceCells(readTest(textOf(text))) } : answer;
+  const answer = { language, compiled, bare, cells: listX86Cells(compiled), bare_cells: listX86Cells(bare), fences };
+  return language === "SRC" ? { ...answer, cells_of_source: listSourceCells(readTest(textOf(text))) } : answer;
 }
 
 /** Returns the table of fences, with the maker of its lists (with `search` a search), and for each row the text without its fence. */
 function answerFences(program, text, { everything, search = false }, onProgress) {
   const test = readTest(program.ask(["compile"], text));
   const listOf = (canonical) => listOrNull(program, bytesOf(canonical), { search, onProgress });
-  const compared = everything ? showingEverything(test) : test;
-  const texts = fencesOf(compared).map((fence) => canonicalText(without(compared, [fence])));
-  return { table: tableOfFences(compared, listOf), condition: conditionText(test), texts, language: languageOf(text) };
+  const compared = everything ? showEverything(test) : test;
+  const texts = listFences(compared).map((fence) => formatCanonicalText(removeFences(compared, [fence])));
+  return { table: makeFenceTable(compared, listOf), condition: formatCondition(test), texts, language: languageOf(text) };
 }
 
 /** Returns where further fences would answer the question of an x86 test; for a source test, whose compiler adds them, nothing. */
 function answerMoreFences(program, text, { search = false }, onProgress) {
   if (languageOf(text) === "SRC") return { fenced: null };
   const listOf = (canonical) => listOrNull(program, bytesOf(canonical), { search, onProgress });
-  return { fenced: setsOfFences(readTest(program.ask(["compile"], text)), listOf) };
+  return { fenced: findHelpingSets(readTest(program.ask(["compile"], text)), listOf) };
 }
 
 /**
@@ -196,36 +196,36 @@ function answerMoreFences(program, text, { search = false }, onProgress) {
  */
 function answerInterleaved(program, text, { search = false }, onProgress) {
   const test = readTest(program.ask(["compile"], text));
-  const list = listOrNull(program, bytesOf(canonicalText(withFences(test, placesOf(test)))), { search, onProgress });
+  const list = listOrNull(program, bytesOf(formatCanonicalText(insertFences(test, listFencePlaces(test)))), { search, onProgress });
   return { interleaved: list && list.lines };
 }
 
 /** Returns a picture of the last state of a schedule, or a strip of all its states. */
 function answerPicture(program, text, { schedule, protocol, strip }) {
-  const film = filmOf(program, text, schedule, protocol);
-  return { picture: strip ? stripOf(film) : pictureOf(film, film.events.length) };
+  const film = makeFilm(program, text, schedule, protocol);
+  return { picture: strip ? drawStrip(film) : drawFilmState(film, film.events.length) };
 }
 
 /** Returns the execution of a run to its end, of a source test one of its compiled program, as a picture and in words. */
 function answerGraph(program, text, { schedule }) {
   const canonical = program.ask(["compile"], text);
-  const film = filmOf(program, bytesOf(canonical), schedule, "mesi");
+  const film = makeFilm(program, bytesOf(canonical), schedule, "mesi");
   const last = film.states.at(-1);
   if (last.end.kind !== "Final") throw new NoAnswer("The schedule is no run to the end.", { isUnended: true });
   const test = readTest(canonical);
   const steps = film.events.map((word, index) => [word, film.states[index + 1].threads[Number(word[1])].at]);
-  const execution = executionOf(test, steps);
-  const graph = graphOf(execution, `${test.name}, the execution of ${schedule}`);
-  return { graph, words: explanationOf(execution), hasCycle: Boolean(execution.cycle()) };
+  const execution = makeExecution(test, steps);
+  const graph = drawExecution(execution, `${test.name}, the execution of ${schedule}`);
+  return { graph, words: formatExecution(execution), hasCycle: Boolean(execution.findCycle()) };
 }
 
 /** Returns why a test does not end in a state. A source test's registers are those of its compiled program, by their numbers. */
 function answerWhyNot(program, text, { state }) {
   const language = languageOf(text);
   const test = readTest(program.ask(["compile"], text));
-  if (language === "X86") return { ...whyNot(test, state), language };
+  if (language === "X86") return { ...explainStates(test, state), language };
   try {
-    const { lines, cycles } = whyNot(test, renameRegisters(state, REGISTERS.SRC, REGISTERS.X86));
+    const { lines, cycles } = explainStates(test, renameRegisters(state, REGISTERS.SRC, REGISTERS.X86));
     return { lines: lines.map(inSource), cycles: cycles.map((it) => ({ ...it, words: inSource(it.words) })), language };
   } catch (error) {
     if (error instanceof NoAnswer) error.message = inSource(error.message);

@@ -1,7 +1,7 @@
 // Reads what `lw replay` prints of a run into the state that it describes.
 //
-// A state has `name`, `steps` and `end`: its `kind` is Final, NotFinal or Stopped, and of a run that stopped `at`, `number` and `cause`.
-// It has `threads`: of each `at`, the number of its next statement, and `registers`, pairs of a name and a word; of an x86 test also
+// A `State` has `name`, `steps` and `end`: its `kind` is Final, NotFinal or Stopped, and of a run that stopped `at`, `number` and `cause`.
+// It has `threads`, of each a `ThreadState`: `at`, the number of its next statement, and `registers`, pairs of a name and a word; of an x86 test also
 // `buffer`, pairs of a location and a word, the oldest first, and `lines`, pairs of a location and its line's letter. And it has
 // `memory` and `content`, pairs of a location and a word; a source test's content is its memory.
 //
@@ -21,7 +21,7 @@ const END = `End (?:(Final|NotFinal)|Stopped at ${NUMBER} by ${NUMBER} ([A-Za-z]
 export class NoReplay extends Error {}
 
 /** Returns the pairs of a name and what follows its `=`. */
-const pairs = (text) => text.split(" ").filter(Boolean).map((it) => it.split("="));
+const parsePairs = (text) => text.split(" ").filter(Boolean).map((it) => it.split("="));
 
 /** Returns whether the names of two lists of pairs are the same, in the same order. */
 const sameNames = (actual, names) => actual.map(([name]) => name).join(" ") === names.join(" ");
@@ -39,7 +39,7 @@ class Page {
    * @param {string} pattern
    * @returns {string[]}
    */
-  take(pattern) {
+  takeLine(pattern) {
     if (!this.lines.length) throw new NoReplay(this.rest ? "the last line has no end" : "the text ends, and a replay prints more");
     this.line = this.lines.shift();
     const found = new RegExp(`^(?:${pattern})$`).exec(this.line.replace(/\r$/, ""));
@@ -52,8 +52,8 @@ class Page {
    * @param {string} text
    * @returns {[string, number][]}
    */
-  words(text) {
-    const found = pairs(text).map(([name, word]) => [name, Number(word)]);
+  parseWords(text) {
+    const found = parsePairs(text).map(([name, word]) => [name, Number(word)]);
     this.require(found.every(([, word]) => word < 2 ** 32));
     return found;
   }
@@ -69,8 +69,8 @@ class Page {
   }
 }
 
-/** Returns how a run ended. */
-function endOf([kind, at, number, cause]) {
+/** Returns how a run ended, by the groups of a match of END. */
+function makeEnd([kind, at, number, cause]) {
   return kind ? { kind } : { kind: "Stopped", at: Number(at), number: Number(number), cause };
 }
 
@@ -82,12 +82,12 @@ function endOf([kind, at, number, cause]) {
  * @returns {ThreadState}
  */
 function readThread(page, number, languages) {
-  const [at, text] = page.take(`P${number} at ${NUMBER}${WORDS}`);
-  const thread = { at: Number(at), registers: page.words(text) };
+  const [at, text] = page.takeLine(`P${number} at ${NUMBER}${WORDS}`);
+  const thread = { at: Number(at), registers: page.parseWords(text) };
   page.require(languages.some((names) => sameNames(thread.registers, names)));
   if (!sameNames(thread.registers, REGISTERS)) return thread;
-  const buffer = page.words(page.take(`P${number} buffer${WORDS}`)[0]);
-  return { ...thread, buffer, lines: pairs(page.take(`P${number} lines${LETTERS}`)[0]) };
+  const buffer = page.parseWords(page.takeLine(`P${number} buffer${WORDS}`)[0]);
+  return { ...thread, buffer, lines: parsePairs(page.takeLine(`P${number} lines${LETTERS}`)[0]) };
 }
 
 /**
@@ -109,26 +109,26 @@ function readThreads(page) {
  */
 export function readState(text) {
   const page = new Page(text);
-  const [name] = page.take("Test ([!-~]{1,128})");
-  const steps = Number(page.take(`Steps ${NUMBER}`)[0]);
-  const end = endOf(page.take(END));
+  const [name] = page.takeLine("Test ([!-~]{1,128})");
+  const steps = Number(page.takeLine(`Steps ${NUMBER}`)[0]);
+  const end = makeEnd(page.takeLine(END));
   const threads = readThreads(page);
-  const memory = page.words(page.take(`Memory${WORDS}`)[0]);
+  const memory = page.parseWords(page.takeLine(`Memory${WORDS}`)[0]);
   const names = memory.map(([it]) => it);
   const ofX86 = threads.filter((it) => it.lines);
   page.require(ofX86.every((it) => sameNames(it.lines, names) && it.buffer.every(([location]) => names.includes(location))));
-  const content = ofX86.length ? page.words(page.take(`Content${WORDS}`)[0]) : memory;
+  const content = ofX86.length ? page.parseWords(page.takeLine(`Content${WORDS}`)[0]) : memory;
   page.require(sameNames(content, names));
   page.close();
   return { name, steps, end, threads, memory, content };
 }
 
 /**
- * Returns the number of a register of either language, by its name.
+ * Returns the index of a register of either language, by its name; -1 if there is none.
  * @param {string} name
  * @returns {number}
  */
-export function registerNumber(name) {
+export function parseRegister(name) {
   return name.startsWith("r") ? Number(name.slice(1)) : REGISTERS.indexOf(name);
 }
 
@@ -137,7 +137,7 @@ export function registerNumber(name) {
  * @param {string} line
  * @returns {[string, number][]}
  */
-export function contentsOf(line) {
+export function parseReportLine(line) {
   return [...line.matchAll(/(\S+)=(\d+);/g)].map(([, name, word]) => [name, Number(word)]);
 }
 
@@ -147,13 +147,13 @@ export function contentsOf(line) {
  * @param {string} line
  * @returns {boolean}
  */
-export function endsIn(state, line) {
+export function isFinalIn(state, line) {
   const content = new Map(state.content);
   const wordIn = (name) => {
     const [, thread, register] = /^(\d):(\w+)$/.exec(name) ?? [];
-    return thread === undefined ? content.get(name) : state.threads[thread].registers[registerNumber(register)][1];
+    return thread === undefined ? content.get(name) : state.threads[thread].registers[parseRegister(register)][1];
   };
-  return state.end.kind === "Final" && contentsOf(line).every(([name, word]) => wordIn(name) === word);
+  return state.end.kind === "Final" && parseReportLine(line).every(([name, word]) => wordIn(name) === word);
 }
 
 /**

@@ -2,7 +2,7 @@
 
 import { el } from "./dom.js";
 import { fileName, save } from "./output.js";
-import { contentsOf } from "./replays.js";
+import { parseReportLine } from "./replays.js";
 
 /**
  * Returns the names of what a report shows.
@@ -10,7 +10,7 @@ import { contentsOf } from "./replays.js";
  * @returns {string[]}
  */
 export function namesOf({ states }) {
-  return states.length ? contentsOf(states[0].line).map(([name]) => name) : [];
+  return states.length ? parseReportLine(states[0].line).map(([name]) => name) : [];
 }
 
 /**

@@ -3,7 +3,7 @@
 
 import { button, el } from "./dom.js";
 import { largeType } from "./preferences.js";
-import { contentsOf } from "./replays.js";
+import { parseReportLine } from "./replays.js";
 import { saveReport } from "./reports.js";
 import { siteNode } from "./tint.js";
 
@@ -40,7 +40,7 @@ export class Rows {
   /** Returns the columns of a row, as a grid has them: the number, the names, the mark, and what is said at the end. */
   widths() {
     const { names } = this.strip;
-    const measured = this.report.states.slice(0, MEASURED).map(({ line }) => contentsOf(line).map(([, word]) => String(word).length));
+    const measured = this.report.states.slice(0, MEASURED).map(({ line }) => parseReportLine(line).map(([, word]) => String(word).length));
     const longest = names.map((name, index) => Math.max(name.length, ...measured.map((it) => it[index])));
     return `5.5ch ${longest.map((it) => `${it + 2}ch`).join(" ")} ${this.report.is_marked ? "3ch" : ""} minmax(0, 1fr)`;
   }
@@ -71,7 +71,7 @@ export class Rows {
     const { missing, why } = this.strip;
     if (!missing || !why) return el("span", { hidden: true });
     const attributes = { class: "never", "aria-label": `No run ends in ${missing} Why not?`, title: "No run ends this way. Why?" };
-    return button(`never ${contentsOf(missing).map(([, word]) => word).join(" ")}`, () => why(missing), attributes);
+    return button(`never ${parseReportLine(missing).map(([, word]) => word).join(" ")}`, () => why(missing), attributes);
   }
 
   /** Shows the rows, once the list has its place. */
@@ -131,7 +131,7 @@ export class Rows {
   rowOf(state, index) {
     const { strip } = this;
     const isShown = strip.isShown(state);
-    const words = contentsOf(state.line).map(([, word]) => el("span", {}, isShown ? String(word) : "·"));
+    const words = parseReportLine(state.line).map(([, word]) => el("span", {}, isShown ? String(word) : "·"));
     const mark = this.report.is_marked ? el("span", {}, isShown && state.holds ? "✓" : "") : null;
     const alone = strip.alone?.has(state.line) ? el("span", { class: "small" }, `+ ${strip.aloneWords}`) : null;
     const attributes = {

@@ -8,7 +8,7 @@ import { isStill } from "./motion.js";
 import { Player } from "./player.js";
 import { setRoom } from "./placing.js";
 import { caches } from "./preferences.js";
-import { registerNumber } from "./replays.js";
+import { parseRegister } from "./replays.js";
 import { RunMenu } from "./run_menu.js";
 import { hintOn, stepWords } from "./run_words.js";
 import { Stage } from "./stage.js";
@@ -306,7 +306,7 @@ function shownOf(run, places) {
   const used = cells.map((_, thread) => usedRegisters(cells, known, thread));
   const drained = cells.map((_, thread) => events.slice(0, step).filter((it) => it === `D${thread}`).length);
   // A compiled program's registers have the numbers of the source's.
-  const inSource = run.isSource && run.isX86 ? (name) => `r${registerNumber(name)}` : null;
+  const inSource = run.isSource && run.isX86 ? (name) => `r${parseRegister(name)}` : null;
   const done = events.slice(0, step).map((event, index) => event[0] === "P" && (places[index] ?? event[1]));
   const isSkipped = (thread, at) => !done.includes(String(thread)) && !done.includes(`${thread}:${at}`);
   const isWritten = (thread, name) => !frame.written || frame.written[thread].includes(name);

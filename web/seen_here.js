@@ -1,6 +1,9 @@
 // Shows which states of a test this machine reaches. If ./page serves the page, its server runs the test on this processor for some seconds, as
 // tools/on_machine.py does, and a table says how often each listed state was seen. Nothing is concluded from that: a state that was not seen
 // may still be possible.
+//
+// An answer of the server is what tools/on_machine.py prints as JSON: the numbers of `runs`, `seconds`, `processors` and `listed` states; the states that
+// were `seen`, each with its `count` and whether it is `listed`, and those `not_seen`; who made the `list`; and `notes`. Or it has an `error`.
 
 import { button, el } from "./dom.js";
 import { NO_SERVER } from "./served.js";
@@ -40,7 +43,7 @@ export class SeenHere {
   }
 }
 
-/** Returns the server's answer. */
+/** Asks the server to run the test of a text. Returns its answer, or one with an `error` if the server does not answer. */
 async function answerOf(text) {
   try {
     const body = JSON.stringify({ text, seconds: SECONDS });
@@ -62,7 +65,7 @@ export function rowsOf({ seen, not_seen: notSeen }) {
 }
 
 /**
- * Returns a sentence on a run.
+ * Returns the sentence on a measurement: how many runs there were, for how long, and how many of the listed states were seen.
  * @param {object} answer
  * @returns {string}
  */

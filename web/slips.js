@@ -1,11 +1,12 @@
 // Finds slips in a test that lw takes: a question about a place that no instruction writes, or for two words of one place at once, and a load of a
-// location that no thread writes. They
-// are hints of the page's own, beside lw's answers. Not proved.
+// location that no thread writes. They are hints of the page's own, beside lw's answers. Not proved.
+//
+// A `Slip` has its `words`, and the `change` of the text that the page proposes, or null.
 
-import { alternativesOf } from "./condition_words.js";
+import { listAlternatives } from "./condition_words.js";
 import { button, el, plainMark, sentence } from "./dom.js";
 import { nearest } from "./nearest.js";
-import { siteKey, siteName, sitesIn, sortedSites } from "./propositions.js";
+import { formatSite, listSites, siteKey, sortedSites } from "./propositions.js";
 import { readTest } from "./tests.js";
 import { REGISTERS } from "./token_reader.js";
 
@@ -39,20 +40,20 @@ export function applyChange(text, { written, name, isInQuestion }) {
   return isInQuestion ? rest + question.replace(pattern, name) : rest.replace(pattern, name) + question;
 }
 
-/** Says that the question asks for two words of one place at once, if that is so. */
+/** Returns the slips in which the question asks for two words of one place at once. */
 function slipsOfTwoWords(test) {
-  const claims = (alternativesOf(test.proposition) ?? []).map((atoms) => atoms.filter((it) => !it.isDenied));
+  const claims = (listAlternatives(test.proposition) ?? []).map((atoms) => atoms.filter((it) => !it.isDenied));
   const isOther = (atom) => (it) => siteKey(it.site) === siteKey(atom.site) && it.word !== atom.word;
-  const names = claims.flatMap((atoms) => atoms.filter((it) => atoms.some(isOther(it)))).map((it) => siteName(test, it.site));
+  const names = claims.flatMap((atoms) => atoms.filter((it) => atoms.some(isOther(it)))).map((it) => formatSite(test, it.site));
   return [...new Set(names)].map((name) => makeSlip(`The question asks for two words of \`${name}\` at once: no state has both.`, name, null, true));
 }
 
-/** Returns the numbers of the registers that a thread's code writes. */
+/** Returns the indices of the registers that a thread's code writes. */
 function registersWritten(code) {
   return [...new Set(code.filter((it) => SETS.includes(it.kind)).map((it) => it.register))];
 }
 
-/** Says that the question names a register that its thread does not write, if that is so. */
+/** Returns the slip that the question names a register that its thread does not write, in a list that is empty if the thread writes the register. */
 function slipOfRegister(test, site, askedSites) {
   const { thread, register } = site;
   const written = registersWritten(test.threads[thread]);
@@ -61,12 +62,12 @@ function slipOfRegister(test, site, askedSites) {
   const free = written.filter((it) => !askedSites.some((other) => other.thread === thread && other.register === it));
   const proposed = free.length === 1 ? `${thread}:${names[free[0]]}` : null;
   const word = test.registers[thread][register];
-  const named = siteName(test, site);
+  const named = formatSite(test, site);
   const words = `The question names \`${named}\`, but nothing in P${thread} writes ${names[register]}: it is ${word} in every run.`;
   return [makeSlip(words, named, proposed, true)];
 }
 
-/** Says of locations that no thread writes that the question names them, or that a thread loads one to which the text gives no word. */
+/** Returns the slips on locations that no thread writes: the question names one, or a thread loads one to which the text gives no word. */
 function slipsOfLocations(test, text, askedSites) {
   const code = test.threads.flat();
   const isAccessedBy = (kinds) => (_, location) => code.some((it) => kinds.includes(it.kind) && it.location === location);
@@ -96,7 +97,7 @@ export function slipsIn(text) {
   } catch {
     return [];
   }
-  const askedSites = sortedSites(sitesIn(test.proposition));
+  const askedSites = sortedSites(listSites(test.proposition));
   const registers = askedSites.filter((it) => it.location === undefined);
   return [...slipsOfTwoWords(test), ...registers.flatMap((site) => slipOfRegister(test, site, askedSites)), ...slipsOfLocations(test, text, askedSites)];
 }

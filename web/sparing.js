@@ -1,16 +1,16 @@
-// Finds the fences of an x86 test that matter: each MFENCE is left out by itself, and then as many as can be spared. The texts without fences are
-// written here, which is not proved; their lists are lw's, or, if it refuses one for its limits, those of walk.js.
+// Finds the fences of an x86 test that matter, as the table of tools/fences.py: each MFENCE is left out by itself, and then, one after another, all that
+// can be left out together. The texts without fences are written here, which is not proved; their lists are lw's, or, if it refuses one for its limits, those of walk.js.
 
-import { canonicalText, instructionText } from "./canonical.js";
+import { formatCanonicalText, formatInstruction } from "./canonical.js";
 import { sortedSites } from "./propositions.js";
-import { listOfStates } from "./walk.js";
+import { listStates } from "./walk.js";
 
 /**
- * Returns the places of all fences: a thread, and the number of the instruction.
+ * Returns the places of all fences: a thread, and the index of the instruction.
  * @param {Test} test
  * @returns {Place[]}
  */
-export function fencesOf(test) {
+export function listFences(test) {
   return test.threads.flatMap((code, thread) => code.flatMap((it, index) => (it.kind === "mfence" ? [[thread, index]] : [])));
 }
 
@@ -20,7 +20,7 @@ export function fencesOf(test) {
  * @param {Place[]} leftOut
  * @returns {Test}
  */
-export function without(test, leftOut) {
+export function removeFences(test, leftOut) {
   const threads = test.threads.map((code, thread) => {
     const positions = leftOut.filter(([of]) => of === thread).map(([, at]) => at);
     const moved = (target) => target - positions.filter((at) => at < target).length;
@@ -35,7 +35,7 @@ export function without(test, leftOut) {
  * @param {Test} test
  * @returns {Test}
  */
-export function showingEverything(test) {
+export function showEverything(test) {
   const used = test.threads.flatMap((code, thread) =>
     code.flatMap((it) => [it.register, it.value?.register].filter((at) => at !== undefined).map((register) => ({ thread, register }))),
   );
@@ -43,17 +43,17 @@ export function showingEverything(test) {
 }
 
 /**
- * Returns the place of a fence in words.
+ * Returns the words for the place of a fence that the test has, and for the instruction after it.
  * @param {Test} test
  * @param {Place} place
  * @returns {string}
  */
-function wordsOnPlace(test, [thread, position]) {
+function formatFencePlace(test, [thread, position]) {
   const next = test.threads[thread][position + 1];
-  return `P${thread} at ${position}${next ? `, before ${instructionText(test, next)}` : ""}`;
+  return `P${thread} at ${position}${next ? `, before ${formatInstruction(test, next)}` : ""}`;
 }
 
-/** Asks for the lists of tests, and keeps who answered. */
+/** Asks for the lists of tests by `listOf`, and records in `answeredBy` who made them. */
 class Lists {
   constructor(listOf) {
     this.listOf = listOf;
@@ -61,15 +61,15 @@ class Lists {
   }
 
   /** Returns the list of a test's states by the program, or by the page's own walk. */
-  whole(test) {
-    const list = this.listOf(canonicalText(test));
+  makeList(test) {
+    const list = this.listOf(formatCanonicalText(test));
     this.answeredBy.add(list ? "program" : "plain");
-    return list ?? listOfStates(test);
+    return list ?? listStates(test);
   }
 
   /** Returns the lines of the states of a test. */
-  of(test) {
-    return this.whole(test).lines;
+  listStates(test) {
+    return this.makeList(test).lines;
   }
 }
 
@@ -80,25 +80,25 @@ class Lists {
  * @param {function(string): ({lines: string[], positive: number} | null)} listOf
  * @returns {{rows: {place: string, added: string[]}[], enough: string[], states: number, positive: number, answered_by: string[]}}
  */
-export function tableOfFences(test, listOf) {
+export function makeFenceTable(test, listOf) {
   const lists = new Lists(listOf);
-  const fences = fencesOf(test);
-  const { lines: states, positive } = lists.whole(test);
+  const fences = listFences(test);
+  const { lines: states, positive } = lists.makeList(test);
   const known = new Set(states);
   const rows = fences.map((fence) => {
-    const added = lists.of(without(test, [fence])).filter((line) => !known.has(line));
-    return { place: wordsOnPlace(test, fence), added };
+    const added = lists.listStates(removeFences(test, [fence])).filter((line) => !known.has(line));
+    return { place: formatFencePlace(test, fence), added };
   });
-  const leftOut = findSpareFences(test, fences, states, lists);
+  const leftOut = findSparedFences(test, fences, states, lists);
   const enough = fences.filter((fence) => !leftOut.includes(fence)).map(([thread, at]) => `P${thread} at ${at}`);
   return { rows, enough, states: states.length, positive, answered_by: [...lists.answeredBy].sort() };
 }
 
-/** Returns fences that can be left out together, taken one after another as long as no state is added. */
-function findSpareFences(test, fences, states, lists) {
+/** Returns fences that can be left out together. Each fence in turn is left out, with those before it that were, if the states are still `states`. */
+function findSparedFences(test, fences, states, lists) {
   const leftOut = [];
   for (const fence of fences) {
-    if (lists.of(without(test, [...leftOut, fence])).join() === states.join()) leftOut.push(fence);
+    if (lists.listStates(removeFences(test, [...leftOut, fence])).join() === states.join()) leftOut.push(fence);
   }
   return leftOut;
 }

@@ -1,7 +1,7 @@
 // Reads the cells of a test: statements of the source language, instructions of x86, and their labels. Not proved.
 //
-// A statement has a `kind` and, if it has one, a `register`, a `location`, a `value` ({ number } or { register }), the first
-// register of a sum (`left`), and the target of a jump (`target`; while a thread is read that is a label).
+// A `Statement` has a `kind` and, if it has one, a `register`, a `location`, a `value`, the first register of a sum (`left`), and the position that its
+// jump targets (`target`; while a thread is read that is a label). A `Value` is { number } or { register }. Registers and locations are indices.
 
 import { TokenReader, isReserved } from "./token_reader.js";
 import { NoTest } from "./tokens.js";
@@ -13,12 +13,12 @@ const MAX_STATEMENTS = { SRC: 16, X86: 32 };
  * @param {TokenReader} reader
  * @returns {Value}
  */
-function value(reader) {
+function readValue(reader) {
   if (reader.test.language === "X86" && reader.next === "$") {
-    reader.take("$");
-    return { number: reader.number() };
+    reader.takeToken("$");
+    return { number: reader.readNumber() };
   }
-  return reader.kind === "number" ? { number: reader.number() } : { register: reader.register() };
+  return reader.kind === "number" ? { number: reader.readNumber() } : { register: reader.readRegister() };
 }
 
 /**
@@ -26,21 +26,21 @@ function value(reader) {
  * @param {TokenReader} reader
  * @returns {Statement}
  */
-function sourceStatement(reader) {
-  if (reader.next === "if") return conditionalJump(reader);
+function readStatement(reader) {
+  if (reader.next === "if") return readConditionalJump(reader);
   if (reader.next === "goto") {
-    reader.take("goto");
-    return { kind: "goto", target: reader.name() };
+    reader.takeToken("goto");
+    return { kind: "goto", target: reader.readName() };
   }
-  const register = reader.registerOf(reader.next ?? "");
+  const register = reader.findRegister(reader.next ?? "");
   if (register === null) {
-    const location = reader.location();
-    reader.take(":=");
-    return { kind: "store", location, value: value(reader) };
+    const location = reader.readLocation();
+    reader.takeToken(":=");
+    return { kind: "store", location, value: readValue(reader) };
   }
-  reader.take();
-  reader.take(":=");
-  return assignment(reader, register);
+  reader.takeToken();
+  reader.takeToken(":=");
+  return readAssignment(reader, register);
 }
 
 /**
@@ -48,14 +48,14 @@ function sourceStatement(reader) {
  * @param {TokenReader} reader
  * @returns {Statement}
  */
-function conditionalJump(reader) {
-  reader.take("if");
-  const register = reader.register();
-  const sign = reader.take();
+function readConditionalJump(reader) {
+  reader.takeToken("if");
+  const register = reader.readRegister();
+  const sign = reader.takeToken();
   if (sign !== "=" && sign !== "!=") throw new NoTest(`${sign} compares nothing`);
-  const number = reader.number();
-  reader.take("goto");
-  return { kind: sign === "=" ? "if equal" : "if unequal", register, value: { number }, target: reader.name() };
+  const number = reader.readNumber();
+  reader.takeToken("goto");
+  return { kind: sign === "=" ? "if equal" : "if unequal", register, value: { number }, target: reader.readName() };
 }
 
 /**
@@ -64,20 +64,20 @@ function conditionalJump(reader) {
  * @param {number} register
  * @returns {Statement}
  */
-function assignment(reader, register) {
+function readAssignment(reader, register) {
   if (reader.next === "swap" || reader.next === "fetchadd") {
-    const kind = reader.take();
-    const location = reader.location();
-    return { kind, register, location, value: { register: reader.register() } };
+    const kind = reader.takeToken();
+    const location = reader.readLocation();
+    return { kind, register, location, value: { register: reader.readRegister() } };
   }
-  if (reader.kind === "number") return { kind: "set", register, value: { number: reader.number() } };
-  if (reader.next === null || reader.registerOf(reader.next) === null) {
-    return { kind: "load", register, location: reader.location() };
+  if (reader.kind === "number") return { kind: "set", register, value: { number: reader.readNumber() } };
+  if (reader.next === null || reader.findRegister(reader.next) === null) {
+    return { kind: "load", register, location: reader.readLocation() };
   }
-  const left = reader.register();
+  const left = reader.readRegister();
   if (reader.next !== "+") return { kind: "set", register, value: { register: left } };
-  reader.take("+");
-  return { kind: "sum", register, value: value(reader), left };
+  reader.takeToken("+");
+  return { kind: "sum", register, value: readValue(reader), left };
 }
 
 /**
@@ -85,19 +85,19 @@ function assignment(reader, register) {
  * @param {TokenReader} reader
  * @returns {Statement}
  */
-function instruction(reader) {
-  const mnemonic = reader.name().toUpperCase();
+function readInstruction(reader) {
+  const mnemonic = reader.readName().toUpperCase();
   if (mnemonic === "MFENCE") return { kind: "mfence" };
-  if (["JE", "JNE", "JMP"].includes(mnemonic)) return { kind: mnemonic.toLowerCase(), target: reader.name() };
-  if (mnemonic === "MOV") return move(reader);
+  if (["JE", "JNE", "JMP"].includes(mnemonic)) return { kind: mnemonic.toLowerCase(), target: reader.readName() };
+  if (mnemonic === "MOV") return readMove(reader);
   if (mnemonic === "ADD" || mnemonic === "CMP") {
-    const register = reader.register();
-    reader.take(",");
-    return { kind: mnemonic.toLowerCase(), register, value: value(reader) };
+    const register = reader.readRegister();
+    reader.takeToken(",");
+    return { kind: mnemonic.toLowerCase(), register, value: readValue(reader) };
   }
   const isLocked = mnemonic === "LOCK";
-  const locked = isLocked ? reader.name().toUpperCase() : mnemonic;
-  if (locked === "XCHG" || (locked === "XADD" && isLocked)) return exchange(reader, locked.toLowerCase());
+  const locked = isLocked ? reader.readName().toUpperCase() : mnemonic;
+  if (locked === "XCHG" || (locked === "XADD" && isLocked)) return readExchange(reader, locked.toLowerCase());
   throw new NoTest(`${locked} is not read`);
 }
 
@@ -106,16 +106,16 @@ function instruction(reader) {
  * @param {TokenReader} reader
  * @returns {Statement}
  */
-function move(reader) {
+function readMove(reader) {
   if (reader.next === "[") {
-    const location = reader.inBrackets();
-    reader.take(",");
-    return { kind: "store", location, value: value(reader) };
+    const location = reader.readBracketedLocation();
+    reader.takeToken(",");
+    return { kind: "store", location, value: readValue(reader) };
   }
-  const register = reader.register();
-  reader.take(",");
-  if (reader.next === "[") return { kind: "load", register, location: reader.inBrackets() };
-  return { kind: "set", register, value: value(reader) };
+  const register = reader.readRegister();
+  reader.takeToken(",");
+  if (reader.next === "[") return { kind: "load", register, location: reader.readBracketedLocation() };
+  return { kind: "set", register, value: readValue(reader) };
 }
 
 /**
@@ -124,15 +124,15 @@ function move(reader) {
  * @param {string} kind
  * @returns {Statement}
  */
-function exchange(reader, kind) {
+function readExchange(reader, kind) {
   if (reader.next === "[" || kind === "xadd") {
-    const location = reader.inBrackets();
-    reader.take(",");
-    return { kind, register: reader.register(), location };
+    const location = reader.readBracketedLocation();
+    reader.takeToken(",");
+    return { kind, register: reader.readRegister(), location };
   }
-  const register = reader.register();
-  reader.take(",");
-  return { kind, register, location: reader.inBrackets() };
+  const register = reader.readRegister();
+  reader.takeToken(",");
+  return { kind, register, location: reader.readBracketedLocation() };
 }
 
 /**
@@ -141,17 +141,17 @@ function exchange(reader, kind) {
  * @param {Token[][]} cells
  * @returns {Statement[]}
  */
-export function threadOf(test, cells) {
+export function readThread(test, cells) {
   const statements = [];
   const labels = new Map();
   for (const cell of cells) {
     const reader = new TokenReader(test, cell);
-    while (reader.isBefore(":")) takeLabel(reader, labels, statements.length);
-    if (reader.next !== null) statements.push(test.language === "SRC" ? sourceStatement(reader) : instruction(reader));
+    while (reader.isBefore(":")) readLabel(reader, labels, statements.length);
+    if (reader.next !== null) statements.push(test.language === "SRC" ? readStatement(reader) : readInstruction(reader));
     if (reader.next !== null) throw new NoTest(`${reader.next} comes after a statement`);
   }
   if (statements.length > MAX_STATEMENTS[test.language]) throw new NoTest("a thread has too many statements");
-  return statements.map((it, position) => resolved(it, position, labels));
+  return statements.map((it, position) => resolveJump(it, position, labels));
 }
 
 /**
@@ -160,21 +160,21 @@ export function threadOf(test, cells) {
  * @param {Map<string, number>} labels
  * @param {number} position
  */
-function takeLabel(reader, labels, position) {
-  const label = reader.name();
+function readLabel(reader, labels, position) {
+  const label = reader.readName();
   if (labels.has(label) || isReserved(label)) throw new NoTest(`${label} can't be a label here`);
   labels.set(label, position);
-  reader.take(":");
+  reader.takeToken(":");
 }
 
 /**
- * Returns a statement with the position that its jump targets in place of the label.
+ * Returns the statement at a position, with the position that its jump targets in place of the label.
  * @param {Statement} statement
  * @param {number} position
  * @param {Map<string, number>} labels
  * @returns {Statement}
  */
-function resolved(statement, position, labels) {
+function resolveJump(statement, position, labels) {
   if (statement.target === undefined) return statement;
   // A label that is missing counts as position 0, to which no jump leads forward.
   const target = labels.get(statement.target) ?? 0;

@@ -2,7 +2,7 @@
 // is refused by count can be made by a search instead.
 
 import { ask } from "./ask.js";
-import { conditionWords, questionOf } from "./condition_words.js";
+import { describeCondition, questionOf } from "./condition_words.js";
 import { keyOf } from "./differences.js";
 import { button, el, plainMark, sentence } from "./dom.js";
 import * as guess from "./guess.js";
@@ -16,7 +16,7 @@ import { SeenHere } from "./seen_here.js";
 import { Strip } from "./strip.js";
 import { codeNodes, testName, tintedSentence, tintsOf } from "./tint.js";
 import { showError, clearFault } from "./errors.js";
-import { countWords, headlineOf, interleavedWords } from "./verdicts.js";
+import { countWords, describeVerdict, interleavedWords } from "./verdicts.js";
 
 // How many milliseconds it may take to find which states interleaving gives.
 const MAX_MILLISECONDS = 10000;
@@ -219,7 +219,7 @@ export class States {
     const tints = tintsOf(text);
     const guessed = guess.guessOn(text);
     if (guessed !== null) countPrediction(text, guessed === words.is_so);
-    const [kind, word, sentence] = headlineOf(this.language, report, conditionWords(text));
+    const [kind, word, sentence] = describeVerdict(this.language, report, describeCondition(text));
     const [by, way] = BY[this.isSearched ? "searched" : "enumerated"];
     const note = this.noteOf(text, kind === "can" || kind === "wrong");
     const noted = note === "" ? "" : el("p", { class: "small note" }, note ?? "…");

@@ -4,7 +4,7 @@
 import { keyOf } from "./differences.js";
 import { button, el } from "./dom.js";
 import { largeType } from "./preferences.js";
-import { contentsOf } from "./replays.js";
+import { parseReportLine } from "./replays.js";
 import { namesOf } from "./reports.js";
 import { Rows } from "./rows.js";
 import { siteNode } from "./tint.js";
@@ -239,7 +239,7 @@ export class Strip {
   /** Returns the row of a name: its word in each state. */
   rowOf(name, at) {
     const { ghost } = this;
-    const word = (line) => String(contentsOf(line)[at][1]);
+    const word = (line) => String(parseReportLine(line)[at][1]);
     const cells = this.cellsOf((state) => (this.isShown(state) ? word(state.line) : "·"));
     return el("tr", {}, el("th", { scope: "row" }, siteNode(name, this.tints)), cells, ghost ? el("td", { class: this.kindOfGhost }, word(ghost)) : null);
   }

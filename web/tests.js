@@ -1,13 +1,13 @@
 // Reads a whole test, only by docs/FORMAT.md: its block, its threads, its list of names and its condition. Not proved.
 //
-// A test has a `language`, a `name`, the names of its `locations` and the `words` that these begin with, for each thread the words of
+// A `Test` has a `language`, a `name`, the names of its `locations` and the `words` that these begin with, for each thread the words of
 // its `registers`, its statements (`threads`) and its cells (`columns`, each a list of tokens), the sites that are `listed`, and its
 // `quantifier` and `proposition`. A site is { location } or { thread, register }.
 
-import { nodesIn, siteKey, sitesIn } from "./propositions.js";
-import { threadOf } from "./statements.js";
+import { countNodes, listSites, siteKey } from "./propositions.js";
+import { readThread } from "./statements.js";
 import { TokenReader } from "./token_reader.js";
-import { NoTest, headingOf, skipNotes, tokensOf } from "./tokens.js";
+import { NoTest, readHeading, readTokens, skipNotes } from "./tokens.js";
 
 const MAX_BYTES = 65536;
 const MAX_THREADS = 4;
@@ -23,17 +23,17 @@ const ENDS_OF_ROWS = ["locations", "exists", "forall", "filter", "~"];
  */
 export function readTest(text) {
   if (new TextEncoder().encode(text).length > MAX_BYTES) throw new NoTest("the text is too long");
-  const { language, name, end } = headingOf(text);
+  const { language, name, end } = readHeading(text);
   const test = { language, name, locations: [], listed: [] };
-  const reader = new TokenReader(test, tokensOf(text, skipNotes(text, end)));
-  reader.take("{");
-  const initial = new Map(reader.entries(() => reader.equation(), "}").map(({ site, word }) => [siteKey(site), { site, word }]));
-  const threads = header(reader);
-  test.columns = rows(reader, threads);
-  if (reader.next === "locations") test.listed = listedSites(reader);
+  const reader = new TokenReader(test, readTokens(text, skipNotes(text, end)));
+  reader.takeToken("{");
+  const initial = new Map(reader.readEntries(() => reader.readEquation(), "}").map(({ site, word }) => [siteKey(site), { site, word }]));
+  const threads = readHeader(reader);
+  test.columns = readRows(reader, threads);
+  if (reader.next === "locations") test.listed = readListedSites(reader);
   readCondition(reader);
-  checkThreads([...[...initial.values()].map((it) => it.site), ...test.listed, ...sitesIn(test.proposition)], threads);
-  test.threads = test.columns.map((cells) => threadOf(test, cells));
+  checkThreads([...[...initial.values()].map((it) => it.site), ...test.listed, ...listSites(test.proposition)], threads);
+  test.threads = test.columns.map((cells) => readThread(test, cells));
   const wordOf = (site) => initial.get(siteKey(site))?.word ?? 0;
   const registers = Array.from({ length: NUMBER_OF_REGISTERS }, (_, register) => register);
   test.registers = test.threads.map((_, thread) => registers.map((register) => wordOf({ thread, register })));
@@ -46,15 +46,15 @@ export function readTest(text) {
  * @param {TokenReader} reader
  * @returns {number}
  */
-function header(reader) {
+function readHeader(reader) {
   for (let threads = 1; ; threads += 1) {
-    reader.take(`P${threads - 1}`);
+    reader.takeToken(`P${threads - 1}`);
     if (threads > MAX_THREADS) throw new NoTest(`there are more than ${MAX_THREADS} threads`);
     if (reader.next !== "|") {
-      reader.take(";");
+      reader.takeToken(";");
       return threads;
     }
-    reader.take("|");
+    reader.takeToken("|");
   }
 }
 
@@ -64,14 +64,14 @@ function header(reader) {
  * @param {number} threads
  * @returns {Token[][][]}
  */
-function rows(reader, threads) {
+function readRows(reader, threads) {
   const columns = Array.from({ length: threads }, () => []);
   while (!ENDS_OF_ROWS.includes(reader.next)) {
     for (const [thread, column] of columns.entries()) {
       const begin = reader.index;
-      while (reader.next !== "|" && reader.next !== ";") reader.take();
+      while (reader.next !== "|" && reader.next !== ";") reader.takeToken();
       column.push(reader.tokens.slice(begin, reader.index));
-      reader.take(thread < threads - 1 ? "|" : ";");
+      reader.takeToken(thread < threads - 1 ? "|" : ";");
     }
   }
   if (columns[0].length > MAX_ROWS) throw new NoTest(`there are more than ${MAX_ROWS} rows`);
@@ -83,10 +83,10 @@ function rows(reader, threads) {
  * @param {TokenReader} reader
  * @returns {Site[]}
  */
-function listedSites(reader) {
-  reader.take("locations");
-  reader.take("[");
-  return reader.entries(() => reader.site(), "]");
+function readListedSites(reader) {
+  reader.takeToken("locations");
+  reader.takeToken("[");
+  return reader.readEntries(() => reader.readSite(), "]");
 }
 
 /**
@@ -95,9 +95,9 @@ function listedSites(reader) {
  */
 function readCondition(reader) {
   const { test } = reader;
-  test.quantifier = quantifier(reader);
-  test.proposition = either(reader);
-  if (nodesIn(test.proposition) > MAX_NODES) throw new NoTest(`the condition has more than ${MAX_NODES} nodes`);
+  test.quantifier = readQuantifier(reader);
+  test.proposition = readDisjunction(reader);
+  if (countNodes(test.proposition) > MAX_NODES) throw new NoTest(`the condition has more than ${MAX_NODES} nodes`);
   if (reader.next !== null) throw new NoTest(`${reader.next} comes after the condition`);
 }
 
@@ -106,13 +106,13 @@ function readCondition(reader) {
  * @param {TokenReader} reader
  * @returns {string}
  */
-function quantifier(reader) {
+function readQuantifier(reader) {
   if (reader.next === "~") {
-    reader.take("~");
-    return `~${reader.take("exists")}`;
+    reader.takeToken("~");
+    return `~${reader.takeToken("exists")}`;
   }
   if (reader.next !== "exists" && reader.next !== "forall") throw new NoTest("there is no condition");
-  return reader.take();
+  return reader.takeToken();
 }
 
 /**
@@ -120,19 +120,19 @@ function quantifier(reader) {
  * @param {TokenReader} reader
  * @returns {Proposition}
  */
-function atom(reader) {
+function readAtom(reader) {
   if (reader.next === "~" || reader.next === "not") {
-    reader.take();
-    return { kind: "Not", parts: [atom(reader)] };
+    reader.takeToken();
+    return { kind: "Not", parts: [readAtom(reader)] };
   }
   if (reader.next === "(") {
-    reader.take("(");
-    const inner = either(reader);
-    reader.take(")");
+    reader.takeToken("(");
+    const inner = readDisjunction(reader);
+    reader.takeToken(")");
     return inner;
   }
-  if (reader.next === "true" || reader.next === "false") return { kind: reader.take() === "true" ? "True" : "False", parts: [] };
-  return { kind: "Eq", ...reader.equation(), parts: [] };
+  if (reader.next === "true" || reader.next === "false") return { kind: reader.takeToken() === "true" ? "True" : "False", parts: [] };
+  return { kind: "Eq", ...reader.readEquation(), parts: [] };
 }
 
 /**
@@ -140,11 +140,11 @@ function atom(reader) {
  * @param {TokenReader} reader
  * @returns {Proposition}
  */
-function both(reader) {
-  let left = atom(reader);
+function readConjunction(reader) {
+  let left = readAtom(reader);
   while (reader.next === "/\\") {
-    reader.take();
-    left = { kind: "And", parts: [left, atom(reader)] };
+    reader.takeToken();
+    left = { kind: "And", parts: [left, readAtom(reader)] };
   }
   return left;
 }
@@ -154,11 +154,11 @@ function both(reader) {
  * @param {TokenReader} reader
  * @returns {Proposition}
  */
-function either(reader) {
-  let left = both(reader);
+function readDisjunction(reader) {
+  let left = readConjunction(reader);
   while (reader.next === "\\/") {
-    reader.take();
-    left = { kind: "Or", parts: [left, both(reader)] };
+    reader.takeToken();
+    left = { kind: "Or", parts: [left, readConjunction(reader)] };
   }
   return left;
 }

@@ -1,4 +1,4 @@
-// Takes the tokens of a test from left to right: numbers, names, registers, locations and sites. Not proved.
+// Takes the tokens of a test from left to right: numbers, names, registers, locations and sites. A fault is thrown as NoTest. Not proved.
 
 import { NoTest } from "./tokens.js";
 
@@ -53,11 +53,11 @@ export class TokenReader {
   }
 
   /**
-   * Takes the next token, which has to be the one that is wanted, if one is.
+   * Takes the next token, which has to be `wanted` unless that is null. Returns its text.
    * @param {string | null} [wanted]
    * @returns {string}
    */
-  take(wanted = null) {
+  takeToken(wanted = null) {
     const text = this.next;
     if (text === null || (wanted !== null && text !== wanted)) throw new NoTest(`found ${text}, expected ${wanted ?? "more"}`);
     this.index += 1;
@@ -68,9 +68,9 @@ export class TokenReader {
    * Reads a number, which is a word.
    * @returns {number}
    */
-  number() {
+  readNumber() {
     if (this.kind !== "number") throw new NoTest(`${this.next} is no number`);
-    const value = Number(this.take());
+    const value = Number(this.takeToken());
     if (value >= WORD) throw new NoTest(`${value} is too large`);
     return value;
   }
@@ -79,9 +79,9 @@ export class TokenReader {
    * Reads a name.
    * @returns {string}
    */
-  name() {
+  readName() {
     if (this.kind !== "name" || this.next.length > MAX_LETTERS) throw new NoTest(`${this.next} is no name`);
-    return this.take();
+    return this.takeToken();
   }
 
   /**
@@ -89,7 +89,7 @@ export class TokenReader {
    * @param {string} text
    * @returns {number | null}
    */
-  registerOf(text) {
+  findRegister(text) {
     const index = REGISTERS[this.test.language].indexOf(this.test.language === "X86" ? text.toUpperCase() : text);
     return index < 0 ? null : index;
   }
@@ -98,19 +98,19 @@ export class TokenReader {
    * Reads a register. Returns its index.
    * @returns {number}
    */
-  register() {
-    const name = this.name();
-    const register = this.registerOf(name);
+  readRegister() {
+    const name = this.readName();
+    const register = this.findRegister(name);
     if (register === null) throw new NoTest(`${name} is no register`);
     return register;
   }
 
   /**
-   * Returns the index of a location; a new one is appended to the table.
+   * Reads a location. Returns its index; a new one is appended to the table of the test.
    * @returns {number}
    */
-  location() {
-    const name = this.name();
+  readLocation() {
+    const name = this.readName();
     if (isReserved(name)) throw new NoTest(`${name} is reserved`);
     const { locations } = this.test;
     if (!locations.includes(name)) locations.push(name);
@@ -122,10 +122,10 @@ export class TokenReader {
    * Reads a location in brackets. Returns its index.
    * @returns {number}
    */
-  inBrackets() {
-    this.take("[");
-    const location = this.location();
-    this.take("]");
+  readBracketedLocation() {
+    this.takeToken("[");
+    const location = this.readLocation();
+    this.takeToken("]");
     return location;
   }
 
@@ -133,27 +133,27 @@ export class TokenReader {
    * Reads a location or a thread's register, as the block, the list and the condition name it.
    * @returns {Site}
    */
-  site() {
-    if (this.next === "[") return { location: this.inBrackets() };
-    if (this.kind !== "number") return { location: this.location() };
-    const thread = this.number();
-    this.take(":");
-    return { thread, register: this.register() };
+  readSite() {
+    if (this.next === "[") return { location: this.readBracketedLocation() };
+    if (this.kind !== "number") return { location: this.readLocation() };
+    const thread = this.readNumber();
+    this.takeToken(":");
+    return { thread, register: this.readRegister() };
   }
 
   /**
-   * Reads the entries up to the closing bracket, each ended by `;`, which the last may lack.
+   * Reads the entries up to the closing bracket `end`, each by `readEntry` and ended by `;`, which the last may lack. `Entry` is what `readEntry` returns.
    * @param {function(): Entry} readEntry
    * @param {string} end
    * @returns {Entry[]}
    */
-  entries(readEntry, end) {
+  readEntries(readEntry, end) {
     const read = [];
     while (this.next !== end) {
       read.push(readEntry());
-      if (this.next !== end) this.take(";");
+      if (this.next !== end) this.takeToken(";");
     }
-    this.take(end);
+    this.takeToken(end);
     return read;
   }
 
@@ -161,9 +161,9 @@ export class TokenReader {
    * Reads a site with its word, as the block and atoms have it.
    * @returns {{site: Site, word: number}}
    */
-  equation() {
-    const site = this.site();
-    this.take("=");
-    return { site, word: this.number() };
+  readEquation() {
+    const site = this.readSite();
+    this.takeToken("=");
+    return { site, word: this.readNumber() };
   }
 }

@@ -1,4 +1,6 @@
-// The text of a test as tokens, by docs/FORMAT.md: its heading, its notes, and what follows them. Not proved.
+// Reads the text of a test as tokens, by docs/FORMAT.md: its heading, its notes, and what follows them. Not proved.
+//
+// A `Token` has its `kind` (number, name or symbol) and its `text`.
 
 const TOKEN = new RegExp(
   "(?<blank>[ \\t\\r\\n]+)|(?<number>0x[0-9a-fA-F]+|[0-9]+)(?![A-Za-z_])|(?<name>[A-Za-z_][A-Za-z0-9_]*)" +
@@ -44,12 +46,12 @@ function skipComment(text, offset) {
 }
 
 /**
- * Returns the tokens from an offset on, each with its kind and its text.
+ * Returns the tokens from an offset on. Throws NoTest at a character that begins none.
  * @param {string} text
  * @param {number} offset
  * @returns {Token[]}
  */
-export function tokensOf(text, offset) {
+export function readTokens(text, offset) {
   const tokens = [];
   while (offset < text.length) {
     if (text.startsWith("(*", offset)) {
@@ -89,7 +91,7 @@ export function skipNotes(text, offset) {
  * @param {string} text
  * @returns {{language: string, name: string, end: number}}
  */
-export function headingOf(text) {
+export function readHeading(text) {
   let offset = 0;
   while (offset < text.length && (BLANKS.includes(text[offset]) || text.startsWith("(*", offset))) {
     offset = text.startsWith("(*", offset) ? skipComment(text, offset) : offset + 1;
@@ -100,13 +102,13 @@ export function headingOf(text) {
 }
 
 /**
- * Returns the name of a test, as far as it has one.
+ * Returns the name of a test, or other words if its text has no heading.
  * @param {string} text
  * @returns {string}
  */
 export function nameOf(text) {
   try {
-    return headingOf(text).name;
+    return readHeading(text).name;
   } catch {
     return "A test";
   }

@@ -43,7 +43,7 @@ export function verdictOf(language, report) {
  * @param {string | null} [condition]
  * @returns {[string, string, string]}
  */
-export function headlineOf(language, { asked, verdict }, condition = null) {
+export function describeVerdict(language, { asked, verdict }, condition = null) {
   const isOk = verdict === "Ok";
   const runs = language === "SRC" ? " by interleaving" : "";
   const words = condition ?? "the condition holds";

@@ -2,9 +2,9 @@
 // for lists that lw refuses for its limits. There is no limit here.
 //
 // A `MachineState` has `processors`, each with its `position`, its `registers`, its `zero` flag and its `buffer`, pairs of a location and a
-// word, the oldest first; and the `words` of memory.
+// word, the oldest first; and the `words` of memory. `Item` is any type.
 
-import { holds, observed, siteName, wordAt } from "./propositions.js";
+import { formatSite, isTrueIn, listObservedSites, readWord } from "./propositions.js";
 import { WORD } from "./token_reader.js";
 
 /**
@@ -24,12 +24,13 @@ function replaceItem(list, index, item) {
  * @param {number[]} registers
  * @returns {number}
  */
-function wordOf(value, registers) {
+function readValue(value, registers) {
   return value.number === undefined ? registers[value.register] : value.number;
 }
 
 /**
- * Returns a state with a processor that has advanced, and perhaps another memory.
+ * Returns a state in which a processor has other fields, and memory perhaps other words. Without a `position` in `changes` the processor is at its next
+ * instruction.
  * @param {MachineState} state
  * @param {number} cpu
  * @param {object} changes
@@ -48,12 +49,12 @@ function advance(state, cpu, changes, words = state.words) {
  * @param {number} cpu
  * @returns {MachineState | null}
  */
-function step(test, state, cpu) {
+function executeNext(test, state, cpu) {
   const { position, registers, zero, buffer } = state.processors[cpu];
   const instruction = test.threads[cpu][position];
   if (!instruction) return null;
   if (instruction.kind === "mfence") return buffer.length ? null : advance(state, cpu, {});
-  if (instruction.kind === "xchg" || instruction.kind === "xadd") return buffer.length ? null : lockedStep(state, cpu, instruction);
+  if (instruction.kind === "xchg" || instruction.kind === "xadd") return buffer.length ? null : executeLocked(state, cpu, instruction);
   if (instruction.target !== undefined) {
     const jumps = instruction.kind === "jmp" || zero === (instruction.kind === "je");
     return advance(state, cpu, jumps ? { position: instruction.target } : {});
@@ -62,7 +63,7 @@ function step(test, state, cpu) {
     const entry = buffer.findLast(([location]) => location === instruction.location);
     return advance(state, cpu, { registers: replaceItem(registers, instruction.register, entry ? entry[1] : state.words[instruction.location]) });
   }
-  const word = wordOf(instruction.value, registers);
+  const word = readValue(instruction.value, registers);
   if (instruction.kind === "store") return advance(state, cpu, { buffer: [...buffer, [instruction.location, word]] });
   if (instruction.kind === "set") return advance(state, cpu, { registers: replaceItem(registers, instruction.register, word) });
   if (instruction.kind === "cmp") return advance(state, cpu, { zero: registers[instruction.register] === word });
@@ -77,7 +78,7 @@ function step(test, state, cpu) {
  * @param {Statement} instruction
  * @returns {MachineState}
  */
-function lockedStep(state, cpu, instruction) {
+function executeLocked(state, cpu, instruction) {
   const { registers } = state.processors[cpu];
   const old = state.words[instruction.location];
   const operand = registers[instruction.register];
@@ -93,7 +94,7 @@ function lockedStep(state, cpu, instruction) {
  * @param {number} cpu
  * @returns {MachineState | null}
  */
-function drain(state, cpu) {
+function drainOldest(state, cpu) {
   const { position, buffer } = state.processors[cpu];
   if (!buffer.length) return null;
   const [[location, word], ...others] = buffer;
@@ -101,13 +102,13 @@ function drain(state, cpu) {
 }
 
 /**
- * Returns the successors of a state.
+ * Returns the states after each step and each drain that is possible in a state.
  * @param {Test} test
  * @param {MachineState} state
  * @returns {MachineState[]}
  */
-function moves(test, state) {
-  return state.processors.flatMap((_, cpu) => [step(test, state, cpu), drain(state, cpu)].filter(Boolean));
+function listX86Moves(test, state) {
+  return state.processors.flatMap((_, cpu) => [executeNext(test, state, cpu), drainOldest(state, cpu)].filter(Boolean));
 }
 
 /**
@@ -115,14 +116,14 @@ function moves(test, state) {
  * @param {Test} test
  * @returns {MachineState[]}
  */
-function finalStates(test) {
+function exploreStates(test) {
   const start = { processors: test.registers.map((registers) => ({ position: 0, registers, zero: false, buffer: [] })), words: test.words };
   const seen = new Set([JSON.stringify(start)]);
   const queue = [start];
   const finals = [];
   while (queue.length) {
     const state = queue.pop();
-    const successors = moves(test, state);
+    const successors = listX86Moves(test, state);
     if (!successors.length) finals.push(state);
     for (const next of successors) {
       const key = JSON.stringify(next);
@@ -138,22 +139,22 @@ function finalStates(test) {
  * @param {Test} test
  * @returns {{lines: string[], positive: number}}
  */
-export function listOfStates(test) {
-  const sites = observed(test);
-  const outcomes = finalStates(test).map(({ processors, words }) => ({ registers: processors.map((it) => it.registers), words }));
-  const rows = outcomes.map((outcome) => ({ row: sites.map((site) => wordAt(site, outcome)), isTrue: holds(test.proposition, outcome) }));
-  const sorted = [...new Map(rows.map((it) => [String(it.row), it])).values()].sort((first, second) => compare(first.row, second.row));
-  const lines = sorted.map(({ row }) => row.map((word, index) => `${siteName(test, sites[index])}=${word};`).join(" "));
+export function listStates(test) {
+  const sites = listObservedSites(test);
+  const outcomes = exploreStates(test).map(({ processors, words }) => ({ registers: processors.map((it) => it.registers), words }));
+  const rows = outcomes.map((outcome) => ({ row: sites.map((site) => readWord(site, outcome)), isTrue: isTrueIn(test.proposition, outcome) }));
+  const sorted = [...new Map(rows.map((it) => [String(it.row), it])).values()].sort((first, second) => compareRows(first.row, second.row));
+  const lines = sorted.map(({ row }) => row.map((word, index) => `${formatSite(test, sites[index])}=${word};`).join(" "));
   return { lines, positive: sorted.filter((it) => it.isTrue).length };
 }
 
 /**
- * Compares two rows of words, as a sort does.
+ * Compares two rows of words of the same length, as a sort does.
  * @param {number[]} first
  * @param {number[]} second
  * @returns {number}
  */
-function compare(first, second) {
+function compareRows(first, second) {
   const index = first.findIndex((word, number) => word !== second[number]);
   return index < 0 ? 0 : first[index] - second[index];
 }

@@ -7,11 +7,11 @@ import { button, byId, el, plainMark, sentence } from "./dom.js";
 import { graphParts, legend, shownGraph } from "./execution_graph.js";
 import * as guess from "./guess.js";
 import { missingState } from "./missing.js";
-import { contentsOf } from "./replays.js";
+import { parseReportLine } from "./replays.js";
 import { namesOf } from "./reports.js";
 import { siteNode, tintsOf } from "./tint.js";
 import { showError } from "./errors.js";
-import { headingOf } from "./tokens.js";
+import { readHeading } from "./tokens.js";
 
 const ARROWS = "Each arrow means “comes before”. ";
 const CIRCLE = "The bold ones form a cycle, so no run can end this way.";
@@ -60,7 +60,7 @@ export class Why {
     this.missing = missingState(report, questionOf(this.editor.text));
     this.isOfAll = this.missing === null && telling === null;
     const state = this.missing ?? telling ?? missingState(report) ?? report.states[0].line;
-    const words = new Map(contentsOf(state));
+    const words = new Map(parseReportLine(state));
     this.fields = namesOf(report).map((name) => ({ name, field: this.fieldOf(name, words.get(name)) }));
     const fields = this.fields.map(({ name, field }) => el("label", { class: "site-field" }, siteNode(name, this.tints), "=", field));
     const asked = button("Why not?", () => this.ask(), { class: "main why-not" });
@@ -93,7 +93,7 @@ export class Why {
 
   /** Asks about a state. */
   set(line) {
-    const words = new Map(contentsOf(line));
+    const words = new Map(parseReportLine(line));
     for (const { name, field } of this.fields) field.value = words.get(name) ?? field.value;
     return this.ask();
   }
@@ -119,7 +119,7 @@ export class Why {
     if (!answer) return null;
     this.answers.replaceChildren();
     if (!answer.lines) return showError(answer, this.answers, this.editor);
-    this.answers.append(...this.partsOf(answer, headingOf(text).language === "SRC"));
+    this.answers.append(...this.partsOf(answer, readHeading(text).language === "SRC"));
     return this.bringIntoSight();
   }
 

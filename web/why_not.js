@@ -1,10 +1,13 @@
 // Says of a state that a test does not end in which axiom each candidate execution with it breaks, and draws the cycles that teach the most: as
 // tools/graph.py does. Not proved.
+//
+// A `Way` in which the axioms forbid a state has the `axiom`, its `cycle` in letters, the `events` of the cycle in words, how many `times` an execution
+// violates the axiom so, the clearest such `execution` with its `violation`, and its `kinds`, the sentences on why it teaches little.
 
-import { TooMany, candidates, threadOf } from "./executions.js";
-import { Names, graphOf, shown } from "./graphs.js";
+import { TooMany, listCandidates, threadOf } from "./executions.js";
+import { Names, drawExecution, formatWord } from "./graphs.js";
 import { NoAnswer } from "./program.js";
-import { observed, siteKey, siteName, wordAt } from "./propositions.js";
+import { formatSite, listObservedSites, readWord, siteKey } from "./propositions.js";
 import { WORD } from "./token_reader.js";
 
 const MAX_EXECUTIONS = 400000;
@@ -23,11 +26,11 @@ const WEIGHTS = new Map([[COMPUTED, 1], [ONE_LOCATION, 2], [UNKNOWN, 4]]);
  * @param {string} line
  * @returns {Map<string, number>}
  */
-function stateOf(test, line) {
+function parseState(test, line) {
   const pairs = [...line.matchAll(/([^\s=;]+)=(\d+);/g)].map(([, name, word]) => [name, Number(word)]);
   const words = new Map(pairs);
-  const sites = observed(test);
-  const names = sites.map((site) => siteName(test, site));
+  const sites = listObservedSites(test);
+  const names = sites.map((site) => formatSite(test, site));
   const isWhole = /^(?:\s*[^\s=;]+=\d+;)*\s*$/.test(line);
   if (!isWhole || pairs.length !== names.length || !names.every((name) => words.has(name))) {
     throw new NoAnswer(`The test shows ${names.map((it) => `${it}=..;`).join(" ")}, and the state has to name these.`);
@@ -35,8 +38,8 @@ function stateOf(test, line) {
   return new Map(sites.map((site, index) => [siteKey(site), words.get(names[index])]));
 }
 
-/** Returns the words that a test's code and initial block have. */
-function constantsOf(test) {
+/** Returns the constants of a test: the words that its code and its initial block have. */
+function listConstants(test) {
   const numbers = test.threads.flat().flatMap(({ value }) => (value?.number === undefined ? [] : [value.number]));
   return new Set([...test.words, ...test.registers.flat(), ...numbers]);
 }
@@ -48,9 +51,9 @@ function constantsOf(test) {
  * @param {Set<number>} constants
  * @returns {string[]}
  */
-function kindsOfCandidate(execution, cycle, constants) {
+function listDrawbacks(execution, cycle, constants) {
   const events = cycle.map((it) => it.source);
-  const locations = new Set(events.map((it) => execution.instruction(it).location).filter((it) => it !== undefined));
+  const locations = new Set(events.map((it) => execution.findInstruction(it).location).filter((it) => it !== undefined));
   const kinds = locations.size === 1 ? [ONE_LOCATION] : [];
   const isUnknown = (word) => word === null;
   if ([...execution.rf.keys()].some((it) => isUnknown(execution.read.get(it))) || [...execution.written.values()].some(isUnknown)) return [...kinds, UNKNOWN];
@@ -63,7 +66,7 @@ function weightOf({ kinds }) {
   return kinds.reduce((sum, it) => sum + WEIGHTS.get(it), 0);
 }
 
-/** Counts an execution that has the cycle of a way, and takes it in place of the first one if it is clearer. */
+/** Counts the execution of another object of the same way, and takes it in place of this one's if it is clearer. */
 function addTo(way, other) {
   way.times += 1;
   if (weightOf(other) < weightOf(way)) Object.assign(way, { execution: other.execution, violation: other.violation, kinds: other.kinds });
@@ -71,28 +74,28 @@ function addTo(way, other) {
 
 /**
  * Returns the states that the axioms allow, and those that they forbid: each of these with the `ways` in which its candidate executions break an
- * axiom. A way has the axiom, the cycle, its events, the number of such executions, the clearest of them with its violation, and its kinds.
+ * axiom, by their keys. If `wanted` has words, other states are left out.
  * @param {Test} test
  * @param {Map<string, number> | null} wanted
  * @returns {{allowed: Set<string>, forbidden: {words: number[], ways: Map<string, Way>}[]}}
  */
-function forbiddenStates(test, wanted) {
-  const [allowed, forbidden, sites, constants] = [new Set(), new Map(), observed(test), constantsOf(test)];
-  for (const execution of candidates(test, MAX_EXECUTIONS)) {
-    const outcome = execution.outcome();
-    const words = sites.map((site) => wordAt(site, outcome) ?? null);
+function listForbiddenStates(test, wanted) {
+  const [allowed, forbidden, sites, constants] = [new Set(), new Map(), listObservedSites(test), listConstants(test)];
+  for (const execution of listCandidates(test, MAX_EXECUTIONS)) {
+    const outcome = execution.makeOutcome();
+    const words = sites.map((site) => readWord(site, outcome) ?? null);
     const isOther = (word, index) => word !== null && word !== wanted.get(siteKey(sites[index]));
     if (allowed.has(String(words)) || (wanted && words.some(isOther))) continue;
-    const violation = execution.broken();
+    const violation = execution.findBrokenAxiom();
     if (!violation) {
       allowed.add(String(words));
       forbidden.delete(String(words));
       continue;
     }
     const names = new Names(execution);
-    const events = violation.cycle.map((each) => names.line(each.source));
-    const kinds = kindsOfCandidate(execution, violation.cycle, constants);
-    const way = { axiom: violation.axiom, cycle: names.cycle(violation.cycle), events, times: 0, execution: execution, violation, kinds };
+    const events = violation.cycle.map((each) => names.formatEvent(each.source));
+    const kinds = listDrawbacks(execution, violation.cycle, constants);
+    const way = { axiom: violation.axiom, cycle: names.formatCycle(violation.cycle), events, times: 0, execution: execution, violation, kinds };
     const { ways } = forbidden.get(String(words)) ?? forbidden.set(String(words), { words, ways: new Map() }).get(String(words));
     const key = JSON.stringify([way.axiom, way.cycle, events]);
     if (!ways.has(key)) ways.set(key, way);
@@ -102,8 +105,8 @@ function forbiddenStates(test, wanted) {
 }
 
 /** Returns the line of a state, as a report has it. */
-function lineOf(test, words) {
-  return observed(test).map((site, index) => `${siteName(test, site)}=${shown(words[index])};`).join(" ");
+function formatState(test, words) {
+  return listObservedSites(test).map((site, index) => `${formatSite(test, site)}=${formatWord(words[index])};`).join(" ");
 }
 
 /**
@@ -112,8 +115,8 @@ function lineOf(test, words) {
  * @param {{words: number[], ways: Way[]}} state
  * @returns {string[]}
  */
-function sayWhy(test, { words, ways }) {
-  const lines = [`x86-TSO forbids ${lineOf(test, words)}`, ...ways[0].kinds.map((it) => `  ${it}`)];
+function explainState(test, { words, ways }) {
+  const lines = [`x86-TSO forbids ${formatState(test, words)}`, ...ways[0].kinds.map((it) => `  ${it}`)];
   for (const { axiom, cycle, events, times } of ways.slice(0, MAX_CYCLES)) {
     const breaking = times === 1 ? "1 candidate execution breaks" : `${times} candidate executions break`;
     lines.push(`  ${breaking} ${axiom}: ${cycle}`, ...events.map((it) => `    ${it}`));
@@ -122,7 +125,7 @@ function sayWhy(test, { words, ways }) {
 }
 
 /** Returns what orders the ways of a state: the clearest are first, then those of several threads, the shortest, and the most frequent. */
-function rankOf(way) {
+function makeRank(way) {
   const isOfOneThread = new Set(way.violation.cycle.map((it) => threadOf(it.source))).size === 1;
   return [weightOf(way), Number(isOfOneThread), way.events.length, -way.times];
 }
@@ -138,10 +141,10 @@ function compareRows(one, other) {
  * @param {{words: number[], ways: Map<string, Way>}[]} forbidden
  * @returns {{words: number[], ways: Way[]}[]}
  */
-function sortForbidden(forbidden) {
+function sortForbiddenStates(forbidden) {
   const key = ({ words }) => words.map((word) => word ?? WORD);
   const compareWords = (a, b) => compareRows(key(a), key(b));
-  const compareWays = (a, b) => compareRows(rankOf(a), rankOf(b));
+  const compareWays = (a, b) => compareRows(makeRank(a), makeRank(b));
   return forbidden.sort(compareWords).map(({ words, ways }) => ({ words, ways: [...ways.values()].sort(compareWays) }));
 }
 
@@ -152,11 +155,11 @@ function sortForbidden(forbidden) {
  * @param {string} state
  * @returns {{lines: string[], cycles: {graph: string, words: string, kind: string}[]}}
  */
-export function whyNot(test, state) {
-  const wanted = state === "all" ? null : stateOf(test, state);
+export function explainStates(test, state) {
+  const wanted = state === "all" ? null : parseState(test, state);
   let byAxioms;
   try {
-    byAxioms = forbiddenStates(test, wanted);
+    byAxioms = listForbiddenStates(test, wanted);
   } catch (error) {
     if (!(error instanceof TooMany)) throw error;
     return { lines: [`More than ${MAX_EXECUTIONS} candidate executions: that is too many for this tool.`], cycles: [] };
@@ -168,12 +171,12 @@ export function whyNot(test, state) {
     const none = `No candidate execution ends in ${state} No choice of paths and reads gives these values together.`;
     return { lines: [wanted ? none : NONE_FORBIDDEN], cycles: [] };
   }
-  const states = sortForbidden(byAxioms.forbidden);
-  const allWays = states.flatMap(({ words, ways }) => ways.map((it) => ({ ...it, line: wanted ? "" : `${lineOf(test, words)} ` })));
+  const states = sortForbiddenStates(byAxioms.forbidden);
+  const allWays = states.flatMap(({ words, ways }) => ways.map((it) => ({ ...it, line: wanted ? "" : `${formatState(test, words)} ` })));
   const least = Math.min(...states.map(({ ways }) => weightOf(ways[0])));
   const drawn = allWays.filter((it) => weightOf(it) === least).slice(0, MAX_DRAWN);
   const cycles = drawn.map(({ execution, violation, cycle, axiom, kinds, line }) => {
-    return { graph: graphOf(execution, `${test.name}: ${cycle}`, violation), words: `${line}${axiom}: ${cycle}`, kind: kinds.join(" ") };
+    return { graph: drawExecution(execution, `${test.name}: ${cycle}`, violation), words: `${line}${axiom}: ${cycle}`, kind: kinds.join(" ") };
   });
-  return { lines: states.flatMap((it) => sayWhy(test, it)), cycles };
+  return { lines: states.flatMap((it) => explainState(test, it)), cycles };
 }

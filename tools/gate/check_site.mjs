@@ -342,7 +342,7 @@ async function compareText(page, program, plain, tally, name, text) {
 /** In a run to a state in which the condition holds, the threads read what an alternative of the condition in words says, in its order. */
 function compareCondition(page, tally, name, text, { films, state }) {
   const decoded = text.toString();
-  const words = page.condition_words.conditionWords(decoded);
+  const words = page.condition_words.describeCondition(decoded);
   const { isAsked } = page.condition_words.questionOf(decoded);
   if (!words || !films.x86 || /^\s*\(?\*?.*forall/ms.test(decoded) || !isAsked(state)) return;
   const isRead = ([, thread, listed]) => {
@@ -706,7 +706,7 @@ function compareTyped(page, program, tally) {
   const compare = (what, expected, actual) => tally.compare(what, expected, JSON.parse(JSON.stringify(actual)));
   for (const [name, question, isSo, telling, ...verdict] of VERDICTS) {
     const { words, report, language } = ask("states", example(name));
-    const headline = page.verdicts.headlineOf(language, report, page.condition_words.conditionWords(example(name)));
+    const headline = page.verdicts.describeVerdict(language, report, page.condition_words.describeCondition(example(name)));
     compare(`the words on ${name}`, [question, isSo, telling, ...verdict], [words.question, words.is_so, words.telling, ...headline]);
   }
   compare("in how many states a condition holds", COUNTS.map(([, , words]) => words),

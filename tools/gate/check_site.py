@@ -200,9 +200,9 @@ WORDS = """
 import { readFileSync } from "node:fs";
 
 const load = (name) => import(`file://${process.argv[2]}/${name}.js`);
-const [{ conditionWords }, { headlineOf }] = [await load("condition_words"), await load("verdicts")];
+const [{ describeCondition }, { describeVerdict }] = [await load("condition_words"), await load("verdicts")];
 const cases = JSON.parse(readFileSync(0, "utf8"));
-console.log(JSON.stringify(cases.map(([text, language, report]) => headlineOf(language, report, conditionWords(text)))));
+console.log(JSON.stringify(cases.map(([text, language, report]) => describeVerdict(language, report, describeCondition(text)))));
 """
 
 
