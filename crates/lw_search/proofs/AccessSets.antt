@@ -8,7 +8,7 @@ use Rattle.lw_search.proofs.Common.{◌∷◌, ◌++◌, take, if◌then◌else�
 use Rattle.lw_search.proofs.Common.{DescribeThread, length-append, length-take-le, slice_set, get-set_same}
 use Rattle.lw_search.proofs.Common.{get-set_other, le-max_left, le-max_right, slice_get_within}
 
--- A set without an access that one more is added to lacks it still: the set before lacked it.
+-- If a set lacks an access after one more access was added, it lacked it before.
 pub Lacks-before : (set k x : ℕ) (w : Bool) → k < 32 → Lacks (bit_or set (1 * 2 ^ k % 4294967296)) x w → Lacks set x w
 Lacks-before set k x w within lacks = elim (cases_eq (access_bit x w) k) [
   | inl same ↦
@@ -50,11 +50,11 @@ bit_at-zero_if_tested set k within test =
 -- ---- outlooks
 
 module _ (Holds : ℕ → Outlook → Type 0) where
-  -- The outlook at each of the first n indices is as said.
+  -- The outlook at each of the first n indices satisfies `Holds`.
   abbrev pub HoldsOfFirst : List Outlook → ℕ → Type 0
   HoldsOfFirst outlooks n = (u : ℕ) → u < n → (o : Outlook) × (slice_get outlooks u ≡ Some o) × Holds u o
 
-  -- If the outlook at index n is set to one that is as said, those at the first n + 1 indices are.
+  -- If the outlook at index n is set to one that satisfies `Holds`, those at the first n + 1 indices do.
   pub HoldsOfFirst-set : (outlooks : List Outlook) (n : ℕ) (old new : Outlook)
       → slice_get outlooks n ≡ Some old
       → HoldsOfFirst outlooks n
@@ -90,11 +90,11 @@ pub DescribeRows-appended : (program : List (List Instr)) (states new : List Pro
 DescribeRows-appended program states new rows p row is_known is before describes =
     record { enough = subst (λ n. length new ≤ n) (sym size) (at_most is_known is); describe = describe is_known is }
   where
-    kept : length (take (length states) rows) ≡ length states
-    kept = length-take-le (length states) rows before.enough
+    length_of_taken : length (take (length states) rows) ≡ length states
+    length_of_taken = length-take-le (length states) rows before.enough
 
     size : length (take (length states) rows ++ row ∷ []) ≡ length states + 1
-    size = length-append (take (length states) rows) (row ∷ []) ∙ ap (λ n. n + 1) kept
+    size = length-append (take (length states) rows) (row ∷ []) ∙ ap (λ n. n + 1) length_of_taken
 
     at_most : (b : Bool) → new ≡ (if b then states else (states ++ p ∷ [])) → length new ≤ length states + 1
     at_most true e = let l = ap length e in omega (arith, l)
@@ -107,7 +107,7 @@ DescribeRows-appended program states new rows p row is_known is before describes
         → DescribeThread program q r.threads
     of_known i q r at and = elim (slice_get-append_cases (take (length states) rows) row r i and) [
       | inl old ↦ before.describe i q r at (slice_get-of_take (length states) rows i r old)
-      | inr new ↦ absurd (let lt = slice_get_within states i q at in omega (arith, lt, new.0, kept))
+      | inr new ↦ absurd (let lt = slice_get_within states i q at in omega (arith, lt, new.0, length_of_taken))
     ]
 
     describe : (b : Bool)
@@ -120,7 +120,7 @@ DescribeRows-appended program states new rows p row is_known is before describes
     describe false e i q r at and = elim (slice_get-append_cases states p q i (ap (λ l. slice_get l i) (sym e) ∙ at)) [
       | inl old ↦ of_known i q r old and
       | inr new ↦ elim (slice_get-append_cases (take (length states) rows) row r i and) [
-        | inl old ↦ absurd (let lt = slice_get_within (take (length states) rows) i r old in omega (arith, lt, new.0, kept))
+        | inl old ↦ absurd (let lt = slice_get_within (take (length states) rows) i r old in omega (arith, lt, new.0, length_of_taken))
         | inr last ↦
             subst (λ (z : Outlooks). DescribeThread program q z.threads) last.1
             (subst (λ (z : Processor). DescribeThread program z row.threads) new.1 describes)

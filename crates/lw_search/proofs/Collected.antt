@@ -118,7 +118,7 @@ ReachesIndex-start visited zero origin at not program start tables found closed 
 ReachesIndex-start visited (suc i) origin at not program start tables found closed s invariant there =
     let predecessor = invariant.predecessor i origin s at there in absurd (omega (arith, predecessor.before, not))
 
--- A number without a row stands for no events.
+-- A number without a row has no events.
 pub events_at-none : (runs : List (List (ℕ × Bool))) (n : ℕ) → slice_get runs n ≡ None → events_at runs n ≡ []
 events_at-none runs n none = ap events_of (get_or_past runs n [] (length-past runs n none))
 
@@ -141,7 +141,7 @@ ReachesIndex-next visited zero origin more after at leads = absurd (after (omega
 ReachesIndex-next visited (suc i) origin more after at leads = λ program start tables found closed s invariant found_at.
     let predecessor = invariant.predecessor i origin s at found_at in
     let is : events_at visited.runs origin.run ≡ events_of predecessor.run =
-    ap events_of (get_or_from_slice_get visited.runs origin.run predecessor.run [] predecessor.listed) in
+    ap events_of (get_or_from_slice_get visited.runs origin.run predecessor.run [] predecessor.run_row) in
     subst (λ es. MachineRunsTo flat_memory program (more ++ es) start s) (sym is)
     (RunsTo-append (MachineTransition flat_memory program) more (events_of predecessor.run) start predecessor.from s
     (leads program start tables found closed predecessor.from invariant predecessor.found_at) predecessor.ran)
@@ -182,8 +182,8 @@ module _ (program : List (List Instr)) (tables : Components) (visited : FoundSta
     covered = λ start found closed s invariant found_at final.
         subst (λ p. Contains (outcomes_of es) p)
         (is s (invariant.represents at key s key_at found_at) (invariant.thread_count at s found_at)) there;
-    kept = λ p c. c;
-    lead = λ start found closed invariant a. a;
+    preserves_outcomes = λ p c. c;
+    each_leads = λ start found closed invariant a. a;
   }
 
   -- Appending a final state's outcome, with a schedule that reaches the state, collects the state.
@@ -199,8 +199,8 @@ module _ (program : List (List Instr)) (tables : Components) (visited : FoundSta
         subst (λ p. Contains (outcomes_of fs) p)
         (is s (invariant.represents at key s key_at found_at) (invariant.thread_count at s found_at))
         (subst (λ ks. Contains ks o) (sym keys) (Contains-push (outcomes_of es) o));
-    kept = λ p c. subst (λ ks. Contains ks p) (sym keys) (Contains-append_left (outcomes_of es) (o ∷ []) p c);
-    lead = λ start found closed invariant a.
+    preserves_outcomes = λ p c. subst (λ ks. Contains ks p) (sym keys) (Contains-append_left (outcomes_of es) (o ∷ []) p c);
+    each_leads = λ start found closed invariant a.
         let lt : at < length found = subst (λ n. at < n) invariant.key_count (slice_get_within visited.keys at key key_at) in
         let s = slice_get-in_range found at lt in
         let is_represented = invariant.represents at key s.0 key_at s.1 in
@@ -223,7 +223,7 @@ module _ (program : List (List Instr)) (tables : Components) (visited : FoundSta
         → slice_get found i ≡ Some s
         → IsTrue (is_final program s)
         → Contains (outcomes_of entries) (machine_outcome flat_memory s)
-    pub lead : (start : State) (found : List State) (closed : ℕ)
+    pub each_leads : (start : State) (found : List State) (closed : ℕ)
         → SearchInvariant program start tables visited found closed
         → All (LeadsTo IsScheduleOf program start) entries
 
@@ -234,12 +234,12 @@ module _ (program : List (List Instr)) (tables : Components) (visited : FoundSta
       → CollectsFirst (n + 1) fs
   CollectsFirst-next n es fs first here = record {
     covered = λ start found closed i s invariant lt at final. elim (cases_lt i n) [
-      | inl less ↦ here.kept (machine_outcome flat_memory s) (first.covered start found closed i s invariant less at final)
+      | inl less ↦ here.preserves_outcomes (machine_outcome flat_memory s) (first.covered start found closed i s invariant less at final)
       | inr not ↦
           let same : i ≡ n = omega arith in
           here.covered start found closed s invariant (ap (slice_get found) (sym same) ∙ at) final
     ];
-    lead = λ start found closed invariant. here.lead start found closed invariant (first.lead start found closed invariant);
+    each_leads = λ start found closed invariant. here.each_leads start found closed invariant (first.each_leads start found closed invariant);
   }
 
   -- The collected outcomes are those of all states, in any order.
@@ -253,6 +253,6 @@ module _ (program : List (List Instr)) (tables : Components) (visited : FoundSta
         let lt : i < n = (let h = slice_get_within found i s at in omega (arith, h, few, invariant.key_count)) in
         let o = machine_outcome flat_memory s in
         (o, (Contains-permuted_outcomes es fs o same).0 (first.covered start found closed i s invariant lt at final), refl);
-    lead = λ start found closed invariant.
-        All-permutation (LeadsTo IsScheduleOf program start) es fs same (first.lead start found closed invariant);
+    each_leads = λ start found closed invariant.
+        All-permutation (LeadsTo IsScheduleOf program start) es fs same (first.each_leads start found closed invariant);
   }

@@ -45,7 +45,7 @@ module _ (test : X86Test)
       (collected : CollectsAll Agrees Describes test.threads tables visited entries) where
     -- A run from the initial state reaches the outcome of each entry, and the entry represents this run.
     All-LeadsTo : All (LeadsTo Describes test.threads (initial_machine_state test test.head.init_words)) entries
-    All-LeadsTo = collected.lead (initial_machine_state test test.head.init_words) finished.0 (length visited.keys) finished.1
+    All-LeadsTo = collected.each_leads (initial_machine_state test test.head.init_words) finished.0 (length visited.keys) finished.1
 
     -- Each listed outcome is one of the test over flat memory.
     reached : (o : FinalState) → Contains (outcomes_of entries) o → IsMachineOutcome flat_memory test test.head.init_words o
@@ -85,7 +85,7 @@ module _ (test : X86Test)
           (All-weaker (LeadsTo Describes test.threads (initial_machine_state test test.head.init_words))
           (λ (e : FinalState × Kept). HasOutcomeShape test.head.threads (length test.head.locs) e.0)
           (λ e to. (of_test Mesi to.0 e.0 (ReplaysToOverCaches-of_entry Describes Mesi e to)).outcome) entries All-LeadsTo);
-      lead = All-LeadsTo;
+      each_leads = All-LeadsTo;
     }
 
   -- If each outcome of the test is listed, with a schedule, the list is complete.
@@ -98,7 +98,7 @@ module _ (test : X86Test)
       All-weaker (LeadsTo IsScheduleOf test.threads (initial_machine_state test test.head.init_words))
       (λ e. ReplaysToOverCaches protocol test e.1 e.0) (λ e to.
       subst (λ events. ReplaysToOverCaches protocol test events e.0) (sym to.1)
-      (ReplaysToOverCaches-of_entry IsScheduleOf protocol e to)) entries lists.lead in
+      (ReplaysToOverCaches-of_entry IsScheduleOf protocol e to)) entries lists.each_leads in
       let has : (o : FinalState) → IsMachineOutcome flat_memory test test.head.init_words o → Contains (outcomes_of entries) o =
       λ o m. (let p = lists.covered o m in subst (Contains (outcomes_of entries)) p.2 p.1) in
       record {

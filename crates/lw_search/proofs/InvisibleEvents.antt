@@ -68,7 +68,7 @@ record DrainEffect (p q : Processor) (m n : List ℕ) : Type 0 where
   entry : ℕ × ℕ
   without : Processor
   processor_is : p ≡ with_oldest entry without
-  left : q ≡ without
+  end_processor_is : q ≡ without
   words : n ≡ slice_set m entry.0 entry.1
 
 -- A drain that is enabled has an oldest entry, and writes it to memory.
@@ -81,7 +81,7 @@ DrainEffect-of_drain p q m n does = go p.buffer refl does
       entry = entry;
       without = record p { buffer = newer };
       processor_is = ap (λ b. record p { buffer = b }) e;
-      left = d.0;
+      end_processor_is = d.0;
       words = d.1;
     }
 
@@ -90,7 +90,7 @@ DrainEffect-of_drain p q m n does = go p.buffer refl does
 record PassesDrain (entry : ℕ × ℕ) (o : Operation) (without q : Processor) (m n : List ℕ) : Type 0 where
   new : Processor
   processor_is : q ≡ with_oldest entry new
-  kept : n ≡ m
+  memory_unchanged : n ≡ m
   does : EffectLeadsTo (slice_set m entry.0 entry.1) (operation_effect o without) new (slice_set m entry.0 entry.1)
 
 -- A load beside the drain of an entry: `found` is the newest word of the other entries, `same` says whether the entry is for the location.
@@ -121,10 +121,10 @@ PassesDrain-local : (entry : ℕ × ℕ) (o : Operation) (without next q : Proce
     → q ≡ with_oldest entry next
     → n ≡ m
     → PassesDrain entry o without q m n
-PassesDrain-local entry o without next q m n act is kept = record {
+PassesDrain-local entry o without next q m n act is memory_unchanged = record {
   new = next;
   processor_is = is;
-  kept = kept;
+  memory_unchanged = memory_unchanged;
   does = subst (λ a. EffectLeadsTo (slice_set m entry.0 entry.1) a next (slice_set m entry.0 entry.1)) (sym act) (refl, refl);
 }
 
@@ -146,7 +146,7 @@ PassesDrain-operation entry (Branch c to) without q m n range does =
     PassesDrain-local entry (Branch c to) without _ q m n refl does.0 does.1
 PassesDrain-operation entry (Load d x) without q m n range does =
     let r = load_effect-after_drain entry x _ q m n (newest_buffered without.buffer x) (entry.0 == x) refl (range x refl) does in
-    record { new = r.0; processor_is = r.1; kept = r.2; does = r.3 }
+    record { new = r.0; processor_is = r.1; memory_unchanged = r.2; does = r.3 }
 PassesDrain-operation entry _ without q m n range does = absurd does
 
 -- ---- accesses
@@ -283,12 +283,12 @@ module _ (program : List (List Instr)) (forward : IsForward program) where
         entries = λ k entry is.
             never.entries (suc k) entry
             (ap (λ (r : Processor). slice_get r.buffer (suc k)) d.processor_is
-            ∙ ap (λ (r : Processor). slice_get r.buffer k) (sym d.left)
+            ∙ ap (λ (r : Processor). slice_get r.buffer k) (sym d.end_processor_is)
             ∙ is);
         instructions = λ j i le.
             never.instructions j i
             (subst (λ n. n ≤ j)
-            (ap (λ (r : Processor). r.position) d.left ∙ ap (λ (r : Processor). r.position) (sym d.processor_is)) le);
+            (ap (λ (r : Processor). r.position) d.end_processor_is ∙ ap (λ (r : Processor). r.position) (sym d.processor_is)) le);
       }
   NeverConflicts-after locs (Evict t y) p q m n x written does never =
       absurd (not-EffectLeadsTo-evict_event program locs t y p q m n does)
@@ -391,12 +391,12 @@ module _ (program : List (List Instr)) (forward : IsForward program) where
     g = EventOccurrence-of_event program f s mid done
 
     -- The effects of an invisible event and of another thread's event do not conflict.
-    apart : cpu_of f ≢ cpu_of e
+    do_not_conflict : cpu_of f ≢ cpu_of e
         → (r p : Processor)
         → slice_get s.processors (cpu_of f) ≡ Some r
         → slice_get s.processors (cpu_of e) ≡ Some p
         → DoNotConflict (event_effect program (length s.memory) f r) (event_effect program (length s.memory) e p)
-    apart ne r p at and x a b =
+    do_not_conflict ne r p at and x a b =
         let access = event_access-of_effect (length s.memory) e p x b in
         let free = invisible p (x, event_writes (event_effect program (length s.memory) e p)) and access in
         let n =
@@ -409,41 +409,45 @@ module _ (program : List (List Instr)) (forward : IsForward program) where
     AreExchangedInvisibly-other_thread ne = record {
       end = z.0;
       e_enabled = z.1;
-      f_enabled = subst (λ o. MachineTransition flat_memory program f o (Ok tt) z.0) once x.2.done;
-      invisible_in_mid = λ p access at is. IsUncontended-after f s mid (cpu_of e) access g (invisible p access (there p at) is);
+      f_enabled = subst (λ o. MachineTransition flat_memory program f o (Ok tt) z.0) other_is_first x.2.done;
+      invisible_in_mid = λ p access at is. IsUncontended-after f s mid (cpu_of e) access g (invisible p access (thread_in_s p at) is);
     }
       where
-        there : (p : Processor) → slice_get mid.processors (cpu_of e) ≡ Some p → slice_get s.processors (cpu_of e) ≡ Some p
-        there p at =
+        -- The thread of e has in s the state that it has in `mid`, after an event of another thread.
+        thread_in_s : (p : Processor) → slice_get mid.processors (cpu_of e) ≡ Some p → slice_get s.processors (cpu_of e) ≡ Some p
+        thread_in_s p at =
             sym (get-set_other s.processors (cpu_of f) (cpu_of e) g.to ne)
             ∙ ap (λ (y : State). slice_get y.processors (cpu_of e)) (sym g.state_is)
             ∙ at
 
-        here : slice_get mid.processors (cpu_of e) ≡ Some d.from
-        here =
+        -- And in `mid` the one that it has in s.
+        thread_in_mid : slice_get mid.processors (cpu_of e) ≡ Some d.from
+        thread_in_mid =
             ap (λ (y : State). slice_get y.processors (cpu_of e)) g.state_is
             ∙ get-set_other s.processors (cpu_of f) (cpu_of e) g.to ne
             ∙ d.was
 
         z : (end : State) × MachineTransition flat_memory program e mid (Ok tt) end
-        z = MachineTransition-same_thread e s first mid d.from enabled d.was here
+        z = MachineTransition-same_thread e s first mid d.from enabled d.was thread_in_mid
 
         independent : AreIndependent program f e s
-        independent = record { of_two = λ n r p at and. apart ne r p at and; of_one = λ same. absurd (ne same) }
+        independent = record { of_two = λ n r p at and. do_not_conflict ne r p at and; of_one = λ same. absurd (ne same) }
 
         j : (j : ℕ) × IsAtPosition f j s
         j = IsAtPosition-exists f s g.from g.was
 
         k : (k : ℕ) × IsAtPosition e k mid
-        k = IsAtPosition-exists e mid d.from here
+        k = IsAtPosition-exists e mid d.from thread_in_mid
 
+        -- The same two events in the other order, from s through `other`.
         x : (other : State) × TransitionAt flat_memory program e k.0 s other × TransitionAt flat_memory program f j.0 other z.0
         x =
             EventsCommute-independent program f e s independent j.0 k.0 mid z.0 (record { is_at_position = j.1; done = done })
             (record { is_at_position = k.1; done = z.1 })
 
-        once : x.0 ≡ first
-        once = (MachineTransition-deterministic program e s x.0 first (Ok tt) (Ok tt) x.1.done enabled).1
+        -- The state `other` is that after e, since an event has one result.
+        other_is_first : x.0 ≡ first
+        other_is_first = (MachineTransition-deterministic program e s x.0 first (Ok tt) (Ok tt) x.1.done enabled).1
 
   -- ---- the step and the drain of one thread
 
@@ -540,10 +544,10 @@ module _ (program : List (List Instr)) (forward : IsForward program) where
       written = slice_set s.memory b.entry.0 b.entry.1
 
       stepped_is : stepped ≡ state (slice_set s.processors t held) s.memory
-      stepped_is = x.state_is ∙ ap₂ (λ q m. state (slice_set s.processors t q) m) i.processor_is i.kept
+      stepped_is = x.state_is ∙ ap₂ (λ q m. state (slice_set s.processors t q) m) i.processor_is i.memory_unchanged
 
       drained_is : drained ≡ state (slice_set s.processors t b.without) written
-      drained_is = y.state_is ∙ ap₂ (λ q m. state (slice_set s.processors t q) m) b.left b.words
+      drained_is = y.state_is ∙ ap₂ (λ q m. state (slice_set s.processors t q) m) b.end_processor_is b.words
 
   -- The step is invisible, and the drain comes first.
   AreExchangedInvisibly-own_drain : (t : ℕ) (s first mid : State)

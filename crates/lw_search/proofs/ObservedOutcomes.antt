@@ -93,8 +93,8 @@ module _ (names : List Seen) (program : List (List Instr)) (tables : Components)
     observed = λ start found closed invariant are. are;
     covered = λ start found closed s invariant are found_at final.
         absurd (not s (invariant.represents at key s key_at found_at) (invariant.thread_count at s found_at) final);
-    kept = λ p c. c;
-    lead = λ start found closed invariant all. all;
+    preserves_outcomes = λ p c. c;
+    each_leads = λ start found closed invariant all. all;
   }
 
   -- The words of the state at an index are observed already, so nothing changes.
@@ -120,8 +120,8 @@ module _ (names : List Seen) (program : List (List Instr)) (tables : Components)
             let is = are_words s (invariant.represents at key s key_at found_at) (invariant.thread_count at s found_at) in
             let p = are has.0 words has.1 in
             (p.0, listed p.0 p.1, p.2 ∙ is);
-        kept = listed;
-        lead = λ start found closed invariant all.
+        preserves_outcomes = listed;
+        each_leads = λ start found closed invariant all.
             subst (λ es. All (LeadsTo IsOfSomeRun program start) es) (sym inserts.outcomes) all;
       }
 
@@ -148,8 +148,8 @@ module _ (names : List Seen) (program : List (List Instr)) (tables : Components)
     covered = λ start found closed s invariant are found_at ends.
         let same = is s (invariant.represents at key s key_at found_at) (invariant.thread_count at s found_at) in
         (o, added, ap (final_words names) same);
-    kept = λ p c. Contains-kept_outcome old.outcomes new.outcomes o p inserts.outcomes c;
-    lead = λ start found closed invariant all.
+    preserves_outcomes = λ p c. Contains-kept_outcome old.outcomes new.outcomes o p inserts.outcomes c;
+    each_leads = λ start found closed invariant all.
         let s = state_at start found closed invariant in
         let ran = MachineRunsTo-found program start tables visited found closed invariant (suc at) at s.0 (omega arith) s.3 in
         let to : LeadsTo IsOfSomeRun program start (o, tt) = (ran.0, tt, (s.0, ran.1, final s.0 s.1 s.2, is s.0 s.1 s.2)) in
@@ -180,7 +180,7 @@ module _ (names : List Seen) (program : List (List Instr)) (tables : Components)
         → slice_get found i ≡ Some s
         → IsTrue (is_final program s)
         → ContainsWordsOf names (outcomes_of observed.outcomes) (machine_outcome flat_memory s)
-    pub lead : (start : State) (found : List State) (closed : ℕ)
+    pub each_leads : (start : State) (found : List State) (closed : ℕ)
         → SearchInvariant program start tables visited found closed
         → All (LeadsTo IsOfSomeRun program start) observed.outcomes
 
@@ -189,7 +189,7 @@ module _ (names : List Seen) (program : List (List Instr)) (tables : Components)
   ObservesFirst-none = record {
     words = λ start found closed invariant i words at. absurd cc;
     covered = λ start found closed i s invariant lt at final. absurd (omega (arith, lt));
-    lead = λ start found closed invariant. All-nil (LeadsTo IsOfSomeRun program start);
+    each_leads = λ start found closed invariant. All-nil (LeadsTo IsOfSomeRun program start);
   }
 
   -- If the first n states are observed, and then the state at index n, the first n + 1 are observed.
@@ -200,13 +200,13 @@ module _ (names : List Seen) (program : List (List Instr)) (tables : Components)
   ObservesFirst-next n old new first here = record {
     words = λ start found closed invariant. here.observed start found closed invariant (first.words start found closed invariant);
     covered = λ start found closed i s invariant lt at final. elim (cases_lt i n) [
-      | inl less ↦ (let p = first.covered start found closed i s invariant less at final in (p.0, here.kept p.0 p.1, p.2))
+      | inl less ↦ (let p = first.covered start found closed i s invariant less at final in (p.0, here.preserves_outcomes p.0 p.1, p.2))
       | inr not ↦
           let same : i ≡ n = omega arith in
           here.covered start found closed s invariant (first.words start found closed invariant)
           (ap (slice_get found) (sym same) ∙ at) final
     ];
-    lead = λ start found closed invariant. here.lead start found closed invariant (first.lead start found closed invariant);
+    each_leads = λ start found closed invariant. here.each_leads start found closed invariant (first.each_leads start found closed invariant);
   }
 
   -- The outcomes that are observed of all states are collected, in any order, and each at least once.
@@ -221,8 +221,8 @@ module _ (names : List Seen) (program : List (List Instr)) (tables : Components)
         let lt : i < n = (let h = slice_get_within found i s at in omega (arith, h, few, invariant.key_count)) in
         let p = first.covered start found closed i s invariant lt at final in
         (p.0, complete p.0 p.1, p.2);
-    lead = λ start found closed invariant k d lt.
+    each_leads = λ start found closed invariant k d lt.
         let among = from (get_or entries k d) (Contains-get_or entries k d lt) in
         All-contains (LeadsTo IsOfSomeRun program start) observed.outcomes (get_or entries k d)
-        (first.lead start found closed invariant) among;
+        (first.each_leads start found closed invariant) among;
   }

@@ -125,7 +125,7 @@ module _ (program : List (List Instr)) where
     from = came.from;
     found_at = longer _ came.from came.found_at;
     run = came.run;
-    listed = longer_runs _ came.run came.listed;
+    run_row = longer_runs _ came.run came.run_row;
     ran = came.ran;
   }
 
@@ -278,7 +278,7 @@ module _ (program : List (List Instr)) where
                   from = s;
                   found_at = ap (slice_get (append_state found end)) parent_at ∙ IsPrefix-append_state at s found_at;
                   run = run;
-                  listed = appended.listed;
+                  run_row = appended.run_row;
                   ran = ran;
                 }))
             go (inl a) (inr b) =

@@ -1,4 +1,4 @@
--- The effects of operations on a thread's state. Lemmas for `thread_state.rt` and `buffer.rt`: what is
+-- The effects of operations on a thread's state. Lemmas for `thread_state.rt` and `queue.rt`: what is
 -- refused, and the newest word in a buffer.
 use Rattle.lw_search.proofs.Common.{◌≡◌, ℕ, zero, suc, ◌+◌, ◌<◌, true, false, true≢false, List, [], ◌∷◌, ◌++◌}
 use Rattle.lw_search.proofs.Common.{length, take, drop, ◌==◌, refl, sym, ap, ◌∙◌, Stop, Processor}

@@ -58,7 +58,7 @@ module _ (program : List (List Instr)) where
     acted = is.acted;
     written = is.written;
     end = is.end;
-    left = is.left;
+    end_words = is.end_words;
     more = is.more;
     thread_row = extended.threads _ _ is.thread_row;
     memory_row = extended.memories _ _ is.memory_row;
@@ -143,7 +143,7 @@ module _ (program : List (List Instr)) where
         acted = q;
         written = n;
         end = r;
-        left = o;
+        end_words = o;
         more = more;
         thread_row = thread_row;
         memory_row = memory_row;
@@ -227,7 +227,7 @@ module _ (program : List (List Instr)) where
       → length own ≡ length key
       → slice_index own (c + 1) ≡ t.next.thread
       → ((u : ℕ) → u ≢ c → slice_index own (u + 1) ≡ slice_index key (u + 1))
-      → SettlesFrom program (IsWorking program old own is.left) old settled all n (t.event ∷ is.more) run
+      → SettlesFrom program (IsWorking program old own is.end_words) old settled all n (t.event ∷ is.more) run
       → Extends settled new
       → length next ≡ length all
       → slice_get new.memories (slice_index next 0) ≡ Some n
@@ -239,16 +239,16 @@ module _ (program : List (List Instr)) where
   IsCovered-transition {old} {settled} {new} {visited} {now} at c t code key own all next n parent run is cpu coded from_thread from_memory size thread others settles extended next_size memory threads parent_is adds start found closed s invariant found_at key_at has =
       after start found closed s invariant found_at key_at (done, has)
     where
-      moved : SettlesFrom program (IsLoaded program old key t.conflicts c is.acted is.written) old old own is.left (t.event ∷ [])
+      moved : SettlesFrom program (IsLoaded program old key t.conflicts c is.acted is.written) old old own is.end_words (t.event ∷ [])
           (t.event ∷ is.more)
       moved =
-          SettlesFrom-loaded program key own t.conflicts c is.acted is.end is.written is.left (t.event ∷ []) (t.event ∷ is.more)
+          SettlesFrom-loaded program key own t.conflicts c is.acted is.end is.written is.end_words (t.event ∷ []) (t.event ∷ is.more)
           is.more refl
-          (subst (λ v. Settles program t.conflicts v (events_of is.more) is.acted is.written is.end is.left) cpu is.settles)
+          (subst (λ v. Settles program t.conflicts v (events_of is.more) is.acted is.written is.end is.end_words) cpu is.settles)
           (Extends-refl old) size (ap (slice_get old.threads) thread ∙ is.next_thread_row) others
 
       both : SettlesFrom program (IsLoaded program old key t.conflicts c is.acted is.written) old settled all n (t.event ∷ []) run
-      both = SettlesFrom-trans program own all is.left n (t.event ∷ []) (t.event ∷ is.more) run moved settles
+      both = SettlesFrom-trans program own all is.end_words n (t.event ∷ []) (t.event ∷ is.more) run moved settles
 
       after : ExpandsState program old visited new now at key (λ z.
           MachineTransition flat_memory program (event_of t.event) z (Ok tt) (set_thread z c is.acted is.written)

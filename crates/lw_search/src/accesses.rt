@@ -40,7 +40,7 @@ const LOCATIONS: u8 = 8;
 /// The bit of an event that is not enabled.
 const NOT_ENABLED: u32 = 0x1_0000;
 
-/// Returns the bit of the access of a location that writes it, or reads it.
+/// Returns the position of the bit for the access of a location that writes it (`written`), or reads it.
 fn bit_of(loc: u8, written: bool) -> u32
     ensures { result ≡ access_bit loc written }
 {
@@ -52,10 +52,10 @@ fn bit_of(loc: u8, written: bool) -> u32
 }
 
 impl Conflicts {
-    /// Nothing conflicts.
+    /// No access: of the bits only that of events that are not enabled is set.
     pub(crate) const NONE: Conflicts = Conflicts { bits: NOT_ENABLED };
 
-    /// Returns the set with an access of a location that writes it, or reads it.
+    /// Returns the set with an access of a location that writes it (`written`), or reads it.
     fn with(self, loc: u8, written: bool) -> Conflicts
         requires { loc < most_locations }
         ensures others { (x : ℕ) (w : Bool) → Lacks result x w → Lacks self x w }
@@ -139,7 +139,7 @@ impl Conflicts {
     }
 
     /// Returns whether the set lacks the access of a location that writes it (`written`), or reads it. The contract promises nothing of
-    /// `false`, which is returned of a location that the set has no bits for.
+    /// `false`, which is also the result for a location that the set has no bits for.
     pub(crate) fn lacks(self, loc: u8, written: bool) -> bool
         ensures { result ≡ true → (loc < most_locations) × Lacks self loc written }
     {
@@ -159,8 +159,8 @@ impl Conflicts {
     }
 }
 
-/// The access of an event, as one bit: none if it accesses no memory, and that of an event that is not enabled.
-/// No contract depends on it.
+/// The access of an event, as the bit that `Conflicts` has for this access. No bit is set if the event accesses no memory; `NOT_ENABLED` is
+/// set if the event is not enabled. No contract depends on the bits.
 #[derive(Clone, Copy)]
 struct EventAccess {
     bits: u32,
@@ -170,7 +170,7 @@ impl EventAccess {
     /// An event that is not enabled.
     const NOT_ENABLED: EventAccess = EventAccess { bits: NOT_ENABLED };
 
-    /// Returns the bit of an access, if there is one.
+    /// Returns the access of an event that is enabled, or no bit if the event accesses no memory (`None`).
     fn new(access: Option<(u8, bool)>) -> EventAccess {
         let bits = match access {
             Some((loc, written)) => 1_u32.wrapping_shl(bit_of(loc, written)),
@@ -188,8 +188,11 @@ impl EventAccess {
 /// What a thread in some state may access, by the events that are enabled, and now or later.
 #[derive(Clone, Copy)]
 pub(crate) struct Outlook {
+    /// The access of the thread's next step.
     step: EventAccess,
+    /// The access of the drain of the thread's oldest entry.
     drain: EventAccess,
+    /// The accesses that conflict with an event of the thread, now or later.
     pub(crate) conflicts: Conflicts,
 }
 
@@ -212,7 +215,7 @@ impl Outlook {
         }
     }
 
-    /// Returns whether an invisible event may be enabled, given the conflicts of the other threads. No contract depends on the answer.
+    /// Returns whether the thread may have an invisible event that is enabled, given the conflicts of the other threads. No contract depends on the answer.
     fn may_settle(&self, conflicts: Conflicts) -> bool {
         self.step.avoids(conflicts) || self.drain.avoids(conflicts)
     }
@@ -240,10 +243,12 @@ fn drain_access<A: Allocator>(thread: &ThreadState<A>) -> EventAccess {
 /// The outlook of each thread of a state.
 #[derive(Clone, Copy)]
 pub(crate) struct Outlooks {
+    /// The outlook at the index of each thread; `Outlook::NONE` for a thread that the program lacks.
     pub(crate) threads: [Outlook; 4],
 }
 
-/// Returns what a thread in some state may access, for each thread of a program that it may be.
+/// Returns what a thread in this state may access, for each thread of a program. (Threads in the same state have one row of a table,
+/// which does not say whose state it is.)
 pub(crate) fn outlooks_of<A: Allocator>(program: &Program<A>, thread: &ThreadState<A>) -> Outlooks
     ensures { DescribeThread program.now.threads thread.now result.threads }
 {

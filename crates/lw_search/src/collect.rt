@@ -37,7 +37,8 @@ pub(crate) fn is_final<A: Allocator>(
     true
 }
 
-/// Returns whether a thread of a state is past the last of `count` instructions, with an empty store buffer.
+/// Returns whether a thread of a state is past the last of `count` instructions, with an empty store buffer; `false` if the key's number has
+/// no row.
 fn is_done<A: Allocator>(tables: &Tables<'_, A>, key: &StateKey, cpu: Cpu, count: usize) -> bool
     ensures { ReportsThreadEnd tables.now key.now cpu count result }
 {
@@ -128,8 +129,8 @@ fn push_events<A: Allocator>(run: &[RunEvent], events: &mut Vec<Event, A>) -> Re
     Ok(())
 }
 
-/// Appends a schedule that leads from the start to a state. The start, which is its own parent, needs none; the parent of every other state
-/// was found before that state.
+/// Appends a schedule that leads from the start to the state at an index, or nothing if there is no such state. The start, which is its own
+/// parent, needs no event; the parent of every other state was found before that state.
 fn push_schedule<A: Allocator>(
     states: &StateTable<A>,
     index: usize,
@@ -148,7 +149,7 @@ fn push_schedule<A: Allocator>(
     push_run(states, origin.run, events)
 }
 
-/// Returns a schedule that leads from the start to a state.
+/// Returns a schedule that leads from the start to the state at an index.
 fn schedule_to<A: Allocator + Copy>(
     alloc: A,
     states: &StateTable<A>,

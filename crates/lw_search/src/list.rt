@@ -39,7 +39,8 @@ pub struct Searched<A: Allocator, K = Sequence<Event, A>> {
 /// The result of a search that keeps no schedules.
 pub type SearchedOutcomes<A> = Searched<A, ()>;
 
-/// Searches the states of a program to the end, within the budget.
+/// Returns a search of a program that has visited each state that it found. Fails if memory runs out, or if more than `budget` states are
+/// found.
 fn search_states<'a, A: Allocator + Copy>(
     alloc: A,
     program: &'a Program<A>,

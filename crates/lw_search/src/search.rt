@@ -167,7 +167,8 @@ fn with_memory(key: &StateKey, memory: u32) -> StateKey
 const MOST_ROUNDS: u32 = 256;
 
 impl<'a, A: Allocator + Copy> Search<'a, A> {
-    /// Takes the invisible events of a thread of a key, if it may have any. Returns the key with the thread's number.
+    /// Takes the invisible events of a thread of a key in the working copies, if `may_settle` says that the thread may have any. Returns the
+    /// key with the number of the thread's state after them.
     fn settle_thread(
         &mut self,
         key: &StateKey,
@@ -349,7 +350,7 @@ impl<'a, A: Allocator + Copy> Search<'a, A> {
     }
 
     /// Inserts the state to which a transition of a thread leads from a state, after the invisible events of all threads that follow.
-    /// `own` is the key after the transition.
+    /// `at` is the index of the state before the transition, and `own` the key after it.
     fn add_settled(
         &mut self,
         at: usize,
@@ -515,7 +516,7 @@ impl<'a, A: Allocator + Copy> Search<'a, A> {
         self.expand_drain(at, key, cpu, code, outlooks, conflicts)
     }
 
-    /// Finds all successors of a state.
+    /// Finds all successors of the state at an index, which counts as visited then.
     fn expand(&mut self, at: usize) -> Result<(), AllocError>
         requires found { at < length self.old.states.keys }
         requires kept { AreTransitions self.old.program.now.threads self.old.tables self.old.states.runs self.old.transitions }

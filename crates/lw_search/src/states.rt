@@ -41,7 +41,7 @@ impl<A: Allocator> Model for StateTable<A> {
     ghost view = { λ s. record { keys = s.keys.keys; origins = s.origins.items; runs = s.runs.keys } };
 }
 
-/// The number of states for which a table has room at first: so many are inserted before its keys are hashed into a larger one.
+/// The number of states for which a new table has room. If more are inserted, all keys are hashed into a larger table.
 const INITIAL_STATES: usize = 4096;
 
 /// Returns the number of a run's first event, which is below 8, or 0 if the run is empty.
@@ -68,7 +68,7 @@ impl<A: Allocator + Copy> StateTable<A> {
         })
     }
 
-    /// Returns the number of a run if it is the last one that began with the same event.
+    /// Returns the number of a run if the run is equal to the last one that began with the same event, and `None` otherwise.
     fn recent_number(&self, run: &Run<A>) -> Option<u32>
         ensures { IfSome result (λ n. slice_get self.now.runs n ≡ Some run.now) }
     {
@@ -80,7 +80,7 @@ impl<A: Allocator + Copy> StateTable<A> {
         None
     }
 
-    /// Returns the number of a run, which is inserted if it has none.
+    /// Looks a run up among all runs, and returns its number. Inserts the run if it has none.
     fn number_of_run(&mut self, run: &Run<A>) -> Result<u32, AllocError>
         ensures keys { OnOk result (self.new.keys ≡ self.old.keys) }
         ensures origins { OnOk result (self.new.origins ≡ self.old.origins) }
@@ -97,7 +97,8 @@ impl<A: Allocator + Copy> StateTable<A> {
         }
     }
 
-    /// Returns the number of a run, which is inserted if it has none.
+    /// Returns the number of a run, which is inserted if it has none. Compares the run with the recent one of its first event, before it is
+    /// looked up among all runs.
     pub(crate) fn run_number(&mut self, run: &Run<A>) -> Result<u32, AllocError>
         ensures keys { OnOk result (self.new.keys ≡ self.old.keys) }
         ensures origins { OnOk result (self.new.origins ≡ self.old.origins) }

@@ -148,7 +148,7 @@ impl<'a, A: Allocator> Tables<'a, A> {
         self.memories.get_index(number as usize)
     }
 
-    /// Returns what a thread of a state may access.
+    /// Returns what a thread of a state may access, or `Outlook::NONE` if the key's number has no row.
     pub(crate) fn outlook(&self, key: &StateKey, cpu: Cpu) -> Outlook
         ensures { (p : Processor) → cpu < length self.now.program → slice_get self.now.threads (slice_index key.now (cpu + 1)) ≡ Some p
             → HasConflictsOf (thread_code self.now.program cpu) p result.conflicts }

@@ -124,7 +124,7 @@ impl<A: Allocator> TransitionCache<A> {
         }
     }
 
-    /// Keeps a transition, in place of the one that has its slot.
+    /// Stores a transition, in place of the one that has its slot. Does nothing while the cache has no slots.
     pub(crate) fn insert(&mut self, transition: Transition)
         ensures { (t : Transition) → Caches self.new t → (t ≡ transition) ⊎ Caches self.old t }
     {

@@ -46,7 +46,7 @@ module _ (program : List (List Instr)) where
     pub from : State
     pub found_at : slice_get found origin.parent ≡ Some from
     pub run : List (ℕ × Bool)
-    pub listed : slice_get runs origin.run ≡ Some run
+    pub run_row : slice_get runs origin.run ≡ Some run
     pub ran : MachineRunsTo flat_memory program (events_of run) from s
 
   -- The invariant of a search that began at `start`: the keys represent the found states, which are different from each other, the start
@@ -178,8 +178,8 @@ LeadsTo Describes program start e = (events : List Event) × Describes e.1 event
 pub record CollectsState (program : List (List Instr)) (tables : Components) (visited : FoundStates) (at : ℕ) (old new : OutcomeEntries) : Type 0 where
   pub covered : (start : State) (found : List State) (closed : ℕ) (s : State) → SearchInvariant program start tables visited found closed
       → slice_get found at ≡ Some s → IsTrue (is_final program s) → Contains (outcomes_of new) (machine_outcome flat_memory s)
-  pub kept : (o : FinalState) → Contains (outcomes_of old) o → Contains (outcomes_of new) o
-  pub lead : (start : State) (found : List State) (closed : ℕ) → SearchInvariant program start tables visited found closed
+  pub preserves_outcomes : (o : FinalState) → Contains (outcomes_of old) o → Contains (outcomes_of new) o
+  pub each_leads : (start : State) (found : List State) (closed : ℕ) → SearchInvariant program start tables visited found closed
       → All (LeadsTo IsScheduleOf program start) old → All (LeadsTo IsScheduleOf program start) new
 
 -- Some outcome of a list agrees with outcome o.
@@ -199,7 +199,7 @@ module _ (Agrees : FinalState → FinalState → Type 0) {Kept : Type 0} (Descri
   pub record CollectsAll (program : List (List Instr)) (tables : Components) (visited : FoundStates) (entries : OutcomesWith Kept) : Type 0 where
     pub covered : (start : State) (found : List State) (closed : ℕ) (i : ℕ) (s : State) → SearchInvariant program start tables visited found closed
         → slice_get found i ≡ Some s → IsTrue (is_final program s) → ContainsAgreeing Agrees (outcomes_of entries) (machine_outcome flat_memory s)
-    pub lead : (start : State) (found : List State) (closed : ℕ) → SearchInvariant program start tables visited found closed
+    pub each_leads : (start : State) (found : List State) (closed : ℕ) → SearchInvariant program start tables visited found closed
         → All (LeadsTo Describes program start) entries
 
   -- For each outcome of a test one is listed that agrees with it. Each listed outcome is one of the test, over caches of each protocol too,
@@ -209,4 +209,4 @@ module _ (Agrees : FinalState → FinalState → Type 0) {Kept : Type 0} (Descri
     pub reached : (o : FinalState) → Contains (outcomes_of entries) o → IsMachineOutcome flat_memory test test.head.init_words o
     pub flat : (protocol : Protocol) (o : FinalState) → OutcomeOverCaches protocol test o ↔ IsMachineOutcome flat_memory test test.head.init_words o
     pub shapes : All (HasOutcomeShape test.head.threads (length test.head.locs)) (outcomes_of entries)
-    pub lead : All (LeadsTo Describes test.threads (initial_machine_state test test.head.init_words)) entries
+    pub each_leads : All (LeadsTo Describes test.threads (initial_machine_state test test.head.init_words)) entries

@@ -10,12 +10,12 @@ use Rattle.lw_tso.specs.Runs.{is_final, machine_outcome}
 use Rattle.lw_search.specs.inner.StateKeys.{State, Components, FoundStates}
 use Rattle.lw_search.specs.inner.Invariant.{SearchInvariant, LeadsTo, IsOfSomeRun}
 
--- Lists of words, and outcomes that have them.
+-- A set of lists of words, and outcomes that have these words for some names.
 pub record ObservedWords : Type 0 where
   pub words : List (List ℕ)
   pub outcomes : OutcomesWith (Unit {0})
 
--- Each list of words is that of one of the outcomes at these names.
+-- Each list of words in the set is what one of its outcomes has for these names.
 abbrev pub AreObserved : List Seen → ObservedWords → Type 0
 AreObserved names observed =
     (i : ℕ) (words : List ℕ) → slice_get observed.words i ≡ Some words
@@ -37,14 +37,14 @@ pub record InsertsObserved (old : ObservedWords) (words : List ℕ) (o : FinalSt
   pub words_are : (i : ℕ) (others : List ℕ) → slice_get new.words i ≡ Some others → (slice_get old.words i ≡ Some others) ⊎ (others ≡ words)
 
 module _ (names : List Seen) (program : List (List Instr)) (tables : Components) (visited : FoundStates) where
-  -- If the words are those of the outcomes, they still are, and the state at an index is observed if it is final; the old outcomes are kept,
-  -- and if some run leads to each old one, so it does to each new one.
+  -- If all words were observed, they still are, and the outcome of the state at an index is observed too if the state is final. The new
+  -- outcomes include the old ones, and if some run leads to each old outcome, some run leads to each new one.
   pub record ObservesState (at : ℕ) (old new : ObservedWords) : Type 0 where
     pub observed : (start : State) (found : List State) (closed : ℕ) → SearchInvariant program start tables visited found closed
         → AreObserved names old → AreObserved names new
     pub covered : (start : State) (found : List State) (closed : ℕ) (s : State) → SearchInvariant program start tables visited found closed
         → AreObserved names old → slice_get found at ≡ Some s → IsTrue (is_final program s)
         → ContainsWordsOf names (outcomes_of new.outcomes) (machine_outcome flat_memory s)
-    pub kept : (o : FinalState) → Contains (outcomes_of old.outcomes) o → Contains (outcomes_of new.outcomes) o
-    pub lead : (start : State) (found : List State) (closed : ℕ) → SearchInvariant program start tables visited found closed
+    pub preserves_outcomes : (o : FinalState) → Contains (outcomes_of old.outcomes) o → Contains (outcomes_of new.outcomes) o
+    pub each_leads : (start : State) (found : List State) (closed : ℕ) → SearchInvariant program start tables visited found closed
         → All (LeadsTo IsOfSomeRun program start) old.outcomes → All (LeadsTo IsOfSomeRun program start) new.outcomes

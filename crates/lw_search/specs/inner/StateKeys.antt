@@ -79,7 +79,7 @@ pub record AppendsOrigin (old : FoundStates) (parent : ℕ) (run : List (ℕ × 
   pub parent_is : origin.parent ≡ parent
   pub origins : new.origins ≡ old.origins ++ origin ∷ []
   pub runs : IsPrefix old.runs new.runs
-  pub listed : slice_get new.runs origin.run ≡ Some run
+  pub run_row : slice_get new.runs origin.run ≡ Some run
 
 -- A new key is appended with its origin; or the table has the key, and nothing changes.
 abbrev pub InsertsKey : FoundStates → List ℕ → ℕ → List (ℕ × Bool) → FoundStates → Type 0

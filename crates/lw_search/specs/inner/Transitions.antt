@@ -35,16 +35,16 @@ module _ (program : List (List Instr)) where
     pub acted : Processor
     pub written : List ℕ
     pub end : Processor
-    pub left : List ℕ
+    pub end_words : List ℕ
     pub more : List (ℕ × Bool)
     pub thread_row : slice_get tables.threads t.thread ≡ Some from
     pub memory_row : slice_get tables.memories t.memory ≡ Some words
     pub next_thread_row : slice_get tables.threads t.next.thread ≡ Some end
-    pub next_memory_row : slice_get tables.memories t.next.memory ≡ Some left
+    pub next_memory_row : slice_get tables.memories t.next.memory ≡ Some end_words
     pub next_run_row : slice_get runs t.next.run ≡ Some (t.event ∷ more)
     pub acts : (s : State) → slice_get s.processors t.event.0 ≡ Some from → s.memory ≡ words
         → MachineTransition flat_memory program (event_of t.event) s (Ok tt) (set_thread s t.event.0 acted written)
-    pub settles : Settles program t.conflicts t.event.0 (events_of more) acted written end left
+    pub settles : Settles program t.conflicts t.event.0 (events_of more) acted written end end_words
 
   -- All transitions of a cache are transitions of the program, and the tables are of the same program.
   pub record AreTransitions (tables : Components) (runs : List (List (ℕ × Bool))) (cache : List (Option Transition)) : Type 0 where

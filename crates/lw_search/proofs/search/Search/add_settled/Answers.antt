@@ -13,7 +13,7 @@ returns-clause-covered g c =
     let tables = c.args.self.now.tables in
     let is = c.requires.taken in
     let words =
-    copied-row _ _ _ c.in_ok-load_memory.ensures is.left
+    copied-row _ _ _ c.in_ok-load_memory.ensures is.end_words
     (ap (slice_get tables.memories) c.requires.memory ∙ is.next_memory_row) in
     let run = copied-row _ _ _ c.in_ok-load_run.ensures (c.args.event ∷ is.more) is.next_run_row in
     let settled =

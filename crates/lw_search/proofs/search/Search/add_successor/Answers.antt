@@ -30,9 +30,9 @@ returns-in_default-unsettled-clause-covered g c =
     ExpandsState-prepared program c.args.at c.args.key.now (λ s. HasConflictsOfOthers program s c.args.cpu c.args.conflicts)
     (λ s more. IsCovered program more s (event_of c.args.event)) c.in_ok-next.ensures.appended
     (IsCovered-transition program c.args.at c.args.cpu t c.args.code.now c.args.key.now c.with_numbers-own.result
-    c.with_numbers-own.result c.with_numbers-own.result is.left c.in_ok-row_number.field-0 (c.args.event ∷ is.more) is
+    c.with_numbers-own.result c.with_numbers-own.result is.end_words c.in_ok-row_number.field-0 (c.args.event ∷ is.more) is
     c.requires.cpu c.requires.code refl refl c.with_numbers-own.ensures.size c.with_numbers-own.ensures.thread
-    c.with_numbers-own.ensures.others (SettlesFrom-none program c.with_numbers-own.result is.left (c.args.event ∷ is.more))
+    c.with_numbers-own.ensures.others (SettlesFrom-none program c.with_numbers-own.result is.end_words (c.args.event ∷ is.more))
     (Extends-refl tables) refl (ap (slice_get tables.memories) c.with_numbers-own.ensures.memory ∙ is.next_memory_row) (λ u. refl)
     c.in_ok-row_number.ensures (adds (c.args.event ∷ is.more) is.next_run_row))) c.insert_numbered.ensures
 

@@ -16,10 +16,10 @@ loop-thread-preserved g c =
     let key = c.key-key.result in
     let outlooks = c.outlooks-outlooks.result.threads in
     let Described : State → Type 0 = λ s. DescribeState program s outlooks in
-    let thread_covered = rw (c.loop-thread.invariant.same, c.cpu_at-cpu.ensures) at c.in_ok-expand_thread.ensures.covered in
+    let thread_covered = rw (c.loop-thread.invariant.program_is, c.cpu_at-cpu.ensures) at c.in_ok-expand_thread.ensures.covered in
     let are_conflicts = rw c.cpu_at-cpu.ensures at c.conflicts_with_others-conflicts.ensures in
     record {
-      same = c.in_ok-expand_thread.ensures.program ∙ c.loop-thread.invariant.same;
+      program_is = c.in_ok-expand_thread.ensures.program ∙ c.loop-thread.invariant.program_is;
       expands =
           ExpandsState-weaker program c.args.at key Described
           (λ s more. CoversThreads program thread s more × CoversThread program thread s more)
@@ -29,7 +29,7 @@ loop-thread-preserved g c =
           (ExpandsState-if_more_holds program c.args.at key
           (λ s. HasConflictsOfOthers program s thread c.conflicts_with_others-conflicts.result) Described
           (CoversThread program thread) (are_conflicts program) thread_covered));
-      kept = rw c.loop-thread.invariant.same at c.in_ok-expand_thread.ensures.kept;
+      kept = rw c.loop-thread.invariant.program_is at c.in_ok-expand_thread.ensures.kept;
     }
 
 pub returns-clause-expanded : goal.returns-clause-expanded

@@ -6,7 +6,7 @@ use Rattle.lw_search.proofs.search.Search.expand.Given as goal
 
 abbrev pub invariant-loop-thread : goal.invariant-loop-thread
 invariant-loop-thread g l = record {
-  same : l.self.program ≡ l.initial.self.program;
+  program_is : l.self.program ≡ l.initial.self.program;
   expands :
       ExpandsState l.initial.self.program.now.threads l.initial.self.tables l.initial.self.states l.self.tables l.self.states l.at
       l.key (λ s. DescribeState l.initial.self.program.now.threads s l.outlooks.threads)

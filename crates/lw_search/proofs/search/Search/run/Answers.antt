@@ -9,16 +9,16 @@ expand-requires g c =
     let a = c.loop-at.invariant.expands _ c.requires.started.0 c.requires.started.1 in
     record {
       found = omega (arith, a.1.within, a.1.key_count, c.if-at-len.false, c.len.ensures);
-      kept = rw (← c.loop-at.invariant.same) at c.loop-at.invariant.kept;
+      kept = rw (← c.loop-at.invariant.program_is) at c.loop-at.invariant.kept;
     }
 
 pub loop-at-preserved : goal.loop-at-preserved
 loop-at-preserved g c = record {
-  same = c.in_ok-expand.ensures.program ∙ c.loop-at.invariant.same;
+  program_is = c.in_ok-expand.ensures.program ∙ c.loop-at.invariant.program_is;
   expands = λ start found invariant.
       let a = c.loop-at.invariant.expands start found invariant in
-      (rw c.loop-at.invariant.same at c.in_ok-expand.ensures.expanded) start a.0 a.1;
-  kept = rw c.loop-at.invariant.same at c.in_ok-expand.ensures.kept;
+      (rw c.loop-at.invariant.program_is at c.in_ok-expand.ensures.expanded) start a.0 a.1;
+  kept = rw c.loop-at.invariant.program_is at c.in_ok-expand.ensures.kept;
 }
 
 pub returns-then-at-len-clause-progress : goal.returns-then-at-len-clause-progress
@@ -37,7 +37,7 @@ returns-then-at-len-clause-progress g c =
 pub returns-then-budget-len-clause-progress : goal.returns-then-budget-len-clause-progress
 returns-then-budget-len-clause-progress g c = λ start found invariant.
     let a = c.loop-at.invariant.expands start found invariant in
-    let b = (rw c.loop-at.invariant.same at c.in_ok-expand.ensures.expanded) start a.0 a.1 in
+    let b = (rw c.loop-at.invariant.program_is at c.in_ok-expand.ensures.expanded) start a.0 a.1 in
     (b.0, c.loop-at.at + 1, b.1, omega (arith, b.1.key_count, c.len-in-loop-at.ensures, c.if-budget-len.true))
 
 pub returns-then-budget-len-2-clause-progress : goal.returns-then-budget-len-2-clause-progress

@@ -7,7 +7,7 @@ use Rattle.lw_search.proofs.search.Search.settle_all.Goals as goal
 
 pub loop-init : goal.loop-init
 loop-init g c = record {
-  same = refl;
+  program_is = refl;
   states = refl;
   transitions = refl;
   settled = SettlesFrom-none c.args.self.now.program.now.threads c.args.key.now c.args.self.now.words c.args.self.now.run;
@@ -15,23 +15,23 @@ loop-init g c = record {
 
 pub loop-preserved : goal.loop-preserved
 loop-preserved g c = record {
-  same = c.in_ok-next.ensures.program ∙ c.loop.invariant.same;
+  program_is = c.in_ok-next.ensures.program ∙ c.loop.invariant.program_is;
   states = c.in_ok-next.ensures.states ∙ c.loop.invariant.states;
   transitions = c.in_ok-next.ensures.transitions ∙ c.loop.invariant.transitions;
   settled =
       SettlesFrom-trans c.args.self.now.program.now.threads c.loop.next c.in_ok-next.next c.loop.self.words
       c.settle_in_turn.new.self.words c.args.self.now.run c.loop.self.run c.settle_in_turn.new.self.run c.loop.invariant.settled
-      (rw c.loop.invariant.same at c.in_ok-next.ensures.settled);
+      (rw c.loop.invariant.program_is at c.in_ok-next.ensures.settled);
 }
 
 pub returns-then-len-count-clause-settled : goal.returns-then-len-count-clause-settled
 returns-then-len-count-clause-settled g c =
     SettlesFrom-trans c.args.self.now.program.now.threads c.loop.next c.in_ok-next.next c.loop.self.words
     c.settle_in_turn.new.self.words c.args.self.now.run c.loop.self.run c.settle_in_turn.new.self.run c.loop.invariant.settled
-    (rw c.loop.invariant.same at c.in_ok-next.ensures.settled)
+    (rw c.loop.invariant.program_is at c.in_ok-next.ensures.settled)
 
 pub returns-clause-settled : goal.returns-clause-settled
 returns-clause-settled g c = c.loop.invariant.settled
 
 pub settle_in_turn-requires : goal.settle_in_turn-requires
-settle_in_turn-requires g c = rw c.loop.invariant.same (c.loop.invariant.settled.extended.program ∙ c.requires)
+settle_in_turn-requires g c = rw c.loop.invariant.program_is (c.loop.invariant.settled.extended.program ∙ c.requires)

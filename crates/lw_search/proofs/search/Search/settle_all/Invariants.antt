@@ -5,7 +5,7 @@ use Rattle.lw_search.proofs.search.Search.settle_all.Given as goal
 
 abbrev pub invariant-loop : goal.invariant-loop
 invariant-loop g l = record {
-  same : l.self.program ≡ l.initial.self.program;
+  program_is : l.self.program ≡ l.initial.self.program;
   states : l.self.states ≡ l.initial.self.states;
   transitions : l.self.transitions ≡ l.initial.self.transitions;
   settled :

@@ -14,5 +14,5 @@ returns-then-is_new g c =
     (on_ok_weaker c.push_origin.result (λ h. inl (
       not-slice_get-if_absent (pointwise nat_eq) (pointwise_decides unsigned_Decides) keys c.args.key new,
       h.0 ∙ c.in_ok-is_new.ensures.keys ∙ ap (λ (b : Bool). if b then keys else (keys ++ c.args.key ∷ [])) new,
-      record { origin = h.1.origin; parent_is = h.1.parent_is; origins = h.1.origins; runs = h.1.runs; listed = h.1.listed },
+      record { origin = h.1.origin; parent_is = h.1.parent_is; origins = h.1.origins; runs = h.1.runs; run_row = h.1.run_row },
     )) c.push_origin.ensures)

@@ -13,5 +13,5 @@ returns-in_ok-push g c =
     rw (← c.self.view_is) (λ events row. inl (
       not-slice_get-if_absent (pointwise nat_eq) (pointwise_decides unsigned_Decides) keys c.args.key new,
       c.in_ok-is_new.ensures.keys ∙ ap (λ (b : Bool). if b then keys else (keys ++ c.args.key ∷ [])) new,
-      record { origin = _; parent_is = refl; origins = c.in_ok-push.ensures.items; runs = IsPrefix-refl _; listed = row },
+      record { origin = _; parent_is = refl; origins = c.in_ok-push.ensures.items; runs = IsPrefix-refl _; run_row = row },
     ))
