@@ -83,7 +83,7 @@ pub use Rattle.lw_fence.proofs.api.Compilations.{IsFencedTest-more_fences, IsMac
 pub use Rattle.lw_fence.proofs.api.Compilations.{IsMachineOutcome-of_source, IsWellFormedProgram-compiled}
 pub use Rattle.lw_fence.proofs.api.Compilations.{IsWellScopedProgram-compiled}
 pub use Rattle.lw_fence.proofs.api.Compilations.{IsWellScopedProgram-with_fences, machine_outcome-exists}
-pub use Rattle.lw_fence.proofs.api.Compilations.{without_needless_fences}
+pub use Rattle.lw_fence.proofs.api.Compilations.{IsCompiled-iff_without_fences}
 pub use Rattle.lw_outcome_map.specs.Listings.{IsStrictlySorted, OutcomeEntries, OutcomesWith, outcomes_of}
 pub use Rattle.lw_outcome_map.specs.Listings.{schedules_of}
 pub use Rattle.lw_paths.proofs.Common.{HasTooManyItems, IsWithinOrderLimit, JumpsForward, items_of_assignment}

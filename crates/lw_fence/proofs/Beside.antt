@@ -33,7 +33,7 @@ module _ (source : SourceTest) (At : ℕ → Thread → Processor → Type 0) wh
         → At t th c
 
   module _ (ss : State) (ms : MachineState (List ℕ)) (b : ThreadsCorrespond ss ms) where
-    -- The thread of a number, and its processor.
+    -- Each thread of the source is in the source's state.
     pub ThreadsCorrespond-thread : (t : ℕ) → t < length source.threads → (th : Thread) × (slice_get ss.threads t ≡ Some th)
     ThreadsCorrespond-thread t in_range = slice_get-in_range ss.threads t (omega (arith, in_range, b.as_many))
 
@@ -41,7 +41,7 @@ module _ (source : SourceTest) (At : ℕ → Thread → Processor → Type 0) wh
     pub ThreadsCorrespond-processor : (t : ℕ) → t < length source.threads → (c : Processor) × (slice_get ms.processors t ≡ Some c)
     ThreadsCorrespond-processor t in_range = slice_get-in_range ms.processors t (omega (arith, in_range, b.as_many_processors))
 
-    -- A thread and its processor have gone on.
+    -- The states still correspond after thread t and its processor have advanced to states of which `At` holds, over the memory n.
     pub ThreadsCorrespond-set : (t : ℕ) (th next : Thread) (c q : Processor) (n : List ℕ)
         → slice_get ss.threads t ≡ Some th
         → slice_get ms.processors t ≡ Some c
@@ -56,7 +56,7 @@ module _ (source : SourceTest) (At : ℕ → Thread → Processor → Type 0) wh
           (λ u x d e f ne. b.at u x d e f) at;
     }
 
-    -- One outcome, if each thread has the registers of its processor.
+    -- The two states have the same outcome if each thread has the registers of its processor.
     pub ThreadsCorrespond-outcome : ((t : ℕ) (th : Thread) (c : Processor)
         → slice_get ss.threads t ≡ Some th
         → slice_get ms.processors t ≡ Some c
@@ -66,7 +66,7 @@ module _ (source : SourceTest) (At : ℕ → Thread → Processor → Type 0) wh
         ap₂ (λ (r : List (List ℕ)) (w : List ℕ). let o : FinalState = record { regs = r; words = w } in o)
         (maps_equal-at_each_index _ _ ss.threads ms.processors (b.as_many ∙ sym b.as_many_processors) same) (sym b.words)
 
-  -- The starts of the source and of the machine are `ThreadsCorrespond`, if `At` holds of each thread at its start, with six registers.
+  -- The initial states of the source and of the machine correspond, if `At` holds of each thread at its start, with six registers.
   pub ThreadsCorrespond-start : IsWellScopedSource source
       → ((t : ℕ) (regs : List ℕ)
       → t < length source.threads

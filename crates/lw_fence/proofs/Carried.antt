@@ -25,7 +25,7 @@ Buffer = List (ℕ × ℕ)
 -- How a statement of the thread v changes a store buffer b and a memory m, to c and n.
 pub data BuffersStatement (s : Stmt) (v : Thread) (b : Buffer) (m : List ℕ) (c : Buffer) (n : List ℕ) : Type 0 where
   -- Not at all, if it has no location.
-  apart : IsLocal s → c ≡ b → n ≡ m → BuffersStatement s v b m c n
+  unlocated : IsLocal s → c ≡ b → n ≡ m → BuffersStatement s v b m c n
   -- A store becomes the newest entry.
   buffered : (x : ℕ) (w : Operand)
       → s ≡ Store x w
@@ -103,7 +103,7 @@ module _ (starts : List ℕ) (v : Thread) where
     carries = λ b m load q n done.
         let next = thread_after-no_location (source_operation s) v [] m l in
         ExecutesStatement-of_effect s b m m n _ q (position ∙ ap (λ (t : Thread). slice_index starts t.position) next)
-        (same ∙ ap (λ t. t.regs) next) (apart l refl refl) (subst (λ act. EffectLeadsTo m act q n) (goes b) done);
+        (same ∙ ap (λ t. t.regs) next) (unlocated l refl refl) (subst (λ act. EffectLeadsTo m act q n) (goes b) done);
   }
 
   -- Wrapping addition is commutative, here with the destination as an operand.
@@ -144,14 +144,14 @@ module _ (starts : List ℕ) (v : Thread) where
     }
 
     -- The word of register a was moved to d.
-    module _ (d a : ℕ) (there : d < length v.regs) (moved : p.regs ≡ slice_set v.regs d (slice_index v.regs a)) where
+    module _ (d a : ℕ) (d_in_range : d < length v.regs) (regs_after_move : p.regs ≡ slice_set v.regs d (slice_index v.regs a)) where
       -- In the processor, register d has the word of register a in the thread.
       word : slice_index p.regs d ≡ slice_index v.regs a
-      word = ap (λ r. slice_index r d) moved ∙ get_or-set_same v.regs d (slice_index v.regs a) 0 there
+      word = ap (λ r. slice_index r d) regs_after_move ∙ get_or-set_same v.regs d (slice_index v.regs a) 0 d_in_range
 
       -- Setting register d gives the same registers in the processor and in the thread, since the move changed only d.
       set : (u : ℕ) → slice_set p.regs d u ≡ slice_set v.regs d u
-      set u = ap (λ r. slice_set r d u) moved ∙ set-set v.regs d (slice_index v.regs a) u
+      set u = ap (λ r. slice_set r d u) regs_after_move ∙ set-set v.regs d (slice_index v.regs a) u
 
       -- After the move of a to d, `XCHG` of x and d executes the exchange of x and a into d.
       EffectExecutesStatement-swap : (x : ℕ) → EffectExecutesStatement starts v (Swap d x a) p (x86.Xchg x d)
@@ -227,21 +227,21 @@ module _ (starts : List ℕ) (v : Thread) where
     start-of_jump false to next = sym next
 
     -- A jump after a comparison, by the flag that the comparison sets.
-    ExecutesLowering-jump : {s : Stmt} (a k to : ℕ) {i : Instr} (told : Bool → Bool)
+    ExecutesLowering-jump : {s : Stmt} (a k to : ℕ) {i : Instr} (guard_of_flag : Bool → Bool)
         → IsLocal s
         → ((q : Processor)
-        → step_effect (Some i) q ≡ LocalStep (jump_or_advance_processor q (told q.zero_flag) (slice_index starts to)))
+        → step_effect (Some i) q ≡ LocalStep (jump_or_advance_processor q (guard_of_flag q.zero_flag) (slice_index starts to)))
         → thread_after (source_operation s) v []
-        ≡ record { position = if told (slice_index v.regs a == k) then to else (v.position + 1); regs = v.regs }
+        ≡ record { position = if guard_of_flag (slice_index v.regs a == k) then to else (v.position + 1); regs = v.regs }
         → ExecutesFrom s (Two (lower_compare a k) i)
-    ExecutesLowering-jump {s = s} a k to {i = i} told l goes after next m q n done =
+    ExecutesLowering-jump {s = s} a k to {i = i} guard_of_flag l goes after next m q n done =
         let after_jump = p.position + 1 + 1 in
         let r : Processor =
         record { position = p.position + 1; regs = p.regs; zero_flag = slice_index p.regs a == k; buffer = p.buffer } in
-        let jump = start-of_jump (told (slice_index v.regs a == k)) to (omega arith) in
+        let jump = start-of_jump (guard_of_flag (slice_index v.regs a == k)) to (omega arith) in
         AdvancesToLast-of_step s r q i m n refl refl
         (EffectExecutesStatement-local l (λ b. goes (record r { buffer = b }))
-        (ap (λ l. if told (slice_index l a == k) then slice_index starts to else after_jump) regs
+        (ap (λ l. if guard_of_flag (slice_index l a == k) then slice_index starts to else after_jump) regs
         ∙ jump
         ∙ ap (λ t. slice_index starts t.position) (sym after)) (regs ∙ ap (λ t. t.regs) (sym after))) done
 
@@ -257,15 +257,15 @@ module _ (starts : List ℕ) (v : Thread) where
         (λ is. ExecutesLowering-fenced d x) (λ is next. EffectExecutesStatement-load p next d x regs (empty refl is))
     ExecutesLowering-lowered (Swap d x a) count are_registers empty =
         ExecutesLowering-moved (Swap d x a) d a (x86.Xchg x d)
-        (λ q next moved. EffectExecutesStatement-swap q next d a (omega (arith, are_registers 0 0 (omega arith))) moved x)
+        (λ q next regs_after_move. EffectExecutesStatement-swap q next d a (omega (arith, are_registers 0 0 (omega arith))) regs_after_move x)
     ExecutesLowering-lowered (FetchAdd d x a) count are_registers empty =
         ExecutesLowering-moved (FetchAdd d x a) d a (x86.Xadd x d)
-        (λ q next moved. EffectExecutesStatement-fetch_add q next d a (omega (arith, are_registers 0 0 (omega arith))) moved x)
+        (λ q next regs_after_move. EffectExecutesStatement-fetch_add q next d a (omega (arith, are_registers 0 0 (omega arith))) regs_after_move x)
     ExecutesLowering-lowered (Set d w) count are_registers empty =
         λ next. EffectExecutesStatement-local refl (λ b. refl) (sym next) (ap (λ r. slice_set r d (operand_value w r)) regs)
     ExecutesLowering-lowered (Sum d a (Number k)) count are_registers empty =
-        ExecutesLowering-moved (Sum d a (Number k)) d a (x86.Add d (Number k)) (λ q next moved.
-        EffectExecutesStatement-add q next d a (omega (arith, are_registers 0 0 (omega arith))) moved (Number k) refl)
+        ExecutesLowering-moved (Sum d a (Number k)) d a (x86.Add d (Number k)) (λ q next regs_after_move.
+        EffectExecutesStatement-add q next d a (omega (arith, are_registers 0 0 (omega arith))) regs_after_move (Number k) refl)
     ExecutesLowering-lowered (Sum d a (Register b)) count are_registers empty =
         let in_range : d < length v.regs = omega (arith, are_registers 0 0 (omega arith)) in
         both_cases-selected (ExecutesFrom (Sum d a (Register b))) (d == b) (One (x86.Add d (Register a))) _ (λ is next.
@@ -274,9 +274,9 @@ module _ (starts : List ℕ) (v : Thread) where
         ∙ ap (slice_set v.regs d) (wrapping_sum-comm_destination d a b is)))
         (λ is.
         ExecutesLowering-moved (Sum d a (Register b)) d a _
-        (λ q next moved.
-        EffectExecutesStatement-add q next d a in_range moved (Register b)
-        (ap (λ r. slice_index r b) moved ∙ get_or-set_other v.regs d b (slice_index v.regs a) 0 (λ e. eqb-false d b is (sym e)))))
+        (λ q next regs_after_move.
+        EffectExecutesStatement-add q next d a in_range regs_after_move (Register b)
+        (ap (λ r. slice_index r b) regs_after_move ∙ get_or-set_other v.regs d b (slice_index v.regs a) 0 (λ e. eqb-false d b is (sym e)))))
     ExecutesLowering-lowered (IfEq a k to) count are_registers empty =
         ExecutesLowering-jump a k to (λ flag. flag) refl (λ q. refl) refl
     ExecutesLowering-lowered (IfNe a k to) count are_registers empty = ExecutesLowering-jump a k to not refl (λ q. refl) refl

@@ -1,5 +1,5 @@
 -- At the end of a run of the machine each thread of the source catches up, and is then at its end with the
--- registers of its processor. It is the last step of the direction from machine to source, after
+-- registers of its processor. This is the last step of the direction from machine to source, after
 -- `Simulation`.
 use Rattle.lw_fence.proofs.Common.{IsWellScopedSource, ◌≡◌, ℕ, zero, suc, ◌<◌, ◌≤◌, ◌==◌, nat_le, List, []}
 use Rattle.lw_fence.proofs.Common.{length, Some, true, refl, sym, ap, ◌∙◌, subst, ⊎_elim, arith, slice_get}
@@ -32,7 +32,7 @@ position_in_range-of_lowering instrs k (Two i j) has = slice_get_within instrs k
 abbrev pub HasEnded : List Stmt → Thread → Processor → Type 0
 HasEnded code th c = (length code ≤ th.position) × (th.regs ≡ c.regs)
 
--- Where the processor is at its end, so is the thread that owes nothing more.
+-- If the processor is at its end, so is a thread without pending statements.
 HasEnded-of_stage : {code : List Stmt} (instrs : List Instr) (starts : List ℕ) (v : Thread) (c : Processor)
     → IsFencedAsNeeded code instrs starts
     → Stage code instrs starts v c
@@ -75,11 +75,11 @@ module _ (source : SourceTest) (program : X86Test) (starts : List (List ℕ)) (c
       → t < n
       → HasEnded (thread_code source.threads t) th c
 
-  -- The source has gone on to a state whose first n threads are at their ends, with their processors' registers.
+  -- Some steps of the source lead to a state whose first n threads are at their ends, with their processors' registers.
   pub record CaughtUp (ss : State) (n : ℕ) : Type 0 where
     pub end : State
-    pub caught : SimulatedToEnd source program starts ss end ms
-    pub over : AreFirstOver end n
+    pub simulated_to_end : SimulatedToEnd source program starts ss end ms
+    pub first_ended : AreFirstOver end n
 
   -- Thread n catches up.
   CaughtUp-one_thread : (n : ℕ) (ss : State) (th : Thread) (c : Processor)
@@ -89,9 +89,9 @@ module _ (source : SourceTest) (program : X86Test) (starts : List (List ℕ)) (c
       → slice_get ss.threads n ≡ Some th
       → slice_get ms.processors n ≡ Some c
       → CaughtUp ss (suc n)
-  CaughtUp-one_thread n ss th c b over in_range was processor_at = record {
+  CaughtUp-one_thread n ss th c b first_ended in_range was processor_at = record {
     end = state_of (slice_set ss.threads n lag_of_thread.ahead) ms.memory;
-    caught =
+    simulated_to_end =
         SimulatedToEnd-followed source program starts n ss ms ms th c c ms.memory b was processor_at (record {
           now = lag_of_thread.ahead;
           moves =
@@ -99,10 +99,10 @@ module _ (source : SourceTest) (program : X86Test) (starts : List (List ℕ)) (c
               lag_of_thread.pending_stores processor_has_ended.1;
           simulated = lag_of_caught_up;
         }) (ap (λ l. state l ms.memory) (sym processors_same));
-    over = λ t x d e f.
+    first_ended = λ t x d e f.
         OfFellows-set_both (λ u y z. u < suc n → HasEnded (thread_code source.threads u) y z) ss.threads ms.processors n
         lag_of_thread.ahead c (record { left = was; right = processor_at })
-        (λ u y z g h ne below. over u y z g h (omega (arith, below, ne))) (λ below. thread_has_ended) t x d e
+        (λ u y z g h ne below. first_ended u y z g h (omega (arith, below, ne))) (λ below. thread_has_ended) t x d e
         (ap (λ l. slice_get l t) processors_same ∙ f);
   }
     where
@@ -144,16 +144,16 @@ module _ (source : SourceTest) (program : X86Test) (starts : List (List ℕ)) (c
       → SimulationRelation source program starts ss ms
       → CaughtUp ss n
   CaughtUp-first_threads zero ss le b =
-      record { end = ss; caught = SimulatedToEnd-refl source program starts b; over = λ t th c e f lt. absurd (omega arith) }
+      record { end = ss; simulated_to_end = SimulatedToEnd-refl source program starts b; first_ended = λ t th c e f lt. absurd (omega arith) }
   CaughtUp-first_threads (suc n) ss le b = CaughtUp-suc (CaughtUp-first_threads n ss (omega arith) b)
     where
       -- One thread more catches up.
       CaughtUp-suc : CaughtUp ss n → CaughtUp ss (suc n)
       CaughtUp-suc d =
-          let th = ThreadsCorrespond-thread source (LagAt source program starts) d.end ms d.caught.related n le in
-          let c = ThreadsCorrespond-processor source (LagAt source program starts) d.end ms d.caught.related n le in
-          let a = CaughtUp-one_thread n d.end th.0 c.0 d.caught.related d.over le th.1 c.1 in
-          record { end = a.end; caught = SimulatedToEnd-trans source program starts d.end a.end d.caught a.caught; over = a.over }
+          let th = ThreadsCorrespond-thread source (LagAt source program starts) d.end ms d.simulated_to_end.related n le in
+          let c = ThreadsCorrespond-processor source (LagAt source program starts) d.end ms d.simulated_to_end.related n le in
+          let a = CaughtUp-one_thread n d.end th.0 c.0 d.simulated_to_end.related d.first_ended le th.1 c.1 in
+          record { end = a.end; simulated_to_end = SimulatedToEnd-trans source program starts d.end a.end d.simulated_to_end a.simulated_to_end; first_ended = a.first_ended }
 
 module _ (source : SourceTest) (program : X86Test) (starts : List (List ℕ)) (well_scoped : IsWellScopedSource source)
     (compiled : IsCompiled source program starts) where
@@ -171,7 +171,7 @@ module _ (source : SourceTest) (program : X86Test) (starts : List (List ℕ)) (w
       → SimulationRelation source program starts ss ms
       → AreFirstOver source program starts compiled ms final ss (length source.threads)
       → IsTrue (is_over source.threads ss)
-  is_over-all_threads ss ms final related over = list_all_zip-of_each _ source.threads ss.threads each_past_end
+  is_over-all_threads ss ms final related first_ended = list_all_zip-of_each _ source.threads ss.threads each_past_end
     where
       -- Each thread is at the end of its code.
       each_past_end : (t : ℕ) (code : List Stmt) (th : Thread)
@@ -182,7 +182,7 @@ module _ (source : SourceTest) (program : X86Test) (starts : List (List ℕ)) (w
           let within = slice_get_within source.threads t code thread_at in
           let c = ThreadsCorrespond-processor source (LagAt source program starts) ss ms related t within in
           let own : thread_code source.threads t ≡ code = get_or_from_slice_get source.threads t code [] thread_at in
-          le-leb (length code) th.position (omega (arith, (over t th c.0 f c.1 within).0, ap length own))
+          le-leb (length code) th.position (omega (arith, (first_ended t th c.0 f c.1 within).0, ap length own))
 
 -- An outcome of the compiled program is one of the source.
 pub SourceOutcome-of_machine : (s : SourceTest) (p : X86Test) (starts : List (List ℕ)) (o : FinalState)
@@ -197,15 +197,15 @@ SourceOutcome-of_machine s p starts o well_scoped compiled (events, r) =
     SimulatedToEnd-run s p starts well_scoped compiled events (initial_state s) r.end
     (SimulationRelation-start s p starts well_scoped compiled) ran in
     let d = CaughtUp-first_threads s p starts compiled r.end r.final (length s.threads) a.0 (omega arith) a.1.related in
-    let c = SimulatedToEnd-trans s p starts a.0 d.end a.1 d.caught in
+    let c = SimulatedToEnd-trans s p starts a.0 d.end a.1 d.simulated_to_end in
     let within = λ (t : ℕ) (th : Thread) (e : slice_get d.end.threads t ≡ Some th). slice_get_within d.end.threads t th e in
     let run : InterleavesTo s c.order o = record {
       end = d.end;
       ran = c.ran;
-      final = is_over-all_threads s p starts well_scoped compiled d.end r.end r.final c.related d.over;
+      final = is_over-all_threads s p starts well_scoped compiled d.end r.end r.final c.related d.first_ended;
       outcome_is =
           r.outcome_is
           ∙ sym (ThreadsCorrespond-outcome s (LagAt s p starts) d.end r.end c.related
-          (λ t th x e f. (d.over t th x e f (omega (arith, within t th e, c.related.as_many))).1));
+          (λ t th x e f. (d.first_ended t th x e f (omega (arith, within t th e, c.related.as_many))).1));
     } in
     (c.order, run)

@@ -31,7 +31,7 @@ fence_marks fs gs (x ∷ code) = lowered_marks x (get_or fs 0 false) (get_or gs 
 abbrev AreFlagsAmong : List Bool → List Bool → Type 0
 AreFlagsAmong fs gs = (j : ℕ) → get_or fs j false ≡ true → get_or gs j false ≡ true
 
--- The property of `AreFlagsAmong` holds of the flags after the first.
+-- If each flag that is set in fs is set in gs, so it is of the flags after the first.
 AreFlagsAmong-tail : (fs gs : List Bool) → AreFlagsAmong fs gs → AreFlagsAmong (drop 1 fs) (drop 1 gs)
 AreFlagsAmong-tail fs gs among j set = get_or-drop_one gs j ∙ among (suc j) (sym (get_or-drop_one fs j) ∙ set)
 

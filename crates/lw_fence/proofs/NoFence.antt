@@ -40,8 +40,8 @@ starts_from-no_fences n (false ∷ fences) (x ∷ code) none =
 
 module _ (code : List Stmt) (needless : (j : ℕ) → NeedsFence code j → ⊥) {instrs : List Instr} {starts : List ℕ} where
   -- If no statement needs a fence, a thread lowered without fences is a compiled thread.
-  compiled_thread : IsThreadWith [] code instrs starts → IsCompiledThread code instrs starts
-  compiled_thread c =
+  IsCompiledThread-without_fences : IsThreadWith [] code instrs starts → IsCompiledThread code instrs starts
+  IsCompiledThread-without_fences c =
       let fences = replicate (length code) false in
       let none = AreAllUnset-replicate (length code) in
       record {
@@ -53,8 +53,8 @@ module _ (code : List Stmt) (needless : (j : ℕ) → NeedsFence code j → ⊥)
       }
 
   -- If no statement needs a fence, a compiled thread is one lowered without fences.
-  thread_without : IsCompiledThread code instrs starts → IsThreadWith [] code instrs starts
-  thread_without c =
+  IsThreadWith-no_fences : IsCompiledThread code instrs starts → IsThreadWith [] code instrs starts
+  IsThreadWith-no_fences c =
       let none = λ (j : ℕ) (at : slice_get c.fences j ≡ Some true). needless j ((c.needed j).0 at) in
       record {
         starts_are = c.starts_are ∙ starts_from-no_fences 0 c.fences code none;
@@ -69,20 +69,20 @@ module _ (source : SourceTest) (program : X86Test) (starts : List (List ℕ)) (n
       (needless t)
 
   -- If no statement needs a fence, a program is compiled from the source if and only if it is compiled without fences.
-  pub without_needless_fences : IsCompiled source program starts ↔ IsCompiledWithoutFences source program starts
-  without_needless_fences = (
+  pub IsCompiled-iff_without_fences : IsCompiled source program starts ↔ IsCompiledWithoutFences source program starts
+  IsCompiled-iff_without_fences = (
     (λ c. record {
       head = c.head;
       as_many = c.as_many;
       as_many_starts = c.as_many_starts;
       threads = λ t code instrs begins at and_at there.
-          thread_without code (not-NeedsFence-at t code at) (c.threads t code instrs begins at and_at there);
+          IsThreadWith-no_fences code (not-NeedsFence-at t code at) (c.threads t code instrs begins at and_at there);
     }),
     (λ c. record {
       head = c.head;
       as_many = c.as_many;
       as_many_starts = c.as_many_starts;
       threads = λ t code instrs begins at and_at there.
-          compiled_thread code (not-NeedsFence-at t code at) (c.threads t code instrs begins at and_at there);
+          IsCompiledThread-without_fences code (not-NeedsFence-at t code at) (c.threads t code instrs begins at and_at there);
     }),
   )

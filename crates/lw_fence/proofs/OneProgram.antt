@@ -35,18 +35,18 @@ flags_equal-same_set fs gs as_many to from = lists_equal-at_each_index fs gs as_
 module _ (code : List Stmt) (instrs others : List Instr) (starts begins : List ℕ) (c : IsCompiledThread code instrs starts)
     (d : IsCompiledThread code others begins) where
   -- Two compilations of a thread have the same fences, since both set exactly the flags of the loads that need one.
-  fences : c.fences ≡ d.fences
-  fences =
+  fences_equal : c.fences ≡ d.fences
+  fences_equal =
       flags_equal-same_set c.fences d.fences (c.as_many ∙ sym d.as_many) (λ k e. (d.needed k).1 ((c.needed k).0 e))
       (λ k e. (c.needed k).1 ((d.needed k).0 e))
 
   -- They have the same starts, which the fences determine.
   starts_equal : starts ≡ begins
-  starts_equal = c.starts_are ∙ ap (λ fs. starts_from 0 fs code) fences ∙ sym d.starts_are
+  starts_equal = c.starts_are ∙ ap (λ fs. starts_from 0 fs code) fences_equal ∙ sym d.starts_are
 
   -- They have the same instructions, which the fences and the starts determine.
   instrs_equal : instrs ≡ others
-  instrs_equal = c.instrs_are ∙ ap₂ (λ s fs. lowered_code s fs code) starts_equal fences ∙ sym d.instrs_are
+  instrs_equal = c.instrs_are ∙ ap₂ (λ s fs. lowered_code s fs code) starts_equal fences_equal ∙ sym d.instrs_are
 
 module _ (s : SourceTest) (p q : X86Test) (starts begins : List (List ℕ)) (c : IsCompiled s p starts)
     (d : IsCompiled s q begins) where

@@ -46,14 +46,14 @@ AllAt-within P instrs k (y ∷ is) j i all at =
       instr_at = at.instr_at;
     })) (cases_eq k j)
 
--- Code of so many instructions on so many locations, made of so many statements, each of which starts there.
+-- A code of l instructions on `locs` locations that results from n statements: `starts` has the index of each statement's first instruction.
 module _ (locs l n : ℕ) (starts : List ℕ) where
-  -- What the instruction of this number has to be.
+  -- The instruction at index k is well-formed, and a jump leads forward, at most to the end.
   abbrev IsWellFormedInstrAt : ℕ → Instr → Type 0
   IsWellFormedInstrAt k i =
       IsWellFormedStatement x86_language locs i × ForSome (branch_target (programs.x86_operation i)) (λ to. (k < to) × (to ≤ l))
 
-  -- Its only successor is the next instruction.
+  -- An instruction that is no jump is well-formed at each index if it is a well-formed statement.
   IsWellFormedInstrAt-falls_through : (i : Instr)
       → branch_target (programs.x86_operation i) ≡ None
       → IsWellFormedStatement x86_language locs i
@@ -65,7 +65,7 @@ module _ (locs l n : ℕ) (starts : List ℕ) where
   no_location : ForSome None (λ x. x < locs)
   no_location x e = absurd (none-some x e)
 
-  -- With no location, no register and no number.
+  -- An operation without a location, a register and a number has nothing that could be out of range.
   no_operands_well_formed : ForSome None (λ x. x < locs) × All IsRegisterIndex [] × All IsWordNumber []
   no_operands_well_formed = (no_location, All-nil IsRegisterIndex, All-nil IsWordNumber)
 
@@ -77,11 +77,11 @@ module _ (locs l n : ℕ) (starts : List ℕ) where
   two_registers : (r s : ℕ) → IsRegisterIndex r → IsRegisterIndex s → All IsRegisterIndex (r ∷ s ∷ [])
   two_registers r s there and_there = All-cons IsRegisterIndex r (s ∷ []) there (one_register s and_there)
 
-  -- Each statement after the one of number j starts at `end` or after it, and within the code.
+  -- Each statement after the one at index j starts at `end` or after it, and within the code.
   abbrev Reaches : ℕ → ℕ → Type 0
   Reaches j end = (to : ℕ) → j < to → to ≤ n → (end ≤ slice_index starts to) × (slice_index starts to ≤ l)
 
-  -- An instruction after `MOV d,a`, if that is needed.
+  -- An instruction that is well-formed at each index is so after `MOV d,a`, if that is needed, and so is the move.
   AllAt-with_move : (d a k : ℕ) (last : Instr)
       → IsRegisterIndex d
       → IsRegisterIndex a
@@ -94,7 +94,7 @@ module _ (locs l n : ℕ) (starts : List ℕ) where
       both_cases-selected (λ r. AllAt IsWellFormedInstrAt k (instrs_of r)) (d == a) (One last)
       (Two (instr.Set d (Register a)) last) (λ is. (fits k, tt)) (λ is. (moves k, (fits (k + 1), tt)))
 
-  -- An `ADD` to d.
+  -- An `ADD` of a well-formed operand to d is well-formed.
   IsWellFormedInstrAt-add : (d : ℕ) (v : Operand)
       → IsRegisterIndex d
       → All IsRegisterIndex (operand_registers v)
@@ -107,7 +107,7 @@ module _ (locs l n : ℕ) (starts : List ℕ) where
     words,
   )
 
-  -- A jump to the start of the target of the statement of number j.
+  -- A jump to the start of the target of the statement at index j is well-formed.
   IsWellFormedInstrAt-jump : (i : Instr) (j k end to : ℕ)
       → IsWellFormedStatement x86_language locs i
       → branch_target (programs.x86_operation i) ≡ Some (slice_index starts to)
@@ -119,7 +119,7 @@ module _ (locs l n : ℕ) (starts : List ℕ) where
       let there = reaches to (forward to refl).0 (forward to refl).1 in
       (well_formed, λ u e. subst (λ u. (k < u) × (u ≤ l)) (same_Some _ u (sym is ∙ e)) (omega arith, there.1))
 
-  -- The lowering of the statement of number j, which starts at k.
+  -- The lowering of the statement at index j, which starts at k, is well-formed.
   AllAt-lowered : (f : Bool) (x : Stmt) (j k : ℕ)
       → IsWellFormedStatement source_language locs x
       → ForSome (branch_target (source_operation x)) (λ to. (j < to) × (to ≤ n))
@@ -184,7 +184,7 @@ All-at_index P xs k x all found_at =
 
 -- A compiled thread.
 module _ (locs : ℕ) (code : List Stmt) (instrs : List Instr) (starts : List ℕ)
-    (well_scoped : IsWellScopedThread source_language locs code) (stands : IsLaidOut code instrs starts) where
+    (well_scoped : IsWellScopedThread source_language locs code) (laid_out : IsLaidOut code instrs starts) where
   -- The start of a statement in the compiled code.
   abbrev start : ℕ → ℕ
   start k = slice_index starts k
@@ -195,61 +195,61 @@ module _ (locs : ℕ) (code : List Stmt) (instrs : List Instr) (starts : List �
   start-monotone a (suc d) le =
       let x = slice_get-in_range code (a + d) (omega arith) in
       let e : a + d + 1 ≡ a + suc d = omega arith in
-      omega (arith, (stands.at (a + d) x.0 x.1).next, ap start e, start-monotone a d (omega arith))
+      omega (arith, (laid_out.at (a + d) x.0 x.1).next, ap start e, start-monotone a d (omega arith))
 
-  -- Each statement after the one of number j starts at or after the next start, and within the code.
+  -- Each statement after the one at index j starts at or after the next start, and within the code.
   Reaches-next_start : (j : ℕ) → Reaches locs (length instrs) (length code) starts j (start (j + 1))
   Reaches-next_start j to after within =
       let e : j + 1 + (to - (j + 1)) ≡ to = omega arith in
       let f : to + (length code - to) ≡ length code = omega arith in (
         subst (λ k. start (j + 1) ≤ start k) e (start-monotone (j + 1) (to - (j + 1)) (omega arith)),
-        subst (λ m. start to ≤ m) (ap start f ∙ stands.last) (start-monotone to (length code - to) (omega arith)),
+        subst (λ m. start to ≤ m) (ap start f ∙ laid_out.last) (start-monotone to (length code - to) (omega arith)),
       )
 
-  -- What the instruction of this number has to be, in this thread.
-  abbrev FitsHere : ℕ → Instr → Type 0
-  FitsHere j i = IsWellFormedInstrAt locs (length instrs) (length code) starts j i
+  -- The instruction at index j of this thread is well-formed.
+  abbrev IsWellFormedHere : ℕ → Instr → Type 0
+  IsWellFormedHere j i = IsWellFormedInstrAt locs (length instrs) (length code) starts j i
 
-  -- The instructions before the statement of number k.
-  FitsHere-before_start : (k : ℕ)
+  -- The instructions before the start of the statement at index k are well-formed.
+  IsWellFormedHere-before_start : (k : ℕ)
       → k ≤ length code
       → (j : ℕ) (i : Instr)
       → j < start k
       → slice_get instrs j ≡ Some i
-      → FitsHere j i
-  FitsHere-before_start zero le j i lt found_at = absurd (omega (arith, stands.first))
-  FitsHere-before_start (suc k) le j i lt found_at =
-      ⊎_elim (λ early. FitsHere-before_start k (omega arith) j i early found_at)
-      (λ late. FitsHere-in_lowering late (slice_get-in_range code k le)) (cases_lt j (start k))
+      → IsWellFormedHere j i
+  IsWellFormedHere-before_start zero le j i lt found_at = absurd (omega (arith, laid_out.first))
+  IsWellFormedHere-before_start (suc k) le j i lt found_at =
+      ⊎_elim (λ early. IsWellFormedHere-before_start k (omega arith) j i early found_at)
+      (λ late. IsWellFormedHere-in_lowering late (slice_get-in_range code k le)) (cases_lt j (start k))
     where
       -- From its start on the instruction is one of the lowering of statement k.
-      FitsHere-in_lowering : start k ≤ j → (x : Stmt) × (slice_get code k ≡ Some x) → FitsHere j i
-      FitsHere-in_lowering late x =
-          let s = stands.at k x.0 x.1 in
+      IsWellFormedHere-in_lowering : start k ≤ j → (x : Stmt) × (slice_get code k ≡ Some x) → IsWellFormedHere j i
+      IsWellFormedHere-in_lowering late x =
+          let s = laid_out.at k x.0 x.1 in
           let next : suc k ≡ k + 1 = omega arith in
           let r = subst (λ b. Reaches locs (length instrs) (length code) starts k b) s.next (Reaches-next_start k) in
           let each =
           AllAt-lowered locs (length instrs) (length code) starts s.fence x.0 k (start k)
           (All-at_index (IsWellFormedStatement source_language locs) code k x.0 well_scoped.statements_formed x.1)
           (well_scoped.forward k x.0 x.1) r in
-          AllAt-within FitsHere instrs (start k) (instrs_of (lowered starts s.fence x.0)) j i each (record {
+          AllAt-within IsWellFormedHere instrs (start k) (instrs_of (lowered starts s.fence x.0)) j i each (record {
             lowering = s.lowering_at_start;
             from = late;
             before = omega (arith, s.next, ap start next);
             instr_at = found_at;
           })
 
-  -- Each instruction of the compiled code is what it has to be.
-  FitsHere-every_instr : (j : ℕ) (i : Instr) → slice_get instrs j ≡ Some i → FitsHere j i
-  FitsHere-every_instr j i found_at =
-      FitsHere-before_start (length code) (omega arith) j i
-      (subst (λ n. j < n) (sym stands.last) (slice_get_within instrs j i found_at)) found_at
+  -- Each instruction of the compiled code is well-formed.
+  IsWellFormedHere-every_instr : (j : ℕ) (i : Instr) → slice_get instrs j ≡ Some i → IsWellFormedHere j i
+  IsWellFormedHere-every_instr j i found_at =
+      IsWellFormedHere-before_start (length code) (omega arith) j i
+      (subst (λ n. j < n) (sym laid_out.last) (slice_get_within instrs j i found_at)) found_at
 
   -- The compiled code is a well-scoped thread.
   IsWellScopedThread-compiled : IsWellScopedThread x86_language locs instrs
   IsWellScopedThread-compiled = record {
-    statements_formed = λ j d lt. (FitsHere-every_instr j _ (at_index instrs j d lt)).0;
-    forward = λ j i e. (FitsHere-every_instr j i e).1;
+    statements_formed = λ j d lt. (IsWellFormedHere-every_instr j _ (at_index instrs j d lt)).0;
+    forward = λ j i e. (IsWellFormedHere-every_instr j i e).1;
   }
 
 -- What is made of a well-formed code is a well-formed code.
@@ -257,11 +257,11 @@ IsWellFormedThread-laid_out : (locs : ℕ) (code : List Stmt) (instrs : List Ins
     → IsWellFormedThread source_language locs code
     → IsLaidOut code instrs starts
     → IsWellFormedThread x86_language locs instrs
-IsWellFormedThread-laid_out locs code instrs starts well_formed stands =
+IsWellFormedThread-laid_out locs code instrs starts well_formed laid_out =
     let scoped =
-    IsWellScopedThread-compiled locs code instrs starts (IsWellScopedThread-well_formed source_language well_formed) stands in
+    IsWellScopedThread-compiled locs code instrs starts (IsWellScopedThread-well_formed source_language well_formed) laid_out in
     record {
-      short = omega (arith, stands.short, well_formed.short);
+      short = omega (arith, laid_out.short, well_formed.short);
       statements_formed = scoped.statements_formed;
       forward = scoped.forward;
     }

@@ -62,7 +62,7 @@ module _ (source : SourceTest) (program : X86Test) (starts : List (List ℕ)) wh
 
 module _ (source : SourceTest) (program : X86Test) (starts : List (List ℕ)) (well_scoped : IsWellScopedSource source)
     (compiled : IsCompiled source program starts) where
-  -- What the source does at an event of processor t, which was c.
+  -- The source follows an event of processor t that leads from c to q and the memory n.
   SourceFollows-event : (e : Event) (ss : State) (ms : MachineState (List ℕ)) (th : Thread) (c q : Processor) (n : List ℕ)
       → cpu_of e < length source.threads
       → LagAt source program starts (cpu_of e) th c

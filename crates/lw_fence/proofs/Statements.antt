@@ -1,12 +1,12 @@
 -- A processor with an empty buffer executes a statement by its lowering, followed by a drain if it is a
--- store. It is one step of the direction from source to machine (`SourceToMachine`).
+-- store. This is one step of the direction from source to machine (`SourceToMachine`).
 use Rattle.lw_fence.proofs.Common.{registers, ◌≡◌, ℕ, List, [], ◌∷◌, ◌++◌, length, replicate, Some, Bool}
 use Rattle.lw_fence.proofs.Common.{false, refl, sym, ap, ◌∙◌, subst, subst₂, if◌then◌else◌, slice_get}
 use Rattle.lw_fence.proofs.Common.{slice_set, slice_index, append-nil, thread_code, operand_value, Event}
 use Rattle.lw_fence.proofs.Common.{Step, Drain, Instr, Stmt, is_store, source_operation, Thread, thread_after}
 use Rattle.lw_fence.proofs.Common.{words_after, words_after-no_location, Processor, Lowered, One, Two}
 use Rattle.lw_fence.proofs.Common.{lowered, instrs_of, IsEnabledEffect-operation}
-use Rattle.lw_fence.proofs.Carried.{BuffersStatement, apart, buffered, at_once, ExecutesStatement}
+use Rattle.lw_fence.proofs.Carried.{BuffersStatement, unlocated, buffered, at_once, ExecutesStatement}
 use Rattle.lw_fence.proofs.Carried.{ExecutesLowering, no_store_no_load-if_unlocated, ExecutesLowering-lowered}
 use Rattle.lw_fence.proofs.Moves.{ProcessorMoves, ProcessorMoves-append, ProcessorMoves-step}
 use Rattle.lw_fence.proofs.Moves.{ProcessorMoves-drain}
@@ -87,7 +87,7 @@ module _ (program : List (List Instr)) (t : ℕ) (starts : List ℕ) (th : Threa
       moves-by_statement : BuffersStatement x th [] m q.buffer n
           → ProcessorMoves program t begin m (es ++ drain_if_store t (is_store (source_operation x))) (processor_with_buffer [])
           (words_after (source_operation x) th m)
-      moves-by_statement (apart l still same) =
+      moves-by_statement (unlocated l still same) =
           moves_without_drain (no_store_no_load-if_unlocated (source_operation x) l).0 still
           (same ∙ sym (words_after-no_location (source_operation x) th m l))
       moves-by_statement (at_once none empty still words) = moves_without_drain none still words

@@ -10,12 +10,12 @@ use Rattle.lw_fence.proofs.Common.{length-set_word_if_some, Compare, Fence, Bran
 use Rattle.lw_litmus.specs.declared.operation.Operation.TheVariants.{Store, FetchAdd}
 use Rattle.lw_fence.proofs.Marks.{IsSuccessor-forward}
 
--- What a statement of a well-scoped thread has: its registers exist, and a jump leads forward, at most to the end.
+-- The statement at index j has only registers that exist, and a jump leads forward, at most to the end.
 pub record IsAllowedStatement (code : List Stmt) (j : ℕ) (x : Stmt) : Type 0 where
   pub registers : All IsRegisterIndex (registers_of (source_operation x))
   pub target : ForSome (branch_target (source_operation x)) (λ to. (j < to) × (to ≤ length code))
 
--- Each statement of a well-scoped thread has registers that are there, and jumps forward only.
+-- Each statement of a well-scoped thread has registers in range, and jumps forward only.
 IsAllowedStatement-in_thread : (locs : ℕ) (code : List Stmt) (j : ℕ) (x : Stmt)
     → IsWellScopedThread source_language locs code
     → slice_get code j ≡ Some x
@@ -26,7 +26,7 @@ IsAllowedStatement-in_thread locs code j x thread found_at =
     subst (IsWellFormedStatement source_language locs) same (thread.statements_formed j x (slice_get_within code j x found_at)) in
     record { registers = statement.1; target = thread.forward j x found_at }
 
--- Each statement of a well-scoped source has registers that are there, and jumps forward only.
+-- Each statement of a well-scoped source has registers in range, and jumps forward only.
 pub IsAllowedStatement-in_source : (s : SourceTest)
     → IsWellScopedSource s
     → (t j : ℕ) (x : Stmt)

@@ -8,7 +8,7 @@ use Rattle.lw_fence.proofs.Common.{drain_effect, EventEffect, step_effect, Effec
 use Rattle.lw_fence.proofs.Common.{false≢true, none-some, slice_get_past, slice_get-in_range, is_load}
 use Rattle.lw_fence.proofs.Common.{source_operation, thread_after, thread_after-no_location, Lowered, One}
 use Rattle.lw_fence.proofs.Common.{Two, lowered, instrs_of, HasKind, NeedsFence}
-use Rattle.lw_fence.proofs.Carried.{EffectExecutesStatement, BuffersStatement, apart, buffered, at_once}
+use Rattle.lw_fence.proofs.Carried.{EffectExecutesStatement, BuffersStatement, unlocated, buffered, at_once}
 use Rattle.lw_fence.proofs.Carried.{ExecutesStatement, AdvancesToLast, ExecutesLowering}
 use Rattle.lw_fence.proofs.Carried.{ExecutesLowering-lowered}
 use Rattle.lw_fence.proofs.Moves.{ThreadMoves, ThreadMoves-refl, ThreadMoves-trans, ThreadMoves-statement}
@@ -138,7 +138,7 @@ module _ (program : List (List Stmt)) (t : ℕ) (instrs : List Instr) (starts : 
 
       -- By what the statement does: it is apart from memory, buffered, or executed at once.
       Goal-by_statement : BuffersStatement s v p.buffer m q.buffer n → Goal q n
-      Goal-by_statement (apart l still same) =
+      Goal-by_statement (unlocated l still same) =
           Goal-of_pending
           (subst₂ (λ b w. HasPendingStores code th b w) (append-nil p.buffer ∙ sym still)
           (thread_after-no_location (source_operation s) v [] m l)

@@ -10,7 +10,8 @@ use Rattle.lw_litmus.specs.Flow.{IsFlowSuccessor}
 use Rattle.lw_litmus.specs.Operations.{is_store, is_load, needs_empty_buffer}
 use Rattle.lw_litmus.specs.Sources.{source_language, source_operation}
 
--- It is neither a load, which would have a fence before it, nor an operation that needs an empty buffer.
+-- Tests whether stores may remain in the buffer past an operation: it is neither a load, which would have a fence before it, nor an
+-- operation that needs an empty buffer.
 abbrev pub preserves_pending_stores : Operation → Bool
 preserves_pending_stores o = not (is_load o || needs_empty_buffer o)
 

@@ -64,7 +64,7 @@ pub use Rattle.lw_fence.proofs.Common.{after_step, compiled_schedule, statement_
 pub use Rattle.lw_orders.proofs.Common.{AreDependent, AreDistinct, AreTraceEquivalent, Before, Constraints}
 pub use Rattle.lw_orders.proofs.Common.{IsAdjacentSwap, IsLinearExtension, IsOrder, Progress, Respects}
 pub use Rattle.lw_orders.proofs.Common.{index_in, indices, is_ordered, most_items, orders}
-pub use Rattle.lw_orders.proofs.api.Indices.{All-stands, IsOrder-of_distinct, index_in-injective}
+pub use Rattle.lw_orders.proofs.api.Indices.{All-index_in, IsOrder-of_distinct, index_in-injective}
 pub use Rattle.lw_orders.proofs.api.Indices.{index_in-order_split, index_in-other, index_in-same}
 pub use Rattle.lw_orders.proofs.api.SwapInvariance.{preserved-by_swaps, trace_equivalent_orders_are_connected}
 pub use Rattle.lw_outcome_map.proofs.api.Listings.{Contains-permuted_outcomes}

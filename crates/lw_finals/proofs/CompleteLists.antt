@@ -17,7 +17,7 @@ use Rattle.lw_finals.proofs.Common.{ItemTransitionSystem, ReplaysFlatTo, Collect
 use Rattle.lw_finals.proofs.Common.{AreComplete, AreFlat, IsComplete, AreAllOutcomes, OutcomesWith}
 use Rattle.lw_finals.proofs.Common.{HasOutcomeShape, OutcomeOverCaches, All-contains_itself}
 use Rattle.lw_finals.proofs.Common.{without_evictions-flat_run, FollowsPathsToEnd}
-use Rattle.lw_finals.proofs.SourceTraceEquivalence.{OrdersEndAlike}
+use Rattle.lw_finals.proofs.TraceEquivalence.{OrdersEndAlike}
 use Rattle.lw_finals.proofs.Ordered.{OfAssignment}
 use Rattle.lw_orders.specs.Order as orders
 
@@ -40,11 +40,11 @@ module _ {S : Type 0} (language : Language S) (test : Test S) {State : Type 0} (
   reduced_constraints paths = transitive_reduction language test.threads (assignment_items paths)
 
   -- For each path assignment of the test, trace-equivalent orders of its items reach the same outcome.
-  abbrev pub AreAlike : Type 0
-  AreAlike =
+  abbrev pub AllOrdersEndAlike : Type 0
+  AllOrdersEndAlike =
       (paths : List (List ℕ)) → IsPathAssignment language test.threads paths → OrdersEndAlike language test.threads paths system
 
-  module _ (well_scoped : IsWellScoped language test) (alike : AreAlike) (complete : AreComplete)
+  module _ (well_scoped : IsWellScoped language test) (alike : AllOrdersEndAlike) (complete : AreComplete)
       (not_too_many : HasTooManyItems language test.threads → ⊥) where
     -- The items of a path assignment with their reduced pairs are well-formed, since they are not too many.
     IsWellFormed-reduced : (paths : List (List ℕ))
@@ -79,7 +79,7 @@ module _ {S : Type 0} (language : Language S) (test : Test S) {State : Type 0} (
 
     module _ (Has : FinalState → Type 0) (assignments : (o : FinalState) → Has o ↔ OfAssignment language test.threads system o)
         (program : X86Test) (same : (o : FinalState) → IsMachineOutcome flat_memory program program.head.init_words o ↔ Has o)
-        (flat_too : AreFlat program) where
+        (program_is_flat : AreFlat program) where
       -- What leads to an outcome shows that the program reaches it.
       module _ {Kept : Type 0} (Leads : Kept → FinalState → Type 0)
           (reached : (kept : Kept) (o : FinalState)
@@ -88,7 +88,7 @@ module _ {S : Type 0} (language : Language S) (test : Test S) {State : Type 0} (
           (gathers : CollectsOutcomes (OutcomesOfProgram language (FollowsPathsToEnd system) test.threads) Leads [] entries) where
         -- Each kept value leads to its outcome.
         All-lead_to_outcome : All (λ e. Leads e.1 e.0) entries
-        All-lead_to_outcome = gathers.lead (All-nil (λ e. Leads e.1 e.0))
+        All-lead_to_outcome = gathers.each_leads (All-nil (λ e. Leads e.1 e.0))
 
         -- The collected outcomes are exactly those of the test.
         Contains-iff_outcome : (o : FinalState) → Contains (outcomes_of entries) o ↔ Has o
@@ -104,8 +104,8 @@ module _ {S : Type 0} (language : Language S) (test : Test S) {State : Type 0} (
         over_caches : (protocol : Protocol) (o : FinalState)
             → Contains (outcomes_of entries) o ↔ OutcomeOverCaches protocol program o
         over_caches protocol o = (
-          (λ c. (flat_too.outcomes protocol o).1 ((same o).1 ((Contains-iff_outcome o).0 c))),
-          (λ m. (Contains-iff_outcome o).1 ((same o).0 ((flat_too.outcomes protocol o).0 m))),
+          (λ c. (program_is_flat.outcomes protocol o).1 ((same o).1 ((Contains-iff_outcome o).0 c))),
+          (λ m. (Contains-iff_outcome o).1 ((same o).0 ((program_is_flat.outcomes protocol o).0 m))),
         )
 
         -- The collected outcomes are exactly the test's, and those of the program over the caches of each protocol.
@@ -115,7 +115,7 @@ module _ {S : Type 0} (language : Language S) (test : Test S) {State : Type 0} (
           over_caches = over_caches;
           shapes =
               All-weaker (Contains (outcomes_of entries)) (HasOutcomeShape program.head.threads (length program.head.locs))
-              (λ o c. let m = (over_caches Mesi o).0 c in (flat_too.of_test Mesi m.0 o m.1).outcome) (outcomes_of entries)
+              (λ o c. let m = (over_caches Mesi o).0 c in (program_is_flat.of_test Mesi m.0 o m.1).outcome) (outcomes_of entries)
               (All-contains_itself (outcomes_of entries));
         }
 
@@ -126,16 +126,16 @@ module _ {S : Type 0} (language : Language S) (test : Test S) {State : Type 0} (
         replays : (protocol : Protocol) → All (λ e. ReplaysToOverCaches protocol program e.1 e.0) entries
         replays protocol =
             All-weaker (λ e. ReplaysFlatTo program e.1 e.0) (λ e. ReplaysToOverCaches protocol program e.1 e.0) (λ e h.
-            (flat_too.replays protocol e.1 e.0
+            (program_is_flat.replays protocol e.1 e.0
             (without_evictions-flat_run program.threads e.1 (initial_machine_state program program.head.init_words) h.end
-            h.ran)).1 h) entries (gathers.lead (All-nil (λ e. ReplaysFlatTo program e.1 e.0)))
+            h.ran)).1 h) entries (gathers.each_leads (All-nil (λ e. ReplaysFlatTo program e.1 e.0)))
 
         -- What is collected with schedules is the test's complete list.
         complete_list : IsComplete Has program entries
         complete_list = record {
           has_all_outcomes = all_outcomes (ReplaysFlatTo program) (λ events o h. (events, h)) entries gathers;
           replays = replays;
-          of_program = All-weaker _ _ (λ e h. flat_too.of_test Mesi e.1 e.0 h) entries (replays Mesi);
+          of_program = All-weaker _ _ (λ e h. program_is_flat.of_test Mesi e.1 e.0 h) entries (replays Mesi);
         }
 
   -- What makes a test's list complete: the test is well-scoped; trace-equivalent orders have the same outcomes, and the enumerated orders are
@@ -143,11 +143,11 @@ module _ {S : Type 0} (language : Language S) (test : Test S) {State : Type 0} (
   -- the program has the same ones.
   pub record CanBeListed (Has : FinalState → Type 0) (program : X86Test) : Type 0 where
     pub well_scoped : IsWellScoped language test
-    pub alike : AreAlike
+    pub alike : AllOrdersEndAlike
     pub complete : AreComplete
     pub assignments : (o : FinalState) → Has o ↔ OfAssignment language test.threads system o
     pub same : (o : FinalState) → IsMachineOutcome flat_memory program program.head.init_words o ↔ Has o
-    pub flat_too : AreFlat program
+    pub program_is_flat : AreFlat program
 
   -- The outcomes of the orders of all path assignments are collected, each with a value that leads to it.
   abbrev pub IsCollected : {Kept : Type 0} → (Kept → FinalState → Type 0) → OutcomesWith Kept → Type 0
@@ -163,7 +163,7 @@ module _ {S : Type 0} (language : Language S) (test : Test S) {State : Type 0} (
   IsComplete-collected Has program can result =
       IfOk-with_fact result (IsCollected (ReplaysFlatTo program)) (IsComplete Has program) (IsWithinLimits language test.threads)
       (λ l gathers within.
-      complete_list can.well_scoped can.alike can.complete within.0 Has can.assignments program can.same can.flat_too l gathers)
+      complete_list can.well_scoped can.alike can.complete within.0 Has can.assignments program can.same can.program_is_flat l gathers)
 
   -- If a test has a list without schedules, it has exactly the test's outcomes.
   pub AreAllOutcomes-collected : (Has : FinalState → Type 0) (program : X86Test)
@@ -177,5 +177,5 @@ module _ {S : Type 0} (language : Language S) (test : Test S) {State : Type 0} (
   AreAllOutcomes-collected Has program can Leads reached result =
       IfOk-with_fact result (IsCollected Leads) (λ l. AreAllOutcomes Has program (outcomes_of l))
       (IsWithinLimits language test.threads) (λ l gathers within.
-      all_outcomes can.well_scoped can.alike can.complete within.0 Has can.assignments program can.same can.flat_too Leads reached
+      all_outcomes can.well_scoped can.alike can.complete within.0 Has can.assignments program can.same can.program_is_flat Leads reached
       l gathers)

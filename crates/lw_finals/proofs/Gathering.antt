@@ -13,7 +13,7 @@ module _ {Kept : Type 0} (Leads : Kept → FinalState → Type 0) where
   pub CollectsOutcomes-none : (Ends : FinalState → Type 0) (es : OutcomesWith Kept)
       → ((o : FinalState) → Ends o → ⊥)
       → CollectsOutcomes Ends Leads es es
-  CollectsOutcomes-none Ends es none = record { covered = λ o e. absurd (none o e); kept = λ o c. c; lead = λ a. a }
+  CollectsOutcomes-none Ends es none = record { covered = λ o e. absurd (none o e); preserves_outcomes = λ o c. c; each_leads = λ a. a }
 
   -- If o is the only outcome, then adding it with a value that leads to it collects all outcomes.
   pub CollectsOutcomes-one : (Ends : FinalState → Type 0) (es fs : OutcomesWith Kept) (o p : FinalState) (s : Kept)
@@ -28,8 +28,8 @@ module _ {Kept : Type 0} (Leads : Kept → FinalState → Type 0) where
             (let is : q ≡ p = only q e ∙ sym same in
             subst (λ (ks : List FinalState). Contains ks q) (sym outcomes_of-push)
             (Contains-append_right (outcomes_of es) (p ∷ []) q (Contains-head p q [] (sym is))));
-        kept = λ q h. subst (λ ks. Contains ks q) (sym outcomes_of-push) (Contains-append_left (outcomes_of es) (p ∷ []) q h);
-        lead = λ a. All-append (λ e. Leads e.1 e.0) es _ a (All-cons (λ e. Leads e.1 e.0) _ [] leads (All-nil _));
+        preserves_outcomes = λ q h. subst (λ ks. Contains ks q) (sym outcomes_of-push) (Contains-append_left (outcomes_of es) (p ∷ []) q h);
+        each_leads = λ a. All-append (λ e. Leads e.1 e.0) es _ a (All-cons (λ e. Leads e.1 e.0) _ [] leads (All-nil _));
       })
     where
       -- The outcomes of the entries with one more.
@@ -41,7 +41,7 @@ module _ {Kept : Type 0} (Leads : Kept → FinalState → Type 0) where
       → ((o : FinalState) → Ends o → More o)
       → CollectsOutcomes More Leads es fs
       → CollectsOutcomes Ends Leads es fs
-  CollectsOutcomes-weaker _ _ _ fs h a = record { covered = λ o e. a.covered o (h o e); kept = a.kept; lead = a.lead }
+  CollectsOutcomes-weaker _ _ _ fs h a = record { covered = λ o e. a.covered o (h o e); preserves_outcomes = a.preserves_outcomes; each_leads = a.each_leads }
 
   -- Sorting preserves what is collected.
   pub CollectsOutcomes-sorted : {Ends : FinalState → Type 0} {es fs gs : OutcomesWith Kept}
@@ -51,8 +51,8 @@ module _ {Kept : Type 0} (Leads : Kept → FinalState → Type 0) where
       → CollectsOutcomes Ends Leads es gs
   CollectsOutcomes-sorted {fs = fs} {gs} same a all = record {
     covered = λ o e. (Contains-permuted_outcomes fs gs o same).0 (a.covered o e);
-    kept = λ o c. (Contains-permuted_outcomes fs gs o same).0 (a.kept o c);
-    lead = λ h. all (a.lead h);
+    preserves_outcomes = λ o c. (Contains-permuted_outcomes fs gs o same).0 (a.preserves_outcomes o c);
+    each_leads = λ h. all (a.each_leads h);
   }
 
   -- Entries that have collected the outcomes of x, and then those of xs, have collected the outcomes of `x ∷ xs`.
@@ -62,11 +62,11 @@ module _ {Kept : Type 0} (Leads : Kept → FinalState → Type 0) where
       → CollectsOutcomes (OutcomesOfOne Ends (x ∷ xs)) Leads es gs
   CollectsOutcomes-cons {X} Ends x xs es fs gs a b = record {
     covered = λ o (y, c, e). elim (Contains-cons x y xs c) [
-      | inl is_head ↦ b.kept o (a.covered o (subst (λ (z : X). Ends z o) (sym is_head) e))
+      | inl is_head ↦ b.preserves_outcomes o (a.covered o (subst (λ (z : X). Ends z o) (sym is_head) e))
       | inr in_tail ↦ b.covered o (y, in_tail, e)
     ];
-    kept = λ o c. b.kept o (a.kept o c);
-    lead = λ h. b.lead (a.lead h);
+    preserves_outcomes = λ o c. b.preserves_outcomes o (a.preserves_outcomes o c);
+    each_leads = λ h. b.each_leads (a.each_leads h);
   }
 
 -- The orders to come are among all. If entries that grew from `found` collect the outcomes of those to come, they have grown from `old` and

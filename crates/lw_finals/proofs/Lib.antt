@@ -2,7 +2,7 @@ pub mod Common
 pub mod api
 pub mod PathOfRun
 pub mod Ordered
-pub mod SourceTraceEquivalence
+pub mod TraceEquivalence
 pub mod SourceOutcomes
 pub mod Gathering
 pub mod CompleteLists

@@ -5,7 +5,7 @@ use Rattle.lw_finals.proofs.Common.{◌∙◌, subst, arith, get_or, drop-cons, 
 use Rattle.lw_finals.proofs.Common.{get_or_from_slice_get, FinalState, Item, item_at, ItemTransitionSystem}
 use Rattle.lw_finals.proofs.Common.{OrderRunsTo, FollowsPathsToEnd}
 
--- The item read at an index is the item of that number.
+-- The item read at index n is `item_at` of n.
 item_at-of_read : (items : List Item) (n : ℕ) (x : Item) → n < length items → x ≡ get_or items n x → item_at items n ≡ x
 item_at-of_read items n x in_range e = get_or_from_slice_get items n x _ (slice_get-get_or items n x in_range ∙ ap Some (sym e))
 
@@ -29,7 +29,7 @@ module _ {State : Type 0} (system : ItemTransitionSystem State) (items : List It
     pub rest_runs : (end : State) → Ran order system.start end → Ran (drop k order) now end
     pub whole_runs : (end : State) → Ran (drop k order) now end → Ran order system.start end
 
-  -- The item of number n is the next one.
+  -- If the order has n at index k, its items from k on begin with the item at index n.
   drop_order-cons_item : (order : List ℕ) (k n d : ℕ)
       → k < length order
       → n ≡ get_or order k d

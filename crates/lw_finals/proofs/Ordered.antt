@@ -6,7 +6,7 @@ use Rattle.lw_finals.proofs.Common.{slice_get, All, Contains, IsTrue, cases_eq, 
 use Rattle.lw_finals.proofs.Common.{cases_Bool, none-some, All-nil, All-cons, All-head, All-tail, All-weaker}
 use Rattle.lw_finals.proofs.Common.{FinalState, RunsTo, thread_code, Event, Stop, index_in, Before}
 use Rattle.lw_finals.proofs.Common.{AreDistinct, Respects, indices, index_in-same, index_in-other}
-use Rattle.lw_finals.proofs.Common.{index_in-injective, All-stands, IsOrder-of_distinct, IsFlowPathFrom}
+use Rattle.lw_finals.proofs.Common.{index_in-injective, All-index_in, IsOrder-of_distinct, IsFlowPathFrom}
 use Rattle.lw_finals.proofs.Common.{Language, JumpsForward, IsPathAssignment, Item, item_at, items_of}
 use Rattle.lw_finals.proofs.Common.{constraints_of, AreOrdered, Respects-if_ordered, not-Contains-nil}
 use Rattle.lw_finals.proofs.Common.{Contains-cons, Contains-map_inv, IsMember, Pairwise, HasItem, item}
@@ -55,7 +55,7 @@ module _ {S : Type 0} (language : Language S) where
   thread_in_range-of_instr (code ∷ program) zero j i found_at = omega arith
   thread_in_range-of_instr (code ∷ program) (suc t) j i found_at = omega (arith, thread_in_range-of_instr program t j i found_at)
 
--- Lists of numbers, and the items that they stand for.
+-- Lists of indices, and the items at these indices.
 module _ {S : Type 0} (language : Language S) (program : List (List S)) (items : List Item) where
   -- The item at an index.
   abbrev it : ℕ → Item
@@ -194,7 +194,7 @@ module _ {S : Type 0} (language : Language S) (program : List (List S)) {State :
     index_in-names_order i in_range =
         let m = Contains-map_inv nth_item names.order (nth_item i) (rw (← names.same) at (Contains-done i in_range)) in
         let found : index_in names.order m.0 < length names.order = index_in-lt_length names.order m.0 m.1 in
-        let below : m.0 < length its = All-stands (λ i. i < length its) names.order m.0 names.below found in
+        let below : m.0 < length its = All-index_in (λ i. i < length its) names.order m.0 names.below found in
         let same =
         item_index-unique language program paths forward IsPathAssignment-paths m.0 i below in_range (ap (λ x. x.thread) m.2)
         (ap (λ (x : Item). x.position) m.2) (ap (λ (x : Item). x.is_drain) m.2) in

@@ -22,7 +22,7 @@ module _ (test : SourceTest) (well_scoped : IsWellScopedSource test) (complete :
     complete = complete;
     assignments = λ o. outcomes_are_those_of_path_assignments test o well_scoped;
     same = same_outcomes;
-    flat_too = are_flat;
+    program_is_flat = are_flat;
   }
 
   -- What the orders of all path assignments collect is the complete list of the source test's outcomes.

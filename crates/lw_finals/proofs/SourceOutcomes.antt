@@ -18,14 +18,14 @@ use Rattle.lw_finals.proofs.Common.{thread_position, IsSourceAssignmentOutcome, 
 use Rattle.lw_finals.proofs.Ordered.{OfAssignment-of_run}
 use Rattle.lw_finals.proofs.PathOfRun.{ExecutesItem, AreItemRuns, position-at_start, position-at_start_unique}
 use Rattle.lw_finals.proofs.api.Waiting.{IsAscendingBetween, own_waits, entry_location, waits_after}
-use Rattle.lw_finals.proofs.SourceTraceEquivalence.{Neighbours, OrdersEndAlike, OrdersEndAlike-if_swaps}
+use Rattle.lw_finals.proofs.TraceEquivalence.{Neighbours, OrdersEndAlike, OrdersEndAlike-if_swaps}
 use Rattle.lw_base.specs.Replays as replays
 use Rattle.lw_litmus.specs.Conflicts as conflicts
 
 -- ---- trace-equivalent orders
 
 -- The items are of different threads, and their statements do not conflict.
-record OfTwoThreads (program : List (List Stmt)) (a b : Item) : Type 0 where
+record AreItemsOfTwoThreads (program : List (List Stmt)) (a b : Item) : Type 0 where
   threads_differ : a.thread ≢ b.thread
   free : conflicts.operations_conflict source_language (statement_of source_language program a)
       (statement_of source_language program b)
@@ -33,20 +33,20 @@ record OfTwoThreads (program : List (List Stmt)) (a b : Item) : Type 0 where
 
 -- Two such items that can be executed in sequence can be executed in the other order, with the same state after both.
 SourceItemTransition-swap : (program : List (List Stmt)) (a b : Item) (s mid end : State)
-    → OfTwoThreads program a b
+    → AreItemsOfTwoThreads program a b
     → SourceItemTransition program a s mid
     → SourceItemTransition program b mid end
     → (other : State) × SourceItemTransition program b s other × SourceItemTransition program a other end
 SourceItemTransition-swap program a b s mid end two (at_a, step_a) (at_b, step_b) =
     let was_b = sym (source_step-other_position program a.thread b.thread s mid two.threads_differ step_a) ∙ at_b in
-    let apart : conflicts.operations_conflict source_language (next_statement program s a.thread)
+    let no_conflict : conflicts.operations_conflict source_language (next_statement program s a.thread)
     (next_statement program s b.thread)
     ≡ false =
     ap₂ (conflicts.operations_conflict source_language) (next_statement-at_position program s _ _ at_a)
     (next_statement-at_position program s _ _ was_b)
     ∙ two.free in
     let o : (o : State) × (source_step program b.thread s ≡ Ok o) × (source_step program a.thread o ≡ Ok end) =
-    StepsCommute-no_conflict program a.thread b.thread s two.threads_differ apart mid end step_a step_b in (
+    StepsCommute-no_conflict program a.thread b.thread s two.threads_differ no_conflict mid end step_a step_b in (
       o.0,
       (was_b, o.1),
       (source_step-other_position program b.thread a.thread s o.0 (λ e. two.threads_differ (sym e)) o.1 ∙ at_a, o.2),
@@ -92,7 +92,7 @@ module _ (program : List (List Stmt)) (paths : List (List ℕ)) where
         free =
             operations_conflict-no_drains (nth_item x).is_drain (nth_item y).is_drain
             (statement_of source_language program (nth_item x)) (statement_of source_language program (nth_item y)) x_step y_step
-            ∙ false_from_ne_true (items_conflict source_language program (nth_item x) (nth_item y)) n.apart;
+            ∙ false_from_ne_true (items_conflict source_language program (nth_item x) (nth_item y)) n.no_conflict;
       })
     where
       -- The first item is no drain.
@@ -107,8 +107,8 @@ module _ (program : List (List Stmt)) (paths : List (List ℕ)) where
       threads_differ : (nth_item x).thread ≢ (nth_item y).thread
       threads_differ same = elim (cases_order x y) [
         | inl is ↦ n.differ is
-        | inr (inl less) ↦ n.forth less same (λ d. absurd (true≢false (sym d ∙ x_step)))
-        | inr (inr more) ↦ n.back more (sym same) (λ d. absurd (true≢false (sym d ∙ y_step)))
+        | inr (inl less) ↦ n.first_is_free less same (λ d. absurd (true≢false (sym d ∙ x_step)))
+        | inr (inr more) ↦ n.second_is_free more (sym same) (λ d. absurd (true≢false (sym d ∙ y_step)))
       ]
 
 -- Trace-equivalent orders of a source test's items reach the same outcome.

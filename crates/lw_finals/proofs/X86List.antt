@@ -19,7 +19,7 @@ module _ (test : X86Test) (well_scoped : IsWellScopedProgram test) (complete : A
     complete = complete;
     assignments = λ o. IsMachineOutcome-iff_assignment test o well_scoped;
     same = λ o. ((λ m. m), (λ m. m));
-    flat_too = are_flat;
+    program_is_flat = are_flat;
   }
 
   -- What the orders of all path assignments collect is the complete list of the x86 test's outcomes.

@@ -139,7 +139,7 @@ module _ (program : List (List Instr)) (pending : ℕ → List ℕ) (s m1 m2 : M
 
   -- Two adjacent items of one thread that neither conflict nor are preserved: the statement i or its drain is executed, and then h or its
   -- drain. What the first stores, if it does, is at o.
-  record OfOneThread (t j k : ℕ) (b c : Bool) (i h : Instr) (o : Option ℕ) : Type 0 where
+  record AreItemsOfOneThread (t j k : ℕ) (b c : Bool) (i h : Instr) (o : Option ℕ) : Type 0 where
     moves : ItemMoves program pending t j b i s m1
     instr_at : slice_get (thread_code program t) k ≡ Some h
     oldest : DrainsOldest c k (own_waits b o j (pending t))
@@ -148,7 +148,7 @@ module _ (program : List (List Instr)) (pending : ℕ → List ℕ) (s m1 m2 : M
     unpreserved : IsUnpreservedPair b c h j k
 
   -- One of them is a drain, and the other commutes with the drain of the oldest entry.
-  AreDrainAndPassing-one_thread : (t j k : ℕ) (b c : Bool) (i h : Instr) (o : Option ℕ) (two : OfOneThread t j k b c i h o)
+  AreDrainAndPassing-one_thread : (t j k : ℕ) (b c : Bool) (i h : Instr) (o : Option ℕ) (two : AreItemsOfOneThread t j k b c i h o)
       → AreDrainAndPassing program (event_by b t) (event_by c t) two.moves.carried.old
   AreDrainAndPassing-one_thread t j k false true i h o two =
       let x = two.moves.carried in
@@ -206,7 +206,7 @@ module _ (program : List (List Instr)) (pending : ℕ → List ℕ) (s m1 m2 : M
   AreDrainAndPassing-one_thread t j k _ _ i h o two = absurd (two.unpreserved.kinds_differ refl)
 
   -- Two adjacent items of different threads that do not conflict; and the processors that they find.
-  record OfTwoThreads (t u j k : ℕ) (b c : Bool) (i h : Instr) (V : ℕ → List ℕ) (p q : Processor) : Type 0 where
+  record AreItemsOfTwoThreads (t u j k : ℕ) (b c : Bool) (i h : Instr) (V : ℕ → List ℕ) (p q : Processor) : Type 0 where
     threads_differ : t ≢ u
     first : ItemMoves program pending t j b i s m1
     second : ItemMoves program V u k c h m1 m2
@@ -216,7 +216,7 @@ module _ (program : List (List Instr)) (pending : ℕ → List ℕ) (s m1 m2 : M
 
   -- The effects of two adjacent items of different threads do not conflict if the items do not.
   DoNotConflict-two_threads : (t u j k : ℕ) (b c : Bool) (i h : Instr) (V : ℕ → List ℕ) (p q : Processor)
-      → OfTwoThreads t u j k b c i h V p q
+      → AreItemsOfTwoThreads t u j k b c i h V p q
       → DoNotConflict (effect_by program t b p) (effect_by program u c q)
   DoNotConflict-two_threads t u j k b c i h V p q two z az bz =
       let x = two.first.carried in

@@ -10,7 +10,7 @@ use Rattle.lw_finals.proofs.Common.{IsItemOnPath-of_member, thread_rank, item_sl
 use Rattle.lw_finals.proofs.Common.{item_slot-store_before_drain, index_lt-if_rank_lt, AreOrdered}
 use Rattle.lw_finals.proofs.Common.{JumpsForward-thread, event_of, X86ItemTransition, x86_item_system}
 use Rattle.lw_finals.proofs.api.Waiting.{DrainsOldest, waits_after}
-use Rattle.lw_finals.proofs.SourceTraceEquivalence.{Neighbours, OrdersEndAlike, OrdersEndAlike-if_swaps}
+use Rattle.lw_finals.proofs.TraceEquivalence.{Neighbours, OrdersEndAlike, OrdersEndAlike-if_swaps}
 use Rattle.lw_finals.proofs.api.X86Waiting.{AllBuffersHoldStores, AllBuffersHoldStores-after_item}
 use Rattle.lw_finals.proofs.api.X86Waiting.{AllBuffersHoldStores-start, CarriedItem, ItemStep-of_transition}
 use Rattle.lw_finals.proofs.api.X86Prefix.{AreWaitingStores, AreWaitingStores-start, DrainsOldest-at_turn}
@@ -85,8 +85,8 @@ module _ (program : List (List Instr)) (forward : (u : ℕ) → JumpsForward x86
   IsUnpreservedPair-neighbours order k x y n h is same = record {
     kinds_differ = λ kind. elim (cases_order x y) [
       | inl is ↦ n.differ is
-      | inr (inl less) ↦ n.forth less same (λ d. inl (sym kind ∙ d))
-      | inr (inr more) ↦ n.back more (sym same) (λ d. inl (kind ∙ d))
+      | inr (inl less) ↦ n.first_is_free less same (λ d. inl (sym kind ∙ d))
+      | inr (inr more) ↦ n.second_is_free more (sym same) (λ d. inl (kind ∙ d))
     ];
     others =
         λ dx dy p.
@@ -105,7 +105,7 @@ module _ (program : List (List Instr)) (forward : (u : ℕ) → JumpsForward x86
           → AreOrdered x86_language program (nth_item x) (nth_item y)
           → ⊥
       not-ordered_neighbours less =
-          n.forth (index_lt-if_rank_lt x86_language program paths forward assignment x y n.x_below same less) same
+          n.first_is_free (index_lt-if_rank_lt x86_language program paths forward assignment x y n.x_below same less) same
 
   -- Two adjacent items that neither conflict nor are preserved can be executed in the other order, with the same state after both.
   X86ItemTransition-swap : (order : List ℕ)
@@ -127,7 +127,7 @@ module _ (program : List (List Instr)) (forward : (u : ℕ) → JumpsForward x86
       let free =
       AreIndependent-unpreserved_items program pending s mid end (nth_item x) (nth_item y) u.instr v.instr
       (record { instr_at = u.statement; hold = r.hold; oldest = u.head; carried = u.did })
-      (record { instr_at = v.statement; hold = u.reached.hold; oldest = v.head; carried = v.did }) n.apart
+      (record { instr_at = v.statement; hold = u.reached.hold; oldest = v.head; carried = v.did }) n.no_conflict
       (IsUnpreservedPair-neighbours order k x y n v.instr v.statement) in
       EventsCommute-independent program (event_of (nth_item x)) (event_of (nth_item y)) s free (nth_item x).position
       (nth_item y).position mid end one two

@@ -76,14 +76,14 @@ module _ (p : ℕ → Bool) where
 
 -- ---- the candidates: what a blocked candidate reaches is no longer a candidate
 module _ {len : ℕ} {predecessors reach : List ℕ} {left old mid : ℕ} (new item : ℕ) (few : len ≤ most_items) (l : item < len)
-    (narrowed : Narrowed len predecessors reach left old mid) (there : has mid item ≡ true)
+    (narrowed : Narrowed len predecessors reach left old mid) (is_candidate : has mid item ≡ true)
     (says : (k : ℕ) → k < most_items → has new k ≡ (has mid k && not (has (get_or reach item 0) k))) where
   -- If the candidate `item` is blocked, it may be dropped from the candidates together with all that it reaches.
   pub Narrowed-more : IsBlocked predecessors left item → Narrowed len predecessors reach left old new
   Narrowed-more w = record {
-    kept = λ k lk h. narrowed.kept k lk (grind (arith, says k lk));
+    among_old = λ k lk h. narrowed.among_old k lk (grind (arith, says k lk));
     dropped = λ k lk was gone. elim (cases_Bool (has mid k)) [
-      | inl e ↦ (item, l, narrowed.kept item (omega (arith, l, few)) there, w, grind (arith, says k lk))
+      | inl e ↦ (item, l, narrowed.among_old item (omega (arith, l, few)) is_candidate, w, grind (arith, says k lk))
       | inr a ↦ narrowed.dropped k lk was a
     ];
   }
@@ -156,23 +156,23 @@ module _ {pairs : List (ℕ × ℕ)} {len : ℕ} {predecessors reach neighbours 
   )
 
   -- Tests that a pair is not from an item left to the item i.
-  abbrev is_kept : ℕ → ℕ × ℕ → Bool
-  is_kept i p = not (eqb p.1 i && is_in (items_below len left) p.0)
+  abbrev is_no_edge_from_left : ℕ → ℕ × ℕ → Bool
+  is_no_edge_from_left i p = not (eqb p.1 i && is_in (items_below len left) p.0)
 
   -- The definition's test `is_minimal` decides the same.
   Decides-is_minimal : (i : ℕ) → Decides (is_minimal pairs (items_below len left) i) (NoneLeads i)
   Decides-is_minimal i = (
     λ e j lj c h.
-        (let t : is_kept i (j, i) ≡ true =
-        All-contains (λ p. is_kept i p ≡ true) pairs (j, i) (AllPass-from_list_all (is_kept i) pairs e) c in
+        (let t : is_no_edge_from_left i (j, i) ≡ true =
+        All-contains (λ p. is_no_edge_from_left i p ≡ true) pairs (j, i) (AllPass-from_list_all (is_no_edge_from_left i) pairs e) c in
         grind (arith, nat_tests, is_in-indices (has left) 0 len j)),
     λ none.
-        list_all-from_AllPass (is_kept i) pairs
+        list_all-from_AllPass (is_no_edge_from_left i) pairs
         (λ k z lk. NoneLeads-passes (get_or pairs k z) (λ j. none j) (Contains-get_or pairs k z lk)),
   )
     where
       -- A pair to i does not keep i back, if its first item is not left.
-      NoneLeads-passes : (p : ℕ × ℕ) → NoneLeads i → Contains pairs p → is_kept i p ≡ true
+      NoneLeads-passes : (p : ℕ × ℕ) → NoneLeads i → Contains pairs p → is_no_edge_from_left i p ≡ true
       NoneLeads-passes p none is_member = elim (cases_eq p.1 i) [
         | inl e ↦
             (let lp = (closure-edge tables.closes p.0 p.1 is_member).0 in
@@ -194,24 +194,24 @@ module _ {pairs : List (ℕ × ℕ)} {len : ℕ} {predecessors reach neighbours 
       → has left i ≡ true
       → (i ≡ k → IsBlocked predecessors left k)
       → IsBlocked predecessors left k
-  IsBlocked-reached zero i k li e there w = w e
-  IsBlocked-reached (suc m) i k li (h, c, walk) there w =
+  IsBlocked-reached zero i k li e is_candidate w = w e
+  IsBlocked-reached (suc m) i k li (h, c, walk) is_candidate w =
       let (_, lh, on, _) = closure-edge tables.closes i h c in
-      IsBlocked-reached m h k lh walk (so.closed i h li lh there on)
+      IsBlocked-reached m h k lh walk (so.closed i h li lh is_candidate on)
       (λ e.
       subst (IsBlocked predecessors left) e
-      (false_from_ne_true (are_disjoint (get_or predecessors h 0) left) (λ a. (Decides-are_disjoint h lh).0 a i li c there)))
+      (false_from_ne_true (are_disjoint (get_or predecessors h 0) left) (λ a. (Decides-are_disjoint h lh).0 a i li c is_candidate)))
 
   module _ {narrow : ℕ} (narrowed : Narrowed len predecessors reach left candidates narrow) where
     -- An item left that is no candidate is still blocked.
     IsBlocked-no_candidate : (k : ℕ) → k < len → has left k ≡ true → has narrow k ≡ false → IsBlocked predecessors left k
-    IsBlocked-no_candidate k lk there gone = elim (cases_Bool (has candidates k)) [
+    IsBlocked-no_candidate k lk is_candidate gone = elim (cases_Bool (has candidates k)) [
       | inl e ↦
           (let (i, li, was, w, r) = narrowed.dropped k (omega (arith, lk, few)) e gone in
           let (m, walk) = (tables.closes.walks i k li lk).0 r in
           IsBlocked-reached m i k li walk (so.inside i (omega (arith, li, few)) was)
           (λ e. subst (IsBlocked predecessors left) e w))
-      | inr n ↦ so.waiting k lk there n
+      | inr n ↦ so.waiting k lk is_candidate n
     ]
 
     -- The lowest order is made of the items taken, the minimal item that is found in this turn, and the order of the others; it is `None`
@@ -234,15 +234,15 @@ module _ {pairs : List (ℕ × ℕ)} {len : ℕ} {predecessors reach neighbours 
     -- If no candidate is found, no item is minimal, so there is no order.
     pub TakenSoFar-none : IsFound len predecessors left narrow None → lowest_order len pairs ≡ None
     TakenSoFar-none none =
-        lowest_order-turn None (find-none_passing (has left) (is_minimal pairs (items_below len left)) 0 len (λ k lk there.
-        is_minimal-are_disjoint k (omega arith) ∙ IsBlocked-no_candidate k (omega arith) there (none k (omega arith))))
+        lowest_order-turn None (find-none_passing (has left) (is_minimal pairs (items_below len left)) 0 len (λ k lk is_candidate.
+        is_minimal-are_disjoint k (omega arith) ∙ IsBlocked-no_candidate k (omega arith) is_candidate (none k (omega arith))))
 
     -- If a candidate is found, it is the lowest minimal item, and the turn takes it.
     module _ (item : ℕ) (found : IsFound len predecessors left narrow (Some item)) (room : length items ≡ most_items) (next : ℕ)
         (cleared : (k : ℕ) → k < most_items → has next k ≡ (not (eqb k item) && has left k)) where
       -- The item that is found is left.
       item_is_left : has left item ≡ true
-      item_is_left = so.inside item (omega (arith, found.0, few)) (narrowed.kept item (omega (arith, found.0, few)) found.1)
+      item_is_left = so.inside item (omega (arith, found.0, few)) (narrowed.among_old item (omega (arith, found.0, few)) found.1)
 
       -- After the turn, the lowest order is made of the items taken, with this one, and of the order of the items then left.
       lowest_order-so_far_next : lowest_order len pairs
@@ -292,13 +292,13 @@ module _ {pairs : List (ℕ × ℕ)} {len : ℕ} {predecessors reach neighbours 
             IsBlocked-after_turn k lk (IsBlocked-no_candidate k lk (grind arith) (grind arith)) (grind arith));
         closed = λ i j li lj h r.
             (let c = cleared i (omega (arith, li, few)) in
-            let there' : has left i ≡ true = grind arith in
+            let is_candidate' : has left i ≡ true = grind arith in
             let (m, walk) = (tables.closes.walks i j li lj).0 r in
             let other : j ≡ item → ⊥ = λ q.
             both_ways (are_disjoint (get_or predecessors item 0) left)
-            (IsBlocked-reached m i item li (subst (Walk pairs m i) q walk) there' (λ e. absurd (grind (arith, nat_tests))))
+            (IsBlocked-reached m i item li (subst (Walk pairs m i) q walk) is_candidate' (λ e. absurd (grind (arith, nat_tests))))
             found.2 in
-            let still = so.closed i j li lj there' r in
+            let still = so.closed i j li lj is_candidate' r in
             grind (arith, nat_tests, cleared j (omega (arith, lj, few))));
       }
 

@@ -9,10 +9,10 @@ use Rattle.lw_orders.proofs.Common.{cases_lt, take-set, take_more, take_more_set
 use Rattle.lw_orders.proofs.Common.{get_or-replicate, length-replicate, All-append, All-cons, All-nil}
 use Rattle.lw_orders.proofs.Common.{All-drop, All-head, All-tail, Respects, All-push, lowest_order}
 use Rattle.lw_orders.proofs.Common.{AreInRange, has, reaches_in, ArePredecessors, EdgesAreIn, AreNeighbours}
-use Rattle.lw_orders.proofs.Common.{Reaches, IsAcyclicClosure, SearchState, reverse_if, TurnedLast, oriented}
+use Rattle.lw_orders.proofs.Common.{Reaches, IsAcyclicClosure, SearchState, reverse_if, ReversesLast, oriented}
 use Rattle.lw_orders.proofs.Common.{search_from, after_reversals, from_reversals, IsTaken, pair_at, reach}
 use Rattle.lw_orders.proofs.Common.{CanBeSearched, IsSearchState, HasSearchTables, remaining_orders}
-use Rattle.lw_orders.proofs.SearchTree.{oriented-push, from-down, after-on, after-true, from-all, from-none}
+use Rattle.lw_orders.proofs.SearchTree.{oriented-push, from_reversals-push_false, after_reversals-push_false, after_reversals-push_true, from_reversals-all_oriented, from_reversals-no_order}
 use Rattle.lw_orders.proofs.Walks.{closure-antisym}
 use Rattle.lw_orders.proofs.GrowingClosure.{IsAcyclicClosure-start, IsAcyclicClosure-more}
 use Rattle.lw_orders.proofs.GrowingClosure.{not-Before-if_cycle, lowest_order-if_acyclic}
@@ -51,7 +51,7 @@ module _ (len : ℕ) (graph ps : List (ℕ × ℕ)) (reversals : List Bool) (lon
   orders_after-reversed : (k : ℕ) → k < length ps → get_or reversals k false ≡ true → orders_after (k + 1) ≡ orders_after k
   orders_after-reversed k in_range on =
       ap (after_reversals len graph ps) (take_reversals-suc reversals ps long k true in_range on)
-      ∙ after-true len graph ps (take k reversals) (omega (arith, length_take-reversals reversals ps long k (omega arith)))
+      ∙ after_reversals-push_true len graph ps (take k reversals) (omega (arith, length_take-reversals reversals ps long k (omega arith)))
 
   -- After d reversed pairs come the orders that come after the pairs before them.
   orders_after-all_reversed : (d from upto : ℕ)
@@ -68,7 +68,7 @@ module _ (len : ℕ) (graph ps : List (ℕ × ℕ)) (reversals : List Bool) (lon
   -- these first reversals: the later pairs were reversed already.
   pub remaining_orders-reversed_last : (next : List Bool) (upto : ℕ) (found : Option ℕ)
       → upto ≤ length ps
-      → TurnedLast reversals next upto found
+      → ReversesLast reversals next upto found
       → remaining_orders found len graph ps next ≡ orders_after upto
   remaining_orders-reversed_last next upto None l (same, all) =
       sym (orders_after-all_reversed upto 0 upto (omega arith) l (λ k a b. all k b))
@@ -79,7 +79,7 @@ module _ (len : ℕ) (graph ps : List (ℕ × ℕ)) (reversals : List Bool) (lon
       take_reversals-suc reversals ps long i false (omega (arith, li, l)) off in
       let other_reversal : after_reversals len graph ps (take i reversals ++ false ∷ [])
       ≡ from_reversals len graph ps (take i reversals ++ true ∷ []) =
-      after-on len graph ps (take i reversals)
+      after_reversals-push_false len graph ps (take i reversals)
       (omega (arith, li, l, length_take-reversals reversals ps long i (omega (arith, li, l)))) in
       let rest_turned : orders_after upto ≡ orders_after (i + 1) =
       orders_after-all_reversed (upto - (i + 1)) (i + 1) upto (omega (arith, li)) l (λ k a b. on k (omega arith) b) in
@@ -112,25 +112,25 @@ All-oriented P (p ∷ ps) (w ∷ ws) all =
     reverse_if-both true h = h.1
 
 -- Reversing the last pair not yet reversed preserves the reversals before it and their number.
-TurnedLast-front_unchanged : (reversals next : List Bool) (upto : ℕ) (found : Option ℕ)
-    → TurnedLast reversals next upto found
+ReversesLast-front_unchanged : (reversals next : List Bool) (upto : ℕ) (found : Option ℕ)
+    → ReversesLast reversals next upto found
     → (length next ≡ length reversals)
     × (take (unwrap_or found 0) next ≡ take (unwrap_or found 0) reversals)
     × (unwrap_or found 0 ≤ upto - 1)
-TurnedLast-front_unchanged reversals next upto None (same, all) = (ap length same, ap (take 0) same, omega arith)
-TurnedLast-front_unchanged reversals next upto (Some i) (li, off, is, on) =
+ReversesLast-front_unchanged reversals next upto None (same, all) = (ap length same, ap (take 0) same, omega arith)
+ReversesLast-front_unchanged reversals next upto (Some i) (li, off, is, on) =
     (ap length is ∙ length-set reversals i true, ap (take i) is ∙ take-set reversals i true, omega arith)
 
 module _ {len : ℕ} {preserved unordered : List (ℕ × ℕ)} {s : SearchState} {level : ℕ}
     (st : IsSearchState len preserved unordered s level) where
   -- After the last pair not yet reversed is reversed, the search is at that pair.
-  pub IsSearchState-on : (next : List Bool) (upto : ℕ) (found : Option ℕ)
+  pub IsSearchState-after_reversal : (next : List Bool) (upto : ℕ) (found : Option ℕ)
       → upto ≤ level + 1
-      → TurnedLast s.reversals next upto found
+      → ReversesLast s.reversals next upto found
       → IsSearchState len preserved unordered (record { reversals = next; chosen = s.chosen; saved = s.saved })
       (unwrap_or found 0)
-  IsSearchState-on next upto found l turn =
-      let (long, same, low) = TurnedLast-front_unchanged s.reversals next upto found turn in
+  IsSearchState-after_reversal next upto found l turn =
+      let (long, same, low) = ReversesLast-front_unchanged s.reversals next upto found turn in
       let i : ℕ = unwrap_or found 0 in
       record {
         can = st.can;
@@ -157,25 +157,25 @@ module _ {len : ℕ} {preserved unordered : List (ℕ × ℕ)} {s : SearchState}
     all_reversals k l = take_all k s.reversals (omega (arith, st.reversals_long, leaf))
 
     -- The orientations chosen are those of the reversals.
-    chosen_directed : s.chosen ≡ oriented unordered s.reversals
-    chosen_directed = sym all_chosen ∙ (st.reversals_chosen ∙ ap (oriented unordered) (all_reversals _ (omega arith)))
+    chosen-oriented : s.chosen ≡ oriented unordered s.reversals
+    chosen-oriented = sym all_chosen ∙ (st.reversals_chosen ∙ ap (oriented unordered) (all_reversals _ (omega arith)))
 
     -- The saved sets are the acyclic closure of the preserved pairs and all orientations chosen.
-    pub leaf_closes : IsAcyclicClosure len (preserved ++ s.chosen) (reaches_in (get_or s.saved level []))
-    leaf_closes = rw all_chosen at (st.closed level (omega arith))
+    pub IsAcyclicClosure-at_leaf : IsAcyclicClosure len (preserved ++ s.chosen) (reaches_in (get_or s.saved level []))
+    IsAcyclicClosure-at_leaf = rw all_chosen at (st.closed level (omega arith))
 
     -- The orientations chosen are of items in range.
     pub chosen_within : AreInRange len s.chosen
-    chosen_within = (All-parts (IsWithin len) preserved s.chosen leaf_closes.within).1
+    chosen_within = (All-parts (IsWithin len) preserved s.chosen IsAcyclicClosure-at_leaf.within).1
 
     -- Neighbours by the preserved pairs and the unordered ones include those by the orientations chosen.
-    pub leaf_neighbours : (neighbours : List ℕ)
+    pub EdgesAreIn-at_leaf : (neighbours : List ℕ)
         → EdgesAreIn preserved neighbours
         → AreNeighbours unordered neighbours
         → EdgesAreIn (preserved ++ s.chosen) neighbours
-    leaf_neighbours neighbours into both =
+    EdgesAreIn-at_leaf neighbours into both =
         All-append (λ p. reaches_in neighbours p.0 p.1 ≡ true) preserved s.chosen into
-        (rw chosen_directed (All-oriented (λ p. reaches_in neighbours p.0 p.1 ≡ true) unordered s.reversals both))
+        (rw chosen-oriented (All-oriented (λ p. reaches_in neighbours p.0 p.1 ≡ true) unordered s.reversals both))
 
     -- There is a lowest order with the orientations chosen, and it comes before the orders that are left.
     pub lowest_order-at_leaf : (o : List ℕ)
@@ -183,12 +183,12 @@ module _ {len : ℕ} {preserved unordered : List (ℕ × ℕ)} {s : SearchState}
         × (from_reversals len preserved unordered (take (level + 1) s.reversals)
         ≡ o ∷ after_reversals len preserved unordered (take level s.reversals))
     lowest_order-at_leaf =
-        let (o, h) = lowest_order-if_acyclic leaf_closes in (
+        let (o, h) = lowest_order-if_acyclic IsAcyclicClosure-at_leaf in (
           o,
           h,
           rw (all_reversals level (omega arith), all_reversals (level + 1) (omega arith))
-              (from-all len preserved unordered s.reversals o st.reversals_long
-              (ap (λ cs. lowest_order len (preserved ++ cs)) (sym chosen_directed) ∙ h)),
+              (from_reversals-all_oriented len preserved unordered s.reversals o st.reversals_long
+              (ap (λ cs. lowest_order len (preserved ++ cs)) (sym chosen-oriented) ∙ h)),
         )
 
   -- At a pair the search tries an orientation.
@@ -221,7 +221,7 @@ module _ {len : ℕ} {preserved unordered : List (ℕ × ℕ)} {s : SearchState}
         → from_reversals len preserved unordered (take (level + 1) s.reversals)
         ≡ after_reversals len preserved unordered (take (level + 1) s.reversals)
     from_reversals-closing_cycle back =
-        from-none len preserved unordered (take (level + 1) s.reversals)
+        from_reversals-no_order len preserved unordered (take (level + 1) s.reversals)
         (omega (arith, length_take-reversals s.reversals unordered st.reversals_long (level + 1) (omega (arith, below))))
         (rw graph_is (All-push (IsWithin len) (preserved ++ take level s.chosen) p closure_at_level.within p_within))
         (All-drop (IsAscendingPair len) (length (take (level + 1) s.reversals)) unordered st.can.unordered_up)
@@ -239,8 +239,8 @@ module _ {len : ℕ} {preserved unordered : List (ℕ × ℕ)} {s : SearchState}
 
     module _ {next : SearchState} (taken : IsTaken len p level s next) where
       -- After an orientation that closes no cycle, the search is at the next pair.
-      pub IsSearchState-down : reach s.saved level p.1 p.0 ≡ false → IsSearchState len preserved unordered next (level + 1)
-      IsSearchState-down free = record {
+      pub IsSearchState-next_pair : reach s.saved level p.1 p.0 ≡ false → IsSearchState len preserved unordered next (level + 1)
+      IsSearchState-next_pair free = record {
         can = st.can;
         reversals_long = taken.long ∙ st.reversals_long;
         chosen_long = ap length taken.chosen ∙ (length-set s.chosen level p ∙ st.chosen_long);
@@ -270,7 +270,7 @@ module _ {len : ℕ} {preserved unordered : List (ℕ × ℕ)} {s : SearchState}
           ≡ from_reversals len preserved unordered (take (level + 1 + 1) next.reversals)
       from_reversals-next_pair = elim (cases_lt (level + 1) (length unordered)) [
         | inl l ↦
-            from-down len preserved unordered (take (level + 1) s.reversals)
+            from_reversals-push_false len preserved unordered (take (level + 1) s.reversals)
             (omega (arith, length_take-reversals s.reversals unordered st.reversals_long (level + 1) (omega arith)))
             ∙ ap (from_reversals len preserved unordered)
             (ap (λ ws. ws ++ false ∷ []) (sym taken.before)
@@ -297,7 +297,7 @@ module _ {len : ℕ} {preserved unordered : List (ℕ × ℕ)} {s : SearchState}
           → reach s.saved level (reverse_if reversed (get_or unordered level (0, 0))).1
           (reverse_if reversed (get_or unordered level (0, 0))).0
           ≡ true
-          → TurnedLast s.reversals next (level + 1) found
+          → ReversesLast s.reversals next (level + 1) found
           → Phase unordered (record { reversals = next; chosen = s.chosen; saved = s.saved }) found (tried + 1)
       Phase-orientation_abandoned false next None e back (same, all) = cc (all level (omega arith))
       Phase-orientation_abandoned true next None e back (same, all) =
@@ -344,7 +344,7 @@ from_reversals-start n preserved [] [] long off = refl
 from_reversals-start n preserved (p ∷ ps) [] long off = refl
 from_reversals-start n preserved [] (w ∷ reversals) long off = refl
 from_reversals-start n preserved (p ∷ ps) (w ∷ reversals) long off =
-    ap (λ v. from_reversals n preserved (p ∷ ps) (v ∷ [])) off ∙ sym (from-down n preserved (p ∷ ps) [] (omega arith))
+    ap (λ v. from_reversals n preserved (p ∷ ps) (v ∷ [])) off ∙ sym (from_reversals-push_false n preserved (p ∷ ps) [] (omega arith))
 
 -- If no pair is reversed, the first is not.
 pub get_or-replicate_false : (n : ℕ) → get_or (replicate n false) 0 false ≡ false
@@ -388,12 +388,12 @@ pub record TablesAreMade (len : ℕ) (preserved unordered : List (ℕ × ℕ)) (
   pub unordered_are_neighbours : AreNeighbours unordered all
 
 -- A search can start with tables that are filled so.
-pub Tabled-start : {len : ℕ} {preserved unordered : List (ℕ × ℕ)} {tables : List (List ℕ)} {neighbours : List ℕ}
+pub HasSearchTables-start : {len : ℕ} {preserved unordered : List (ℕ × ℕ)} {tables : List (List ℕ)} {neighbours : List ℕ}
     (sets all : List ℕ)
     → CanBeSearched len preserved unordered
     → TablesAreMade len preserved unordered tables neighbours sets all
     → HasSearchTables len preserved unordered tables neighbours
-Tabled-start {len = len} {neighbours = neighbours} sets all can made = record {
+HasSearchTables-start {len = len} {neighbours = neighbours} sets all can made = record {
   two = ap length made.copies;
   sets = rw made.copies made.predecessors;
   neighbours_long = omega (arith, made.long);

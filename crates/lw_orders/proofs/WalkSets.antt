@@ -81,7 +81,7 @@ module _ (xs front back : List (List ℕ)) (level : ℕ) (e : xs ≡ front ++ ba
 -- unchanged.
 pub record IsGrowing (sets more : List ℕ) (len from to item : ℕ) : Type 0 where
   pub room : length more ≡ most_items
-  pub kept : (i : ℕ) → item ≤ i → i < len → get_or more i 0 ≡ get_or sets i 0
+  pub unchanged : (i : ℕ) → item ≤ i → i < len → get_or more i 0 ≡ get_or sets i 0
   pub grown : (i j : ℕ)
       → i < item
       → j < len
@@ -96,7 +96,7 @@ module _ {sets more : List ℕ} {len from to item : ℕ} (few : len ≤ most_ite
       → IsGrowing sets (set more item set') len from to (item + 1)
   IsGrowing-set_joined set' joined on = record {
     room = length-set more item set' ∙ growing.room;
-    kept = λ i past li. get_or-set_other more item i set' 0 (λ e. omega arith) ∙ growing.kept i (omega arith) li;
+    unchanged = λ i past li. get_or-set_other more item i set' 0 (λ e. omega arith) ∙ growing.unchanged i (omega arith) li;
     grown = λ i j past lj. elim (cases_eq i item) [
       | inl e ↦ rw e (rw (get_or-set_same more item set' 0 (omega (arith, growing.room)), on) (joined j (omega arith)))
       | inr ne ↦ rw (get_or-set_other more item i set' 0 ne) (growing.grown i j (omega arith) lj)
@@ -107,9 +107,9 @@ module _ {sets more : List ℕ} {len from to item : ℕ} (few : len ≤ most_ite
   pub IsGrowing-set_unchanged : reaches_in sets item from ≡ false → IsGrowing sets more len from to (item + 1)
   IsGrowing-set_unchanged off = record {
     room = growing.room;
-    kept = λ i past li. growing.kept i (omega arith) li;
+    unchanged = λ i past li. growing.unchanged i (omega arith) li;
     grown = λ i j past lj. elim (cases_eq i item) [
-      | inl e ↦ rw e (rw (growing.kept item (omega arith) l, off) (grind arith))
+      | inl e ↦ rw e (rw (growing.unchanged item (omega arith) l, off) (grind arith))
       | inr ne ↦ growing.grown i j (omega arith) lj
     ];
   }

@@ -7,14 +7,14 @@ abbrev pub AreDependent : Constraints → ℕ → ℕ → Type 0
 AreDependent t i j = Contains (t.preserved ++ t.conflicts) (i, j) ⊎ Contains (t.preserved ++ t.conflicts) (j, i)
 
 -- The list ys is xs with two adjacent items that are not dependent swapped.
-pub record IsAdjacentSwap (Tied : ℕ → ℕ → Type 0) (xs ys : List ℕ) : Type 0 where
+pub record IsAdjacentSwap (Dependent : ℕ → ℕ → Type 0) (xs ys : List ℕ) : Type 0 where
   pub front : List ℕ
   pub x : ℕ
   pub y : ℕ
   pub rest : List ℕ
   pub old : xs ≡ front ++ x ∷ y ∷ rest
   pub new : ys ≡ front ++ y ∷ x ∷ rest
-  pub free : ¬ Tied x y
+  pub free : ¬ Dependent x y
 
 -- The lists xs and ys are connected by n swaps of adjacent independent items, through orders that respect the preserved pairs.
 abbrev pub AreConnectedBySwaps : Constraints → ℕ → List ℕ → List ℕ → Type 0

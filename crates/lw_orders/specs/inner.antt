@@ -3,5 +3,5 @@ pub mod Sets
 pub mod Search
 pub mod Closure
 pub mod Remaining
-pub mod Directions
+pub mod TriedOrientations
 pub mod Candidates

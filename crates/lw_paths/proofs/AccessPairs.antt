@@ -71,13 +71,13 @@ module _ (acc : ℕ → Option Access) (numbered : (i : ℕ) (a : Access) → ac
 
 module _ {S : Type 0} (language : Language S) (program : List (List S)) where
   -- Two items conflict if and only if their accesses do.
-  conflict_says : (n m : ℕ) (d e : Bool) (s t : Option S)
+  conflict_by-by_accesses : (n m : ℕ) (d e : Bool) (s t : Option S)
       → conflict_by language d e s t ≡ accesses_conflict (access_by language n d s) (access_by language m e t)
-  conflict_says n m d e s t = grind arith
+  conflict_by-by_accesses n m d e s t = grind arith
 
   -- The access of an item has the item's index.
-  access_numbered : (n : ℕ) (d : Bool) (s : Option S) (a : Access) → access_by language n d s ≡ Some a → a.index ≡ n
-  access_numbered n d s a e = grind arith
+  index-of_access : (n : ℕ) (d : Bool) (s : Option S) (a : Access) → access_by language n d s ≡ Some a → a.index ≡ n
+  index-of_access n d s a e = grind arith
 
   -- ---- conflicts of the accesses only
   module _ (items : List Item) where
@@ -100,10 +100,10 @@ module _ {S : Type 0} (language : Language S) (program : List (List S)) where
     conflicts_among-are_conflicts =
         ap conflicts_among (accesses_from-by_index (length items) 0 (omega arith))
         ∙ (sym (conflicts_of_pairs access_at
-        (λ i a e. access_numbered i (item_at items i).is_drain (statement_of language program (item_at items i)) a e)
+        (λ i a e. index-of_access i (item_at items i).is_drain (statement_of language program (item_at items i)) a e)
         (length items) 0)
         ∙ filter_agree _ _ (λ (p : ℕ × ℕ).
-        sym (conflict_says p.0 p.1 (item_at items p.0).is_drain (item_at items p.1).is_drain
+        sym (conflict_by-by_accesses p.0 p.1 (item_at items p.0).is_drain (item_at items p.1).is_drain
         (statement_of language program (item_at items p.0)) (statement_of language program (item_at items p.1))))
         (pairs_from 0 (length items)))
 

@@ -1,5 +1,5 @@
 -- If no statement accesses a location, each path assignment has one order, and each branch at most doubles
--- the number of path assignments. For the quick test of `total_of-le_most_orders.rt`, which spares the count.
+-- the number of path assignments. For the quick test of `few_orders.rt`, which spares the count.
 use Rattle.lw_paths.proofs.Common.{◌≡◌, inl, inr, ℕ, zero, suc, ◌+◌, ◌*◌, ◌^◌, ◌<◌, ◌≤◌, ◌==◌, ◌&&◌, ◌||◌}
 use Rattle.lw_paths.proofs.Common.{Bool, true, false, cond, Option, Some, None, List, [], ◌∷◌, ◌++◌, length}
 use Rattle.lw_paths.proofs.Common.{map, drop, refl, ap, ◌∙◌, slice_get, length-append, arith, All, filter}
@@ -56,15 +56,15 @@ module _ {S : Type 0} (language : Language S) where
     branches_from-antitone k l = pow_mono (count_by-drop_le (λ s. is_some (branch_target (language.operation_of s))) code j k l)
 
     -- If there is one successor, the paths through it are within the bound.
-    one_led : (k : ℕ) → j < k → length (flat_map rest (k ∷ [])) ≤ 2 ^ branches_from code j
-    one_led k later = omega (arith, few k later, length-append (rest k) [], branches_from-antitone k (omega arith))
+    length_paths-one_successor : (k : ℕ) → j < k → length (flat_map rest (k ∷ [])) ≤ 2 ^ branches_from code j
+    length_paths-one_successor k later = omega (arith, few k later, length-append (rest k) [], branches_from-antitone k (omega arith))
 
     -- After a branch there are two successors, and at most twice the paths, since the branch counts.
-    two_led : (to : ℕ)
+    length_paths-two_successors : (to : ℕ)
         → branch_target (language.operation_of s) ≡ Some to
         → j < to
         → length (flat_map rest ((j + 1) ∷ to ∷ [])) ≤ 2 ^ branches_from code j
-    two_led to is later =
+    length_paths-two_successors to is later =
         let more : branches_from code j ≡ 1 + branches_from code (j + 1) =
         ap (branches language) drop_code-cons
         ∙ (sum_by-cons (λ y. cond (is_some (branch_target (language.operation_of y))) 1 0) s (drop (j + 1) code)
@@ -83,18 +83,18 @@ module _ {S : Type 0} (language : Language S) where
         )
 
     -- Whatever successors a statement has, the paths through them are within the bound.
-    by_successors : (o : Option ℕ) (goes : Bool)
+    length_paths-by_successors : (o : Option ℕ) (goes : Bool)
         → branch_target (language.operation_of s) ≡ o
         → length (flat_map rest (successor_list o goes j)) ≤ 2 ^ branches_from code j
-    by_successors None goes is = one_led (j + 1) (omega arith)
-    by_successors (Some to) false is = one_led to (forward j s statement_at to is).0
-    by_successors (Some to) true is = by_second_successor (j + 1 == to)
+    length_paths-by_successors None goes is = length_paths-one_successor (j + 1) (omega arith)
+    length_paths-by_successors (Some to) false is = length_paths-one_successor to (forward j s statement_at to is).0
+    length_paths-by_successors (Some to) true is = by_second_successor (j + 1 == to)
       where
         -- By whether the target is the next statement too.
         by_second_successor : (b : Bool)
             → length (flat_map rest (if b then (j + 1) ∷ [] else (j + 1) ∷ to ∷ [])) ≤ 2 ^ branches_from code j
-        by_second_successor true = one_led (j + 1) (omega arith)
-        by_second_successor false = two_led to is (forward j s statement_at to is).0
+        by_second_successor true = length_paths-one_successor (j + 1) (omega arith)
+        by_second_successor false = length_paths-two_successors to is (forward j s statement_at to is).0
 
   -- If the number of paths from each later position is at most 2 to the number of branches from there, so is that through a statement.
   length-paths_through_le : (code : List S)
@@ -107,7 +107,7 @@ module _ {S : Type 0} (language : Language S) where
   length-paths_through_le code forward j rest few None at = one-le-pow (branches_from code j) 2 (omega arith)
   length-paths_through_le code forward j rest few (Some s) at = omega (
     arith,
-    by_successors code forward j s at rest few (branch_target (language.operation_of s)) (falls_through (language.operation_of s))
+    length_paths-by_successors code forward j s at rest few (branch_target (language.operation_of s)) (falls_through (language.operation_of s))
         refl,
     length-map (flat_map rest (successors language s j)) (λ path. j ∷ path),
   )
@@ -168,18 +168,18 @@ module _ {S : Type 0} (language : Language S) where
 
   module _ (program : List (List S)) (silent : has_no_access language program ≡ true) where
     -- Each thread accesses no location.
-    code_silent : (t : ℕ) → code_has_no_access language (thread_code program t) ≡ true
-    code_silent t = elim (cases_lt t (length program)) [
+    code_has_no_access-at_thread : (t : ℕ) → code_has_no_access language (thread_code program t) ≡ true
+    code_has_no_access-at_thread t = elim (cases_lt t (length program)) [
       | inl within ↦ AllPass-from_list_all (code_has_no_access language) program silent t [] within
       | inr past ↦ rw (get_or_past program t [] past) refl
     ]
 
     -- Each statement of a thread that accesses no location accesses none.
-    stmt_silent : (code : List S) (j : ℕ) (s : S)
+    location_of-none_in_silent_code : (code : List S) (j : ℕ) (s : S)
         → code_has_no_access language code ≡ true
         → slice_get code j ≡ Some s
         → location_of (language.operation_of s) ≡ None
-    stmt_silent code j s all found_at =
+    location_of-none_in_silent_code code j s all found_at =
         is_none-sound _
         (rw (get_or_from_slice_get code j s s found_at) at
         (AllPass-from_list_all _ code all j s (slice_get_within code j s found_at)))
@@ -192,8 +192,8 @@ module _ {S : Type 0} (language : Language S) where
         (λ p.
         conflict_by-none (item_at items p.0).is_drain (item_at items p.1).is_drain
         (statement_of language program (item_at items p.0)) (statement_of language program (item_at items p.1)) (λ s at.
-        stmt_silent (thread_code program (item_at items p.0).thread) (item_at items p.0).position s
-        (code_silent (item_at items p.0).thread) at))
+        location_of-none_in_silent_code (thread_code program (item_at items p.0).thread) (item_at items p.0).position s
+        (code_has_no_access-at_thread (item_at items p.0).thread) at))
 
     -- If no statement accesses a location, a path assignment has one order.
     orders_of_assignment-one : (paths : List (List ℕ)) → orders_of_assignment language program paths ≡ 1

@@ -19,7 +19,7 @@ edge_from (Some m) n = (m, n) ∷ []
 -- The pairs of the item with number n and its direct predecessors: the statement before it; for a drain (whose own statement is the last
 -- one) and for a statement that needs earlier drains, the last drain too.
 abbrev pub reduced_at : Bool → Bool → LastItems → ℕ → List (ℕ × ℕ)
-reduced_at true statement_waits last n = edge_from last.statement n ++ edge_from last.drain n
+reduced_at true needs_drains last n = edge_from last.statement n ++ edge_from last.drain n
 reduced_at false true last n = edge_from last.statement n ++ edge_from last.drain n
 reduced_at false false last n = edge_from last.statement n
 

@@ -1,4 +1,4 @@
--- The paths in an array of preserved size.
+-- The lists that paths and path assignments represent: the first `len` entries of arrays of fixed size.
 use Rattle.std.specs.Prelude.{ℕ, List, map, take}
 use Rattle.lw_paths.specs.declared.path.Path.{Path}
 use Rattle.lw_paths.specs.declared.path.PathAssignment.{PathAssignment}

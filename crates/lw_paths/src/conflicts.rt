@@ -2,7 +2,7 @@
 ghost use Rattle.std.specs.Prelude.{◌≡◌, ◌≤◌, ◌++◌, length, IfOk, OnOk};
 ghost use Rattle.lw_orders.specs.Limits.{most_items};
 ghost use Rattle.lw_paths.specs.inner.Accesses.{access_by, accesses_from, is_conflict, conflicts_with};
-ghost use Rattle.lw_paths.specs.Items.{constraints_of, statement_of as stands_for};
+ghost use Rattle.lw_paths.specs.Items.{constraints_of, statement_of as statement_at_item};
 
 use crate::item::Item;
 use crate::preserved_order::statement_of;
@@ -41,7 +41,7 @@ fn access_of<S: Statement, B: Allocator>(
     item: Item,
     index: u8,
 ) -> Option<Access>
-    ensures { result ≡ access_by S.language index item.is_drain (stands_for S.language program.now item) }
+    ensures { result ≡ access_by S.language index item.is_drain (statement_at_item S.language program.now item) }
 {
     let stmt = statement_of(program, item)?;
     let loc = if item.is_drain {

@@ -12,7 +12,7 @@ pub use Rattle.lw_fence.proofs.OneProgram.{IsCompiled-unique}
 pub use Rattle.lw_fence.proofs.SomeProgram.{IsCompiled-exists}
 pub use Rattle.lw_fence.proofs.Programs.{IsWellFormedProgram-compiled, IsWellScopedProgram-compiled}
 -- Where no statement needs a fence, it is the program without fences.
-pub use Rattle.lw_fence.proofs.NoFence.{without_needless_fences}
+pub use Rattle.lw_fence.proofs.NoFence.{IsCompiled-iff_without_fences}
 -- With more fences it is the one with fewer, with MFENCEs inserted.
 pub use Rattle.lw_fence.proofs.MoreFences.{IsFencedTest-more_fences, AreSubset-nil}
 

@@ -23,8 +23,8 @@ RunResult Ends false end = (o : FinalState) → Ends o → ⊥
 -- outcome, so does each new one.
 pub record CollectsOutcomes {Kept : Type 0} (Ends : FinalState → Type 0) (Leads : Kept → FinalState → Type 0) (old new : OutcomesWith Kept) : Type 0 where
   pub covered : (o : FinalState) → Ends o → Contains (outcomes_of new) o
-  pub kept : (o : FinalState) → Contains (outcomes_of old) o → Contains (outcomes_of new) o
-  pub lead : All (λ e. Leads e.1 e.0) old → All (λ e. Leads e.1 e.0) new
+  pub preserves_outcomes : (o : FinalState) → Contains (outcomes_of old) o → Contains (outcomes_of new) o
+  pub each_leads : All (λ e. Leads e.1 e.0) old → All (λ e. Leads e.1 e.0) new
 
 -- The outcomes of one of several orders, or of one of several path assignments.
 abbrev pub OutcomesOfOne : {X : Type 0} → (X → FinalState → Type 0) → List X → FinalState → Type 0

@@ -4,7 +4,7 @@ use Rattle.lw_orders.proofs.Common.{◌≡◌, ℕ, zero, suc, ◌^◌, Bool, tr
 use Rattle.lw_orders.proofs.Common.{refl, sym, ap, ◌∙◌, All, get_or, Contains-get_or, All-contains}
 use Rattle.lw_orders.proofs.Common.{Constraints, Walk, IsOrderedByPath, is_ordered, unordered_conflicts}
 use Rattle.lw_orders.proofs.Common.{orientation_count, AreAscending, filter_agree}
-use Rattle.lw_orders.proofs.Walks.{Walk-join, IsOrderedByPath-if_ordered, is_ordered-if_path}
+use Rattle.lw_orders.proofs.Walks.{Walk-trans, IsOrderedByPath-if_ordered, is_ordered-if_path}
 
 -- A walk of at least one step leads from i to j.
 abbrev pub Leads : List (ℕ × ℕ) → ℕ → ℕ → Type 0
@@ -16,7 +16,7 @@ LeadsAlong pairs others = All (λ p. Leads pairs p.0 p.1) others
 
 -- Two walks in sequence are a walk.
 pub Leads-trans : (pairs : List (ℕ × ℕ)) (i j k : ℕ) → Leads pairs i j → Leads pairs j k → Leads pairs i k
-Leads-trans pairs i j k (n, (h, c, w)) (m, v) = (let (l, u) = Walk-join pairs n h j w k (suc m) v in (l, (h, c, u)))
+Leads-trans pairs i j k (n, (h, c, w)) (m, v) = (let (l, u) = Walk-trans pairs n h j w k (suc m) v in (l, (h, c, u)))
 
 -- Each pair of a list is a walk along the list.
 pub LeadsAlong-refl : (pairs : List (ℕ × ℕ)) → LeadsAlong pairs pairs
@@ -32,7 +32,7 @@ Walk-along pairs others along zero i j e = (0, e)
 Walk-along pairs others along (suc n) i j (k, c, w) =
     let (m, v) = All-contains (λ p. Leads pairs p.0 p.1) others (i, k) along c in
     let (l, u) = Walk-along pairs others along n k j w in
-    Walk-join pairs (suc m) i k v j l u
+    Walk-trans pairs (suc m) i k v j l u
 
 -- If each pair of the others is a walk along `pairs`, then `pairs` orders what the others order.
 pub IsOrderedByPath-along : (pairs others : List (ℕ × ℕ))

@@ -25,32 +25,32 @@ length-without [] y l = absurd (omega arith)
 length-without (x ∷ xs) y l = grind (arith, nat_tests, length-without xs y)
 
 -- If i precedes j in the list without y, and neither is y, then i precedes j in the list.
-pub before-without : (xs : List ℕ) (y i j : ℕ) → (y ≡ i → ⊥) → (y ≡ j → ⊥) → Before (without xs y) i j → Before xs i j
-before-without [] y i j ni nj b = b
-before-without (x ∷ xs) y i j ni nj b = grind (arith, nat_tests, before-without xs y i j ni nj)
+pub Before-of_without : (xs : List ℕ) (y i j : ℕ) → (y ≡ i → ⊥) → (y ≡ j → ⊥) → Before (without xs y) i j → Before xs i j
+Before-of_without [] y i j ni nj b = b
+Before-of_without (x ∷ xs) y i j ni nj b = grind (arith, nat_tests, Before-of_without xs y i j ni nj)
 
 -- An item of the list without y is in the list.
-pub stands-with : (xs : List ℕ) (y i : ℕ) → index_in (without xs y) i < length (without xs y) → index_in xs i < length xs
-stands-with [] y i l = l
-stands-with (x ∷ xs) y i l = grind (arith, nat_tests, stands-with xs y i)
+pub index_in-of_without : (xs : List ℕ) (y i : ℕ) → index_in (without xs y) i < length (without xs y) → index_in xs i < length xs
+index_in-of_without [] y i l = l
+index_in-of_without (x ∷ xs) y i l = grind (arith, nat_tests, index_in-of_without xs y i)
 
 -- An item of the list other than y is in the list without y.
-pub stands-without : (xs : List ℕ) (y i : ℕ)
+pub index_in-without : (xs : List ℕ) (y i : ℕ)
     → (i ≡ y → ⊥)
     → index_in xs i < length xs
     → index_in (without xs y) i < length (without xs y)
-stands-without [] y i ne l = l
-stands-without (x ∷ xs) y i ne l = grind (arith, nat_tests, stands-without xs y i)
+index_in-without [] y i ne l = l
+index_in-without (x ∷ xs) y i ne l = grind (arith, nat_tests, index_in-without xs y i)
 
 -- Removing an item from a list without duplicates leaves one without duplicates.
 pub AreDistinct-without : (xs : List ℕ) (y : ℕ) → AreDistinct xs → AreDistinct (without xs y)
 AreDistinct-without [] y o = tt
-AreDistinct-without (x ∷ xs) y o = grind (arith, nat_tests, AreDistinct-without xs y o.1, stands-with xs y x)
+AreDistinct-without (x ∷ xs) y o = grind (arith, nat_tests, AreDistinct-without xs y o.1, index_in-of_without xs y x)
 
 -- An item removed from a list without duplicates is no longer in it.
-pub gone-without : (xs : List ℕ) (y : ℕ) → AreDistinct xs → length (without xs y) ≤ index_in (without xs y) y
-gone-without [] y o = omega arith
-gone-without (x ∷ xs) y o = grind (arith, nat_tests, gone-without xs y o.1)
+pub not_in-without : (xs : List ℕ) (y : ℕ) → AreDistinct xs → length (without xs y) ≤ index_in (without xs y) y
+not_in-without [] y o = omega arith
+not_in-without (x ∷ xs) y o = grind (arith, nat_tests, not_in-without xs y o.1)
 
 -- Removing an item makes a list at most one shorter.
 pub length-without_le : (xs : List ℕ) (y : ℕ) → length xs ≤ suc (length (without xs y))
@@ -66,7 +66,7 @@ length_le-if_distinct [] xs o f = omega arith
 length_le-if_distinct (s ∷ some) xs o f =
     let rest : length some ≤ length (without xs s) = length_le-if_distinct some (without xs s) o.1 (λ i l.
     let ne : i ≡ s → ⊥ = λ e. omega (arith, o.0, rw e at l) in
-    stands-without xs s i ne (f i (omega (arith, index_in-other s some i (λ e. ne (sym e)))))) in
+    index_in-without xs s i ne (f i (omega (arith, index_in-other s some i (λ e. ne (sym e)))))) in
     omega (arith, length-without xs s (f s (omega (arith, index_in-same s some s refl))))
 
 -- A list that contains all of some distinct items, and is no longer, has no duplicates.
@@ -88,7 +88,7 @@ AreDistinct-from_room (x ∷ xs) some o f l =
     ] in (
       gone,
       AreDistinct-from_room xs (without some x) (AreDistinct-without some x o)
-          (λ i p. f' i (λ e. omega (arith, gone-without some x o, rw e at p)) (stands-with some x i p))
+          (λ i p. f' i (λ e. omega (arith, not_in-without some x o, rw e at p)) (index_in-of_without some x i p))
           (omega (arith, length-without_le some x)),
     )
 
@@ -103,8 +103,8 @@ index_in-indices_within k zero i l = absurd (omega arith)
 index_in-indices_within k (suc n) i l = grind (arith, nat_tests, index_in-indices_within (suc k) n i)
 
 -- A number in the range from 0 is below n.
-pub below-indices : (n i : ℕ) → index_in (indices 0 n) i < length (indices 0 n) → i < n
-below-indices n i l = omega (arith, index_in-indices_within 0 n i l)
+pub lt-of_index_in_indices : (n i : ℕ) → index_in (indices 0 n) i < length (indices 0 n) → i < n
+lt-of_index_in_indices n i l = omega (arith, index_in-indices_within 0 n i l)
 
 -- The range from k has n numbers.
 pub length-indices : (k n : ℕ) → length (indices k n) ≡ n
@@ -119,7 +119,7 @@ AreDistinct-indices k (suc n) = grind (arith, AreDistinct-indices (suc k) n, ind
 -- An order has no duplicates.
 pub AreDistinct-order : (n : ℕ) (xs : List ℕ) → IsOrder n xs → AreDistinct xs
 AreDistinct-order n xs o =
-    AreDistinct-from_room xs (indices 0 n) (AreDistinct-indices 0 n) (λ i l. omega (arith, o.1 i (below-indices n i l), o.0))
+    AreDistinct-from_room xs (indices 0 n) (AreDistinct-indices 0 n) (λ i l. omega (arith, o.1 i (lt-of_index_in_indices n i l), o.0))
     (omega (arith, o.0, length-indices 0 n))
 
 -- An order of n items contains only these.
@@ -130,7 +130,7 @@ IsOrder-item_below n xs o i l = elim (cases_lt i n) [
       (let all =
       length_le-if_distinct (indices 0 n) (without xs i) (AreDistinct-indices 0 n)
       (λ j p.
-      stands-without xs i j (λ e. omega (arith, below-indices n j p)) (omega (arith, o.1 j (below-indices n j p), o.0))) in
+      index_in-without xs i j (λ e. omega (arith, lt-of_index_in_indices n j p)) (omega (arith, o.1 j (lt-of_index_in_indices n j p), o.0))) in
       absurd (omega (arith, length-indices 0 n, length-without xs i l, o.0)))
 ]
 
@@ -155,11 +155,11 @@ index_in-order_split n i front rest o = (
 )
 
 -- What holds of every item of a list holds of an item found in it.
-pub All-stands : (P : ℕ → Type 0) (xs : List ℕ) (i : ℕ) → All P xs → index_in xs i < length xs → P i
-All-stands P [] i all l = absurd (omega arith)
-All-stands P (x ∷ xs) i all l = elim (cases_eq x i) [
+pub All-index_in : (P : ℕ → Type 0) (xs : List ℕ) (i : ℕ) → All P xs → index_in xs i < length xs → P i
+All-index_in P [] i all l = absurd (omega arith)
+All-index_in P (x ∷ xs) i all l = elim (cases_eq x i) [
   | inl e ↦ subst P e (All-head P x xs all)
-  | inr ne ↦ All-stands P xs i (All-tail P x xs all) (omega (arith, index_in-other x xs i ne))
+  | inr ne ↦ All-index_in P xs i (All-tail P x xs all) (omega (arith, index_in-other x xs i ne))
 ]
 
 -- A list without duplicates that contains exactly the items below n is an order.
@@ -169,10 +169,10 @@ pub IsOrder-of_distinct : (n : ℕ) (xs : List ℕ)
     → ((i : ℕ) → i < n → index_in xs i < length xs)
     → IsOrder n xs
 IsOrder-of_distinct n xs below once there =
-    let least = length_le-if_distinct (indices 0 n) xs (AreDistinct-indices 0 n) (λ i l. there i (below-indices n i l)) in
+    let least = length_le-if_distinct (indices 0 n) xs (AreDistinct-indices 0 n) (λ i l. there i (lt-of_index_in_indices n i l)) in
     let most =
     length_le-if_distinct xs (indices 0 n) once
-    (λ i l. index_in-indices 0 n i (omega arith) (omega (arith, All-stands (λ i. i < n) xs i below l))) in
+    (λ i l. index_in-indices 0 n i (omega arith) (omega (arith, All-index_in (λ i. i < n) xs i below l))) in
     let long : length xs ≡ n = omega (arith, length-indices 0 n, least, most) in
     (long, λ i l. omega (arith, there i l, long))
 

@@ -13,7 +13,7 @@ IsBlocked predecessors left i = are_disjoint (slice_index predecessors i) left �
 
 -- The new candidates are among the old ones, and those that were dropped are reachable from an old one that is blocked.
 pub record Narrowed (len : ℕ) (predecessors reach : List ℕ) (left old new : ℕ) : Type 0 where
-  pub kept : (k : ℕ) → k < most_items → has new k ≡ true → has old k ≡ true
+  pub among_old : (k : ℕ) → k < most_items → has new k ≡ true → has old k ≡ true
   pub dropped : (k : ℕ) → k < most_items → has old k ≡ true → has new k ≡ false
       → (i : ℕ) × (i < len) × (has old i ≡ true) × IsBlocked predecessors left i × (reaches_in reach i k ≡ true)
 

@@ -34,7 +34,7 @@ module _ {S : Type 0} (language : Language S) where
   pub record Counted (program : List (List S)) (before : ℕ) (paths : List (List ℕ)) (after : ℕ) : Type 0 where
     pub items : List Item
     pub orders : ℕ
-    pub made : items ≡ items_of language program paths
+    pub items_are : items ≡ items_of language program paths
     pub within_item_limit : length items ≤ most_items
     pub orders_are : orders ≡ orientation_count (constraints_of language program items)
     pub total : after ≡ min (before + orders) (2 ^ 64 - 1)
@@ -45,8 +45,8 @@ module _ {S : Type 0} (language : Language S) where
       → Counted program before paths after
       → Counts program before paths program after
   Counts-if_counted program before paths after c =
-      let same : c.orders ≡ orders_of_assignment language program paths = rw (← c.made) c.orders_are in
-      (refl, rw c.made at c.within_item_limit, omega (arith, c.total, c.within_order_limit, same), c.within_order_limit)
+      let same : c.orders ≡ orders_of_assignment language program paths = rw (← c.items_are) c.orders_are in
+      (refl, rw c.items_are at c.within_item_limit, omega (arith, c.total, c.within_order_limit, same), c.within_order_limit)
 
   -- If the saturated sum of a path assignment's orders and those before passes the limit, so does the exact sum.
   pub sum_too_large-if_saturated : (program : List (List S)) (before : ℕ) (paths : List (List ℕ)) {items : List Item}
@@ -56,8 +56,8 @@ module _ {S : Type 0} (language : Language S) where
       → total ≡ min (before + orders) (2 ^ 64 - 1)
       → most_orders < total
       → most_orders < before + orders_of_assignment language program paths
-  sum_too_large-if_saturated program before paths {orders = orders} made ways sum over =
-      let same : orders ≡ orders_of_assignment language program paths = rw (← made) ways in omega (arith, sum, over, same)
+  sum_too_large-if_saturated program before paths {orders = orders} items_are ways sum over =
+      let same : orders ≡ orders_of_assignment language program paths = rw (← items_are) ways in omega (arith, sum, over, same)
 
   -- The cause with which one of some path assignments failed, after `before` orders, holds.
   abbrev FailureHolds : List (List S) → ℕ → List (List (List ℕ)) → ListFault → Type 0
@@ -111,13 +111,13 @@ module _ {S : Type 0} (language : Language S) where
     -- A visitor whose visits preserve the program and count at most the orders that there are, and whose causes of failure are true.
     pub record GivesReasons : Type 0 where
       -- A visit preserves the program.
-      pub keeps : (v : V) (paths : List (List ℕ)) (w : V) → view.visits v paths w → view.program w ≡ view.program v
+      pub preserves_program : (v : V) (paths : List (List ℕ)) (w : V) → view.visits v paths w → view.program w ≡ view.program v
       -- A visit counts at most the orders of its path assignment.
       pub at_most : (v : V) (paths : List (List ℕ)) (w : V)
           → view.visits v paths w
           → view.count w ≤ view.count v + orders_of_assignment language (view.program v) paths
       -- The cause of a failure holds of this path assignment, after the orders counted before.
-      pub why : (v : V) (paths : List (List ℕ)) (e : ListFault)
+      pub cause_holds : (v : V) (paths : List (List ℕ)) (e : ListFault)
           → view.refuses v paths e
           → LimitFaultOfAssignment language (view.program v) (view.count v) paths e
 
@@ -128,16 +128,16 @@ module _ {S : Type 0} (language : Language S) where
           → view.visits v paths w
           → Counts (view.program v) (view.count v) paths (view.program w) (view.count w)
       -- The cause of a failure holds of this path assignment.
-      pub why : (v : V) (paths : List (List ℕ)) (e : ListFault)
+      pub cause_holds : (v : V) (paths : List (List ℕ)) (e : ListFault)
           → view.refuses v paths e
           → LimitFaultOfAssignment language (view.program v) (view.count v) paths e
 
     -- A counter states causes that hold.
     GivesReasons-counter : IsCounter → GivesReasons
     GivesReasons-counter counter = record {
-      keeps = λ v paths w h. (let (same, items, orders, within) = counter.each v paths w h in same);
+      preserves_program = λ v paths w h. (let (same, items, orders, within) = counter.each v paths w h in same);
       at_most = λ v paths w h. (let (same, items, orders, within) = counter.each v paths w h in omega (arith, orders));
-      why = counter.why;
+      cause_holds = counter.cause_holds;
     }
 
     module _ (program : List (List S)) where
@@ -149,10 +149,10 @@ module _ {S : Type 0} (language : Language S) where
           → FailureHolds program (view.count v) assignments e
       FailureHolds-visit_fails reasons [] v e is h = absurd h
       FailureHolds-visit_fails reasons (paths ∷ assignments) v e is (inl h) =
-          FailureHolds-first _ _ paths assignments e (rw is at (reasons.why v paths e h))
+          FailureHolds-first _ _ paths assignments e (rw is at (reasons.cause_holds v paths e h))
       FailureHolds-visit_fails reasons (paths ∷ assignments) v e is (inr (mid, one, rest)) =
           FailureHolds-later program _ _ paths assignments e (rw is at (reasons.at_most v paths mid one))
-          (FailureHolds-visit_fails reasons assignments mid e (reasons.keeps v paths mid one ∙ is) rest)
+          (FailureHolds-visit_fails reasons assignments mid e (reasons.preserves_program v paths mid one ∙ is) rest)
 
       -- If some path assignments were counted, each has few items, and all together few orders.
       IsWithinLimits-visited : IsCounter

@@ -68,7 +68,7 @@ module _ {S : Type 0} (language : Language S) (program : List (List S)) where
     at i = item_at items i
 
     -- R is transitive, and relates the preserved pairs of the items.
-    module _ (R : ℕ → ℕ → Type 0) (go_on : (i j k : ℕ) → R i j → R j k → R i k)
+    module _ (R : ℕ → ℕ → Type 0) (transitive : (i j k : ℕ) → R i j → R j k → R i k)
         (has : All (λ p. R p.0 p.1) (constraints_of language program items).preserved) where
       -- R relates two ascending items in preserved order, since that is a preserved pair.
       related : (i j : ℕ) → i < j → j < length items → is_preserved language program (at i) (at j) ≡ true → R i j
@@ -98,7 +98,7 @@ module _ {S : Type 0} (language : Language S) (program : List (List S)) where
           elim (cases_eq i m) [
             | inl is ↦ rw is own
             | inr ne ↦
-                go_on i m j
+                transitive i m j
                 (related i m (omega arith) (omega arith)
                 (is_preserved-statements (at i) (at m) (same ∙ sym store.thread) d store.statement)) own
           ]

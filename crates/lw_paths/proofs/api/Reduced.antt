@@ -16,7 +16,7 @@ use Rattle.lw_paths.proofs.api.Numbering.{thread_le-index}
 
 module _ {S : Type 0} (language : Language S) (program : List (List S)) where
   -- ---- a transitive relation that has the reduced pairs has all ordered pairs
-  module _ (R : ℕ → ℕ → Type 0) (go_on : (i j k : ℕ) → R i j → R j k → R i k) where
+  module _ (R : ℕ → ℕ → Type 0) (transitive : (i j k : ℕ) → R i j → R j k → R i k) where
     -- The item is the optional one, or related to it.
     abbrev Reaches : ℕ → Option ℕ → Type 0
     Reaches i None = ⊥
@@ -30,7 +30,7 @@ module _ {S : Type 0} (language : Language S) (program : List (List S)) where
     related-if_reaches_edge : (q : Option ℕ) (n i : ℕ) → All Related (edge_from q n) → Reaches i q → R i n
     related-if_reaches_edge None n i kept h = absurd h
     related-if_reaches_edge (Some m) n i kept (inl same) = rw same (All-head Related (m, n) [] kept)
-    related-if_reaches_edge (Some m) n i kept (inr h) = go_on i m n h (All-head Related (m, n) [] kept)
+    related-if_reaches_edge (Some m) n i kept (inr h) = transitive i m n h (All-head Related (m, n) [] kept)
 
     -- An item that reaches a last item is related to the next item, if that comes after the last one.
     related-if_reaches_last : (d w b : Bool) (last : LastItems) (n i : ℕ)
@@ -108,18 +108,18 @@ module _ {S : Type 0} (language : Language S) (program : List (List S)) where
     abbrev items : List Item
     items = items_of language program paths
 
-    module _ (R : ℕ → ℕ → Type 0) (go_on : (i j k : ℕ) → R i j → R j k → R i k) where
+    module _ (R : ℕ → ℕ → Type 0) (transitive : (i j k : ℕ) → R i j → R j k → R i k) where
       -- A transitive relation that has the reduced pairs has all preserved pairs.
       all_from_reduced : All (λ p. R p.0 p.1) (transitive_reduction language program items).preserved
           → All (λ p. R p.0 p.1) (constraints_of language program items).preserved
       all_from_reduced has =
           All-preserved_related language program R items
-          (reduced_ordered R go_on items (thread_le-index language program paths) has)
+          (reduced_ordered R transitive items (thread_le-index language program paths) has)
 
       -- A transitive relation that has all preserved pairs has the reduced ones.
       reduced_from_all : All (λ p. R p.0 p.1) (constraints_of language program items).preserved
           → All (λ p. R p.0 p.1) (transitive_reduction language program items).preserved
-      reduced_from_all has = has_reduced R go_on items (HasOrdered-if_preserved_related language program paths R go_on has)
+      reduced_from_all has = has_reduced R transitive items (HasOrdered-if_preserved_related language program paths R transitive has)
 
     -- The same orders respect the reduced pairs and all pairs.
     pub IsLinearExtension-reduced_iff : (order : List ℕ)

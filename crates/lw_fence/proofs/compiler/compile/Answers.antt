@@ -12,9 +12,9 @@ use Rattle.lw_fence.proofs.compiler.compile.Goals as goal
 
 pub invariant_of-result : goal.invariant_of-result
 invariant_of-result g c =
-    let told = c.in_ok-codes.ensures in
+    let codes_compiled = c.in_ok-codes.ensures in
     let codes = c.in_ok-codes.codes in
-    let compiled = IsCompiled-of_threads c.in_ok-head.ensures told.as_many told.as_many_starts told.threads in
+    let compiled = IsCompiled-of_threads c.in_ok-head.ensures codes_compiled.as_many codes_compiled.as_many_starts codes_compiled.threads in
     record {
       well_formed =
           IsWellFormedProgram-compiled (source_of c.args.source.now) _ codes.starts c.args.source.now.well_formed compiled;
@@ -22,10 +22,10 @@ invariant_of-result g c =
 
 pub returns : goal.returns
 returns g c =
-    let told = c.in_ok-codes.ensures in
+    let codes_compiled = c.in_ok-codes.ensures in
     let codes = c.in_ok-codes.codes in
     let source = source_of c.args.source.now in
-    let compiled = IsCompiled-of_threads c.in_ok-head.ensures told.as_many told.as_many_starts told.threads in
+    let compiled = IsCompiled-of_threads c.in_ok-head.ensures codes_compiled.as_many codes_compiled.as_many_starts codes_compiled.threads in
     let ok = IsWellScoped-well_formed source_language c.args.source.now.well_formed in
     record {
       compiled = compiled;

@@ -6,8 +6,8 @@ use Rattle.lw_orders.proofs.orders.reverse_last.Given as goal
 abbrev pub invariant-loop-at : goal.invariant-loop-at
 invariant-loop-at l = record {
   within : l.at ≤ l.level;
-  same : l.reversals ≡ l.initial.reversals;
-  turned : (k : ℕ) → l.at ≤ k → k < l.level → slice_index_or l.reversals k false ≡ true;
+  unchanged : l.reversals ≡ l.initial.reversals;
+  are_reversed : (k : ℕ) → l.at ≤ k → k < l.level → slice_index_or l.reversals k false ≡ true;
 }
 
 abbrev pub decreases-loop-at : goal.decreases-loop-at

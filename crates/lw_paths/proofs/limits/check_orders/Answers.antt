@@ -17,7 +17,7 @@ counter_view g = record {
 
 -- The visitor that counts orders is a counter.
 IsCounter-counter_view : (g : Over) → IsCounter g.S.Statement.language (counter_view g)
-IsCounter-counter_view g = record { each = λ v paths w h. h; why = λ v paths e h. h }
+IsCounter-counter_view g = record { each = λ v paths w h. h; cause_holds = λ v paths e h. h }
 
 pub returns-clause-items : goal.returns-clause-items
 returns-clause-items g c =

@@ -8,7 +8,7 @@ use Rattle.lw_orders.proofs.Common.{unordered_conflicts, Constraints, AreAscendi
 use Rattle.lw_orders.proofs.Common.{EdgesAreIn, AreNeighbours, remaining_orders}
 use Rattle.lw_orders.proofs.api.Complete.{AreInRange-up, unordered_conflicts-ascending, length-orders_le}
 use Rattle.lw_orders.proofs.SearchInvariant.{get_or-replicate_false, IsSearchState-start}
-use Rattle.lw_orders.proofs.SearchInvariant.{from_reversals-start, Tabled-start}
+use Rattle.lw_orders.proofs.SearchInvariant.{from_reversals-start, HasSearchTables-start}
 use Rattle.lw_orders.proofs.orders.Orders.with_unordered.Given.{Over}
 use Rattle.lw_orders.proofs.orders.Orders.with_unordered.Goals.{In_ok-neighbours}
 use Rattle.lw_orders.proofs.orders.Orders.with_unordered.Goals as goal
@@ -64,7 +64,7 @@ invariant_of-result g c =
           (c.in_ok-chosen.ensures.items ∙ c.deref.ensures.value)
           (c.in_ok-saved.ensures ∙ ap (λ n. replicate (n + 1) c.args.reach.now) (c.len-2.ensures ∙ sym c.len.ensures))
           (rw (len-read g d, preserved-copied g d) c.requires.reach);
-      tabled = Tabled-start c.predecessors_of.result c.neighbours_of-neighbours.result can (record {
+      tabled = HasSearchTables-start c.predecessors_of.result c.neighbours_of-neighbours.result can (record {
         copies = c.in_ok-tables.ensures;
         predecessors =
             subst (λ ps. ArePredecessors most_items ps c.predecessors_of.result) (c.deref-3.ensures.value ∙ preserved)

@@ -9,7 +9,7 @@ pub returns-clause-ok : goal.returns-clause-ok
 returns-clause-ok g c = Counts-if_counted g.S.Statement.language c.args.self.now.program.now c.args.self.now.total _ _ (record {
   items = c.as_slice.result.now;
   orders = c.in-Some.orders;
-  made = c.as_slice.ensures.value ∙ c.in_ok-fill_few_items.ensures.ok;
+  items_are = c.as_slice.ensures.value ∙ c.in_ok-fill_few_items.ensures.ok;
   within_item_limit = rw (← c.as_slice.ensures.value) at c.in_ok-fill_few_items.ensures.bounded;
   orders_are = (rw c.in-Some.is at c.in_ok-orders.ensures).0;
   total = c.saturating_add-total.ensures;

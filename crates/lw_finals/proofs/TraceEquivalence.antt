@@ -39,9 +39,9 @@ module _ {S : Type 0} (language : Language S) (program : List (List S)) (paths :
     pub y_index : index_in order y ≡ suc k
     -- The two items differ.
     pub differ : x ≢ y
-    pub apart : items_conflict language program (nth_item x) (nth_item y) ≡ true → ⊥
-    pub forth : IsFree x y
-    pub back : IsFree y x
+    pub no_conflict : items_conflict language program (nth_item x) (nth_item y) ≡ true → ⊥
+    pub first_is_free : IsFree x y
+    pub second_is_free : IsFree y x
 
   -- If two orders that respect the preserved pairs differ by a swap of adjacent independent items, these items neither conflict nor are preserved.
   Neighbours-of_swap : (xs ys : List ℕ)
@@ -55,7 +55,7 @@ module _ {S : Type 0} (language : Language S) (program : List (List S)) (paths :
     x_index = indices_in_first.2;
     y_index = indices_in_first.3;
     differ = differ;
-    apart = λ c. elim (cases_order e.x e.y) [
+    no_conflict = λ c. elim (cases_order e.x e.y) [
       | inl same ↦ differ same
       | inr (inl less) ↦
           e.free (inl (Contains-append_right constraints.preserved constraints.conflicts (e.x, e.y)
@@ -67,13 +67,13 @@ module _ {S : Type 0} (language : Language S) (program : List (List S)) (paths :
           (statement_of language program (nth_item e.x))
           ∙ c))))
     ];
-    forth = λ less same ordered. omega (
+    first_is_free = λ less same ordered. omega (
       arith,
       HasOrdered-if_respected language program paths ys iy.1 e.x e.y less indices_in_first.1 same ordered,
       indices_in_second.2,
       indices_in_second.3,
     );
-    back = λ less same ordered. omega (
+    second_is_free = λ less same ordered. omega (
       arith,
       HasOrdered-if_respected language program paths xs ix.1 e.y e.x less indices_in_first.0 same ordered,
       indices_in_first.2,

@@ -1,7 +1,7 @@
 -- Trying one orientation of an unordered pair: it closes a cycle and is abandoned, or it is chosen. A level is the index of an unordered
 -- pair, and the number of pairs before it that have an orientation.
 use Rattle.std.specs.Prelude.{ℕ, ◌≡◌, ◌+◌, ◌<◌, Bool, true, false, ◌&&◌, ◌||◌, List, [], length, take, Option, Some, slice_index_or, slice_set}
-use Rattle.lw_orders.specs.inner.Search.{SearchState, reverse_if, TurnedLast}
+use Rattle.lw_orders.specs.inner.Search.{SearchState, reverse_if, ReversesLast}
 use Rattle.lw_orders.specs.inner.Remaining.{reach}
 
 -- The orientation p of a level's pair is chosen: p is recorded, reachability with it is saved for the next level, and the pair of that
@@ -19,7 +19,7 @@ pub record IsTaken (len : ℕ) (p : ℕ × ℕ) (level : ℕ) (old new : SearchS
 -- the last pair up to here that can be is reversed; otherwise p is chosen.
 abbrev pub TriedAs : Bool → ℕ → ℕ × ℕ → ℕ → SearchState → SearchState → Option ℕ → Type 0
 TriedAs true len p level old new found =
-    TurnedLast old.reversals new.reversals (level + 1) found × (new.chosen ≡ old.chosen) × (new.saved ≡ old.saved)
+    ReversesLast old.reversals new.reversals (level + 1) found × (new.chosen ≡ old.chosen) × (new.saved ≡ old.saved)
 TriedAs false len p level old new found = IsTaken len p level old new × (found ≡ Some (level + 1))
 
 -- The unordered pair of a level, reversed if its reversal is true.
