@@ -60,8 +60,8 @@ IsFaultyPiece-no_colon names text others ds shape = go shape.1
 module _ (names : NameTable) (text digits name : Bytes) (cut : text ≡ digits ++ 58 ∷ name)
     (others : AllByRecursion (λ b. b ≢ 58) digits) where
   -- If `E` and the text have the shape of an event with the digits ds, these come before the `:`, and a name-shaped text after it.
-  eviction : (ds : Bytes) → HasEventShape (69 ∷ text) ds → (digits ≡ ds) × IsNameShaped name
-  eviction ds shape = go shape.1
+  HasEventShape-eviction_inv : (ds : Bytes) → HasEventShape (69 ∷ text) ds → (digits ≡ ds) × IsNameShaped name
+  HasEventShape-eviction_inv ds shape = go shape.1
     where
       go : HasEventParts (69 ∷ text) ds → (digits ≡ ds) × IsNameShaped name
       go (inl e) = absurd (cons-ne 69 80 _ _ (λ k. omega arith) e)
@@ -73,11 +73,11 @@ module _ (names : NameTable) (text digits name : Bytes) (cut : text ≡ digits +
 
   -- If the text after the `:` is not name-shaped, the piece is rejected, since it does not have the shape of an event.
   pub IsFaultyPiece-no_name : (IsNameShaped name → ⊥) → IsFaultyPiece names (69 ∷ text) Word
-  IsFaultyPiece-no_name none ds shape = none (eviction ds shape).1
+  IsFaultyPiece-no_name none ds shape = none (HasEventShape-eviction_inv ds shape).1
 
   -- If the text before the `:` is rejected for a cause, as no digits or no processor's index, so is the piece.
   pub IsFaultyPiece-no_cpu : IsNameShaped name → (e : ScheduleCause) → HasBadDigits digits e → IsFaultyPiece names (69 ∷ text) e
-  IsFaultyPiece-no_cpu named Word bad = λ ds shape. true≢false (sym shape.0 ∙ ap are_digits (sym (eviction ds shape).0) ∙ bad)
+  IsFaultyPiece-no_cpu named Word bad = λ ds shape. true≢false (sym shape.0 ∙ ap are_digits (sym (HasEventShape-eviction_inv ds shape).0) ∙ bad)
   IsFaultyPiece-no_cpu named Cpu bad = (digits, (bad.0, inr (inr (name, named, ap (λ t. 69 ∷ t) cut))), bad.1)
   IsFaultyPiece-no_cpu named _ bad = absurd bad
 
@@ -256,6 +256,6 @@ pub IsFaultyPiece-bad_drain : (names : NameTable) (w rest : Bytes) (x : ℕ) (ca
 IsFaultyPiece-bad_drain names w rest x cause is letter bad =
     IsFaultyPiece-bad_digits _ w _ (inr (is ∙ ap (λ y. y ∷ rest) letter)) _ bad
 
--- A piece that is x followed by rest is y followed by told, if x is y and rest is told.
-pub cons_eq-same_parts : (w rest told : Bytes) (x y : ℕ) → w ≡ x ∷ rest → x ≡ y → rest ≡ told → y ∷ told ≡ w
-cons_eq-same_parts w rest told x y is letter same_rest = sym (is ∙ ap (λ z. z ∷ rest) letter ∙ ap (λ r. y ∷ r) same_rest)
+-- A piece that is x followed by rest is y followed by remainder, if x is y and rest is remainder.
+pub cons_eq-same_parts : (w rest remainder : Bytes) (x y : ℕ) → w ≡ x ∷ rest → x ≡ y → rest ≡ remainder → y ∷ remainder ≡ w
+cons_eq-same_parts w rest remainder x y is letter same_rest = sym (is ∙ ap (λ z. z ∷ rest) letter ∙ ap (λ r. y ∷ r) same_rest)

@@ -30,7 +30,7 @@ pub enum Quant {
     Forall,
 }
 
-/// A column of a report's states: a thread's register, or a location.
+/// What a report can show of a state: a thread's register, or a location.
 #[derive(Clone, Copy, PartialEq, Eq)]
 pub enum Seen {
     Register(Cpu, Reg),

@@ -74,5 +74,6 @@ pub enum End {
 pub struct Replay {
     /// The number of events carried out. If the replay stopped, this is the index of the rejected event.
     pub done: usize,
+    /// How the replay ended.
     pub end: End,
 }

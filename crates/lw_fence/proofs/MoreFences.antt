@@ -9,9 +9,9 @@ use Rattle.lw_fence.proofs.Common.{thread_code, at_index, Register, Number, Stmt
 use Rattle.lw_fence.proofs.Common.{Set, Sum, IfEq, IfNe, Goto, SourceTest, X86Test, Instr, One, Two, lowered}
 use Rattle.lw_fence.proofs.Common.{with_move_if, instrs_of, lowered_code, starts_from, IsThreadWith}
 use Rattle.lw_fence.proofs.Common.{IsCompiledWith, AreSubset, unmarked_count_before-zero}
-use Rattle.lw_fence.proofs.Common.{unmarked_count_before-cons, kept-append, MarksAreFences-append}
+use Rattle.lw_fence.proofs.Common.{unmarked_count_before-cons, unmarked_instructions-append, MarksAreFences-append}
 use Rattle.lw_fence.proofs.Common.{IsFencedCode-code_without, retarget_to_blocks, IsFencedCode, IsFencedTest}
-use Rattle.lw_fence.proofs.Common.{unmarked_count_before, kept, MarksAreFences, cond, sum_by-append}
+use Rattle.lw_fence.proofs.Common.{unmarked_count_before, unmarked_instructions, MarksAreFences, cond, sum_by-append}
 use Rattle.lw_fence.proofs.Common.{sum_by-cons, count_by}
 use Rattle.lw_fence.proofs.CodeLayout.{both_cases-selected, start_after_first, lowered_code-cons}
 use Rattle.lw_fence.proofs.CodeLayout.{starts_from-cons, get_or-drop_one, starts_from-first}
@@ -42,10 +42,10 @@ MarksAreFences-none_marked : (is : List Instr) → MarksAreFences (replicate (le
 MarksAreFences-none_marked [] = tt
 MarksAreFences-none_marked (i ∷ is) = MarksAreFences-none_marked is
 
--- If no instruction is marked, all are kept.
-kept-none_marked : (is : List Instr) → kept (replicate (length is) false) is ≡ is
-kept-none_marked [] = refl
-kept-none_marked (i ∷ is) = ap (λ (js : List Instr). i ∷ js) (kept-none_marked is)
+-- If no instruction is marked, all are unmarked instructions.
+unmarked_instructions-none_marked : (is : List Instr) → unmarked_instructions (replicate (length is) false) is ≡ is
+unmarked_instructions-none_marked [] = refl
+unmarked_instructions-none_marked (i ∷ is) = ap (λ (js : List Instr). i ∷ js) (unmarked_instructions-none_marked is)
 
 -- Of n unset marks, n are unset.
 count_by_not-replicate : (n : ℕ) → count_by not (replicate n false) ≡ n
@@ -74,8 +74,8 @@ module _ (starts begins : List ℕ) (block : ℕ → ℕ) (leads : (to : ℕ) �
   retargeted is = map (retarget_to_blocks block) is
 
   -- A lowering without a jump and without marks is unchanged.
-  retargeted-none_marked : (is : List Instr) → retargeted is ≡ is → retargeted (kept (replicate (length is) false) is) ≡ is
-  retargeted-none_marked is same = ap retargeted (kept-none_marked is) ∙ same
+  retargeted-none_marked : (is : List Instr) → retargeted is ≡ is → retargeted (unmarked_instructions (replicate (length is) false) is) ≡ is
+  retargeted-none_marked is same = ap retargeted (unmarked_instructions-none_marked is) ∙ same
 
   -- A lowering without a jump is unchanged, with or without a move before its last instruction.
   retargeted-with_move : (d a : ℕ) (last : Instr)
@@ -88,7 +88,7 @@ module _ (starts begins : List ℕ) (block : ℕ → ℕ) (leads : (to : ℕ) �
   -- The lowering with more fences, without the marked ones, is that with fewer.
   retargeted-lowered : (x : Stmt) (f g : Bool)
       → (f ≡ true → g ≡ true)
-      → retargeted (kept (lowered_marks x f g) (instrs_of (lowered begins g x))) ≡ instrs_of (lowered starts f x)
+      → retargeted (unmarked_instructions (lowered_marks x f g) (instrs_of (lowered begins g x))) ≡ instrs_of (lowered starts f x)
   retargeted-lowered (Store x v) f g among = refl
   retargeted-lowered (Load d x) false true among = refl
   retargeted-lowered (Load d x) false false among = refl
@@ -147,7 +147,7 @@ MarksAreFences-thread fs gs (x ∷ code) begins among =
 retargeted-lowered_code : (fs gs : List Bool) (code : List Stmt) (starts begins : List ℕ) (block : ℕ → ℕ)
     → ((to : ℕ) → block (slice_index begins to) ≡ slice_index starts to)
     → AreFlagsAmong fs gs
-    → map (retarget_to_blocks block) (kept (fence_marks fs gs code) (lowered_code begins gs code)) ≡ lowered_code starts fs code
+    → map (retarget_to_blocks block) (unmarked_instructions (fence_marks fs gs code) (lowered_code begins gs code)) ≡ lowered_code starts fs code
 retargeted-lowered_code fs gs [] starts begins block leads among = refl
 retargeted-lowered_code fs gs (x ∷ code) starts begins block leads among =
     let f = get_or fs 0 false in
@@ -155,16 +155,16 @@ retargeted-lowered_code fs gs (x ∷ code) starts begins block leads among =
     let others = fence_marks (drop 1 fs) (drop 1 gs) code in
     let own = instrs_of (lowered begins g x) in
     let more = lowered_code begins (drop 1 gs) code in
-    ap (λ (is : List Instr). map (retarget_to_blocks block) (kept (lowered_marks x f g ++ others) is))
+    ap (λ (is : List Instr). map (retarget_to_blocks block) (unmarked_instructions (lowered_marks x f g ++ others) is))
     (lowered_code-cons begins gs x code)
     ∙ ap (map (retarget_to_blocks block))
-    (kept-append (lowered_marks x f g) others own more (MarksAreFences-lowered begins x f g (among 0)))
-    ∙ map-append (retarget_to_blocks block) (kept (lowered_marks x f g) own) (kept others more)
+    (unmarked_instructions-append (lowered_marks x f g) others own more (MarksAreFences-lowered begins x f g (among 0)))
+    ∙ map-append (retarget_to_blocks block) (unmarked_instructions (lowered_marks x f g) own) (unmarked_instructions others more)
     ∙ ap₂ (λ (is js : List Instr). is ++ js) (retargeted-lowered starts begins block leads x f g (among 0))
     (retargeted-lowered_code (drop 1 fs) (drop 1 gs) code starts begins block leads (AreFlagsAmong-tail fs gs among))
     ∙ sym (lowered_code-cons starts fs x code)
 
--- Before the first instruction after the marks `pre`, the number of instructions kept is that of unset marks in `pre`.
+-- Before the first instruction after the marks `pre`, the number of unmarked instructions is that of unset marks in `pre`.
 unmarked_count_before-prefix : (pre rest : List Bool) → unmarked_count_before (pre ++ rest) (length pre) ≡ count_by not pre
 unmarked_count_before-prefix [] rest = unmarked_count_before-zero rest
 unmarked_count_before-prefix (mark ∷ pre) rest =
@@ -172,7 +172,7 @@ unmarked_count_before-prefix (mark ∷ pre) rest =
     ∙ ap (λ (n : ℕ). cond (not mark) 1 0 + n) (unmarked_count_before-prefix pre rest)
     ∙ sym (sum_by-cons (λ (m : Bool). cond (not m) 1 0) mark pre)
 
--- Before the start of a statement, after any instructions, the number of instructions kept is the statement's start with fewer fences.
+-- Before the start of a statement, after any instructions, the number of unmarked instructions is the statement's start with fewer fences.
 unmarked_count_before-start : (fs gs : List Bool) (code : List Stmt) (pre : List Bool)
     → AreFlagsAmong fs gs
     → (to : ℕ)

@@ -41,6 +41,6 @@ pub use Rattle.lw_mesi.specs.laws.Cases.{copy_in-invalid_if_none_held, copy_word
 pub use Rattle.lw_mesi.specs.laws.Coherent.{at_index, copy_in, copy_in-map, copy_in-set_other}
 pub use Rattle.lw_mesi.specs.laws.Coherent.{copy_in-set_same, copy_word-none_if_invalid}
 pub use Rattle.lw_mesi.specs.laws.Coherent.{dirty_word_or-if_clean, dirty_word_or-if_dirty}
-pub use Rattle.lw_mesi.specs.laws.ProtocolCases.{invalid_state, shared_invalid}
-pub use Rattle.lw_mesi.specs.laws.ProtocolLaws.{evict_kept, kept_cache_line, load_kept, protocol_lawful}
-pub use Rattle.lw_mesi.specs.laws.ProtocolLaws.{set_kept, write_kept}
+pub use Rattle.lw_mesi.specs.laws.ProtocolCases.{IsProtocolState-invalid, on_other_get_s-invalid}
+pub use Rattle.lw_mesi.specs.laws.ProtocolLaws.{LineSatisfiesProtocol-after_eviction, LineSatisfiesProtocol-at_location, LineSatisfiesProtocol-after_load, protocol_lawful}
+pub use Rattle.lw_mesi.specs.laws.ProtocolLaws.{SatisfiesProtocol-set, LineSatisfiesProtocol-after_write}

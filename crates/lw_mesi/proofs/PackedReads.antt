@@ -10,7 +10,7 @@ use Rattle.lw_mesi.proofs.Common.{coherent_word, empty_cpu_set, is_owner, Protoc
 use Rattle.lw_mesi.proofs.Common.{copy_from, cache_line_to_read, on_load, table_of, moesi_on_other_get_s}
 use Rattle.lw_mesi.proofs.Common.{IsProtocolState, HasProtocolStates, copy_in, copy_in-map, copy_in-set_same}
 use Rattle.lw_mesi.proofs.Common.{copy_in-invalid_if_none_held, copy_word-copy_from, Inside, IsPacked}
-use Rattle.lw_mesi.proofs.Common.{sharer_copy, copy_at, unpacked, shared_invalid}
+use Rattle.lw_mesi.proofs.Common.{sharer_copy, copy_at, unpacked, on_other_get_s-invalid}
 use Rattle.lw_mesi.proofs.IndexLemmas.{length-at_each, get_or-at_each, at_each-set_of_list}
 use Rattle.lw_mesi.proofs.PackedCopies.{copy_of_bits, copy_of-unpacked, copy_of_bits-sharer}
 use Rattle.lw_mesi.proofs.PackedCopies.{copy_of-unpacked_owned, coherent_word-unpacked}
@@ -69,8 +69,8 @@ pub IsPacked-no_owner : (w : ℕ) (b : Bool) (xs : List Bool)
 IsPacked-no_owner w b xs e long = record {
   as_many = long;
   in_range = λ o h. cc;
-  apart = λ o h. cc;
-  alone = λ o h f. cc;
+  owner_is_no_sharer = λ o h. cc;
+  no_other_copy = λ o h f. cc;
   unowned = λ h. refl;
   owned = λ h. e;
   clean = λ h. refl;
@@ -160,7 +160,7 @@ pub unpacked-shared_by_clean_owner : (p : Inside) (t o : ℕ) (q : Protocol)
 unpacked-shared_by_clean_owner p t o q reader own unowned clean =
     unpacked-after_get_s p (record p { owner = None; is_dirty = false; sharers = set mid t true; memory = p.word }) t (table_of q)
     true reader (record {
-      invalid = shared_invalid q;
+      invalid = on_other_get_s-invalid q;
       holds = is_held_anywhere-if_owned p o (ok.in_range o own) own;
       memory = memory_then q clean;
       mine =
@@ -241,8 +241,8 @@ module _ (p : Inside) (t : ℕ) (q : Protocol) (reader : IsReader p t) (own : p.
   -- A GetS of a cache line that no processor holds: the reader becomes its owner, in E.
   pub unpacked-first_reader : p.sharers ≡ empty_cpu_set
       → unpacked (record p { owner = Some t }) ≡ cache_line_to_read (table_of q) t (unpacked p)
-  unpacked-first_reader alone = unpacked-after_get_s p (record p { owner = Some t }) t (table_of q) false reader (record {
-    invalid = shared_invalid q;
+  unpacked-first_reader no_other_copy = unpacked-after_get_s p (record p { owner = Some t }) t (table_of q) false reader (record {
+    invalid = on_other_get_s-invalid q;
     holds = is_held_anywhere-false (unpacked p).copies all_invalid;
     memory = memory_stays q;
     mine =
@@ -260,7 +260,7 @@ module _ (p : Inside) (t : ℕ) (q : Protocol) (reader : IsReader p t) (own : p.
             copy_of-unpacked p u within
             ∙ sharer_at u
             ∙ ap (λ (s : Bool). sharer_copy s p.word)
-            (ap (λ xs. slice_index_or xs u false) alone ∙ get_or-at_each (λ k. false) u false within)
+            (ap (λ xs. slice_index_or xs u false) no_other_copy ∙ get_or-at_each (λ k. false) u false within)
         | inr past ↦ get_or_past (unpacked p).copies u Invalid (omega (arith, length-at_each (copy_at p)))
       ]
 
@@ -269,7 +269,7 @@ module _ (p : Inside) (t : ℕ) (q : Protocol) (reader : IsReader p t) (own : p.
       → unpacked (record p { sharers = set p.sharers t true }) ≡ cache_line_to_read (table_of q) t (unpacked p)
   unpacked-next_reader some =
       unpacked-after_get_s p (record p { sharers = set p.sharers t true }) t (table_of q) true reader (record {
-        invalid = shared_invalid q;
+        invalid = on_other_get_s-invalid q;
         holds =
             true_from_ne_false _
             (λ none. some (fill_by_all (λ k. false) p.sharers most_threads false ok.as_many (nobody_if none)));

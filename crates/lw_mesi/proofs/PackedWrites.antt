@@ -30,7 +30,7 @@ copy_at-invalid_beside_only_copy p t u ok only within ne =
     let o = is_owner-of_only_copy (is_owner p.owner t) p.is_dirty p.is_owned _ p.word ok.owned only in
     let own : p.owner ≡ Some t = is_owner-sound p.owner t o.0 in
     let none : slice_index_or p.sharers u false ≡ false =
-    ap (λ (xs : List Bool). slice_index_or xs u false) (ok.alone t own o.1) ∙ get_or-at_each (λ k. false) u false within in
+    ap (λ (xs : List Bool). slice_index_or xs u false) (ok.no_other_copy t own o.1) ∙ get_or-at_each (λ k. false) u false within in
     let other = ap (λ (x : Option ℕ). is_owner x u) own ∙ ne_eqb t u (λ e. ne (sym e)) in
     ap₂ (λ (x s : Bool). copy_of_bits x p.is_dirty p.is_owned s p.word) other none
 
@@ -163,7 +163,7 @@ unpacked-owner_removed p t m d b ok lt own =
     let q : Inside = record p { owner = None; is_dirty = d; is_owned = b; memory = m } in
     let copies : (unpacked q).copies ≡ set (unpacked p).copies t Invalid =
     at_each-set_of_list (copy_at q) (unpacked p).copies t Invalid Invalid (length-at_each (copy_at p)) lt
-    (ap (λ (s : Bool). sharer_copy s p.word) (ok.apart t own)) (λ u within ne.
+    (ap (λ (s : Bool). sharer_copy s p.word) (ok.owner_is_no_sharer t own)) (λ u within ne.
     let other = ap (λ (x : Option ℕ). is_owner x u) own ∙ ne_eqb t u (λ e. ne (sym e)) in
     sym (ap (λ (x : Bool). copy_of_bits x p.is_dirty p.is_owned (slice_index_or p.sharers u false) p.word) other)
     ∙ sym (copy_of-unpacked p u within)) in

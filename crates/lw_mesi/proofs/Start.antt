@@ -5,7 +5,7 @@ use Rattle.lw_mesi.proofs.Common.{refl, sym, ap, subst, arith, most_threads, Pro
 use Rattle.lw_mesi.proofs.Common.{unheld_cache_line, empty_caches, copy_of, cache_line_at, coherent_word}
 use Rattle.lw_mesi.proofs.Common.{coherent_words, IsOnlyCopy, IsDirty, IsProtocolState, HasProtocolStates}
 use Rattle.lw_mesi.proofs.Common.{LineSatisfiesProtocol, SatisfiesProtocol, copy_word-none_if_invalid}
-use Rattle.lw_mesi.proofs.Common.{invalid_state}
+use Rattle.lw_mesi.proofs.Common.{IsProtocolState-invalid}
 
 -- The content of empty caches is memory's words.
 pub coherent_words-empty_caches : (cpus : ℕ) (words : List ℕ) → coherent_words (empty_caches cpus words) ≡ words
@@ -23,14 +23,14 @@ copy_of-unheld w t = get_or-replicate Invalid most_threads t
 
 -- The states of a cache line that no processor holds belong to each protocol.
 HasProtocolStates-unheld : (p : Protocol) (w : ℕ) → HasProtocolStates p (unheld_cache_line w)
-HasProtocolStates-unheld p w = λ t. subst (IsProtocolState p) (sym (copy_of-unheld w t)) (invalid_state p)
+HasProtocolStates-unheld p w = λ t. subst (IsProtocolState p) (sym (copy_of-unheld w t)) (IsProtocolState-invalid p)
 
 -- A cache line that no processor holds satisfies each protocol.
 LineSatisfiesProtocol-unheld : (p : Protocol) (w : ℕ) → LineSatisfiesProtocol p (unheld_cache_line w)
 LineSatisfiesProtocol-unheld p w = record {
   coherent = record {
     as_many = refl;
-    alone = λ t u own ne. absurd (subst IsOnlyCopy (copy_of-unheld w t) own);
+    no_other_copy = λ t u own ne. absurd (subst IsOnlyCopy (copy_of-unheld w t) own);
     one_dirty = λ t u d e. absurd (subst IsDirty (copy_of-unheld w t) d);
     same_word = λ t k h.
         copy_word-none_if_invalid (copy_of (unheld_cache_line w) t) k (coherent_word (unheld_cache_line w)) (copy_of-unheld w t)

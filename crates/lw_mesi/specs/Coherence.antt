@@ -26,7 +26,7 @@ IsDirty Invalid = ⊥
 pub record IsCoherentCacheLine (line : CacheLine) : Type 0 where
   pub as_many : length line.copies ≡ most_threads
   -- If a copy is in M or E, there is no other copy.
-  pub alone : (t u : ℕ) → IsOnlyCopy (copy_of line t) → t ≢ u → copy_of line u ≡ Invalid
+  pub no_other_copy : (t u : ℕ) → IsOnlyCopy (copy_of line t) → t ≢ u → copy_of line u ≡ Invalid
   -- At most one copy is in M or O.
   pub one_dirty : (t u : ℕ) → IsDirty (copy_of line t) → IsDirty (copy_of line u) → t ≡ u
   -- Every copy has the coherent word.

@@ -121,20 +121,20 @@ module _ {M : Type 0} (mem : Memory M) (inv : Invariant M) where
           (record { processors = length-set s.processors (cpu_of e) done.0; locations = kept.locations; sound = kept.sound })
 
   -- A running machine after an event: unchanged if the event was refused, and always with as many processors and words as before.
-  pub record IsLeft (before : MachineRun M) (answer : EventResult) (after : MachineRun M) : Type 0 where
+  pub record IsAfterEvent (before : MachineRun M) (answer : EventResult) (after : MachineRun M) : Type 0 where
     pub err : OnErr answer (after ≡ before)
     pub processors : length after.state.processors ≡ length before.state.processors
     pub words : length (mem.content after.state.memory) ≡ length (mem.content before.state.memory)
 
-  -- A call that executes an event on a running machine, and preserves its program and initial state, satisfies `IsLeft`.
-  pub IsLeft-event : IsLawful mem inv
+  -- A call that executes an event on a running machine, and preserves its program and initial state, satisfies `IsAfterEvent`.
+  pub IsAfterEvent-of_transition : IsLawful mem inv
       → (e : Event) (before after : MachineRun M) (answer : EventResult)
       → inv.sound before.state.memory
       → after.program ≡ before.program
       → after.initial ≡ before.initial
       → MachineTransition mem before.program e before.state answer after.state
-      → IsLeft before answer after
-  IsLeft-event laws e before after answer sound program initial done =
+      → IsAfterEvent before answer after
+  IsAfterEvent-of_transition laws e before after answer sound program initial done =
       let kept = IsSameSize-event laws before.program e before.state after.state answer sound done in
       record { err = go answer done; processors = kept.processors; words = kept.locations }
     where

@@ -58,21 +58,21 @@ pub use Rattle.lw_memory.proofs.Common.{memory_of, request_result, value_returne
 pub use Rattle.lw_memory.proofs.Common.{words_invariant, words_lawful}
 pub use Rattle.lw_memory.specs.declared.request.Access.{Access}
 pub use Rattle.lw_memory.specs.declared.request.Request.{Request}
-pub use Rattle.lw_tso.specs.Endings.{CanTerminate, events_of}
+pub use Rattle.lw_tso.specs.Endings.{CanTerminate, event_count}
 pub use Rattle.lw_tso.specs.EventEffects.{EventEffect, Eviction, LocalStep, MemoryAccess, Refused, cpu_of}
 pub use Rattle.lw_tso.specs.EventEffects.{drain_effect, event_effect, if_buffer_empty, load_effect}
 pub use Rattle.lw_tso.specs.EventEffects.{operation_effect, step_effect}
 pub use Rattle.lw_tso.specs.EventRanges.{IsEventInRange}
 pub use Rattle.lw_tso.specs.Evictions.{without_evictions}
 pub use Rattle.lw_tso.specs.Fencing.{EndsBlock, IsFencedCode, IsFencedTest, IsInserted, MarksAreFences}
-pub use Rattle.lw_tso.specs.Fencing.{code_without, kept, retarget_to_blocks, unmarked_count_before}
+pub use Rattle.lw_tso.specs.Fencing.{code_without, unmarked_instructions, retarget_to_blocks, unmarked_count_before}
 pub use Rattle.lw_tso.specs.Independence.{AreDrainAndPassing, AreIndependent, CommutesWithDrain}
 pub use Rattle.lw_tso.specs.Independence.{DoNotConflict, EventsCommute, IsAtPosition, MayPassOldest}
 pub use Rattle.lw_tso.specs.Independence.{TransitionAt, accessed_location, event_writes}
 pub use Rattle.lw_tso.specs.LockPhases.{Begun, Drains, Free, HasRead, HasWritten, HeldBy, IsAtLocked}
 pub use Rattle.lw_tso.specs.LockPhases.{IsNotBlocked, Lock, Locked, Locks, Phase, PhasedEvent, PhasedRunsTo}
 pub use Rattle.lw_tso.specs.LockPhases.{PhasedState, PhasedStep, PhasedTransition, Reads, Steps, Unlocks}
-pub use Rattle.lw_tso.specs.LockPhases.{Writes, having_written, locked_by, locked_next, read_value, unlocked}
+pub use Rattle.lw_tso.specs.LockPhases.{Writes, after_locked_write, locked_by, locked_next, read_value, unlocked}
 pub use Rattle.lw_tso.specs.LockPhases.{with_empty_buffer}
 pub use Rattle.lw_tso.specs.Machines.{EffectTransition, EventResult, EvictionTransition, MachineState}
 pub use Rattle.lw_tso.specs.Machines.{MachineTransition, ProcessorTransition, buffer_of, over_flat_memory}

@@ -1,5 +1,5 @@
 -- Effects over flat memory that commute: those that do not conflict, and a step with a drain that it commutes
--- with. It is the core of the law that independent events commute, which `api/Neighbours` lifts from effects
+-- with. This is the core of the law that independent events commute, which `api/Neighbours` lifts from effects
 -- to events.
 use Rattle.lw_tso.proofs.Common.{◌≡◌, ◌≢◌, ℕ, Bool, true, false, if◌then◌else◌, List, ◌∷◌, Option, Some, None}
 use Rattle.lw_tso.proofs.Common.{refl, sym, ap, ◌∙◌, subst, slice_set, slice_index, ne_eqb, true≢false}
@@ -72,19 +72,19 @@ EffectLeadsTo-after_access act m n q x (to.Update change) d free same =
     (EffectLeadsTo-slice_set_other act m n q x word d (free refl))
 
 -- Two effects in sequence lead from the words m to the words n: a leads to the processor p, and then b to q.
-pub record DoneInTurn (a b : EventEffect) (p q : Processor) (m n : List ℕ) : Type 0 where
+pub record LeadInSequence (a b : EventEffect) (p q : Processor) (m n : List ℕ) : Type 0 where
   pub between : List ℕ
   pub first : EffectLeadsTo m a p between
   pub second : EffectLeadsTo between b q n
 
 -- Effects that do not conflict lead to the same state in either order.
-pub DoneInTurn-swap : (a b : EventEffect) (p q : Processor) (m n : List ℕ)
+pub LeadInSequence-swap : (a b : EventEffect) (p q : Processor) (m n : List ℕ)
     → DoNotConflict a b
-    → DoneInTurn a b p q m n
-    → DoneInTurn b a q p m n
-DoneInTurn-swap a (LocalStep next) p q m n free done =
+    → LeadInSequence a b p q m n
+    → LeadInSequence b a q p m n
+LeadInSequence-swap a (LocalStep next) p q m n free done =
     record { between = m; first = (done.second.0, refl); second = subst (EffectLeadsTo m a p) (sym done.second.1) done.first }
-DoneInTurn-swap a (MemoryAccess x access next) p q m n free done =
+LeadInSequence-swap a (MemoryAccess x access next) p q m n free done =
     let same = slice_index-effect_elsewhere a m done.between p x done.first (λ at. (free x at refl).0) in
     let apart : is_write access ≡ true → accessed_location a ≡ Some x → ⊥ =
     λ writes at. true≢false (sym writes ∙ (free x at refl).1) in
@@ -95,7 +95,7 @@ DoneInTurn-swap a (MemoryAccess x access next) p q m n free done =
           subst (EffectLeadsTo (words_after m x access) a p) (sym done.second.1)
           (EffectLeadsTo-after_access a m done.between p x access done.first apart same);
     }
-DoneInTurn-swap a _ p q m n free done = absurd done.second
+LeadInSequence-swap a _ p q m n free done = absurd done.second
 
 -- ---- a step, with one more entry
 
@@ -110,7 +110,7 @@ effect_keeping_oldest entry (LocalStep next) = LocalStep (with_oldest entry next
 effect_keeping_oldest entry (MemoryAccess x access next) = MemoryAccess x access (λ w. with_oldest entry (next w))
 effect_keeping_oldest entry (Eviction x) = Eviction x
 
--- An effect is the same with one more entry, which is kept.
+-- An effect is the same with one more entry in the buffer, which stays there.
 pub EffectLeadsTo-keeping_oldest : (entry : ℕ × ℕ) (act : EventEffect) (m n : List ℕ) (q : Processor)
     → EffectLeadsTo m act q n
     → EffectLeadsTo m (effect_keeping_oldest entry act) (with_oldest entry q) n
@@ -118,7 +118,7 @@ EffectLeadsTo-keeping_oldest entry (Refused stop) m n q d = absurd d
 EffectLeadsTo-keeping_oldest entry (Eviction x) m n q d = absurd d
 EffectLeadsTo-keeping_oldest entry _ m n q d = (ap (with_oldest entry) d.0, d.1)
 
--- An effect with an entry that is kept is the same without it.
+-- An effect with an entry that stays in the buffer is the same without this entry.
 pub EffectLeadsTo-without_oldest : (entry : ℕ × ℕ) (act : EventEffect) (m n : List ℕ) (q : Processor)
     → EffectLeadsTo m (effect_keeping_oldest entry act) q n
     → (new : Processor) × (q ≡ with_oldest entry new) × EffectLeadsTo m act new n
@@ -127,7 +127,8 @@ EffectLeadsTo-without_oldest entry (MemoryAccess x access next) m n q d =
     (next (unwrap_or (value_returned m x access) 0), d.0, (refl, d.1))
 EffectLeadsTo-without_oldest entry _ m n q d = absurd d
 
--- The effect `with_entry`, of a processor with this entry as its oldest, is `act` with the entry kept, and does not access its location.
+-- The effect `with_entry`, of a processor with this entry as its oldest, is `act` with the entry still in the buffer, and does not access the
+-- entry's location.
 pub record LeavesAlone (entry : ℕ × ℕ) (act with_entry : EventEffect) : Type 0 where
   pub same : with_entry ≡ effect_keeping_oldest entry act
   pub free : accessed_location act ≡ Some entry.0 → ⊥

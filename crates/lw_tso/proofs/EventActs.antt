@@ -14,8 +14,8 @@ abbrev pub IsNoEviction : Event → Type 0
 IsNoEviction e = without_evictions (e ∷ []) ≡ e ∷ []
 
 -- An event of the processor p may access x: it is the location of its next instruction, or of its oldest entry.
-abbrev pub AsksFor : List Instr → Processor → ℕ → Type 0
-AsksFor code p x =
+abbrev pub MayAccess : List Instr → Processor → ℕ → Type 0
+MayAccess code p x =
     ((i : Instr) × (slice_get code p.position ≡ Some i) × (location_of (x86_operation i) ≡ Some x))
     ⊎ ((entry : ℕ × ℕ) × (newer : List (ℕ × ℕ)) × (p.buffer ≡ entry ∷ newer) × (entry.0 ≡ x))
 
@@ -29,34 +29,34 @@ pub data ProcessorChange (code : List Instr) (p q : Processor) : Type 0 where
       → ProcessorChange code p q
 
 module _ (program : List (List Instr)) (locs : ℕ) where
-  -- The claim about an event's effect: it accesses only locations of `AsksFor`, and its processor after it satisfies `ProcessorChange`.
-  abbrev pub EventComes : Event → Processor → EventEffect → Type 0
-  EventComes e p =
-      EffectSatisfies (Unit {0}) (λ x written. AsksFor (thread_code program (cpu_of e)) p x)
+  -- The claim about an event's effect: it accesses only locations of `MayAccess`, and its processor after it satisfies `ProcessorChange`.
+  abbrev pub IsEventEffect : Event → Processor → EventEffect → Type 0
+  IsEventEffect e p =
+      EffectSatisfies (Unit {0}) (λ x written. MayAccess (thread_code program (cpu_of e)) p x)
       (ProcessorChange (thread_code program (cpu_of e)) p)
 
   -- The claim holds of a step: its effect is that of the thread's next instruction, if there is one.
-  EventComes-step : (t : ℕ) (p : Processor) (o : Option Instr)
+  IsEventEffect-step : (t : ℕ) (p : Processor) (o : Option Instr)
       → slice_get (thread_code program t) p.position ≡ o
-      → EventComes (Step t) p (step_effect o p)
-  EventComes-step t p None at = tt
-  EventComes-step t p (Some i) at =
-      EffectSatisfies-operation (Unit {0}) (λ x written. AsksFor (thread_code program t) p x)
+      → IsEventEffect (Step t) p (step_effect o p)
+  IsEventEffect-step t p None at = tt
+  IsEventEffect-step t p (Some i) at =
+      EffectSatisfies-operation (Unit {0}) (λ x written. MayAccess (thread_code program t) p x)
       (ProcessorChange (thread_code program t) p) (x86_operation i) p (λ waits full. tt) (λ x is. inl (i, at, is))
       (λ q went. Steps i at went)
 
   -- The claim holds of a drain of the processor's buffer, which may be empty.
-  EventComes-drain : (t : ℕ) (p : Processor) (buffer : List (ℕ × ℕ))
+  IsEventEffect-drain : (t : ℕ) (p : Processor) (buffer : List (ℕ × ℕ))
       → p.buffer ≡ buffer
-      → EventComes (Drain t) p (drain_effect buffer p)
-  EventComes-drain t p [] is = tt
-  EventComes-drain t p (entry ∷ newer) is = (inr (entry, newer, is, refl), λ none. Drains entry newer is refl)
+      → IsEventEffect (Drain t) p (drain_effect buffer p)
+  IsEventEffect-drain t p [] is = tt
+  IsEventEffect-drain t p (entry ∷ newer) is = (inr (entry, newer, is, refl), λ none. Drains entry newer is refl)
 
-  -- The effect of an event other than an eviction satisfies `EventComes`.
-  pub EventComes-event : (e : Event) (p : Processor) → IsNoEviction e → EventComes e p (event_effect program locs e p)
-  EventComes-event (Step t) p none = EventComes-step t p (slice_get (thread_code program t) p.position) refl
-  EventComes-event (Drain t) p none = EventComes-drain t p p.buffer refl
-  EventComes-event (Evict t x) p none = absurd cc
+  -- The effect of an event other than an eviction satisfies `IsEventEffect`.
+  pub IsEventEffect-of_event : (e : Event) (p : Processor) → IsNoEviction e → IsEventEffect e p (event_effect program locs e p)
+  IsEventEffect-of_event (Step t) p none = IsEventEffect-step t p (slice_get (thread_code program t) p.position) refl
+  IsEventEffect-of_event (Drain t) p none = IsEventEffect-drain t p p.buffer refl
+  IsEventEffect-of_event (Evict t x) p none = absurd cc
 
   module _ {M : Type 0} (mem : Memory M) (p q : Processor) (m n : M) (answer : EventResult) where
     -- An eviction leaves the processor unchanged, whether it is carried out or refused.
@@ -79,8 +79,8 @@ module _ (program : List (List Instr)) (locs : ℕ) where
     ProcessorChange-other_event e none done =
         let code = thread_code program (cpu_of e) in
         ⊎_elim (λ refused. Stays refused.2) (λ becomes. becomes)
-        (EffectSatisfies-result (Unit {0}) (λ x w. AsksFor code p x) (ProcessorChange code p) mem (cpu_of e) _ p q m n answer
-        (EventComes-event e p none) done)
+        (EffectSatisfies-result (Unit {0}) (λ x w. MayAccess code p x) (ProcessorChange code p) mem (cpu_of e) _ p q m n answer
+        (IsEventEffect-of_event e p none) done)
 
     -- The processor after any event satisfies `ProcessorChange`.
     pub ProcessorChange-event : (e : Event)

@@ -139,7 +139,7 @@ module _ {M A : Type 0} where
   is_final-all_processors _ _ m = refl
 
 module _ {M A : Type 0} (mem : Memory M) (program : List (List Instr)) where
-  -- What a processor in memory has done by an act is the event of the whole machine.
+  -- If an event's effect leads a processor in memory from p to q, the whole machine makes the transition of this event.
   pub MachineTransition-by_effect : (e : Event) (run : MachineRun M) (initial : InitialWords) (p q : ProcessorInMemory A)
       (processors : List (ProcessorInMemory A)) (m n : M) (answer : EventResult)
       → record { program = program; initial = initial; state = state_of processors m } ≡ run

@@ -9,7 +9,7 @@ use Rattle.lw_tso.proofs.Common.{EventResult, over_flat_memory, EffectTransition
 use Rattle.lw_tso.proofs.Common.{ProcessorTransition, MachineTransition, MachineRunsTo, ReplaysTo}
 use Rattle.lw_tso.proofs.Common.{initial_machine_state, without_evictions}
 use Rattle.lw_tso.proofs.Acts.{IsSameSize-event}
-use Rattle.lw_tso.proofs.EventActs.{IsNoEviction, EventComes, EventComes-event}
+use Rattle.lw_tso.proofs.EventActs.{IsNoEviction, IsEventEffect, IsEventEffect-of_event}
 use Rattle.lw_memory.specs.declared.request.Request.TheVariants as request
 
 module _ {M : Type 0} (mem : Memory M) (inv : Invariant M) (laws : IsLawful mem inv) where
@@ -35,7 +35,7 @@ module _ {M : Type 0} (mem : Memory M) (inv : Invariant M) (laws : IsLawful mem 
   ProcessorTransition-flat (Some p) program e s after answer sound none done =
       let l = length (mem.content s.memory) in
       let keeps = λ (x : ℕ) (is : event_effect program l e p ≡ Eviction x).
-      subst (EventComes program l e p) is (EventComes-event program l e p none) in
+      subst (IsEventEffect program l e p) is (IsEventEffect-of_event program l e p none) in
       (done.0, mem.content done.1, EffectTransition-flat _ _ p _ _ _ answer sound keeps done.2, ap (over_flat_memory mem) done.3)
 
   -- An event other than an eviction has the same result over flat memory with the same content.

@@ -8,7 +8,7 @@ use Rattle.lw_tso.proofs.Common.{Drain, flat_memory, Instr, All, x86_language, x
 use Rattle.lw_tso.proofs.Common.{step_effect, event_effect, MachineState, buffer_of, MachineTransition}
 use Rattle.lw_tso.proofs.Common.{MachineRunsTo, RunsTo-append, Phase, Begun, HasRead, HasWritten, Lock, Free}
 use Rattle.lw_tso.proofs.Common.{HeldBy, PhasedState, PhasedEvent, Steps, Drains, Locks, Reads, Writes}
-use Rattle.lw_tso.proofs.Common.{Unlocks, IsNotBlocked, Locked, with_empty_buffer, read_value, having_written}
+use Rattle.lw_tso.proofs.Common.{Unlocks, IsNotBlocked, Locked, with_empty_buffer, read_value, after_locked_write}
 use Rattle.lw_tso.proofs.Common.{locked_next, IsAtLocked, PhasedStep, PhasedTransition, PhasedRunsTo}
 use Rattle.lw_tso.proofs.Common.{unlocked}
 use Rattle.lw_tso.proofs.LockedSteps.{DoesAs-locked, location_in_range-of_locked, memory_same-plain_operation}
@@ -30,7 +30,7 @@ module _ (program : List (List Instr)) where
       (p : Processor) (l : Locked) → IsAtLocked program m t p l → read_value p.buffer m.memory l.location ≡ w
   IsStillRead _ m = Unit {0}
 
-  -- The lock's holder has written, and its write is in its buffer, behind older entries: the machine stands before the
+  -- The lock's holder has written, and its write is in its buffer, after older entries: the state m of the machine is the one before the
   -- instruction.
   record IsPending (s : PhasedState) (m : MachineState (List ℕ)) : Type 0 where
     cpu : ℕ
@@ -42,7 +42,7 @@ module _ (program : List (List Instr)) where
     was : slice_get m.processors cpu ≡ Some (record from { buffer = older })
     next : locked_next program cpu from ≡ Some locked
     read : read_value older m.memory locked.location ≡ word
-    machine_is : s.machine ≡ state (slice_set m.processors cpu (having_written locked word older)) m.memory
+    machine_is : s.machine ≡ state (slice_set m.processors cpu (after_locked_write locked word older)) m.memory
 
   -- The machine's state that corresponds to a state with phases.
   data Follows (s : PhasedState) (m : MachineState (List ℕ)) : Type 0 where
@@ -227,7 +227,7 @@ module _ (program : List (List Instr)) where
       MachineFollowsPhases-still_read (Writes t) read done = MachineFollowsPhases-write t read done
       MachineFollowsPhases-still_read (Unlocks t) read done = MachineFollowsPhases-lock_only Free done.2 tt
 
-    -- ---- the machine stands before the locked instruction
+    -- ---- the machine is at the state before the locked instruction
 
     module _ (s after : PhasedState) (m : MachineState (List ℕ)) (sized : length m.memory ≡ locs) (pending : IsPending s m) where
       open pending use {cpu, from, older, locked, word}
@@ -247,7 +247,7 @@ module _ (program : List (List Instr)) where
 
           there : slice_get m.processors t ≡ Some d.from
           there =
-              sym (get-set_other m.processors cpu t (having_written locked word older) other_cpu)
+              sym (get-set_other m.processors cpu t (after_locked_write locked word older) other_cpu)
               ∙ ap (λ (z : MachineState (List ℕ)). slice_get z.processors t) (sym pending.machine_is)
               ∙ d.was
 
@@ -277,7 +277,7 @@ module _ (program : List (List Instr)) where
             machine_is =
                 d.state_is
                 ∙ ap (λ (z : MachineState (List ℕ)). state (slice_set z.processors t d.to) d.words) pending.machine_is
-                ∙ ap (λ ps. state ps d.words) (set_comm m.processors cpu t (having_written locked word older) d.to other_cpu);
+                ∙ ap (λ ps. state ps d.words) (set_comm m.processors cpu t (after_locked_write locked word older) d.to other_cpu);
           }
 
       -- The drain of an older entry, and that of the write itself.
@@ -287,7 +287,7 @@ module _ (program : List (List Instr)) where
 
         -- The machine of the state with phases, if the locked instruction has read the word w, and its write follows the entries `buffer`.
         abbrev writing : List (ℕ × ℕ) → ℕ → MachineState (List ℕ)
-        writing buffer w = state (slice_set m.processors cpu (having_written locked w buffer)) m.memory
+        writing buffer w = state (slice_set m.processors cpu (after_locked_write locked w buffer)) m.memory
 
         -- If an entry before the write is drained, the machine drains it too, and the write is still pending.
         drain_older : (entry : ℕ × ℕ) (newer : List (ℕ × ℕ))
@@ -301,10 +301,10 @@ module _ (program : List (List Instr)) where
             words = slice_set m.memory entry.0 entry.1
 
             full : Processor
-            full = having_written locked word (entry ∷ newer)
+            full = after_locked_write locked word (entry ∷ newer)
 
             fewer : Processor
-            fewer = having_written locked word newer
+            fewer = after_locked_write locked word newer
 
             drained_from : Processor
             drained_from = record from { buffer = newer }
@@ -359,7 +359,7 @@ module _ (program : List (List Instr)) where
             words = slice_set m.memory locked.location (locked.leaves w)
 
             full : Processor
-            full = having_written locked w []
+            full = after_locked_write locked w []
 
             drained : Processor
             drained = record (locked.next w) { buffer = [] }
@@ -420,7 +420,7 @@ module _ (program : List (List Instr)) where
       before_unlock t done =
           let held : HeldBy cpu HasWritten ≡ HeldBy t HasWritten = sym pending.lock ∙ done.0 in
           let own : cpu ≡ t = cc in
-          let full = having_written locked word older in
+          let full = after_locked_write locked word older in
           let there : slice_get s.machine.processors cpu ≡ Some full =
           ap (λ (z : MachineState (List ℕ)). slice_get z.processors cpu) pending.machine_is
           ∙ get-set_same m.processors cpu full (record from { buffer = older }) pending.was in

@@ -7,7 +7,7 @@ use Rattle.lw_tso.proofs.Common.{thread_code, Event, Step, Drain, Evict, flat_me
 use Rattle.lw_tso.proofs.Common.{x86_operation, Processor, step_effect, MachineState, buffer_of}
 use Rattle.lw_tso.proofs.Common.{MachineTransition, MachineRunsTo, Begun, HasRead, HasWritten, Lock, HeldBy}
 use Rattle.lw_tso.proofs.Common.{PhasedState, PhasedEvent, Steps, Drains, Locks, Reads, Writes, Unlocks}
-use Rattle.lw_tso.proofs.Common.{Locked, locked_by, with_empty_buffer, having_written, IsAtLocked}
+use Rattle.lw_tso.proofs.Common.{Locked, locked_by, with_empty_buffer, after_locked_write, IsAtLocked}
 use Rattle.lw_tso.proofs.Common.{PhasedRunsTo, unlocked}
 use Rattle.lw_tso.proofs.LockedSteps.{DoesAs-locked, locked_by-of_locked, buffer_empty-if_locked}
 use Rattle.lw_tso.proofs.LockedSteps.{buffer_empty-after_locked_step}
@@ -57,7 +57,7 @@ module _ (program : List (List Instr)) where
 
     -- Its processor with its write in the buffer.
     abbrev written : Processor
-    written = having_written l word []
+    written = after_locked_write l word []
 
     -- Its processor after the drain of its write.
     abbrev drained : Processor

@@ -18,22 +18,22 @@ use Rattle.lw_memory.specs.declared.request.Access.TheVariants as to
 
 -- ---- a locked instruction
 
--- An act that is not locked gives no locked one, so anything follows: this case is impossible.
+-- An effect that is not locked is not a locked one, so anything follows: this case is impossible.
 None-ne_locked : {X : Type 0} (l : Locked) → ◌≡◌ {A = Option Locked} None (Some l) → X
 None-ne_locked l e = absurd cc
 
--- A locked act leads in one step to its processor and memory, with its location's word changed.
+-- A locked effect leads in one step to its processor and memory, with its location's word changed.
 abbrev pub DoesAs : List ℕ → EventEffect → Locked → Type 0
 DoesAs m act l =
     EffectLeadsTo m act (l.next (slice_index m l.location)) (slice_set m l.location (l.leaves (slice_index m l.location)))
 
--- A locked act reads its location's word, and writes what it makes of it, in one step.
+-- A locked effect reads its location's word, and writes the word that it makes of it, in one step.
 pub DoesAs-locked : (m : List ℕ) (act : EventEffect) (l : Locked) → locked_by act ≡ Some l → DoesAs m act l
 DoesAs-locked m (MemoryAccess x (to.Update change) next) l e =
     subst (DoesAs m (MemoryAccess x (to.Update change) next)) (same_Some _ l e) (refl, refl)
 DoesAs-locked m _ l e = None-ne_locked l e
 
--- A locked operation's act, once the buffer is empty, is a locked act.
+-- A locked operation's effect, once the buffer is empty, is a locked effect.
 pub locked_by-of_locked : (o : Operation) (p : Processor)
     → is_locked o ≡ true
     → (l : Locked) × (locked_by (operation_effect o (with_empty_buffer p)) ≡ Some l)
@@ -47,7 +47,7 @@ pub buffer_empty-if_locked : (o : Operation) (p q : Processor) (m n : List ℕ)
 buffer_empty-if_locked o p q m n e done =
     (OperationTransition-of_effect o p q m n done).waited (or_right (is_fence o) (is_locked o) e)
 
--- If a claim (`EffectSatisfies`) holds of a locked act, it may request to write its location, and `Makes` holds of its processors.
+-- If a claim (`EffectSatisfies`) holds of a locked effect, it may request to write its location, and `Makes` holds of its processors.
 EffectSatisfies-locked : (Reason : Type 0) (MayAsk : ℕ → Bool → Type 0) (Makes : Processor → Type 0) (act : EventEffect)
     (l : Locked)
     → EffectSatisfies Reason MayAsk Makes act
@@ -57,12 +57,12 @@ EffectSatisfies-locked R A K (MemoryAccess x (to.Update change) next) l comes e 
     subst (λ (k : Locked). A k.location true × ((w : ℕ) → K (k.next w))) (same_Some _ l e) comes
 EffectSatisfies-locked R A K _ l comes e = None-ne_locked l e
 
--- A locked act's location is its instruction's, and it leaves the store buffer empty.
+-- A locked effect's location is its instruction's, and it leaves the store buffer empty.
 record LockedEffectShape (o : Operation) (l : Locked) : Type 0 where
   location : location_of o ≡ Some l.location
   empty : (w : ℕ) → (l.next w).buffer ≡ []
 
--- If an operation results in a locked act once the buffer is empty, the act has its location and leaves the buffer empty.
+-- If an operation results in a locked effect once the buffer is empty, the effect has its location and leaves the buffer empty.
 LockedEffectShape-of_operation : (o : Operation) (p : Processor) (l : Locked)
     → locked_by (operation_effect o (with_empty_buffer p)) ≡ Some l
     → LockedEffectShape o l
@@ -117,7 +117,7 @@ module _ (program : List (List Instr)) (locs : ℕ) (threads : All (IsWellScoped
 
 -- ---- other instructions
 
--- An act that requests no write leaves the memory unchanged.
+-- An effect that requests no write leaves the memory unchanged.
 memory_same-if_no_write : (act : EventEffect) (q : Processor) (m n : List ℕ)
     → EffectSatisfies (Unit {0}) (λ x w. w ≡ false) (λ q. Unit {0}) act
     → EffectLeadsTo m act q n
@@ -183,9 +183,9 @@ read_value-after_drain m entry newer x lt = go (newest_buffered newer x)
     go (Some w) = refl
     go None = ⊎_elim read-same_location read-other_location (cases_eq entry.0 x)
 
--- ---- any act
+-- ---- any effect
 
--- An act does not change the number of words in memory.
+-- An effect does not change the number of words in memory.
 pub length_memory-effect : (m : List ℕ) (act : EventEffect) (q : Processor) (n : List ℕ)
     → EffectLeadsTo m act q n
     → length n ≡ length m

@@ -1,5 +1,5 @@
 -- A store buffer has room for all stores that are ahead in its code, through every event, so that a store
--- takes no memory. It is the part of the machine's invariant that `push` of a store buffer requires.
+-- takes no memory. This is the part of the machine's invariant that `push` of a store buffer requires.
 use Rattle.lw_tso.proofs.Common.{IsWellScopedThread, ◌≡◌, ℕ, zero, suc, ◌+◌, ◌<◌, ◌≤◌, true, cond, List, []}
 use Rattle.lw_tso.proofs.Common.{◌∷◌, ◌++◌, length, length-append, get_or, Some, refl, sym, ap, ◌∙◌, subst}
 use Rattle.lw_tso.proofs.Common.{arith, slice_get, ⊎_elim, All, All-append, sum_by-take-drop}
@@ -16,7 +16,7 @@ module _ (locs : ℕ) (code : List Instr) (thread : IsWellScopedThread x86_langu
       let got : get_or code k i ≡ i = get_or_from_slice_get code k i i at in
       subst (IsWellFormedStatement x86_language locs) got (thread.statements_formed k i (slice_get_within code k i at))
 
-  -- An instruction of a well-scoped code leads to later positions alone.
+  -- An instruction of a well-scoped code leads only to later positions.
   pub IsSuccessor-later : (k j : ℕ) (i : Instr) → slice_get code k ≡ Some i → IsSuccessor (x86_operation i) k j → k < j
   IsSuccessor-later k j i at leads = ⊎_elim (λ on. (omega (arith, on.1))) (λ to. (thread.forward k i at j to).0) leads
 
@@ -54,14 +54,14 @@ module _ (locs : ℕ) (code : List Instr) (room : ℕ) where
   abbrev HasRoomAhead : Processor → Type 0
   HasRoomAhead p = HasRoom locs code p room
 
-  -- A later position, with the same buffer.
+  -- There is still room at a later position, with the same buffer.
   HasRoomAhead-later : (p q : Processor) → p.position ≤ q.position → q.buffer ≡ p.buffer → HasRoomAhead p → HasRoomAhead q
   HasRoomAhead-later p q later same has = record {
     fits = omega (arith, has.fits, ap length same, stores_from-antitone code p.position q.position later);
     entries_in_range = subst (All (λ (e : ℕ × ℕ). e.0 < locs)) (sym same) has.entries_in_range;
   }
 
-  -- A store, which is one of those that were ahead.
+  -- After a store, which was one of those ahead, there is room for the others.
   HasRoomAhead-store : (p q : Processor) (entry : ℕ × ℕ) (i : Instr)
       → slice_get code p.position ≡ Some i
       → makes_entry i ≡ true
@@ -82,7 +82,7 @@ module _ (locs : ℕ) (code : List Instr) (room : ℕ) where
             (All-singleton (λ (e : ℕ × ℕ). e.0 < locs) entry there));
       }
 
-  -- A drain.
+  -- After a drain there is still room.
   HasRoomAhead-drain : (p q : Processor) (entry : ℕ × ℕ) (newer : List (ℕ × ℕ))
       → p.buffer ≡ entry ∷ newer
       → q ≡ record p { buffer = newer }
@@ -93,7 +93,7 @@ module _ (locs : ℕ) (code : List Instr) (room : ℕ) where
     entries_in_range = λ k d within. (subst (All (λ (e : ℕ × ℕ). e.0 < locs)) was has.entries_in_range) (suc k) d (omega arith);
   })
 
-  -- The processor after the instruction at its position.
+  -- After the instruction at its position the processor still has room.
   HasRoomAhead-operation : IsWellScopedThread x86_language locs code
       → (p q : Processor) (i : Instr)
       → slice_get code p.position ≡ Some i
@@ -106,7 +106,7 @@ module _ (locs : ℕ) (code : List Instr) (room : ℕ) where
       HasRoomAhead-store p q store.0 i at store.1 later
       ((IsWellFormedStatement-at locs code thread p.position i at).0 store.0.0 store.2) store.3 has) w.buffers
 
--- The processor after an event has room in its buffer.
+-- A processor that has room for all stores ahead still has after an event.
 pub HasRoomAhead-event : {locs room : ℕ} {code : List Instr} {p q : Processor}
     → IsWellScopedThread x86_language locs code
     → ProcessorChange code p q

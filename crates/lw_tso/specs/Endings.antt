@@ -11,8 +11,8 @@ use Rattle.lw_tso.specs.Runs.{MachineRunsTo, is_final}
 use Rattle.lw_tso.specs.Evictions.{without_evictions}
 
 -- The number of events of the processor.
-abbrev pub events_of : ℕ → List Event → ℕ
-events_of t events = count_by (λ e. cpu_of e == t) events
+abbrev pub event_count : ℕ → List Event → ℕ
+event_count t events = count_by (λ e. cpu_of e == t) events
 
 -- Further events lead from this state to a final one, each being enabled in its turn: for each thread at most a step and a drain for each
 -- of its instructions, and no eviction.
@@ -21,5 +21,5 @@ pub record CanTerminate {M : Type 0} (mem : Memory M) (program : List (List Inst
   pub end : MachineState M
   pub ran : MachineRunsTo mem program more s end
   pub final : IsTrue (is_final program end)
-  pub bounded : (t : ℕ) → events_of t more ≤ 2 * length (thread_code program t)
+  pub bounded : (t : ℕ) → event_count t more ≤ 2 * length (thread_code program t)
   pub no_evictions : without_evictions more ≡ more

@@ -1,9 +1,9 @@
--- Events that speak of so many processors and locations only.
+-- Events whose processor and location exist.
 use Rattle.std.specs.Prelude.{ℕ, ◌<◌}
 use Rattle.lw_base.specs.declared.event.Event.{Event}
 use Rattle.lw_base.specs.declared.event.Event.TheVariants.{Step, Drain, Evict}
 
--- An event is of one of so many processors and, if it is an eviction, of one of so many locations.
+-- The event's processor is below `threads`, and if the event is an eviction, its location is below `locs`.
 abbrev pub IsEventInRange : ℕ → ℕ → Event → Type 0
 IsEventInRange threads locs (Step t) = t < threads
 IsEventInRange threads locs (Drain t) = t < threads

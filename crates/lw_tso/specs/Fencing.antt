@@ -22,7 +22,8 @@ retarget_to_blocks block i = i
 abbrev pub IsInserted : (ℕ → ℕ) → ℕ → Instr → Type 0
 IsInserted block index i = (i ≡ Mfence) × (block (index + 1) ≡ block index)
 
--- It is the instruction of the code in whose block it is, and the next block begins after it.
+-- The instruction at this index ends its block: with a jump retargeted, it is the instruction of the code that the block is for, and the next
+-- block begins after it.
 abbrev pub EndsBlock : (ℕ → ℕ) → List Instr → ℕ → Instr → Type 0
 EndsBlock block code index i = (slice_get code (block index) ≡ Some (retarget_to_blocks block i)) × (block (index + 1) ≡ block index + 1)
 
@@ -48,14 +49,14 @@ abbrev pub unmarked_count_before : List Bool → ℕ → ℕ
 unmarked_count_before left_out index = count_by not (take index left_out)
 
 -- The unmarked instructions.
-abbrev pub kept : List Bool → List Instr → List Instr
-kept (true ∷ left_out) (i ∷ code) = kept left_out code
-kept (false ∷ left_out) (i ∷ code) = i ∷ kept left_out code
-kept left_out code = []
+abbrev pub unmarked_instructions : List Bool → List Instr → List Instr
+unmarked_instructions (true ∷ left_out) (i ∷ code) = unmarked_instructions left_out code
+unmarked_instructions (false ∷ left_out) (i ∷ code) = i ∷ unmarked_instructions left_out code
+unmarked_instructions left_out code = []
 
 -- The code without the marked instructions, with jumps retargeted.
 abbrev pub code_without : List Bool → List Instr → List Instr
-code_without left_out code = map (retarget_to_blocks (unmarked_count_before left_out)) (kept left_out code)
+code_without left_out code = map (retarget_to_blocks (unmarked_count_before left_out)) (unmarked_instructions left_out code)
 
 -- There are as many marks as instructions, and each marked instruction is an MFENCE.
 abbrev pub MarksAreFences : List Bool → List Instr → Type 0

@@ -74,10 +74,10 @@ locked_by other = None
 abbrev pub with_empty_buffer : Processor → Processor
 with_empty_buffer p = record p { buffer = [] }
 
--- The processor after its locked instruction has read w and has enqueued its write behind these entries. Its position, registers and flag,
+-- The processor after its locked instruction has read w and has enqueued its write after these entries. Its position, registers and flag,
 -- which no other processor sees, are then those after the instruction.
-abbrev pub having_written : Locked → ℕ → List (ℕ × ℕ) → Processor
-having_written l w buffer = record (l.next w) { buffer = buffer ++ (l.location, l.leaves w) ∷ [] }
+abbrev pub after_locked_write : Locked → ℕ → List (ℕ × ℕ) → Processor
+after_locked_write l w buffer = record (l.next w) { buffer = buffer ++ (l.location, l.leaves w) ∷ [] }
 
 module _ (program : List (List Instr)) where
   -- The effect of a processor's next instruction, if it is a locked one: its row of EventEffects with an empty buffer.
@@ -122,7 +122,7 @@ module _ (program : List (List Instr)) where
       × (s.lock ≡ HeldBy t (HasRead w))
       × (after ≡ record {
         machine = record {
-          processors = slice_set s.machine.processors t (having_written l w p.buffer);
+          processors = slice_set s.machine.processors t (after_locked_write l w p.buffer);
           memory = s.machine.memory;
         };
         lock = HeldBy t HasWritten;

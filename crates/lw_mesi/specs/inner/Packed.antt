@@ -29,8 +29,8 @@ pub record IsPacked (p : Inside) : Type 0 where
   pub as_many : length p.sharers ≡ most_threads
   -- The owner is a processor and no sharer, and there are sharers beside it only in O.
   pub in_range : (o : ℕ) → p.owner ≡ Some o → o < most_threads
-  pub apart : (o : ℕ) → p.owner ≡ Some o → slice_index_or p.sharers o false ≡ false
-  pub alone : (o : ℕ) → p.owner ≡ Some o → p.is_owned ≡ false → p.sharers ≡ empty_cpu_set
+  pub owner_is_no_sharer : (o : ℕ) → p.owner ≡ Some o → slice_index_or p.sharers o false ≡ false
+  pub no_other_copy : (o : ℕ) → p.owner ≡ Some o → p.is_owned ≡ false → p.sharers ≡ empty_cpu_set
   -- Only an owner is dirty, and only a dirty owner is in O.
   pub unowned : p.owner ≡ None → p.is_dirty ≡ false
   pub owned : p.is_dirty ≡ false → p.is_owned ≡ false

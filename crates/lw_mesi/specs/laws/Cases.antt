@@ -46,7 +46,7 @@ module _ (t : ℕ) (line : CacheLine) (lt : t < most_threads) (sound : IsCoheren
   ToWrite-if_hit c w e h own = record {
     as_many = sound.as_many;
     word = (ap copy_word e ∙ h) ∙ ap Some (sound.same_word t w (ap copy_word e ∙ h));
-    others = λ u ne. sound.alone t u (subst IsOnlyCopy (sym e) own) ne;
+    others = λ u ne. sound.no_other_copy t u (subst IsOnlyCopy (sym e) own) ne;
   }
 
   -- After processor t's GetM the other copies are gone, and its own has the coherent word.
@@ -100,14 +100,14 @@ module _ (t : ℕ) (line : CacheLine) (lt : t < most_threads) (sound : IsCoheren
     word : (u : ℕ) → copy_word (f (copy_of line u)) ≡ copy_word (copy_of line u)
     dirty : (u : ℕ) → IsDirty (f (copy_of line u)) → IsDirty (copy_of line u)
     -- If a copy is in M or E, there is no other, and none becomes so beside another.
-    alone : IsOnlyCopy c → (u : ℕ) → f (copy_of line u) ≡ Invalid
+    no_other_copy : IsOnlyCopy c → (u : ℕ) → f (copy_of line u) ≡ Invalid
     only : (u : ℕ) → IsOnlyCopy (f (copy_of line u)) → IsOnlyCopy (copy_of line u) × (c ≡ Invalid)
 
   -- Such a line is coherent too, with the same coherent word.
-  changed : (f : Copy → Copy) (c : Copy) (copies : List Copy) (m : ℕ)
+  LineAfterRequest-if_changes : (f : Copy → Copy) (c : Copy) (copies : List Copy) (m : ℕ)
       → Changes f c copies m
       → LineAfterRequest (coherent_word line) (record { copies = set copies t c; memory = m })
-  changed f c copies m h =
+  LineAfterRequest-if_changes f c copies m h =
       let l : CacheLine = record { copies = set copies t c; memory = m } in
       let here : copy_of l t ≡ c = copy_in-set_same copies t c (let long = h.long in omega (arith, long)) in
       let there : (u : ℕ) → t ≢ u → copy_of l u ≡ f (copy_of line u) = λ u ne. copy_in-set_other copies t c u ne ∙ h.others u in
@@ -115,11 +115,11 @@ module _ (t : ℕ) (line : CacheLine) (lt : t < most_threads) (sound : IsCoheren
         content = h.content;
         sound = record {
           as_many = length-set copies t c ∙ h.long;
-          alone = at_index t (λ a. (u : ℕ) → IsOnlyCopy (copy_of l a) → a ≢ u → copy_of l u ≡ Invalid)
-              (λ u only ne. there u ne ∙ h.alone (subst IsOnlyCopy here only) u)
+          no_other_copy = at_index t (λ a. (u : ℕ) → IsOnlyCopy (copy_of l a) → a ≢ u → copy_of l u ≡ Invalid)
+              (λ u only ne. there u ne ∙ h.no_other_copy (subst IsOnlyCopy here only) u)
               (λ a na u only. at_index t (λ u. a ≢ u → copy_of l u ≡ Invalid)
               (λ ne. here ∙ (h.only a (subst IsOnlyCopy (there a na) only)).1)
-              (λ u nu ne. there u nu ∙ ap f (sound.alone a u (h.only a (subst IsOnlyCopy (there a na) only)).0 ne) ∙ h.invalid) u);
+              (λ u nu ne. there u nu ∙ ap f (sound.no_other_copy a u (h.only a (subst IsOnlyCopy (there a na) only)).0 ne) ∙ h.invalid) u);
           one_dirty = at_index t (λ a. (u : ℕ) → IsDirty (copy_of l a) → IsDirty (copy_of l u) → a ≡ u)
               (λ u d e. absurd (h.clean (subst IsDirty here d)))
               (λ a na. at_index t (λ u. IsDirty (copy_of l a) → IsDirty (copy_of l u) → a ≡ u)
@@ -132,17 +132,17 @@ module _ (t : ℕ) (line : CacheLine) (lt : t < most_threads) (sound : IsCoheren
       }
 
   -- A load by a GetS, which changes the other copies by f and memory to m, preserves the coherent word, and leaves a copy with it.
-  pub get_s_loaded : (f : Copy → Copy) (m : ℕ)
+  pub Loaded-after_get_s : (f : Copy → Copy) (m : ℕ)
       → SharesOthers f line → dirty_word_or m (map f line.copies) ≡ coherent_word line → copy_of line t ≡ Invalid
       → (b : Bool) → (b ≡ false → is_held_anywhere line.copies ≡ false)
       → Loaded (record { copies = set (map f line.copies) t (copy_from b (coherent_word line)); memory = m })
-  get_s_loaded f m shared same mine b held =
+  Loaded-after_get_s f m shared same mine b held =
       let v : ℕ = coherent_word line in
       let are : (u : ℕ) → copy_in (map f line.copies) u ≡ f (copy_of line u) = λ u. copy_in-map f line.copies u shared.invalid in
       let long : length (map f line.copies) ≡ most_threads = length-map line.copies f ∙ sound.as_many in
       let old_clean : IsDirty (copy_in (map f line.copies) t) → ⊥ = λ d. subst IsDirty (are t ∙ ap f mine ∙ shared.invalid) d in
       record {
-        after = changed f (copy_from b v) (map f line.copies) m (record {
+        after = LineAfterRequest-if_changes f (copy_from b v) (map f line.copies) m (record {
           invalid = shared.invalid;
           long = long;
           others = are;
@@ -151,7 +151,7 @@ module _ (t : ℕ) (line : CacheLine) (lt : t < most_threads) (sound : IsCoheren
           own = λ w h. copy_word-unique (copy_from b v) w v (copy_word-copy_from b v) h;
           word = shared.word;
           dirty = shared.dirty;
-          alone = λ only u. nobody b held only u;
+          no_other_copy = λ only u. nobody b held only u;
           only = λ u only. absurd (shared.free u only);
         });
         word = ap copy_word (copy_in-set_same (map f line.copies) t (copy_from b v) (omega (arith, long))) ∙ copy_word-copy_from b v;
@@ -165,7 +165,7 @@ module _ (t : ℕ) (line : CacheLine) (lt : t < most_threads) (sound : IsCoheren
   -- Without the own copy the line is coherent too, if the coherent word is the same.
   LineAfterRequest-without_own : (m : ℕ)
       → dirty_word_or m (set line.copies t Invalid) ≡ coherent_word line → LineAfterRequest (coherent_word line) (record { copies = set line.copies t Invalid; memory = m })
-  LineAfterRequest-without_own m content = changed (λ c. c) Invalid line.copies m (record {
+  LineAfterRequest-without_own m content = LineAfterRequest-if_changes (λ c. c) Invalid line.copies m (record {
     invalid = refl;
     long = sound.as_many;
     others = λ u. refl;
@@ -174,14 +174,14 @@ module _ (t : ℕ) (line : CacheLine) (lt : t < most_threads) (sound : IsCoheren
     own = λ w h. copy_word-none_if_invalid Invalid w (coherent_word line) refl h;
     word = λ u. refl;
     dirty = λ u d. d;
-    alone = λ only. absurd only;
+    no_other_copy = λ only. absurd only;
     only = λ u only. (only, refl);
   })
 
   -- An eviction of a dirty copy, whose word is written back, leaves a coherent line with the same coherent word.
-  pub written_back : (c : Copy) (w : ℕ) → copy_of line t ≡ c → copy_word c ≡ Some w → IsDirty c
+  pub LineAfterRequest-if_dirty_copy_evicted : (c : Copy) (w : ℕ) → copy_of line t ≡ c → copy_word c ≡ Some w → IsDirty c
       → LineAfterRequest (coherent_word line) (record { copies = set line.copies t Invalid; memory = w })
-  written_back c w e h own =
+  LineAfterRequest-if_dirty_copy_evicted c w e h own =
       let copies : List Copy = set line.copies t Invalid in
       let none : (u : ℕ) → IsDirty (copy_in copies u) → ⊥ =
       at_index t (λ u. IsDirty (copy_in copies u) → ⊥)

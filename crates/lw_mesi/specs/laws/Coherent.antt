@@ -50,15 +50,15 @@ dirty_word_or-if_dirty w v (Invalid ∷ copies) (suc t) d e h = dirty_word_or-if
 dirty_word_or-if_dirty w v _ _ d e h = absurd d
 
 -- The first copy of a list does not matter for the coherent word if it is not dirty.
-skip : (w : ℕ) (c : Copy) (copies : List Copy) → (IsDirty c → ⊥) → dirty_word_or w (c ∷ copies) ≡ dirty_word_or w copies
-skip w (Modified v) copies h = absurd (h tt)
-skip w (Owned v) copies h = absurd (h tt)
-skip w _ copies h = refl
+dirty_word_or-skip_clean : (w : ℕ) (c : Copy) (copies : List Copy) → (IsDirty c → ⊥) → dirty_word_or w (c ∷ copies) ≡ dirty_word_or w copies
+dirty_word_or-skip_clean w (Modified v) copies h = absurd (h tt)
+dirty_word_or-skip_clean w (Owned v) copies h = absurd (h tt)
+dirty_word_or-skip_clean w _ copies h = refl
 
 -- Replacing a clean copy by a clean one preserves the coherent word.
 pub dirty_word_or-set_clean : (w : ℕ) (copies : List Copy) (t : ℕ) (c : Copy)
     → (IsDirty (copy_in copies t) → ⊥) → (IsDirty c → ⊥) → dirty_word_or w (set copies t c) ≡ dirty_word_or w copies
-dirty_word_or-set_clean w (k ∷ copies) zero c old new = skip w c copies new ∙ sym (skip w k copies old)
+dirty_word_or-set_clean w (k ∷ copies) zero c old new = dirty_word_or-skip_clean w c copies new ∙ sym (dirty_word_or-skip_clean w k copies old)
 dirty_word_or-set_clean w (Exclusive k ∷ copies) (suc t) c old new = dirty_word_or-set_clean w copies t c old new
 dirty_word_or-set_clean w (Shared k ∷ copies) (suc t) c old new = dirty_word_or-set_clean w copies t c old new
 dirty_word_or-set_clean w (Invalid ∷ copies) (suc t) c old new = dirty_word_or-set_clean w copies t c old new
@@ -87,7 +87,7 @@ IsCoherentCacheLine-if_single line t long others word =
     let none : (P : Copy → Type 0) → (P Invalid → ⊥) → (u : ℕ) → t ≢ u → P (copy_of line u) → ⊥ = λ P not u ne h. not (subst P (others u ne) h) in
     record {
       as_many = long;
-      alone = at_index t (λ k. (u : ℕ) → IsOnlyCopy (copy_of line k) → k ≢ u → copy_of line u ≡ Invalid)
+      no_other_copy = at_index t (λ k. (u : ℕ) → IsOnlyCopy (copy_of line k) → k ≢ u → copy_of line u ≡ Invalid)
           (λ u own ne. others u ne)
           (λ k other u own ne. absurd (none IsOnlyCopy (λ h. h) k other own));
       one_dirty = at_index t (λ k. (u : ℕ) → IsDirty (copy_of line k) → IsDirty (copy_of line u) → k ≡ u)

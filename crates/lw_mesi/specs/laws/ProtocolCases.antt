@@ -10,45 +10,45 @@ use Rattle.lw_mesi.specs.Coherence.{IsOnlyCopy, IsDirty, IsCoherentCacheLine, Is
 use Rattle.lw_mesi.specs.Snooping.{is_held_anywhere, copy_from, get_m, on_load, on_write, on_evict, cache_line_to_read, cache_line_to_write, cache_line_written, cache_line_evicted}
 use Rattle.lw_mesi.specs.Protocols.{table_of, mesi_on_other_get_s, moesi_on_other_get_s}
 use Rattle.lw_mesi.specs.laws.Coherent.{copy_in, copy_in-map, dirty_word_or-if_clean, LineAfterRequest}
-use Rattle.lw_mesi.specs.laws.Cases.{SharesOthers, ToWrite, ToWrite-if_hit, ToWrite-after_get_m, Loaded, Loaded-if_hit, get_s_loaded, written_back, LineAfterRequest-if_clean_copy_evicted, PreservesCoherentLine}
+use Rattle.lw_mesi.specs.laws.Cases.{SharesOthers, ToWrite, ToWrite-if_hit, ToWrite-after_get_m, Loaded, Loaded-if_hit, Loaded-after_get_s, LineAfterRequest-if_dirty_copy_evicted, LineAfterRequest-if_clean_copy_evicted, PreservesCoherentLine}
 
 -- Each protocol has the state I.
-pub invalid_state : (p : Protocol) → IsProtocolState p Invalid
-invalid_state Mesi = tt
-invalid_state Moesi = tt
+pub IsProtocolState-invalid : (p : Protocol) → IsProtocolState p Invalid
+IsProtocolState-invalid Mesi = tt
+IsProtocolState-invalid Moesi = tt
 
 -- Another cache's GetS leaves an invalid copy invalid.
-pub shared_invalid : (p : Protocol) → (table_of p).on_other_get_s Invalid ≡ Invalid
-shared_invalid Mesi = refl
-shared_invalid Moesi = refl
+pub on_other_get_s-invalid : (p : Protocol) → (table_of p).on_other_get_s Invalid ≡ Invalid
+on_other_get_s-invalid Mesi = refl
+on_other_get_s-invalid Moesi = refl
 
 -- After another cache's GetS a copy has the same word, is not in M or E, and is dirty only if it was.
-shared_copy : (p : Protocol) (c : Copy) → let d = (table_of p).on_other_get_s c in
+on_other_get_s-copy : (p : Protocol) (c : Copy) → let d = (table_of p).on_other_get_s c in
     (copy_word d ≡ copy_word c) × (IsOnlyCopy d → ⊥) × (IsDirty d → IsDirty c)
-shared_copy Mesi (Modified w) = (refl, (λ h. h), (λ d. absurd d))
-shared_copy Moesi (Modified w) = (refl, (λ h. h), (λ d. d))
-shared_copy _ _ = (refl, (λ h. h), (λ d. d))
+on_other_get_s-copy Mesi (Modified w) = (refl, (λ h. h), (λ d. absurd d))
+on_other_get_s-copy Moesi (Modified w) = (refl, (λ h. h), (λ d. d))
+on_other_get_s-copy _ _ = (refl, (λ h. h), (λ d. d))
 
 -- Under MESI no copy is dirty after another cache's GetS.
-shared_clean : (c : Copy) → IsProtocolState Mesi c → IsDirty (mesi_on_other_get_s c) → ⊥
-shared_clean (Owned w) s d = s
-shared_clean _ s d = d
+not-IsDirty-after_get_s : (c : Copy) → IsProtocolState Mesi c → IsDirty (mesi_on_other_get_s c) → ⊥
+not-IsDirty-after_get_s (Owned w) s d = s
+not-IsDirty-after_get_s _ s d = d
 
 -- Under MOESI a dirty copy remains dirty after another cache's GetS, with its word, so the coherent word is preserved.
-shared_content : (m : ℕ) (copies : List Copy) → dirty_word_or m (map moesi_on_other_get_s copies) ≡ dirty_word_or m copies
-shared_content m (Exclusive w ∷ copies) = shared_content m copies
-shared_content m (Shared w ∷ copies) = shared_content m copies
-shared_content m (Invalid ∷ copies) = shared_content m copies
-shared_content m _ = refl
+dirty_word_or-after_get_s : (m : ℕ) (copies : List Copy) → dirty_word_or m (map moesi_on_other_get_s copies) ≡ dirty_word_or m copies
+dirty_word_or-after_get_s m (Exclusive w ∷ copies) = dirty_word_or-after_get_s m copies
+dirty_word_or-after_get_s m (Shared w ∷ copies) = dirty_word_or-after_get_s m copies
+dirty_word_or-after_get_s m (Invalid ∷ copies) = dirty_word_or-after_get_s m copies
+dirty_word_or-after_get_s m _ = refl
 
 -- Another cache's GetS, done to every copy and to memory, preserves the coherent word, by each protocol. The requestor's new copy is put after
--- it (`get_s_loaded`).
+-- it (`Loaded-after_get_s`).
 coherent_word-after_get_s : (p : Protocol) (line : CacheLine) → HasProtocolStates p line
     → dirty_word_or ((table_of p).memory_after_get_s line) (map (table_of p).on_other_get_s line.copies) ≡ coherent_word line
 coherent_word-after_get_s Mesi line states =
     dirty_word_or-if_clean (coherent_word line) (map mesi_on_other_get_s line.copies)
-    (λ u d. shared_clean (copy_of line u) (states u) (subst IsDirty (copy_in-map mesi_on_other_get_s line.copies u refl) d))
-coherent_word-after_get_s Moesi line states = shared_content line.memory line.copies
+    (λ u d. not-IsDirty-after_get_s (copy_of line u) (states u) (subst IsDirty (copy_in-map mesi_on_other_get_s line.copies u refl) d))
+coherent_word-after_get_s Moesi line states = dirty_word_or-after_get_s line.memory line.copies
 
 module _ (p : Protocol) (t : ℕ) (line : CacheLine) (lt : t < most_threads) (sound : IsCoherentCacheLine line) (states : HasProtocolStates p line) where
   -- Whatever the copy of t was, a write finds that only t has a copy, with the coherent word.
@@ -58,12 +58,12 @@ module _ (p : Protocol) (t : ℕ) (line : CacheLine) (lt : t < most_threads) (so
   to_write _ e = ToWrite-after_get_m t line lt sound
 
   -- Another cache's GetS preserves the words of the copies, leaves none in M or E, and makes none dirty.
-  shares : SharesOthers (table_of p).on_other_get_s line
-  shares = record {
-    invalid = shared_invalid p;
-    word = λ u. (shared_copy p (copy_of line u)).0;
-    free = λ u. (shared_copy p (copy_of line u)).1;
-    dirty = λ u. (shared_copy p (copy_of line u)).2;
+  SharesOthers-of_get_s : SharesOthers (table_of p).on_other_get_s line
+  SharesOthers-of_get_s = record {
+    invalid = on_other_get_s-invalid p;
+    word = λ u. (on_other_get_s-copy p (copy_of line u)).0;
+    free = λ u. (on_other_get_s-copy p (copy_of line u)).1;
+    dirty = λ u. (on_other_get_s-copy p (copy_of line u)).2;
   }
 
   -- Whatever the copy of t was, a load preserves the coherent word and the coherence of the line, and t then has a copy with this word.
@@ -73,86 +73,86 @@ module _ (p : Protocol) (t : ℕ) (line : CacheLine) (lt : t < most_threads) (so
   loaded (Exclusive w) e = Loaded-if_hit t line lt sound (Exclusive w) w e refl
   loaded (Shared w) e = Loaded-if_hit t line lt sound (Shared w) w e refl
   loaded Invalid e =
-      get_s_loaded t line lt sound (table_of p).on_other_get_s ((table_of p).memory_after_get_s line) shares (coherent_word-after_get_s p line states)
+      Loaded-after_get_s t line lt sound (table_of p).on_other_get_s ((table_of p).memory_after_get_s line) SharesOthers-of_get_s (coherent_word-after_get_s p line states)
       e (is_held_anywhere line.copies) (λ none. none)
 
   -- The eviction of a copy that is held preserves the coherent word and the coherence of the line.
   evicted : (c : Copy) → copy_of line t ≡ c → is_held (copy_state c) ≡ true → LineAfterRequest (coherent_word line) (on_evict c t line)
-  evicted (Modified w) e h = written_back t line lt sound (Modified w) w e refl tt
-  evicted (Owned w) e h = written_back t line lt sound (Owned w) w e refl tt
+  evicted (Modified w) e h = LineAfterRequest-if_dirty_copy_evicted t line lt sound (Modified w) w e refl tt
+  evicted (Owned w) e h = LineAfterRequest-if_dirty_copy_evicted t line lt sound (Owned w) w e refl tt
   evicted (Exclusive w) e h = LineAfterRequest-if_clean_copy_evicted t line lt sound (Exclusive w) e (λ d. d)
   evicted (Shared w) e h = LineAfterRequest-if_clean_copy_evicted t line lt sound (Shared w) e (λ d. d)
   evicted Invalid e h = cc
 
   -- The table of each protocol preserves coherence and the coherent word, in each case.
-  pub keeps : PreservesCoherentLine t line lt sound (table_of p)
-  keeps = record { to_write = to_write (copy_of line t) refl; loaded = loaded (copy_of line t) refl; evicted = evicted (copy_of line t) refl }
+  pub PreservesCoherentLine-of_table : PreservesCoherentLine t line lt sound (table_of p)
+  PreservesCoherentLine-of_table = record { to_write = to_write (copy_of line t) refl; loaded = loaded (copy_of line t) refl; evicted = evicted (copy_of line t) refl }
 
 -- Each protocol has the state M, in which a write leaves a copy.
-modified_state : (p : Protocol) (w : ℕ) → IsProtocolState p (Modified w)
-modified_state Mesi w = tt
-modified_state Moesi w = tt
+IsProtocolState-modified : (p : Protocol) (w : ℕ) → IsProtocolState p (Modified w)
+IsProtocolState-modified Mesi w = tt
+IsProtocolState-modified Moesi w = tt
 
 -- Each protocol has the states S and E, in which a load brings a copy.
-from_state : (p : Protocol) (b : Bool) (w : ℕ) → IsProtocolState p (copy_from b w)
-from_state Mesi true w = tt
-from_state Mesi false w = tt
-from_state Moesi b w = tt
+IsProtocolState-copy_from : (p : Protocol) (b : Bool) (w : ℕ) → IsProtocolState p (copy_from b w)
+IsProtocolState-copy_from Mesi true w = tt
+IsProtocolState-copy_from Mesi false w = tt
+IsProtocolState-copy_from Moesi b w = tt
 
 -- A copy after another cache's GetS is in a state of the protocol.
-shared_state : (p : Protocol) (c : Copy) → IsProtocolState p c → IsProtocolState p ((table_of p).on_other_get_s c)
-shared_state Mesi (Owned w) s = s
-shared_state _ _ s = tt
+IsProtocolState-after_get_s : (p : Protocol) (c : Copy) → IsProtocolState p c → IsProtocolState p ((table_of p).on_other_get_s c)
+IsProtocolState-after_get_s Mesi (Owned w) s = s
+IsProtocolState-after_get_s _ _ s = tt
 
 -- Writing a copy in a state of the protocol preserves that all copies are in such states.
-put_state : (p : Protocol) (copies : List Copy) (t : ℕ) (c : Copy)
+IsProtocolState-set : (p : Protocol) (copies : List Copy) (t : ℕ) (c : Copy)
     → IsProtocolState p c → ((u : ℕ) → IsProtocolState p (copy_in copies u)) → (u : ℕ) → IsProtocolState p (copy_in (set copies t c) u)
-put_state p [] t c here there u = there u
-put_state p (k ∷ copies) zero c here there zero = here
-put_state p (k ∷ copies) zero c here there (suc u) = there (suc u)
-put_state p (k ∷ copies) (suc t) c here there zero = there zero
-put_state p (k ∷ copies) (suc t) c here there (suc u) = put_state p copies t c here (λ u. there (suc u)) u
+IsProtocolState-set p [] t c here there u = there u
+IsProtocolState-set p (k ∷ copies) zero c here there zero = here
+IsProtocolState-set p (k ∷ copies) zero c here there (suc u) = there (suc u)
+IsProtocolState-set p (k ∷ copies) (suc t) c here there zero = there zero
+IsProtocolState-set p (k ∷ copies) (suc t) c here there (suc u) = IsProtocolState-set p copies t c here (λ u. there (suc u)) u
 
 -- A function that preserves the states of the protocol preserves that all copies are in such states.
-map_state : (p : Protocol) (f : Copy → Copy) (copies : List Copy)
+IsProtocolState-map : (p : Protocol) (f : Copy → Copy) (copies : List Copy)
     → f Invalid ≡ Invalid → ((c : Copy) → IsProtocolState p c → IsProtocolState p (f c)) → ((u : ℕ) → IsProtocolState p (copy_in copies u))
     → (u : ℕ) → IsProtocolState p (copy_in (map f copies) u)
-map_state p f copies invalid keeps states u = subst (IsProtocolState p) (sym (copy_in-map f copies u invalid)) (keeps (copy_in copies u) (states u))
+IsProtocolState-map p f copies invalid preserves states u = subst (IsProtocolState p) (sym (copy_in-map f copies u invalid)) (preserves (copy_in copies u) (states u))
 
 module _ (p : Protocol) (line : CacheLine) (states : HasProtocolStates p line) where
   -- A load preserves that all copies are in states of the protocol.
-  load_states : (c : Copy) (t : ℕ) → HasProtocolStates p (on_load (table_of p) c t line)
-  load_states Invalid t =
-      put_state p (map (table_of p).on_other_get_s line.copies) t (copy_from (is_held_anywhere line.copies) (coherent_word line))
-      (from_state p (is_held_anywhere line.copies) (coherent_word line))
-      (map_state p (table_of p).on_other_get_s line.copies (shared_invalid p) (shared_state p) states)
-  load_states _ t = states
+  HasProtocolStates-on_load : (c : Copy) (t : ℕ) → HasProtocolStates p (on_load (table_of p) c t line)
+  HasProtocolStates-on_load Invalid t =
+      IsProtocolState-set p (map (table_of p).on_other_get_s line.copies) t (copy_from (is_held_anywhere line.copies) (coherent_word line))
+      (IsProtocolState-copy_from p (is_held_anywhere line.copies) (coherent_word line))
+      (IsProtocolState-map p (table_of p).on_other_get_s line.copies (on_other_get_s-invalid p) (IsProtocolState-after_get_s p) states)
+  HasProtocolStates-on_load _ t = states
 
   -- A GetM preserves that all copies are in states of the protocol.
-  get_m_states : (t : ℕ) → HasProtocolStates p (get_m t line)
-  get_m_states t =
-      put_state p (map (λ c. Invalid) line.copies) t (Modified (coherent_word line)) (modified_state p (coherent_word line))
-      (map_state p (λ c. Invalid) line.copies refl (λ c s. invalid_state p) states)
+  HasProtocolStates-get_m : (t : ℕ) → HasProtocolStates p (get_m t line)
+  HasProtocolStates-get_m t =
+      IsProtocolState-set p (map (λ c. Invalid) line.copies) t (Modified (coherent_word line)) (IsProtocolState-modified p (coherent_word line))
+      (IsProtocolState-map p (λ c. Invalid) line.copies refl (λ c s. IsProtocolState-invalid p) states)
 
   -- A write preserves that all copies are in states of the protocol.
-  write_states : (c : Copy) (t : ℕ) → HasProtocolStates p (on_write c t line)
-  write_states (Modified w) t = states
-  write_states (Exclusive w) t = states
-  write_states _ t = get_m_states t
+  HasProtocolStates-on_write : (c : Copy) (t : ℕ) → HasProtocolStates p (on_write c t line)
+  HasProtocolStates-on_write (Modified w) t = states
+  HasProtocolStates-on_write (Exclusive w) t = states
+  HasProtocolStates-on_write _ t = HasProtocolStates-get_m t
 
   -- An eviction preserves that all copies are in states of the protocol.
-  evict_states : (c : Copy) (t : ℕ) → HasProtocolStates p (on_evict c t line)
-  evict_states Invalid t = states
-  evict_states _ t = put_state p line.copies t Invalid (invalid_state p) states
+  HasProtocolStates-on_evict : (c : Copy) (t : ℕ) → HasProtocolStates p (on_evict c t line)
+  HasProtocolStates-on_evict Invalid t = states
+  HasProtocolStates-on_evict _ t = IsProtocolState-set p line.copies t Invalid (IsProtocolState-invalid p) states
 
   -- After a write, all copies are in states of the protocol.
-  pub written_states : (t w : ℕ) → HasProtocolStates p (cache_line_written t w line)
-  written_states t w = put_state p (cache_line_to_write t line).copies t (Modified w) (modified_state p w) (write_states (copy_of line t) t)
+  pub HasProtocolStates-after_write : (t w : ℕ) → HasProtocolStates p (cache_line_written t w line)
+  HasProtocolStates-after_write t w = IsProtocolState-set p (cache_line_to_write t line).copies t (Modified w) (IsProtocolState-modified p w) (HasProtocolStates-on_write (copy_of line t) t)
 
   -- After a load, all copies are in states of the protocol.
-  pub loaded_states : (t : ℕ) → HasProtocolStates p (cache_line_to_read (table_of p) t line)
-  loaded_states t = load_states (copy_of line t) t
+  pub HasProtocolStates-after_load : (t : ℕ) → HasProtocolStates p (cache_line_to_read (table_of p) t line)
+  HasProtocolStates-after_load t = HasProtocolStates-on_load (copy_of line t) t
 
   -- After an eviction, all copies are in states of the protocol.
-  pub evicted_states : (t : ℕ) → HasProtocolStates p (cache_line_evicted t line)
-  evicted_states t = evict_states (copy_of line t) t
+  pub HasProtocolStates-after_eviction : (t : ℕ) → HasProtocolStates p (cache_line_evicted t line)
+  HasProtocolStates-after_eviction t = HasProtocolStates-on_evict (copy_of line t) t

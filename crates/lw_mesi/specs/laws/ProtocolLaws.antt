@@ -16,30 +16,30 @@ use Rattle.lw_mesi.specs.Snooping.{cache_line_to_read, cache_line_to_write, cach
 use Rattle.lw_mesi.specs.Protocols.{table_of, caches_by}
 use Rattle.lw_mesi.specs.laws.Coherent.{at_index, LineAfterRequest}
 use Rattle.lw_mesi.specs.laws.Cases.{LineAfterRequest-after_write}
-use Rattle.lw_mesi.specs.laws.ProtocolCases.{keeps, loaded_states, written_states, evicted_states}
+use Rattle.lw_mesi.specs.laws.ProtocolCases.{PreservesCoherentLine-of_table, HasProtocolStates-after_load, HasProtocolStates-after_write, HasProtocolStates-after_eviction}
 
 -- Replacing a line replaces its coherent word in the list of coherent words.
-contents_set : (cache_lines : List CacheLine) (x : ℕ) (line : CacheLine)
+coherent_words-set : (cache_lines : List CacheLine) (x : ℕ) (line : CacheLine)
     → map coherent_word (set cache_lines x line) ≡ slice_set (map coherent_word cache_lines) x (coherent_word line)
-contents_set (l ∷ cache_lines) (suc x) line = ap (λ r. coherent_word l ∷ r) (contents_set cache_lines x line)
-contents_set _ _ line = refl
+coherent_words-set (l ∷ cache_lines) (suc x) line = ap (λ r. coherent_word l ∷ r) (coherent_words-set cache_lines x line)
+coherent_words-set _ _ line = refl
 
 -- Replacing a line by one with the same coherent word preserves the list of coherent words.
-contents_same : (cache_lines : List CacheLine) (x : ℕ) (line : CacheLine)
+coherent_words-set_same_word : (cache_lines : List CacheLine) (x : ℕ) (line : CacheLine)
     → coherent_word line ≡ coherent_word (cache_line_at cache_lines x) → map coherent_word (set cache_lines x line) ≡ map coherent_word cache_lines
-contents_same [] x line e = refl
-contents_same (l ∷ cache_lines) zero line e = ap (λ c. c ∷ map coherent_word cache_lines) e
-contents_same (l ∷ cache_lines) (suc x) line e = ap (λ r. coherent_word l ∷ r) (contents_same cache_lines x line e)
+coherent_words-set_same_word [] x line e = refl
+coherent_words-set_same_word (l ∷ cache_lines) zero line e = ap (λ c. c ∷ map coherent_word cache_lines) e
+coherent_words-set_same_word (l ∷ cache_lines) (suc x) line e = ap (λ r. coherent_word l ∷ r) (coherent_words-set_same_word cache_lines x line e)
 
 -- The coherent word of a location's line is at the location's index.
-contents_at : (cache_lines : List CacheLine) (x : ℕ) → coherent_word (cache_line_at cache_lines x) ≡ slice_index (map coherent_word cache_lines) x
-contents_at (l ∷ cache_lines) (suc x) = contents_at cache_lines x
-contents_at _ _ = refl
+coherent_word-at_location : (cache_lines : List CacheLine) (x : ℕ) → coherent_word (cache_line_at cache_lines x) ≡ slice_index (map coherent_word cache_lines) x
+coherent_word-at_location (l ∷ cache_lines) (suc x) = coherent_word-at_location cache_lines x
+coherent_word-at_location _ _ = refl
 
 -- Replacing a line by one that satisfies the protocol preserves that the caches do.
-pub set_kept : (p : Protocol) (m : Caches) (x : ℕ) (line : CacheLine)
+pub SatisfiesProtocol-set : (p : Protocol) (m : Caches) (x : ℕ) (line : CacheLine)
     → SatisfiesProtocol p m → x < length m.cache_lines → LineSatisfiesProtocol p line → SatisfiesProtocol p (record { cpus = m.cpus; cache_lines = set m.cache_lines x line })
-set_kept p m x line ok lt s =
+SatisfiesProtocol-set p m x line ok lt s =
     let each : (P : CacheLine → Type 0) → P line → ((y : ℕ) → y < length m.cache_lines → P (cache_line_at m.cache_lines y))
     → (y : ℕ) → y < length (set m.cache_lines x line) → P (cache_line_at (set m.cache_lines x line) y) =
     λ P new old y within.
@@ -54,50 +54,52 @@ set_kept p m x line ok lt s =
     }
 
 -- Each line of caches that satisfy a protocol satisfies it.
-pub kept_cache_line : (p : Protocol) (m : Caches) (x : ℕ) → SatisfiesProtocol p m → x < length m.cache_lines → LineSatisfiesProtocol p (cache_line_at m.cache_lines x)
-kept_cache_line p m x ok lt = record { coherent = ok.coherent.cache_lines x lt; states = ok.states x lt }
+pub LineSatisfiesProtocol-at_location : (p : Protocol) (m : Caches) (x : ℕ) → SatisfiesProtocol p m → x < length m.cache_lines → LineSatisfiesProtocol p (cache_line_at m.cache_lines x)
+LineSatisfiesProtocol-at_location p m x ok lt = record { coherent = ok.coherent.cache_lines x lt; states = ok.states x lt }
 
 -- A line after a request.
 module _ (p : Protocol) (t : ℕ) (line : CacheLine) (lt : t < most_threads) (ok : LineSatisfiesProtocol p line) where
   -- A write finds the coherent word in the processor's copy, which it fetches if necessary.
-  pub write_word : copy_word (copy_of (cache_line_to_write t line) t) ≡ Some (coherent_word line)
-  write_word = (keeps p t line lt ok.coherent ok.states).to_write.word
+  pub copy_word-to_write : copy_word (copy_of (cache_line_to_write t line) t) ≡ Some (coherent_word line)
+  copy_word-to_write = (PreservesCoherentLine-of_table p t line lt ok.coherent ok.states).to_write.word
 
   -- After a write the line is coherent, and its coherent word is the written one.
-  pub write_after : (w : ℕ) → LineAfterRequest w (cache_line_written t w line)
-  write_after w = LineAfterRequest-after_write t line lt ok.coherent w (cache_line_to_write t line) (keeps p t line lt ok.coherent ok.states).to_write
+  pub LineAfterRequest-of_write : (w : ℕ) → LineAfterRequest w (cache_line_written t w line)
+  LineAfterRequest-of_write w = LineAfterRequest-after_write t line lt ok.coherent w (cache_line_to_write t line) (PreservesCoherentLine-of_table p t line lt ok.coherent ok.states).to_write
 
   -- A load finds the coherent word in the processor's copy, which it fetches if necessary.
-  pub load_word : copy_word (copy_of (cache_line_to_read (table_of p) t line) t) ≡ Some (coherent_word line)
-  load_word = (keeps p t line lt ok.coherent ok.states).loaded.word
+  pub copy_word-to_read : copy_word (copy_of (cache_line_to_read (table_of p) t line) t) ≡ Some (coherent_word line)
+  copy_word-to_read = (PreservesCoherentLine-of_table p t line lt ok.coherent ok.states).loaded.word
 
   -- After a load the line is coherent, with the same coherent word.
-  pub load_after : LineAfterRequest (coherent_word line) (cache_line_to_read (table_of p) t line)
-  load_after = (keeps p t line lt ok.coherent ok.states).loaded.after
+  pub LineAfterRequest-of_load : LineAfterRequest (coherent_word line) (cache_line_to_read (table_of p) t line)
+  LineAfterRequest-of_load = (PreservesCoherentLine-of_table p t line lt ok.coherent ok.states).loaded.after
 
   -- After an eviction the line is coherent, with the same coherent word.
-  pub evict_after : is_held (copy_state (copy_of line t)) ≡ true → LineAfterRequest (coherent_word line) (cache_line_evicted t line)
-  evict_after = (keeps p t line lt ok.coherent ok.states).evicted
+  pub LineAfterRequest-of_eviction : is_held (copy_state (copy_of line t)) ≡ true → LineAfterRequest (coherent_word line) (cache_line_evicted t line)
+  LineAfterRequest-of_eviction = (PreservesCoherentLine-of_table p t line lt ok.coherent ok.states).evicted
 
   -- After a load the line satisfies the protocol.
-  pub load_kept : LineSatisfiesProtocol p (cache_line_to_read (table_of p) t line)
-  load_kept = record { coherent = load_after.sound; states = loaded_states p line ok.states t }
+  pub LineSatisfiesProtocol-after_load : LineSatisfiesProtocol p (cache_line_to_read (table_of p) t line)
+  LineSatisfiesProtocol-after_load = record { coherent = LineAfterRequest-of_load.sound; states = HasProtocolStates-after_load p line ok.states t }
 
   -- After a write the line satisfies the protocol.
-  pub write_kept : (w : ℕ) → LineSatisfiesProtocol p (cache_line_written t w line)
-  write_kept w = record { coherent = (write_after w).sound; states = written_states p line ok.states t w }
+  pub LineSatisfiesProtocol-after_write : (w : ℕ) → LineSatisfiesProtocol p (cache_line_written t w line)
+  LineSatisfiesProtocol-after_write w = record { coherent = (LineAfterRequest-of_write w).sound; states = HasProtocolStates-after_write p line ok.states t w }
 
   -- After an eviction the line satisfies the protocol.
-  pub evict_kept : is_held (copy_state (copy_of line t)) ≡ true → LineSatisfiesProtocol p (cache_line_evicted t line)
-  evict_kept h = record { coherent = (evict_after h).sound; states = evicted_states p line ok.states t }
+  pub LineSatisfiesProtocol-after_eviction : is_held (copy_state (copy_of line t)) ≡ true → LineSatisfiesProtocol p (cache_line_evicted t line)
+  LineSatisfiesProtocol-after_eviction h = record { coherent = (LineAfterRequest-of_eviction h).sound; states = HasProtocolStates-after_eviction p line ok.states t }
 
 -- Each case of the table satisfies the laws.
 module _ (p : Protocol) (m : Caches) (ok : SatisfiesProtocol p m) where
+  -- The result of a request and the caches after it, by the protocol's table, are as the laws of memory systems demand.
   abbrev IsServed : Request → Type 0
   IsServed r = RequestEffect (caches_by p) (caches_invariant p) m r (answer_from (table_of p) r (cache_line_at m.cache_lines (request_location r))) (caches_after (table_of p) r m)
 
   -- One processor and one line.
   module _ (t x : ℕ) (cpu : t < m.cpus) (loc : x < length m.cache_lines) where
+    -- The cache line of location x.
     abbrev line : CacheLine
     line = cache_line_at m.cache_lines x
 
@@ -106,50 +108,50 @@ module _ (p : Protocol) (m : Caches) (ok : SatisfiesProtocol p m) where
     lt = omega (arith, ok.coherent.bounded, cpu)
 
     -- The line of location x satisfies the protocol.
-    kept : LineSatisfiesProtocol p line
-    kept = kept_cache_line p m x ok loc
+    line_satisfies : LineSatisfiesProtocol p line
+    line_satisfies = LineSatisfiesProtocol-at_location p m x ok loc
 
     -- The caches after a write of v.
     abbrev writes : ℕ → Caches
     writes v = record { cpus = m.cpus; cache_lines = set m.cache_lines x (cache_line_written t v line) }
 
     -- A write of v sets the coherent word of location x to v, and preserves those of the others.
-    written_content : (v : ℕ) → map coherent_word (set m.cache_lines x (cache_line_written t v line)) ≡ slice_set (map coherent_word m.cache_lines) x v
-    written_content v = contents_set m.cache_lines x _ ∙ ap (slice_set (map coherent_word m.cache_lines) x) (write_after p t line lt kept v).content
+    coherent_words-after_write : (v : ℕ) → map coherent_word (set m.cache_lines x (cache_line_written t v line)) ≡ slice_set (map coherent_word m.cache_lines) x v
+    coherent_words-after_write v = coherent_words-set m.cache_lines x _ ∙ ap (slice_set (map coherent_word m.cache_lines) x) (LineAfterRequest-of_write p t line lt line_satisfies v).content
 
     -- The caches after a write satisfy the protocol.
-    written_kept : (v : ℕ) → SatisfiesProtocol p (writes v)
-    written_kept v = set_kept p m x _ ok loc (write_kept p t line lt kept v)
+    SatisfiesProtocol-after_write : (v : ℕ) → SatisfiesProtocol p (writes v)
+    SatisfiesProtocol-after_write v = SatisfiesProtocol-set p m x _ ok loc (LineSatisfiesProtocol-after_write p t line lt line_satisfies v)
 
     -- Before a write the processor's copy has the coherent word of location x, once it has been fetched.
     old_word : copy_word (copy_of (cache_line_to_write t line) t) ≡ Some (slice_index (map coherent_word m.cache_lines) x)
-    old_word = write_word p t line lt kept ∙ ap Some (contents_at m.cache_lines x)
+    old_word = copy_word-to_write p t line lt line_satisfies ∙ ap Some (coherent_word-at_location m.cache_lines x)
 
   -- Each enabled request is served as a lawful memory serves it.
-  case_served : (r : Request) → IsInRange m.cpus (length m.cache_lines) r → IsEnabled (line_state m) r → IsServed r
-  case_served (Ask t x Load) (cpu, loc) possible = record {
+  RequestEffect-of_request : (r : Request) → IsInRange m.cpus (length m.cache_lines) r → IsEnabled (line_state m) r → IsServed r
+  RequestEffect-of_request (Ask t x Load) (cpu, loc) possible = record {
     possible = tt;
-    answer = load_word p t (cache_line_at m.cache_lines x) (lt t x cpu loc) (kept t x cpu loc) ∙ ap Some (contents_at m.cache_lines x);
-    content = contents_same m.cache_lines x _ (load_after p t (cache_line_at m.cache_lines x) (lt t x cpu loc) (kept t x cpu loc)).content;
+    answer = copy_word-to_read p t (cache_line_at m.cache_lines x) (lt t x cpu loc) (line_satisfies t x cpu loc) ∙ ap Some (coherent_word-at_location m.cache_lines x);
+    content = coherent_words-set_same_word m.cache_lines x _ (LineAfterRequest-of_load p t (cache_line_at m.cache_lines x) (lt t x cpu loc) (line_satisfies t x cpu loc)).content;
     cpus = refl;
-    sound = set_kept p m x _ ok loc (load_kept p t (cache_line_at m.cache_lines x) (lt t x cpu loc) (kept t x cpu loc));
+    sound = SatisfiesProtocol-set p m x _ ok loc (LineSatisfiesProtocol-after_load p t (cache_line_at m.cache_lines x) (lt t x cpu loc) (line_satisfies t x cpu loc));
   }
-  case_served (Ask t x (Store w)) (cpu, loc) possible =
-      record { possible = tt; answer = refl; content = written_content t x cpu loc w; cpus = refl; sound = written_kept t x cpu loc w }
-  case_served (Ask t x (Update change)) (cpu, loc) possible = record {
+  RequestEffect-of_request (Ask t x (Store w)) (cpu, loc) possible =
+      record { possible = tt; answer = refl; content = coherent_words-after_write t x cpu loc w; cpus = refl; sound = SatisfiesProtocol-after_write t x cpu loc w }
+  RequestEffect-of_request (Ask t x (Update change)) (cpu, loc) possible = record {
     possible = tt;
     answer = old_word t x cpu loc;
-    content = written_content t x cpu loc (changed_word change (coherent_word (cache_line_at m.cache_lines x)))
-        ∙ ap (λ w. slice_set (map coherent_word m.cache_lines) x (changed_word change w)) (contents_at m.cache_lines x);
+    content = coherent_words-after_write t x cpu loc (changed_word change (coherent_word (cache_line_at m.cache_lines x)))
+        ∙ ap (λ w. slice_set (map coherent_word m.cache_lines) x (changed_word change w)) (coherent_word-at_location m.cache_lines x);
     cpus = refl;
-    sound = written_kept t x cpu loc (changed_word change (coherent_word (cache_line_at m.cache_lines x)));
+    sound = SatisfiesProtocol-after_write t x cpu loc (changed_word change (coherent_word (cache_line_at m.cache_lines x)));
   }
-  case_served (Evict t x) (cpu, loc) possible = record {
+  RequestEffect-of_request (Evict t x) (cpu, loc) possible = record {
     possible = possible;
     answer = refl;
-    content = contents_same m.cache_lines x _ (evict_after p t (cache_line_at m.cache_lines x) (lt t x cpu loc) (kept t x cpu loc) possible).content;
+    content = coherent_words-set_same_word m.cache_lines x _ (LineAfterRequest-of_eviction p t (cache_line_at m.cache_lines x) (lt t x cpu loc) (line_satisfies t x cpu loc) possible).content;
     cpus = refl;
-    sound = set_kept p m x _ ok loc (evict_kept p t (cache_line_at m.cache_lines x) (lt t x cpu loc) (kept t x cpu loc) possible);
+    sound = SatisfiesProtocol-set p m x _ ok loc (LineSatisfiesProtocol-after_eviction p t (cache_line_at m.cache_lines x) (lt t x cpu loc) (line_satisfies t x cpu loc) possible);
   }
 
 -- Caches of each protocol are a lawful memory system.
@@ -157,10 +159,10 @@ pub protocol_lawful : (p : Protocol) → IsLawful (caches_by p) (caches_invarian
 protocol_lawful p = record {
   served = λ m r a n ok s.
       subst (λ k. RequestEffect (caches_by p) (caches_invariant p) m r a k) (sym s.cache_lines)
-      (subst (λ b. RequestEffect (caches_by p) (caches_invariant p) m r b (caches_after (table_of p) r m)) (sym s.answer) (case_served p m ok r s.request_in_range s.possible));
+      (subst (λ b. RequestEffect (caches_by p) (caches_invariant p) m r b (caches_after (table_of p) r m)) (sym s.answer) (RequestEffect-of_request p m ok r s.request_in_range s.possible));
   serves = λ m r ok there possible.
       let inside : IsInRange m.cpus (length m.cache_lines) r = subst (λ k. IsInRange m.cpus k r) (length-map m.cache_lines coherent_word) there in (
         caches_after (table_of p) r m,
-        record { request_in_range = inside; possible = possible; answer = sym (case_served p m ok r inside possible).answer; cache_lines = refl },
+        record { request_in_range = inside; possible = possible; answer = sym (RequestEffect-of_request p m ok r inside possible).answer; cache_lines = refl },
       );
 }

@@ -12,7 +12,7 @@ use Rattle.lw_tso.proofs.Common.{RunsTo-append, EventEffect, LocalStep, MemoryAc
 use Rattle.lw_tso.proofs.Common.{event_effect, operation_effect, step_effect, drain_effect, MachineState}
 use Rattle.lw_tso.proofs.Common.{EffectTransition, ProcessorTransition, MachineTransition, HasRoom}
 use Rattle.lw_tso.proofs.Common.{makes_entry, stores_from, MachineRunsTo, initial_machine_state}
-use Rattle.lw_tso.proofs.Common.{has_terminated, is_final, without_evictions, events_of, CanTerminate}
+use Rattle.lw_tso.proofs.Common.{has_terminated, is_final, without_evictions, event_count, CanTerminate}
 use Rattle.lw_tso.proofs.Common.{IsInitialMemory}
 use Rattle.lw_tso.proofs.EventActs.{ProcessorChange-event}
 use Rattle.lw_tso.proofs.Rooms.{IsSuccessor-later, HasRoomAhead-event}
@@ -48,7 +48,7 @@ is_final-each_terminated (code ∷ codes) (p ∷ ps) each =
 is_final-each_terminated _ _ each = refl
 
 module _ {M : Type 0} (mem : Memory M) (inv : Invariant M) (laws : IsLawful mem inv) where
-  -- An act, done, makes such a processor.
+  -- The effect can be carried out, and leads to a processor that satisfies `Makes`.
   abbrev IsPossible : ℕ → EventEffect → Processor → M → (Processor → Type 0) → Type 0
   IsPossible t act p m Makes = (q : Processor) × (n : M) × EffectTransition mem t act p m (Ok tt) q n × Makes q
 
@@ -78,7 +78,7 @@ module _ {M : Type 0} (mem : Memory M) (inv : Invariant M) (laws : IsLawful mem 
       others : (u : ℕ) → u ≢ t → slice_get end.processors u ≡ slice_get s.processors u
       in_invariant : IsWithinInvariant end
       within_bound : length events ≤ k
-      none : (u : ℕ) → u ≢ t → events_of u events ≡ 0
+      none : (u : ℕ) → u ≢ t → event_count u events ≡ 0
       kept : without_evictions events ≡ events
 
     -- A processor past the end of its code, with an empty buffer, has reached its end without an event.
@@ -218,13 +218,13 @@ module _ {M : Type 0} (mem : Memory M) (inv : Invariant M) (laws : IsLawful mem 
           → t < k
           → slice_get end.processors t ≡ Some p
           → has_terminated (thread_code program t) p ≡ true
-      within_bound : (t : ℕ) → events_of t events ≤ 2 * length (thread_code program t)
-      none : (t : ℕ) → k ≤ t → events_of t events ≡ 0
+      within_bound : (t : ℕ) → event_count t events ≤ 2 * length (thread_code program t)
+      none : (t : ℕ) → k ≤ t → event_count t events ≡ 0
       kept : without_evictions events ≡ events
 
     -- The number of a processor's events in a concatenation is the sum of those in its parts.
-    events_of-append : (u : ℕ) (es fs : List Event) → events_of u (es ++ fs) ≡ events_of u es + events_of u fs
-    events_of-append u es fs = sum_by-append (λ (d : Event). cond (cpu_of d == u) 1 0) es fs
+    event_count-append : (u : ℕ) (es fs : List Event) → event_count u (es ++ fs) ≡ event_count u es + event_count u fs
+    event_count-append u es fs = sum_by-append (λ (d : Event). cond (cpu_of d == u) 1 0) es fs
 
     -- If the first k processors have reached their ends, and processor k then reaches its own, the first k + 1 have.
     FirstProcessorsFinish-suc : (k : ℕ) (s : MachineState M) (a : FirstProcessorsFinish k s)
@@ -242,28 +242,28 @@ module _ {M : Type 0} (mem : Memory M) (inv : Invariant M) (laws : IsLawful mem 
           (λ ne. a.done t p (omega arith) (sym (f.others t ne) ∙ got)) (cases_eq t k);
       within_bound = λ t.
           ⊎_elim (λ same.
-          subst (λ (u : ℕ). events_of u (a.events ++ f.events) ≤ 2 * length (thread_code program u)) (sym same) few_events_own)
+          subst (λ (u : ℕ). event_count u (a.events ++ f.events) ≤ 2 * length (thread_code program u)) (sym same) few_events_own)
           (λ ne. few_events_others t ne) (cases_eq t k);
       none = λ t le. no_events_later t le;
       kept = without_evictions-append a.events f.events ∙ ap₂ (λ x y. x ++ y) a.kept f.kept;
     }
       where
-        few_events_own : events_of k (a.events ++ f.events) ≤ 2 * length (thread_code program k)
+        few_events_own : event_count k (a.events ++ f.events) ≤ 2 * length (thread_code program k)
         few_events_own = omega (
           arith,
-          events_of-append k a.events f.events,
+          event_count-append k a.events f.events,
           a.none k (omega arith),
           count_by-le-length (λ (d : Event). cpu_of d == k) f.events,
           f.within_bound,
         )
 
-        few_events_others : (t : ℕ) → t ≢ k → events_of t (a.events ++ f.events) ≤ 2 * length (thread_code program t)
-        few_events_others t ne = omega (arith, events_of-append t a.events f.events, a.within_bound t, f.none t ne)
+        few_events_others : (t : ℕ) → t ≢ k → event_count t (a.events ++ f.events) ≤ 2 * length (thread_code program t)
+        few_events_others t ne = omega (arith, event_count-append t a.events f.events, a.within_bound t, f.none t ne)
 
-        no_events_later : (t : ℕ) → suc k ≤ t → events_of t (a.events ++ f.events) ≡ 0
+        no_events_later : (t : ℕ) → suc k ≤ t → event_count t (a.events ++ f.events) ≡ 0
         no_events_later t le =
             let ne : t ≢ k = omega arith in
-            omega (arith, events_of-append t a.events f.events, a.none t (omega arith), f.none t ne)
+            omega (arith, event_count-append t a.events f.events, a.none t (omega arith), f.none t ne)
 
     -- A processor that does not exist needs no event to reach its end.
     ProcessorFinishes-absent : {k : ℕ} (s : MachineState M) (a : FirstProcessorsFinish k s)

@@ -3,27 +3,28 @@
 use Rattle.lw_tso.proofs.Common.{◌≡◌, ℕ, zero, suc, ◌+◌, ◌≤◌, Bool, true, false, List, [], ◌∷◌, ◌++◌, length}
 use Rattle.lw_tso.proofs.Common.{map, take, cond, Some, ◌⊎◌, inl, inr, refl, sym, ap, ◌∙◌, subst, arith}
 use Rattle.lw_tso.proofs.Common.{slice_get, same_Some, sum_by-cons, Instr, Mfence, retarget_to_blocks}
-use Rattle.lw_tso.proofs.Common.{IsFencedCode, unmarked_count_before, kept, code_without, MarksAreFences, not}
+use Rattle.lw_tso.proofs.Common.{IsFencedCode, unmarked_count_before, unmarked_instructions, code_without, MarksAreFences, not}
 
--- Before index 0 no instruction is kept.
+-- Before index 0 there is no unmarked instruction.
 pub unmarked_count_before-zero : (marks : List Bool) → unmarked_count_before marks 0 ≡ 0
 unmarked_count_before-zero [] = refl
 unmarked_count_before-zero (mark ∷ marks) = refl
 
--- Before a later index are kept the first instruction, if it is not marked, and those of the others before the index less one.
+-- The number of unmarked instructions before a later index: one for the first instruction if it is not marked, and that of the others before
+-- the index less one.
 pub unmarked_count_before-cons : (mark : Bool) (marks : List Bool) (index : ℕ)
     → unmarked_count_before (mark ∷ marks) (suc index) ≡ cond (not mark) 1 0 + unmarked_count_before marks index
 unmarked_count_before-cons mark marks index = sum_by-cons (λ (m : Bool). cond (not m) 1 0) mark (take index marks)
 
--- What is kept of a concatenation is what is kept of its parts.
-pub kept-append : (marks others : List Bool) (code more : List Instr)
+-- The unmarked instructions of a concatenation are those of its parts, concatenated.
+pub unmarked_instructions-append : (marks others : List Bool) (code more : List Instr)
     → MarksAreFences marks code
-    → kept (marks ++ others) (code ++ more) ≡ kept marks code ++ kept others more
-kept-append [] others [] more fences = refl
-kept-append (true ∷ marks) others (i ∷ code) more fences = kept-append marks others code more fences.1
-kept-append (false ∷ marks) others (i ∷ code) more fences =
-    ap (λ (is : List Instr). i ∷ is) (kept-append marks others code more fences)
-kept-append _ others _ more fences = absurd fences
+    → unmarked_instructions (marks ++ others) (code ++ more) ≡ unmarked_instructions marks code ++ unmarked_instructions others more
+unmarked_instructions-append [] others [] more fences = refl
+unmarked_instructions-append (true ∷ marks) others (i ∷ code) more fences = unmarked_instructions-append marks others code more fences.1
+unmarked_instructions-append (false ∷ marks) others (i ∷ code) more fences =
+    ap (λ (is : List Instr). i ∷ is) (unmarked_instructions-append marks others code more fences)
+unmarked_instructions-append _ others _ more fences = absurd fences
 
 -- If only MFENCEs are marked in two codes, so are they in the concatenation.
 pub MarksAreFences-append : (marks others : List Bool) (code more : List Instr)
@@ -38,11 +39,11 @@ MarksAreFences-append (false ∷ marks) others (i ∷ code) more fences rest =
 MarksAreFences-append _ others _ more fences rest = absurd fences
 
 module _ (lead : Instr → Instr) where
-  -- The instruction at an index is left out, or is the next one kept.
+  -- The instruction at an index is marked, or is the next unmarked one.
   abbrev IsEither : List Bool → List Instr → ℕ → Instr → Type 0
   IsEither marks code index i =
       ((i ≡ Mfence) × (unmarked_count_before marks (index + 1) ≡ unmarked_count_before marks index))
-      ⊎ ((slice_get (map lead (kept marks code)) (unmarked_count_before marks index) ≡ Some (lead i))
+      ⊎ ((slice_get (map lead (unmarked_instructions marks code)) (unmarked_count_before marks index) ≡ Some (lead i))
       × (unmarked_count_before marks (index + 1) ≡ unmarked_count_before marks index + 1))
 
   -- If the claim holds of a code at an index, it holds at the next one after a marked instruction is put before the code.
@@ -62,7 +63,7 @@ module _ (lead : Instr → Instr) where
       go : IsEither marks code index i → IsEither (true ∷ marks) (j ∷ code) (suc index) i
       go (inl out) = inl (out.0, count_after_next ∙ out.1 ∙ sym count_here)
       go (inr stays) = inr (
-        subst (λ k. slice_get (map lead (kept marks code)) k ≡ Some (lead i)) (sym count_here) stays.0,
+        subst (λ k. slice_get (map lead (unmarked_instructions marks code)) k ≡ Some (lead i)) (sym count_here) stays.0,
         omega (arith, count_after_next, count_here, stays.1),
       )
 
@@ -83,7 +84,7 @@ module _ (lead : Instr → Instr) where
       go : IsEither marks code index i → IsEither (false ∷ marks) (j ∷ code) (suc index) i
       go (inl out) = inl (out.0, count_after_next ∙ ap suc out.1 ∙ sym count_here)
       go (inr stays) = inr (
-        subst (λ k. slice_get (lead j ∷ map lead (kept marks code)) k ≡ Some (lead i)) (sym count_here) stays.0,
+        subst (λ k. slice_get (lead j ∷ map lead (unmarked_instructions marks code)) k ≡ Some (lead i)) (sym count_here) stays.0,
         omega (arith, count_after_next, count_here, stays.1),
       )
 
@@ -108,12 +109,12 @@ module _ (lead : Instr → Instr) where
       IsEither-cons_kept marks code j i index (IsEither-at_each marks code fences index i at)
   IsEither-at_each _ _ fences index i at = absurd fences
 
-  -- Past the end of the code, the number of unmarked instructions is the length of the code that is kept.
+  -- Past the end of the code, the number of unmarked instructions is the length of their list.
   unmarked_count_before-end : (marks : List Bool) (code : List Instr)
       → MarksAreFences marks code
       → (index : ℕ)
       → length code ≤ index
-      → unmarked_count_before marks index ≡ length (map lead (kept marks code))
+      → unmarked_count_before marks index ≡ length (map lead (unmarked_instructions marks code))
   unmarked_count_before-end [] [] fences zero past = refl
   unmarked_count_before-end [] [] fences (suc index) past = refl
   unmarked_count_before-end (true ∷ marks) (j ∷ code) fences zero past = absurd (omega arith)

@@ -40,7 +40,7 @@ module _ (code fenced : List Instr) (f : IsFencedCode code fenced) where
       let next : n + 1 ≡ suc n = omega arith in
       omega (arith, block-le n (omega arith), (block-advance n (omega arith)).1, ap f.block next)
 
-  -- Where the instruction of the code with this number is.
+  -- An index of `fenced` at which the instruction of `code` with index k is: it ends block k there.
   record IsAt (k : ℕ) : Type 0 where
     index : ℕ
     i : Instr

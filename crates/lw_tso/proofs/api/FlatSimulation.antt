@@ -16,7 +16,7 @@ use Rattle.lw_tso.proofs.Acts.{PreservesMemorySize-effect}
 use Rattle.lw_tso.proofs.Rooms.{IsWellFormedStatement-at, HasRoomAhead-event}
 use Rattle.lw_tso.proofs.api.Effects.{not-EffectLeadsTo-evict_event, EventOccurrence-of_event}
 use Rattle.lw_tso.proofs.api.Operations.{EffectSatisfies}
-use Rattle.lw_tso.proofs.EventActs.{IsNoEviction, AsksFor, EventComes-event, ProcessorChange-event}
+use Rattle.lw_tso.proofs.EventActs.{IsNoEviction, MayAccess, IsEventEffect-of_event, ProcessorChange-event}
 use Rattle.lw_tso.proofs.Flatten.{MachineTransition-flat, ReplaysTo-flat}
 
 -- What is enabled over flat memory is no eviction.
@@ -108,7 +108,7 @@ module _ {M : Type 0} (mem : Memory M) (inv : Invariant M) (laws : IsLawful mem 
         → IsWithin s
         → slice_get s.processors t ≡ Some p
         → (x : ℕ)
-        → AsksFor (thread_code program t) p x
+        → MayAccess (thread_code program t) p x
         → x < length (mem.content s.memory)
     location_in_range-if_asked t p s within at x (inl step) = omega (
       arith,
@@ -156,7 +156,7 @@ module _ {M : Type 0} (mem : Memory M) (inv : Invariant M) (laws : IsLawful mem 
         (s, subst (λ o. ProcessorTransition mem o program e s answer s) (sym at) (done.0, refl), sym done.1)
     LiftedEvent-by_processor (Some p) e s answer mid within none at done =
         let cpu : cpu_of e < inv.cpus s.memory = omega (arith, slice_get_within s.processors (cpu_of e) p at, within.cpus) in
-        let comes = EventComes-event program (length (mem.content s.memory)) e p none in
+        let comes = IsEventEffect-of_event program (length (mem.content s.memory)) e p none in
         let g =
         EffectTransition-lift _ _ _ (cpu_of e) _ p done.0 s.memory done.1 answer within.sound cpu
         (λ x w. location_in_range-if_asked (cpu_of e) p s within at x) comes done.2 in

@@ -8,7 +8,7 @@ use Rattle.lw_tso.proofs.Common.{EventEffect, MemoryAccess, cpu_of, event_effect
 use Rattle.lw_tso.proofs.Common.{MachineState, position_of, MachineTransition, CommutesWithDrain}
 use Rattle.lw_tso.proofs.Common.{MayPassOldest, AreDrainAndPassing, AreIndependent, IsAtPosition}
 use Rattle.lw_tso.proofs.Common.{TransitionAt, EventsCommute}
-use Rattle.lw_tso.proofs.Commuting.{DoneInTurn, DoneInTurn-swap, with_oldest, effect_keeping_oldest}
+use Rattle.lw_tso.proofs.Commuting.{LeadInSequence, LeadInSequence-swap, with_oldest, effect_keeping_oldest}
 use Rattle.lw_tso.proofs.Commuting.{EffectLeadsTo-keeping_oldest, EffectLeadsTo-without_oldest, LeavesAlone}
 use Rattle.lw_tso.proofs.Commuting.{LeavesAlone-operation}
 use Rattle.lw_tso.proofs.api.Effects.{state, EffectLeadsTo, not-EffectLeadsTo-evict_event, EventOccurrence}
@@ -117,9 +117,9 @@ module _ (program : List (List Instr)) where
             (subst (λ act. EffectLeadsTo mid.memory act y.to y.words) (event_effect-location_count f _ _ y.from y.to _ _ y.does)
             y.does)
 
-        way : DoneInTurn b a y.to x.to s.memory y.words
+        way : LeadInSequence b a y.to x.to s.memory y.words
         way =
-            DoneInTurn-swap a b x.to y.to s.memory y.words (free.of_two ne x.from y.from x.was there)
+            LeadInSequence-swap a b x.to y.to s.memory y.words (free.of_two ne x.from y.from x.was there)
             (record { between = x.words; first = x.does; second = then_b })
 
         other : MachineState (List ℕ)
@@ -202,9 +202,9 @@ module _ (program : List (List Instr)) where
           words : y.words ≡ slice_set x.words pass.entry.0 pass.entry.1
           words = drain.1 ∙ ap (λ (z : MachineState (List ℕ)). slice_set z.memory pass.entry.0 pass.entry.1) x.state_is
 
-          way : DoneInTurn draining stepping without_entry step.0 s.memory y.words
+          way : LeadInSequence draining stepping without_entry step.0 s.memory y.words
           way =
-              DoneInTurn-swap stepping draining step.0 without_entry s.memory y.words (λ z e f. absurd (leaves.free (e ∙ sym f)))
+              LeadInSequence-swap stepping draining step.0 without_entry s.memory y.words (λ z e f. absurd (leaves.free (e ∙ sym f)))
               (record { between = x.words; first = step.2; second = (refl, words) })
 
           other : MachineState (List ℕ)
@@ -272,9 +272,9 @@ module _ (program : List (List Instr)) where
               (subst (λ (p : Processor).
               EffectLeadsTo mid.memory (step_effect (slice_get (thread_code program t) p.position) p) y.to y.words) now y.does))
 
-          way : DoneInTurn stepping draining y.to without_entry s.memory y.words
+          way : LeadInSequence stepping draining y.to without_entry s.memory y.words
           way =
-              DoneInTurn-swap draining stepping without_entry y.to s.memory y.words (λ z e f. absurd (leaves.free (f ∙ sym e)))
+              LeadInSequence-swap draining stepping without_entry y.to s.memory y.words (λ z e f. absurd (leaves.free (f ∙ sym e)))
               (record { between = x.words; first = (refl, drain.1); second = step })
 
           new : Processor

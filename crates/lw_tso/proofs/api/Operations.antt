@@ -31,7 +31,7 @@ false-ne_true : {X : Type 0} → false ≡ true → X
 false-ne_true e = absurd (true≢false (sym e))
 
 -- An operation that is no store leads from p to q, if q is at the next position and has the same buffer and number of registers.
-next : (o : Operation) (p q : Processor)
+OperationTransition-no_store : (o : Operation) (p q : Processor)
     → falls_through o ≡ true
     → is_store o ≡ false
     → (needs_empty_buffer o ≡ true → p.buffer ≡ [])
@@ -39,7 +39,7 @@ next : (o : Operation) (p q : Processor)
     → q.buffer ≡ p.buffer
     → length q.regs ≡ length p.regs
     → OperationTransition o p q
-next o p q on none waited position buffer regs =
+OperationTransition-no_store o p q on none waited position buffer regs =
     record { leads = inl (on, position); buffers = inl (none, buffer); regs = regs; waited = waited }
 
 -- A branch leads to its target if its guard holds, and otherwise to the next statement.
@@ -117,10 +117,10 @@ module _ (Reason : Type 0) (MayAsk : ℕ → Bool → Type 0) (Makes : Processor
       → ((q : Processor) → OperationTransition o p q → Makes q)
       → EffectSatisfies (operation_effect o p)
   EffectSatisfies-operation (Set d v) p reason asks makes =
-      makes _ (next (Set d v) p _ refl refl false-ne_true refl refl (length-set p.regs d _))
+      makes _ (OperationTransition-no_store (Set d v) p _ refl refl false-ne_true refl refl (length-set p.regs d _))
   EffectSatisfies-operation (Sum d a v) p reason asks makes =
-      makes _ (next (Sum d a v) p _ refl refl false-ne_true refl refl (length-set p.regs d _))
-  EffectSatisfies-operation (Compare a v) p reason asks makes = makes _ (next _ p _ refl refl false-ne_true refl refl refl)
+      makes _ (OperationTransition-no_store (Sum d a v) p _ refl refl false-ne_true refl refl (length-set p.regs d _))
+  EffectSatisfies-operation (Compare a v) p reason asks makes = makes _ (OperationTransition-no_store _ p _ refl refl false-ne_true refl refl refl)
   EffectSatisfies-operation (Store x v) p reason asks makes = makes _ (record {
     leads = inl (refl, refl);
     buffers = inr ((x, operand_value v p.regs), refl, refl, refl);
@@ -129,15 +129,15 @@ module _ (Reason : Type 0) (MayAsk : ℕ → Bool → Type 0) (Makes : Processor
   })
   EffectSatisfies-operation (Load d x) p reason asks makes =
       EffectSatisfies-load (newest_buffered p.buffer x) x _ (asks x refl)
-      (λ w. makes _ (next (Load d x) p _ refl refl false-ne_true refl refl (length-set p.regs d w)))
+      (λ w. makes _ (OperationTransition-no_store (Load d x) p _ refl refl false-ne_true refl refl (length-set p.regs d w)))
   EffectSatisfies-operation (FetchAdd d x v) p reason asks makes =
       EffectSatisfies-if_buffer_empty p.buffer SwapWaits _ (reason refl) (λ empty. (
         asks x refl,
-        λ w. makes _ (next (FetchAdd d x v) p _ refl refl (λ e. empty) refl refl (length-set_word_if_some p.regs d w)),
+        λ w. makes _ (OperationTransition-no_store (FetchAdd d x v) p _ refl refl (λ e. empty) refl refl (length-set_word_if_some p.regs d w)),
       ))
   EffectSatisfies-operation Fence p reason asks makes =
       EffectSatisfies-if_buffer_empty _ _ _ (reason refl)
-      (λ empty. makes _ (next Fence p _ refl refl (λ e. empty) refl refl refl))
+      (λ empty. makes _ (OperationTransition-no_store Fence p _ refl refl (λ e. empty) refl refl refl))
   EffectSatisfies-operation (Branch c to) p reason asks makes = makes _ (record {
     leads = IsSuccessor-branch c to p.position p.regs p.zero_flag;
     buffers = inl (refl, refl);
@@ -146,7 +146,7 @@ module _ (Reason : Type 0) (MayAsk : ℕ → Bool → Type 0) (Makes : Processor
   })
   EffectSatisfies-operation o p reason asks makes =
       EffectSatisfies-if_buffer_empty p.buffer SwapWaits _ (reason refl)
-      (λ empty. (asks _ refl, λ w. makes _ (next o p _ refl refl (λ e. empty) refl refl (length-set p.regs _ w))))
+      (λ empty. (asks _ refl, λ w. makes _ (OperationTransition-no_store o p _ refl refl (λ e. empty) refl refl (length-set p.regs _ w))))
 
 -- The access of a locked operation when the buffer is empty: an update of its location.
 pub record LockedUpdate (o : Operation) (p : Processor) : Type 0 where

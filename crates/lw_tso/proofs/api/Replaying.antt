@@ -1,4 +1,4 @@
--- A replay speaks of its test's processors and locations only, and its outcome is of their numbers. For the
+-- A replay names only its test's processors and locations, and its outcome has as many of each. For the
 -- law that replays are of their test, by which lists have outcomes of the right shape.
 use Rattle.lw_tso.proofs.Common.{IsEventInRange, IsWellScopedProgram, IsMachineOutcome, flat_memory}
 use Rattle.lw_tso.proofs.Common.{words_invariant, words_lawful, Step, Drain, ◌≡◌, ℕ, zero, suc, ◌<◌, ◌≤◌}

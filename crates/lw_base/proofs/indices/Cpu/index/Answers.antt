@@ -1,4 +1,4 @@
--- Proves `Cpu::index`, which returns the processor's number. Immediate: widening the byte does not change it.
+-- Proves `Cpu::index`, which returns the processor's index. Immediate: widening the byte does not change it.
 use Rattle.lw_base.proofs.Common.{rules}
 use Rattle.lw_base.proofs.indices.Cpu.index.Goals as goal
 

@@ -1,4 +1,4 @@
--- Proves `Loc::index`, which returns the location's number. Immediate: widening the byte does not change it.
+-- Proves `Loc::index`, which returns the location's index. Immediate: widening the byte does not change it.
 use Rattle.lw_base.proofs.Common.{rules}
 use Rattle.lw_base.proofs.indices.Loc.index.Goals as goal
 

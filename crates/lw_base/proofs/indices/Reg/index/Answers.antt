@@ -1,4 +1,4 @@
--- Proves `Reg::index`, which returns the register's number. Immediate: widening the byte does not change it.
+-- Proves `Reg::index`, which returns the register's index. Immediate: widening the byte does not change it.
 use Rattle.lw_base.proofs.Common.{rules}
 use Rattle.lw_base.proofs.indices.Reg.index.Goals as goal
 

@@ -1,7 +1,7 @@
 -- Proves `load` of the caches, which is the protocol's transition for a load. `ProtocolTransition-borrowed` lifts the change of
 -- the borrowed line to all caches, and `SatisfiesProtocol-set_line` says that they satisfy the protocol afterwards.
 use Rattle.lw_mesi.proofs.Common.{ap, sym, ◌∙◌, subst, cache_line_to_read, table_of, LineSatisfiesProtocol}
-use Rattle.lw_mesi.proofs.Common.{load_kept, Caches, Load}
+use Rattle.lw_mesi.proofs.Common.{LineSatisfiesProtocol-after_load, Caches, Load}
 use Rattle.lw_mesi.proofs.ProtocolInvariant.{IsBorrowedLine, before_states, index_in_range}
 use Rattle.lw_mesi.proofs.ProtocolInvariant.{ProtocolTransition-borrowed, SatisfiesProtocol-set_line}
 use Rattle.lw_mesi.proofs.caches.SnoopingCachesMemorySystem.load.Given.{Over}
@@ -37,7 +37,7 @@ invariant_of-self g c =
     subst (LineSatisfiesProtocol g.P.ProtocolType.protocol)
     (sym (c.load.ensures.line
     ∙ ap (λ p. cache_line_to_read (table_of p) c.args.cpu c.index_mut-line.result.now) c.protocol.ensures))
-    (load_kept _ c.args.cpu _ lt s))
+    (LineSatisfiesProtocol-after_load _ c.args.cpu _ lt s))
 
 pub returns-clause-served : goal.returns-clause-served
 returns-clause-served g c =
