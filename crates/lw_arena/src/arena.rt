@@ -13,12 +13,14 @@ use std::cell::Cell;
 /// An allocator over lent memory. A collection holds a `&` to it.
 #[derive(Drop)]
 pub struct Arena {
+    /// The lent memory that is not cut into blocks yet. `None` only while a call uses it.
     rest: Cell<Option<Memory>>,
+    /// The free list of each class; `None` before a block of the class is freed, and while a call uses the list.
     shelves: [Cell<Option<Shelf>>; CLASSES],
 }
 
 impl Arena {
-    /// Creates an allocator over this memory. What it holds is behind cells, so a contract cannot speak of it.
+    /// Creates an allocator over this memory. What it holds is in cells, so a contract cannot speak of it.
     pub fn new(memory: Memory) -> Arena {
         Arena {
             rest: Cell::new(Some(memory)),

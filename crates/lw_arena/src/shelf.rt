@@ -83,7 +83,7 @@ impl Shelf {
         }
     }
 
-    /// Returns whether the blocks of this shelf have `units` units.
+    /// Returns whether the blocks of this shelf have `units` units. The contract promises nothing of `false`.
     pub(crate) fn is_of(&self, units: usize) -> bool
         ensures { result ≡ true → self.now.units ≡ units }
     {

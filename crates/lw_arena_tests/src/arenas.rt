@@ -4,7 +4,7 @@ use std::alloc::{AllocError, Global};
 use std::collections::BTreeMap;
 use std::test::Fail;
 
-/// An arena over so many bytes.
+/// Returns an arena over `size` bytes.
 fn arena_of(alloc: Global, size: usize) -> Result<Arena, AllocError> {
     match Memory::kept(&alloc, size) {
         Some(memory) => Ok(Arena::new(memory)),
@@ -12,8 +12,8 @@ fn arena_of(alloc: Global, size: usize) -> Result<Arena, AllocError> {
     }
 }
 
-/// How many of the sizes are given, each once the one before was given back.
-fn given_in_turn(arena: &Arena, sizes: &[usize]) -> u32 {
+/// Returns how many of the sizes are allocated, each after the block before was freed.
+fn count_allocations(arena: &Arena, sizes: &[usize]) -> u32 {
     let mut given = 0u32;
     for size in sizes {
         if Vec::<u8, &Arena>::with_capacity(arena, *size).is_ok() {
@@ -26,24 +26,24 @@ fn given_in_turn(arena: &Arena, sizes: &[usize]) -> u32 {
 #[test]
 fn a_block_that_is_given_back_is_used_again(rt: HostRuntime) -> Result<(), Fail> {
     let arena = arena_of(rt.alloc(), 4096)?;
-    assert_eq!(rt; given_in_turn(&arena, &[1000; 100]), 100);
-    assert_eq!(rt; given_in_turn(&arena, &[1025, 2048, 1025, 1024, 513]), 5);
+    assert_eq!(rt; count_allocations(&arena, &[1000; 100]), 100);
+    assert_eq!(rt; count_allocations(&arena, &[1025, 2048, 1025, 1024, 513]), 5);
     // 1024 and 2048 bytes are cut off, and what is left is no more than a third block of 1024.
-    assert_eq!(rt; given_in_turn(&arena, &[4096, 2049, 512, 300, 512]), 3);
+    assert_eq!(rt; count_allocations(&arena, &[4096, 2049, 512, 300, 512]), 3);
     Ok(())
 }
 
 #[test]
 fn what_does_not_fit_is_refused(rt: HostRuntime) -> Result<(), Fail> {
     let empty = arena_of(rt.alloc(), 15)?;
-    assert_eq!(rt; given_in_turn(&empty, &[1, 16, 1 << 20]), 0);
+    assert_eq!(rt; count_allocations(&empty, &[1, 16, 1 << 20]), 0);
     let small = arena_of(rt.alloc(), 31)?;
-    assert_eq!(rt; given_in_turn(&small, &[16, 17, 1]), 2);
+    assert_eq!(rt; count_allocations(&small, &[16, 17, 1]), 2);
     let whole = arena_of(rt.alloc(), 1 << 12)?;
     let all: Vec<u8, &Arena> = Vec::with_capacity(&whole, 1 << 12)?;
-    assert_eq!(rt; given_in_turn(&whole, &[1]), 0);
+    assert_eq!(rt; count_allocations(&whole, &[1]), 0);
     drop(all);
-    assert_eq!(rt; given_in_turn(&whole, &[1, 4000]), 1);
+    assert_eq!(rt; count_allocations(&whole, &[1, 4000]), 1);
     Ok(())
 }
 

@@ -1,6 +1,6 @@
 //! Tests of the allocator over lent memory: that a block that is given back is used again, what is refused, and collections over it.
 //!
-//! It names lw_arena alone.
+//! It depends only on lw_arena.
 #![tactic(auto)]
 
 #[cfg(test)]

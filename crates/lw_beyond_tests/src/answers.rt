@@ -28,7 +28,7 @@ fn states(search: bool, budget: usize) -> Request {
     }
 }
 
-/// Returns the method by which a request is answered, if the answer is this report.
+/// Returns the method by which a request is answered, or `None` if the answer is not this report.
 fn method_of(alloc: Global, request: &Request, text: &str, report: &str) -> Option<Method> {
     match answer_request(alloc, request, text.as_bytes()) {
         Ok(answer) => (answer.text.as_str() == report).then_some(answer.method),
@@ -36,7 +36,7 @@ fn method_of(alloc: Global, request: &Request, text: &str, report: &str) -> Opti
     }
 }
 
-/// Returns the number of states that a search visits, if it is asked for and answers this report.
+/// Requests a search, and returns the number of states that it visits, or `None` if the answer is not this report.
 fn states_visited(alloc: Global, text: &str, report: &str) -> Option<usize> {
     match method_of(alloc, &states(true, 10_000_000), text, report)? {
         Method::Search(count) => Some(count),
@@ -59,7 +59,7 @@ fn test_within_the_limits_is_listed_by_orders(rt: HostRuntime) {
 }
 
 #[test]
-fn search_is_made_where_it_is_asked_for(rt: HostRuntime) {
+fn search_is_made_if_requested(rt: HostRuntime) {
     let count = states_visited(rt.alloc(), STORE_BUFFERING, REPORT);
     assert!(rt; count.is_some());
 }

@@ -1,5 +1,5 @@
 //! Tests of lists of any size: the words of a command line, worked answers by orders and by a search, budgets, and lists where memory is
-//! refused. Whole reports stand in the folders `examples` and `bench`, where tools/gate/check_beyond.py compares them.
+//! refused. Whole reports are in the folders `examples` and `bench`, where tools/gate/check_beyond.py compares them.
 #![tactic(auto)]
 
 #[cfg(test)]

@@ -97,7 +97,7 @@ pub use Rattle.lw_paths.proofs.api.Successors.{IsFlowSuccessor-in_range}
 pub use Rattle.lw_paths.proofs.api.Visitable.{IsVisitable-well_formed, JumpsForward-thread}
 pub use Rattle.lw_paths.specs.declared.item.Item.{Item}
 pub use Rattle.lw_tso_caches.proofs.api.CompleteLists.{HasOutcomeShape-of_compiled, IsListedOutcome-of_source}
-pub use Rattle.lw_tso_caches.proofs.api.CompleteLists.{on_machine, without_evictions-flat_run}
+pub use Rattle.lw_tso_caches.proofs.api.CompleteLists.{ListsMachine-of_complete, without_evictions-flat_run}
 pub use Rattle.lw_tso_caches.specs.CompleteLists.{AreAllOutcomes, IsComplete}
 pub use Rattle.lw_tso_caches.specs.OverCaches.{OutcomeOverCaches, ReplaysToOverCaches}
 pub use Rattle.lw_finals.specs.OrderRuns.{FollowsPathsToEnd, IsAssignmentOutcome, ItemTransitionSystem}

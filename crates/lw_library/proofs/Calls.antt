@@ -58,33 +58,33 @@ module _ (IsAnswer IsFault : ℕ → Bytes → Type 0) (call_result : CallResult
     }
   ]
 
-module _ (IsMade : LitmusTest → Bytes → ℕ → Type 0) (Tells : LitmusTest → BenchFault → Type 0) (text : Bytes)
+module _ (IsMade : LitmusTest → Bytes → ℕ → Type 0) (FaultIsTrue : LitmusTest → BenchFault → Type 0) (text : Bytes)
     (call_result : CallResult) (before after : Bytes) where
   -- The result of the call is right for this task and text.
   abbrev IsRightResult : Type 0
-  IsRightResult = IsCallResult IsMade Tells text call_result before after
+  IsRightResult = IsCallResult IsMade FaultIsTrue text call_result before after
 
   -- If a task succeeds and the call returns its output with kind 0, the result is right.
   pub IsCallResult-answer : (made : Bytes)
-      → IsAnswer IsMade Tells text call_result.status made
+      → IsAnswer IsMade FaultIsTrue text call_result.status made
       → ReturnsBytes 0 made call_result before after
       → IsRightResult
   IsCallResult-answer =
-      ReturnsAnswerOrFault-answer (IsAnswer IsMade Tells text) (IsFault IsMade Tells text) call_result before after
+      ReturnsAnswerOrFault-answer (IsAnswer IsMade FaultIsTrue text) (IsFault IsMade FaultIsTrue text) call_result before after
 
   -- If a fault is true of the text and not a device's, and the call returns its line, the result is right.
   pub IsCallResult-fault_line : (f : BenchFault)
-      → RunFaultIsTrue Tells text f
+      → RunFaultIsTrue FaultIsTrue text f
       → IsNotDeviceFault f
       → ReturnsFaultLine f call_result before after
       → IsRightResult
   IsCallResult-fault_line f so no_device tells =
-      ReturnsAnswerOrFault-fault (IsAnswer IsMade Tells text) (IsFault IsMade Tells text) call_result before after (fault_text f)
-      (record { fault = f; tells = so; no_device = no_device; line_is = refl; status_is = tells.0 }) tells.1
+      ReturnsAnswerOrFault-fault (IsAnswer IsMade FaultIsTrue text) (IsFault IsMade FaultIsTrue text) call_result before after (fault_text f)
+      (record { fault = f; is_true = so; no_device = no_device; line_is = refl; status_is = tells.0 }) tells.1
 
   -- The same, if the call may instead return the line of Memory, since memory ran out for the fault's line.
   pub IsCallResult-fault_line_or_Memory : (f : BenchFault)
-      → RunFaultIsTrue Tells text f
+      → RunFaultIsTrue FaultIsTrue text f
       → IsNotDeviceFault f
       → ReturnsFaultLine f call_result before after ⊎ ReturnsFaultLine Memory call_result before after
       → IsRightResult

@@ -40,12 +40,12 @@ replay_protocol number = if number == 0 then Mesi else Moesi
 
 -- The bytes are the page of the replay of the test by this schedule, over caches of this protocol, with this exit status.
 abbrev pub IsReplayed : Bytes → Protocol → LitmusTest → Bytes → ℕ → Type 0
-IsReplayed schedule protocol test made done =
-    (end : End) × IsReplayPage protocol test schedule made end × (done ≡ end_status end)
+IsReplayed schedule protocol test made exit_status =
+    (end : End) × IsReplayPage protocol test schedule made end × (exit_status ≡ end_status end)
 
 -- The bytes are the film of the replay of the test by this schedule, over caches of this protocol, with the exit status 0.
 abbrev pub IsFilmed : Bytes → Protocol → LitmusTest → Bytes → ℕ → Type 0
-IsFilmed schedule protocol test made done = IsFilm protocol test schedule made × (done ≡ 0)
+IsFilmed schedule protocol test made exit_status = IsFilm protocol test schedule made × (exit_status ≡ 0)
 
 -- The result of a call: kind 0 with an answer, kind 1 with a fault's line, or kind 2 if the one or the other does not fit.
 pub record ReturnsAnswerOrFault (IsAnswer IsFault : ℕ → Bytes → Type 0) (call_result : CallResult) (before after : Bytes) : Type 0 where
@@ -56,18 +56,18 @@ pub record ReturnsAnswerOrFault (IsAnswer IsFault : ℕ → Bytes → Type 0) (c
       call_result.kind ≡ 2
       → (bytes : Bytes) × (IsAnswer call_result.status bytes ⊎ IsFault call_result.status bytes) × IsTooSmall bytes call_result before after
 
-module _ (IsMade : LitmusTest → Bytes → ℕ → Type 0) (Tells : LitmusTest → BenchFault → Type 0) (text : Bytes) where
+module _ (IsMade : LitmusTest → Bytes → ℕ → Type 0) (FaultIsTrue : LitmusTest → BenchFault → Type 0) (text : Bytes) where
   -- The bytes are the output of the task on the test of the text, with this exit status.
   abbrev pub IsAnswer : ℕ → Bytes → Type 0
-  IsAnswer done made = IsOutputOf (λ test m. IsMade test m done) text made
+  IsAnswer exit_status made = IsOutputOf (λ test m. IsMade test m exit_status) text made
 
   -- The bytes are the line of a fault, which is true of the text and not the failure of a device, with its exit status.
-  pub record IsFault (done : ℕ) (line : Bytes) : Type 0 where
+  pub record IsFault (exit_status : ℕ) (line : Bytes) : Type 0 where
     pub fault : BenchFault
-    pub tells : RunFaultIsTrue Tells text fault
+    pub is_true : RunFaultIsTrue FaultIsTrue text fault
     pub no_device : IsNotDeviceFault fault
     pub line_is : line ≡ fault_text fault
-    pub status_is : done ≡ status fault
+    pub status_is : exit_status ≡ status fault
 
   -- The result of a call: the output of the task, or a fault.
   abbrev pub IsCallResult : CallResult → Bytes → Bytes → Type 0

@@ -17,15 +17,15 @@ ReturnsFault fault call_result before after = (call_result.status ≡ fault_stat
 module _ (request : Request) (text : Bytes) where
   -- The bytes are the output on the test of the text, with the exit status 0.
   abbrev pub IsReached : ℕ → Bytes → Type 0
-  IsReached done made = (done ≡ 0) × IsOutputOf (IsMadeFor request.output) text made
+  IsReached exit_status made = (exit_status ≡ 0) × IsOutputOf (IsMadeFor request.output) text made
 
   -- The bytes are the line of a fault, which is true of the text and not the failure of a device, with its exit status.
-  pub record IsRefused (done : ℕ) (line : Bytes) : Type 0 where
+  pub record IsRefused (exit_status : ℕ) (line : Bytes) : Type 0 where
     pub fault : BeyondFault
     pub refuses : RefusesText request text fault
     pub no_device : IsNoDevice fault
     pub line_is : line ≡ fault_text fault
-    pub status_is : done ≡ fault_status fault
+    pub status_is : exit_status ≡ fault_status fault
 
   -- The result of the call: the output, or a fault.
   abbrev pub IsReachResult : CallResult → Bytes → Bytes → Type 0

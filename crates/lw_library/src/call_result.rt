@@ -27,7 +27,8 @@ pub struct CallResult {
     pub length: usize,
 }
 
-/// Copies the bytes to the start of the buffer. Leaves it unchanged if they do not fit.
+/// Copies the bytes to the start of the buffer, and returns their number with the kind and the status. If the bytes do not fit, leaves the
+/// buffer unchanged, and returns `TOO_SMALL` as the kind.
 pub(crate) fn write_result(kind: u32, status: u8, bytes: &[u8], room: &mut [u8]) -> CallResult
     ensures bytes { ReturnsBytes kind bytes.now result room.old room.new }
     ensures status { result.status ≡ status }

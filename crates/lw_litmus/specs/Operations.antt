@@ -35,22 +35,22 @@ written_change (FetchAdd d x v) regs = Some (change.Add (operand_value v regs))
 written_change Fence regs = None
 written_change (Branch c to) regs = None
 
--- Tests whether it is a plain store, which on x86 goes through the store buffer.
+-- Tests whether the operation is a plain store, which on x86 goes through the store buffer.
 abbrev pub is_store : Operation → Bool
 is_store (Store x v) = true
 is_store o = false
 
--- Tests whether it is a plain load.
+-- Tests whether the operation is a plain load.
 abbrev pub is_load : Operation → Bool
 is_load (Load d x) = true
 is_load o = false
 
--- Tests whether it is a fence.
+-- Tests whether the operation is a fence.
 abbrev pub is_fence : Operation → Bool
 is_fence Fence = true
 is_fence o = false
 
--- Tests whether it is an atomic read-modify-write.
+-- Tests whether the operation is an atomic read-modify-write.
 abbrev pub is_locked : Operation → Bool
 is_locked (Set d v) = false
 is_locked (Sum d a v) = false
@@ -62,11 +62,11 @@ is_locked (FetchAdd d x v) = true
 is_locked Fence = false
 is_locked (Branch c to) = false
 
--- Tests whether it writes its location.
+-- Tests whether the operation writes its location.
 abbrev pub writes : Operation → Bool
 writes o = is_store o || is_locked o
 
--- Tests whether x86 executes it only with an empty store buffer.
+-- Tests whether x86 executes the operation only with an empty store buffer.
 abbrev pub needs_empty_buffer : Operation → Bool
 needs_empty_buffer o = is_fence o || is_locked o
 

@@ -1,4 +1,4 @@
--- What laws ask of a test: that it is well-scoped. All that it names is there, and its jumps lead forward. Nothing here limits how many
+-- What laws ask of a test: that it is well-scoped. All that it names exists, and its jumps lead forward. Nothing here limits how many
 -- threads, locations or statements a test has: what the format limits is in WellFormed, and a well-formed test is well-scoped.
 use Rattle.std.specs.Prelude.{◌≡◌, ℕ, ◌<◌, ◌≤◌, Some, List, length, slice_get, All}
 use Rattle.std.specs.List.{AllByRecursion}
@@ -17,7 +17,7 @@ pub record HasInitialWords (head : TestHead) : Type 0 where
   pub words : length head.init_words ≡ length head.locs
 
 module _ {Stmt : Type 0} (language : Language Stmt) where
-  -- A code is well-scoped, on so many locations: its statements are well-formed, and its jumps lead forward, at most to the end.
+  -- A code is well-scoped, on `locs` locations: its statements are well-formed, and its jumps lead forward, at most to the end.
   pub record IsWellScopedThread (locs : ℕ) (code : List Stmt) : Type 0 where
     pub statements_formed : All (IsWellFormedStatement language locs) code
     pub forward :

@@ -44,7 +44,7 @@ fn spells(alloc: Global, source: &Source, words: &str, events: &[Event]) -> bool
 
 /// Returns whether the source runs by these threads to its end, and this schedule of the compiled program simulates
 /// the run.
-fn stands_for(
+fn is_simulated_by(
     alloc: Global,
     source: &Source,
     compiled: &Compiled,
@@ -72,7 +72,7 @@ fn starts_at(compiled: &Compiled, starts: &[usize]) -> bool {
 
 /// Returns whether the statements of the compiled source's first thread start at these instructions, and its run by
 /// these threads is simulated by this schedule.
-fn is_compiled_so(
+fn is_compiled_as_expected(
     alloc: Global,
     source: &Source,
     starts: &[usize],
@@ -81,16 +81,16 @@ fn is_compiled_so(
 ) -> bool {
     match compile(alloc, source) {
         Ok(compiled) => {
-            starts_at(&compiled, starts) && stands_for(alloc, source, &compiled, order, words)
+            starts_at(&compiled, starts) && is_simulated_by(alloc, source, &compiled, order, words)
         }
         Err(_) => false,
     }
 }
 
-/// Returns whether this holds of the test of the text.
+/// Returns whether the text is a source test that is compiled as expected.
 fn holds(alloc: Global, text: &str, starts: &[usize], order: &[Cpu], words: &str) -> bool {
     match source_of(alloc, text) {
-        Some(source) => is_compiled_so(alloc, &source, starts, order, words),
+        Some(source) => is_compiled_as_expected(alloc, &source, starts, order, words),
         None => false,
     }
 }

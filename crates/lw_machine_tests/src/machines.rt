@@ -38,7 +38,7 @@ pub(crate) fn machine_of(alloc: Global, program: &Program) -> Option<Machine<'_,
 const STORES: &str =
     "X86 A {y=9} P0; MOV [x],$1; MOV [x],$2; MOV [x],$3; MOV [x],$4; MOV [x],$5; MOV [x],$6; MOV [x],$7; MOV [x],$8; MOV [x],$9; MOV [x],$10; MOV [x],$11; MOV [x],$12; MOV [x],$13; MOV [x],$14; MOV [x],$15; MOV [x],$16; MOV [x],$17; MOV [x],$18; MOV [x],$19; MOV [x],$20; MOV [x],$21; MOV [x],$22; MOV [x],$23; MOV [x],$24; MOV [x],$25; MOV [x],$26; MOV [x],$27; MOV [x],$28; MOV [x],$29; MOV [x],$30; MOV [x],$31; MOV [x],$32; exists (true)";
 
-/// Returns whether the stores fill the store buffer, with the last one as its newest entry.
+/// Executes the stores, and returns whether they fill the store buffer, with the last one as its newest entry.
 fn are_stored(machine: &mut Machine<'_, Mesi>, cpu: Cpu) -> bool
     requires { cpu < length machine.old.state.processors }
     ensures { length machine.new.state.processors ≡ length machine.old.state.processors }
@@ -51,7 +51,7 @@ fn are_stored(machine: &mut Machine<'_, Mesi>, cpu: Cpu) -> bool
     replay.done == 32 && replay.end == End::NotFinal && loc.index() == 1 && word == 32
 }
 
-/// Returns whether as many drains end the run, with the last store in memory.
+/// Drains the buffer, and returns whether the run is then at its end, with the last store in memory.
 fn are_drained(machine: &mut Machine<'_, Mesi>, cpu: Cpu) -> bool {
     let replay = machine.run(&[Event::Drain(cpu); 32]);
     match machine.outcome() {
@@ -64,7 +64,7 @@ fn are_drained(machine: &mut Machine<'_, Mesi>, cpu: Cpu) -> bool {
     }
 }
 
-/// Returns whether a machine of the program does both. Neither its steps nor its drains get an allocator.
+/// Returns whether a machine of the program executes all stores and then drains them. Neither its steps nor its drains get an allocator.
 fn are_stored_and_drained(alloc: Global, program: &Program) -> Option<bool> {
     let mut machine = machine_of(alloc, program)?;
     let [cpu, ..] = Cpu::all();
@@ -88,7 +88,7 @@ const TWO_LOCATIONS: &str = "X86 A {x=5; y=7} P0|P1; MOV EAX,[x] |; MOV [x],$1 |
 
 /// Returns the results of events on locations that do not exist, of a processor that does not exist, of a location
 /// that is not held, and at the end.
-fn told_of_locations(alloc: Global, program: &Program) -> Option<[Result<(), Stop>; 6]> {
+fn results_on_missing_locations(alloc: Global, program: &Program) -> Option<[Result<(), Stop>; 6]> {
     let mut machine = machine_of(alloc, program)?;
     let [p0, p1, p2, _] = Cpu::all();
     let [_, y, third, .., last] = Loc::all();
@@ -103,9 +103,9 @@ fn told_of_locations(alloc: Global, program: &Program) -> Option<[Result<(), Sto
 }
 
 #[test]
-fn locations_that_there_are_not(rt: HostRuntime) {
+fn missing_locations_are_rejected(rt: HostRuntime) {
     let told = match program_of(rt.alloc(), TWO_LOCATIONS) {
-        Some(program) => told_of_locations(rt.alloc(), &program),
+        Some(program) => results_on_missing_locations(rt.alloc(), &program),
         None => None,
     };
     let wanted = [

@@ -36,7 +36,7 @@ fn is_outcome(outcome: &Outcome, registers: [Word; 2], words: [Word; 2]) -> bool
         && outcome.words.as_slice() == words.as_slice()
 }
 
-/// Returns whether the events are carried out and reach the expected state.
+/// Runs the events, and returns whether all are carried out and reach the expected state.
 fn goes<M: MemorySystem>(machine: &mut Machine<'_, M>) -> bool {
     let replay = machine.run(&events());
     match machine.outcome() {

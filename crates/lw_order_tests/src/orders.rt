@@ -24,7 +24,7 @@ fn items_of(
 }
 
 /// Returns all orders of the items in sequence, concatenated.
-fn given_orders(alloc: Global, items: &Items) -> Result<Vec<u8>, AllocError> {
+fn all_orders(alloc: Global, items: &Items) -> Result<Vec<u8>, AllocError> {
     let mut given = Vec::new(alloc);
     if let Some(orders) = Orders::new(alloc, items)? {
         for order in orders {
@@ -42,7 +42,7 @@ fn have_orders(
     wanted: &[u8],
 ) -> Result<bool, AllocError> {
     let has_orientations = count(alloc, items)? == Some(orientations);
-    let orders = given_orders(alloc, items)?;
+    let orders = all_orders(alloc, items)?;
     Ok(has_orientations && orders.as_slice() == wanted)
 }
 
@@ -133,7 +133,7 @@ fn twenty_unordered_conflicts_are_counted(rt: HostRuntime) -> Result<(), Fail> {
         ],
     )?;
     let number = count(rt.alloc(), &items)?;
-    let orders = given_orders(rt.alloc(), &items)?;
+    let orders = all_orders(rt.alloc(), &items)?;
     assert!(rt; number == Some(1_048_576) && orders.len() == 126 * 9);
     Ok(())
 }
@@ -187,14 +187,14 @@ fn twenty_one_unordered_conflicts_are_too_many(rt: HostRuntime) -> Result<(), Fa
 #[test]
 fn most_items(rt: HostRuntime) -> Result<(), Fail> {
     let items = items_of(rt.alloc(), 128, &[(126, 127)], &[(0, 127)])?;
-    let orders = given_orders(rt.alloc(), &items)?;
+    let orders = all_orders(rt.alloc(), &items)?;
     let (first, second) = orders.as_slice().split_at(orders.len().min(128));
     assert!(rt; first.iter().copied().eq(0..128) && matches!(second, [1, 2, .., 127, 0]));
     Ok(())
 }
 
 /// Returns the total number of items in all orders if they are those of the plain implementation, and 0 otherwise.
-fn items_as_plain(
+fn length_if_as_plain(
     alloc: Global,
     len: u8,
     preserved: &[(u8, u8)],
@@ -203,31 +203,31 @@ fn items_as_plain(
     requires { IsWellFormed (record { len = len; preserved = preserved.now; conflicts = conflicts.now }) }
 {
     let items = items_of(alloc, usize::from(len), preserved, conflicts)?;
-    let orders = given_orders(alloc, &items)?;
+    let orders = all_orders(alloc, &items)?;
     let plain = plain_orders(alloc, len, preserved, conflicts)?;
     Ok(if orders == plain { orders.len() } else { 0 })
 }
 
 /// Store buffering as sources: each of two threads stores to its own location, and then loads the other's.
 #[test]
-fn store_buffering_is_as_the_plain_body_has_it(rt: HostRuntime) -> Result<(), Fail> {
-    assert!(rt; items_as_plain(rt.alloc(), 4, &[(0, 1), (2, 3)], &[(0, 3), (1, 2)])? == 3 * 4);
+fn store_buffering_has_the_plain_orders(rt: HostRuntime) -> Result<(), Fail> {
+    assert!(rt; length_if_as_plain(rt.alloc(), 4, &[(0, 1), (2, 3)], &[(0, 3), (1, 2)])? == 3 * 4);
     Ok(())
 }
 
-/// Store buffering on processors: the items of a thread are its store, the store's drain and its load. A store stands
+/// Store buffering on processors: the items of a thread are its store, the store's drain and its load. A store comes
 /// before its drain and its load, and each drain conflicts with the other thread's load.
 #[test]
-fn drained_store_buffering_is_as_the_plain_body_has_it(rt: HostRuntime) -> Result<(), Fail> {
+fn drained_store_buffering_has_the_plain_orders(rt: HostRuntime) -> Result<(), Fail> {
     let preserved = [(0, 1), (0, 2), (3, 4), (3, 5)];
-    assert!(rt; items_as_plain(rt.alloc(), 6, &preserved, &[(1, 5), (2, 4)])? == 4 * 6);
+    assert!(rt; length_if_as_plain(rt.alloc(), 6, &preserved, &[(1, 5), (2, 4)])? == 4 * 6);
     Ok(())
 }
 
 /// Two threads that each store to both locations, in opposite sequence. The items of a thread are its first store and
-/// that one's drain, its second store and that one's drain; the drains stand in sequence too.
+/// that one's drain, its second store and that one's drain; the drains are in sequence too.
 #[test]
-fn crossed_stores_are_as_the_plain_body_has_them(rt: HostRuntime) -> Result<(), Fail> {
+fn crossed_stores_have_the_plain_orders(rt: HostRuntime) -> Result<(), Fail> {
     let preserved = [
         (0, 1),
         (0, 2),
@@ -238,17 +238,17 @@ fn crossed_stores_are_as_the_plain_body_has_them(rt: HostRuntime) -> Result<(), 
         (5, 7),
         (6, 7),
     ];
-    assert!(rt; items_as_plain(rt.alloc(), 8, &preserved, &[(1, 7), (3, 5)])? == 3 * 8);
+    assert!(rt; length_if_as_plain(rt.alloc(), 8, &preserved, &[(1, 7), (3, 5)])? == 3 * 8);
     Ok(())
 }
 
 /// Each of two threads stores to its own location and loads that, and then the other's. The items of a thread are its
 /// store, the drain and the two loads; a drain conflicts with the loads of its location by both threads.
 #[test]
-fn own_stores_first_are_as_the_plain_body_has_them(rt: HostRuntime) -> Result<(), Fail> {
+fn own_stores_first_have_the_plain_orders(rt: HostRuntime) -> Result<(), Fail> {
     let preserved = [(0, 1), (0, 2), (2, 3), (4, 5), (4, 6), (6, 7)];
     let conflicts = [(1, 2), (1, 7), (3, 5), (5, 6)];
-    assert!(rt; items_as_plain(rt.alloc(), 8, &preserved, &conflicts)? == 15 * 8);
+    assert!(rt; length_if_as_plain(rt.alloc(), 8, &preserved, &conflicts)? == 15 * 8);
     Ok(())
 }
 
@@ -256,8 +256,8 @@ fn own_stores_first_are_as_the_plain_body_has_them(rt: HostRuntime) -> Result<()
 /// comparison, the branch, the fence, for which the drain must be done, and the load (0 to 5). The second does: its
 /// store, the drain, the comparison, the branch and the load (6 to 10).
 #[test]
-fn a_fence_jumped_over_is_as_the_plain_body_has_it(rt: HostRuntime) -> Result<(), Fail> {
-    let given = items_as_plain(
+fn a_fence_jumped_over_has_the_plain_orders(rt: HostRuntime) -> Result<(), Fail> {
+    let given = length_if_as_plain(
         rt.alloc(),
         11,
         &[
@@ -279,7 +279,7 @@ fn a_fence_jumped_over_is_as_the_plain_body_has_it(rt: HostRuntime) -> Result<()
 }
 
 /// Twenty pairs of items, each with a conflict of its own.
-const APART: [(u8, u8); 20] = [
+const DISJOINT_PAIRS: [(u8, u8); 20] = [
     (0, 1),
     (2, 3),
     (4, 5),
@@ -303,7 +303,7 @@ const APART: [(u8, u8); 20] = [
 ];
 
 /// Returns the number of orders, and the number of orientations that are tried for them.
-fn given_and_tried(alloc: Global, items: &Items) -> Result<(u32, u64), AllocError> {
+fn count_orders_and_tries(alloc: Global, items: &Items) -> Result<(u32, u64), AllocError> {
     let Some(mut orders) = Orders::new(alloc, items)? else {
         return Ok((0, 0));
     };
@@ -319,8 +319,8 @@ fn given_and_tried(alloc: Global, items: &Items) -> Result<(u32, u64), AllocErro
 /// The maximum number of orders is enumerated with fewer than 2^21 tries.
 #[test]
 fn the_most_orders_take_few_tries(rt: HostRuntime) -> Result<(), Fail> {
-    let items = items_of(rt.alloc(), 40, &[], &APART)?;
-    let (given, tried) = given_and_tried(rt.alloc(), &items)?;
+    let items = items_of(rt.alloc(), 40, &[], &DISJOINT_PAIRS)?;
+    let (given, tried) = count_orders_and_tries(rt.alloc(), &items)?;
     assert!(rt; given == 1_048_576 && tried < 2_097_152, "{given} {tried}");
     Ok(())
 }
@@ -332,7 +332,7 @@ struct OrdersOf<'i> {
 }
 
 /// Returns whether the iterator returns the orders of store buffering as sources, and none after them.
-fn gives_all(orders: &mut Orders<&Refusing>) -> bool {
+fn returns_all_orders(orders: &mut Orders<&Refusing>) -> bool {
     for wanted in [[0, 1, 2, 3], [0, 2, 1, 3], [2, 3, 0, 1]] {
         match orders.next() {
             Some(order) if order.as_slice() == wanted.as_slice() => {}
@@ -345,7 +345,7 @@ fn gives_all(orders: &mut Orders<&Refusing>) -> bool {
 impl MadeByAllocator for OrdersOf<'_> {
     fn make<'a>(&self, _ample: &'a Refusing, scarce: &'a Refusing) -> Option<Made> {
         match Orders::new(scarce, self.items) {
-            Ok(orders) => gives_all(&mut orders?).then_some(Made::Whole),
+            Ok(orders) => returns_all_orders(&mut orders?).then_some(Made::Whole),
             Err(AllocError) => Some(Made::Refused),
         }
     }

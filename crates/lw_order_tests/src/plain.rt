@@ -16,8 +16,8 @@ fn leads(alloc: Global, pairs: &[(u8, u8)], from: u8, to: u8) -> Result<bool, Al
     Ok(reached.contains(&to))
 }
 
-/// Returns the conflicts whose items no path of preserved pairs connects.
-fn left_unordered(
+/// Returns the conflicts whose second item no path of preserved pairs reaches from the first.
+fn unordered_conflicts_of(
     alloc: Global,
     preserved: &[(u8, u8)],
     conflicts: &[(u8, u8)],
@@ -32,7 +32,7 @@ fn left_unordered(
 }
 
 /// Appends the unordered pairs, reversed if their bit of the number is 1. The first pair has the highest bit.
-fn push_directed(
+fn push_oriented(
     pairs: &mut Vec<(u8, u8)>,
     unordered: &[(u8, u8)],
     number: u32,
@@ -50,7 +50,7 @@ fn push_directed(
 }
 
 /// Returns the lowest item that is not taken and whose predecessors all are.
-fn free_item(len: u8, pairs: &[(u8, u8)], taken: &[u8]) -> Option<u8> {
+fn minimal_item(len: u8, pairs: &[(u8, u8)], taken: &[u8]) -> Option<u8> {
     (0..len).find(|item| {
         !taken.contains(item)
             && pairs
@@ -63,7 +63,7 @@ fn free_item(len: u8, pairs: &[(u8, u8)], taken: &[u8]) -> Option<u8> {
 fn plain_order(alloc: Global, len: u8, pairs: &[(u8, u8)]) -> Result<Option<Vec<u8>>, AllocError> {
     let mut taken = Vec::new(alloc);
     for _ in 0..len {
-        match free_item(len, pairs, taken.as_slice()) {
+        match minimal_item(len, pairs, taken.as_slice()) {
             Some(item) => taken.push(item)?,
             None => return Ok(None),
         }
@@ -80,7 +80,7 @@ fn order_of_number(
     number: u32,
 ) -> Result<Option<Vec<u8>>, AllocError> {
     let mut pairs = preserved.to_vec(alloc)?;
-    push_directed(&mut pairs, unordered, number)?;
+    push_oriented(&mut pairs, unordered, number)?;
     plain_order(alloc, len, pairs.as_slice())
 }
 
@@ -91,7 +91,7 @@ pub(crate) fn plain_orders(
     preserved: &[(u8, u8)],
     conflicts: &[(u8, u8)],
 ) -> Result<Vec<u8>, AllocError> {
-    let unordered = left_unordered(alloc, preserved, conflicts)?;
+    let unordered = unordered_conflicts_of(alloc, preserved, conflicts)?;
     let mut orders = Vec::new(alloc);
     for number in 0..1024u32 {
         if number >> unordered.len().min(10) == 0

@@ -19,18 +19,18 @@ use Rattle.std.proofs.lemmas.Map.Entries.{length-keys_of}
 use Rattle.indexmap.proofs.MapLemmas.{distinct_permutation}
 use Rattle.lw_base.specs.Outcomes.{FinalState, final_state_cmp}
 use Rattle.lw_outcome_map.specs.Listings.{OutcomesWith, outcomes_of, IsStrictlySorted}
-use Rattle.lw_outcome_map.proofs.api.Listings.{final_eq, final_eq-Decides, final_eq-IsEquivalence, final_eq-is_cmp_equal, IsTotalOrder-final_state_cmp, IsStrictlySorted-of_distinct, Contains-entry_of_outcome}
+use Rattle.lw_outcome_map.proofs.api.Listings.{final_eq, Decides-final_eq, IsEquivalence-final_eq, final_eq-is_cmp_equal, IsTotalOrder-final_state_cmp, IsStrictlySorted-of_distinct, Contains-entry_of_outcome}
 
 -- No two of the results of a comparison are the same.
-less-not_equal : Less ≡ Equal → ⊥
-less-not_equal e = absurd (true≢false (ap is_lt e))
+Less-ne_Equal : Less ≡ Equal → ⊥
+Less-ne_Equal e = absurd (true≢false (ap is_lt e))
 
-greater-not_equal : Greater ≡ Equal → ⊥
-greater-not_equal e = absurd (true≢false (sym (ap is_eq e)))
+Greater-ne_Equal : Greater ≡ Equal → ⊥
+Greater-ne_Equal e = absurd (true≢false (sym (ap is_eq e)))
 
 -- Outcomes that compare as equal are equal.
 eq-of_equal : (o p : FinalState) → final_state_cmp o p ≡ Equal → o ≡ p
-eq-of_equal o p equal = (final_eq-Decides o p).0 (final_eq-is_cmp_equal o p ∙ ap is_eq equal)
+eq-of_equal o p equal = (Decides-final_eq o p).0 (final_eq-is_cmp_equal o p ∙ ap is_eq equal)
 
 module _ {Kept : Type 0} where
   -- The order of entries by their outcomes.
@@ -95,8 +95,8 @@ module _ {Kept : Type 0} where
       → Contains (outcomes_of (dedup have_same_outcome es)) o
   Contains-outcomes_of_dedup es o h =
       let e = Contains-entry_of_outcome es o h in
-      let rest = Any-dedup (on_equiv (λ (f : FinalState × Kept). f.0) final_eq-IsEquivalence) es e.0 e.1 in
-      subst (Contains (outcomes_of (dedup have_same_outcome es))) (sym ((final_eq-Decides (e.0).0 (rest.1).0).0 rest.4) ∙ e.2)
+      let rest = Any-dedup (on_equiv (λ (f : FinalState × Kept). f.0) IsEquivalence-final_eq) es e.0 e.1 in
+      subst (Contains (outcomes_of (dedup have_same_outcome es))) (sym ((Decides-final_eq (e.0).0 (rest.1).0).0 rest.4) ∙ e.2)
       (Contains-outcomes_of (dedup have_same_outcome es) rest.1 (rest.0, rest.2, rest.3))
 
   -- A sorted permutation of entries whose outcomes are distinct is strictly sorted.
@@ -107,7 +107,7 @@ module _ {Kept : Type 0} where
       → IsStrictlySorted fs
   IsStrictlySorted-of_permutation es fs distinct same up =
       IsStrictlySorted-of_distinct fs up
-      (distinct_permutation final_eq-IsEquivalence (outcomes_of es) (outcomes_of fs) (IsPermutation-map (λ e. e.0) es fs same)
+      (distinct_permutation IsEquivalence-final_eq (outcomes_of es) (outcomes_of fs) (IsPermutation-map (λ e. e.0) es fs same)
       distinct)
 
   -- ---- The search for an outcome.
@@ -141,8 +141,8 @@ module _ {Kept : Type 0} where
       let found : (get_or (e ∷ es) h.0 e).0 ≡ o = sym (outcomes_of-at (e ∷ es) h.0 e o within) ∙ h.2 in
       let equal : final_state_cmp (get_or (e ∷ es) h.0 e).0 o ≡ Equal =
       ap (λ p. final_state_cmp p o) found ∙ tied_itself IsTotalOrder-final_state_cmp o in
-      ⊎_elim (λ before. less-not_equal (sym (split.0 h.0 e (omega arith) before) ∙ equal))
-      (λ after. greater-not_equal (sym (split.1 h.0 e after within) ∙ equal)) (cases_lt h.0 i)
+      ⊎_elim (λ before. Less-ne_Equal (sym (split.0 h.0 e (omega arith) before) ∙ equal))
+      (λ after. Greater-ne_Equal (sym (split.1 h.0 e after within) ∙ equal)) (cases_lt h.0 i)
 
   -- The result r of a binary search by outcome is the index of the outcome, or `None` if it is not listed.
   pub search-finds_outcome : (es : OutcomesWith Kept) (o : FinalState) (r : Result ℕ ℕ)

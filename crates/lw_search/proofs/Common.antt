@@ -67,7 +67,7 @@ pub use Rattle.lw_tso.proofs.api.Operations.{accessed_location-of_operation}
 pub use Rattle.lw_outcome_map.proofs.api.Listings.{Contains-entry_of_outcome, Contains-permuted_outcomes}
 pub use Rattle.lw_outcome_map.specs.Listings.{OutcomeEntries, OutcomesWith, outcomes_of}
 pub use Rattle.lw_tso_caches.proofs.api.CompleteLists.{HasOutcomeShape-of_compiled, IsListedOutcome-of_source}
-pub use Rattle.lw_tso_caches.proofs.api.CompleteLists.{on_machine, without_evictions-flat_run}
+pub use Rattle.lw_tso_caches.proofs.api.CompleteLists.{ListsMachine-of_complete, without_evictions-flat_run}
 pub use Rattle.lw_tso_caches.specs.CompleteLists.{IsComplete}
 pub use Rattle.lw_tso_caches.specs.OverCaches.{OutcomeOverCaches, ReplaysToOverCaches}
 pub use Rattle.lw_search.specs.Reachability.{AreReachable, ExceedsBudget, IsReachable, Visits}

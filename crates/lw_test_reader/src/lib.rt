@@ -1,6 +1,6 @@
-//! What the tests crates share: the test that a text is, an allocator that refuses growths of a choice, and what is made by it.
+//! What the crates of tests share: reading a text as a test, an allocator that refuses chosen growths, and making a value with it.
 //!
-//! It names the readers of both languages. No library and no program stands on it.
+//! It names the readers of both languages. No library and no program depends on it.
 #![tactic(auto)]
 
 mod refusing;
@@ -14,7 +14,7 @@ pub use refusing::{Refusal, Refusing};
 pub use scarce::{Made, MadeByAllocator, refusals};
 use std::alloc::Allocator;
 
-/// The source test that the text is, if it is one and there is memory for it.
+/// Returns the source test that the text is, or `None` if the text is no source test or memory runs out.
 pub fn source_of<A: Allocator + Copy>(alloc: A, text: &str) -> Option<Source<A>> {
     let frame = read_frame(alloc, text.as_bytes()).ok()?;
     match frame.head.arch {
@@ -23,7 +23,7 @@ pub fn source_of<A: Allocator + Copy>(alloc: A, text: &str) -> Option<Source<A>>
     }
 }
 
-/// The x86 test that the text is, if it is one and there is memory for it.
+/// Returns the x86 test that the text is, or `None` if the text is no x86 test or memory runs out.
 pub fn program_of<A: Allocator + Copy>(alloc: A, text: &str) -> Option<Program<A>> {
     let frame = read_frame(alloc, text.as_bytes()).ok()?;
     match frame.head.arch {

@@ -18,6 +18,7 @@ pub enum Refusal {
 #[derive(Drop)]
 struct Growths {
     refusal: Refusal,
+    /// The number of growths that were requested, refused ones included.
     asked: Cell<u64>,
 }
 

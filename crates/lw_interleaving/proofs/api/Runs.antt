@@ -50,7 +50,7 @@ pub record MeetsRefusal (Q : Type 0) (program : List (List Stmt)) (events : List
   pub ran : SourceRunsTo program (take done events) s mid
   pub event_result : ReturnsEventResult Q (source_event_result program e mid) answer end
   pub failed : answer ≡ Err stop
-  pub kept : Q → end ≡ mid
+  pub state_unchanged : Q → end ≡ mid
 
 -- A replay whose next event is rejected stops there.
 pub IsSourceReplay-stopped : (Q : Type 0) (program : List (List Stmt)) (events : List Event) (s : State) (done : ℕ) (stop : Stop)
@@ -61,7 +61,7 @@ IsSourceReplay-stopped Q program events s done stop end meets =
     let e = meets.e in
     let (is_refused, left) =
     ReturnsEventResult-err Q (source_event_result program e meets.mid) meets.answer stop end meets.event_result meets.failed in
-    let same = sym (meets.kept left) in
+    let same = sym (meets.state_unchanged left) in
     record {
       within = omega (arith, meets.done_in_range);
       ran = subst (λ (m : State). SourceRunsTo program (take done events) s m) same meets.ran;
@@ -180,21 +180,21 @@ thread_code-in_range program t code in_range is =
     let f = at_index program t [] in_range in
     cc
 
--- The thread of a program with this number is th, and its code is `code`.
+-- The thread at index t is th, and its code in the program is `code`.
 pub record IsAtCode (threads : List Thread) (program : List (List Stmt)) (t : ℕ) (th : Thread) (code : List Stmt) : Type 0 where
   pub thread_count : length threads ≡ length program
   pub is_thread : Some th ≡ slice_get threads t
   pub is_code : code ≡ get_or program t code
 
--- The next statement of a thread is on the test's locations, and is one of at most 16.
-pub next_statement : {words locs : ℕ} {program : List (List Stmt)} {code : List Stmt} {stmt : Stmt} (threads : List Thread)
+-- The next statement of a thread is well-formed on the test's locations, and the position after it does not overflow.
+pub IsWellFormedStatement-next : {words locs : ℕ} {program : List (List Stmt)} {code : List Stmt} {stmt : Stmt} (threads : List Thread)
     (t : ℕ) (th : Thread)
     → IsAtCode threads program t th code
     → Some stmt ≡ slice_get code th.position
     → words ≡ locs
     → All (IsWellFormedThread source_language locs) program
     → IsWellFormedStatement source_language words stmt × (th.position + 1 < 2 ^ 64)
-next_statement {locs} {code} {stmt} threads t th at is_stmt same whole =
+IsWellFormedStatement-next {locs} {code} {stmt} threads t th at is_stmt same whole =
     let there = slice_get_within threads t th (sym at.is_thread) in
     let here =
     subst (IsWellFormedThread source_language locs) (sym at.is_code) (whole t code (omega (arith, there, at.thread_count))) in

@@ -1,4 +1,4 @@
--- What one answer about an operation says of another. A catch-all row stands for the locked operations, or for those that write.
+-- What one answer about an operation says of another. A catch-all row is for the locked operations, or for those that write.
 use Rattle.lw_litmus.proofs.Common.{◌≡◌, ℕ, true, false, true≢false, List, Some, None, refl, sym}
 use Rattle.lw_litmus.proofs.Common.{written_change, is_locked, is_store, location_of, writes, Operation, Set}
 use Rattle.lw_litmus.proofs.Common.{Sum, Compare, Store, Load, Fence, Branch}

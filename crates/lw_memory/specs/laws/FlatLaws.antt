@@ -15,20 +15,20 @@ abbrev pub words_invariant : ℕ → Invariant (List ℕ)
 words_invariant cpus = invariant_of (λ words. cpus) (λ words. Unit {0})
 
 -- Every transition of words has the properties of the laws.
-words_served : {cpus : ℕ} (m : List ℕ) (r : Request) (a : Option ℕ) (n : List ℕ) → WordsStep m r a n → RequestEffect flat_memory (words_invariant cpus) m r a n
-words_served m (Ask t x access) a n s = record { possible = tt; answer = s.0; content = s.1; cpus = refl; sound = tt }
-words_served m (Evict t x) a n s = absurd s
+RequestEffect-of_words_step : {cpus : ℕ} (m : List ℕ) (r : Request) (a : Option ℕ) (n : List ℕ) → WordsStep m r a n → RequestEffect flat_memory (words_invariant cpus) m r a n
+RequestEffect-of_words_step m (Ask t x access) a n s = record { possible = tt; answer = s.0; content = s.1; cpus = refl; sound = tt }
+RequestEffect-of_words_step m (Evict t x) a n s = absurd s
 
 -- Every request that is enabled without caches has a transition, with the result of the laws.
-words_serve : (m : List ℕ) (r : Request) → IsEnabled (λ t x. I) r → (n : List ℕ) × WordsStep m r (request_result m r) n
-words_serve m (Ask t x access) h = (words_after m x access, (refl, refl))
-words_serve m (Evict t x) h = cc
+WordsStep-exists : (m : List ℕ) (r : Request) → IsEnabled (λ t x. I) r → (n : List ℕ) × WordsStep m r (request_result m r) n
+WordsStep-exists m (Ask t x access) h = (words_after m x access, (refl, refl))
+WordsStep-exists m (Evict t x) h = cc
 
 -- The memory system of words is lawful.
 pub words_lawful : (cpus : ℕ) → IsLawful flat_memory (words_invariant cpus)
 words_lawful cpus = record {
-  served = λ m r a n sound s. words_served m r a n s;
-  serves = λ m r sound there possible. words_serve m r possible;
+  served = λ m r a n sound s. RequestEffect-of_words_step m r a n s;
+  serves = λ m r sound there possible. WordsStep-exists m r possible;
 }
 
 -- ---- The memory system of flat memory's states.
@@ -42,18 +42,18 @@ abbrev pub flats_invariant : Invariant Flat
 flats_invariant = invariant_of (λ (m : Flat). m.cpus) (λ (m : Flat). Unit {0})
 
 -- Every transition of flat memory has the properties of the laws.
-flat_served : (m : Flat) (r : Request) (a : Option ℕ) (n : Flat) → FlatStep m r a n → RequestEffect flats flats_invariant m r a n
-flat_served m r a n s =
-    let w : RequestEffect flat_memory (words_invariant m.cpus) m.words r a n.words = words_served m.words r a n.words s.0 in
+RequestEffect-of_flat_step : (m : Flat) (r : Request) (a : Option ℕ) (n : Flat) → FlatStep m r a n → RequestEffect flats flats_invariant m r a n
+RequestEffect-of_flat_step m r a n s =
+    let w : RequestEffect flat_memory (words_invariant m.cpus) m.words r a n.words = RequestEffect-of_words_step m.words r a n.words s.0 in
     record { possible = w.possible; answer = w.answer; content = w.content; cpus = s.1; sound = tt }
 
 -- Every request that is enabled without caches has a transition, with the result of the laws.
-flat_serves : (m : Flat) (r : Request) → IsEnabled (λ t x. I) r → (n : Flat) × FlatStep m r (request_result m.words r) n
-flat_serves m r h = let w = words_serve m.words r h in (record m { words = w.0 }, (w.1, refl))
+FlatStep-exists : (m : Flat) (r : Request) → IsEnabled (λ t x. I) r → (n : Flat) × FlatStep m r (request_result m.words r) n
+FlatStep-exists m r h = let w = WordsStep-exists m.words r h in (record m { words = w.0 }, (w.1, refl))
 
 -- Flat memory is lawful.
 pub flat_lawful : IsLawful flats flats_invariant
 flat_lawful = record {
-  served = λ m r a n sound s. flat_served m r a n s;
-  serves = λ m r sound there possible. flat_serves m r possible;
+  served = λ m r a n sound s. RequestEffect-of_flat_step m r a n s;
+  serves = λ m r sound there possible. FlatStep-exists m r possible;
 }

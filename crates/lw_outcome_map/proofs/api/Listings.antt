@@ -34,8 +34,8 @@ FinalState-eq : (o p : FinalState) → o.regs ≡ p.regs → o.words ≡ p.words
 FinalState-eq o p e f = λ i. record { regs = e i; words = f i }
 
 -- `==` decides equality of outcomes.
-pub final_eq-Decides : (o p : FinalState) → Decides (final_eq o p) (o ≡ p)
-final_eq-Decides o p =
+pub Decides-final_eq : (o p : FinalState) → Decides (final_eq o p) (o ≡ p)
+Decides-final_eq o p =
     let row : (xs ys : List ℕ) → Decides (pointwise nat_eq xs ys) (xs ≡ ys) = pointwise_decides unsigned_Decides in
     let rows : (xs ys : List (List ℕ)) → Decides (pointwise (pointwise nat_eq) xs ys) (xs ≡ ys) = pointwise_decides row in
     let same_regs : Bool = pointwise (pointwise nat_eq) o.regs p.regs in
@@ -49,8 +49,8 @@ final_eq-Decides o p =
     )
 
 -- `==` of outcomes is an equivalence, as a map's keys require.
-pub final_eq-IsEquivalence : IsEquivalence final_eq
-final_eq-IsEquivalence =
+pub IsEquivalence-final_eq : IsEquivalence final_eq
+IsEquivalence-final_eq =
     and_equiv (on_equiv (λ (f : FinalState). f.regs) (lists_equiv nat_list_eq_equiv))
     (on_equiv (λ (f : FinalState). f.words) nat_list_eq_equiv)
 
@@ -70,7 +70,7 @@ final_eq-is_cmp_equal o p =
 Contains-if_lookup : {Kept : Type 0} (es : OutcomesWith Kept) (o : FinalState)
     → is_some (lookup (final_eq o) es) ≡ true
     → Contains (outcomes_of es) o
-Contains-if_lookup es o h = Contains-keys_from_lookup (λ x y. (final_eq-Decides x y).0) o es h
+Contains-if_lookup es o h = Contains-keys_from_lookup (λ x y. (Decides-final_eq x y).0) o es h
 
 -- Each listed outcome is that of an entry.
 pub Contains-entry_of_outcome : {Kept : Type 0} (entries : OutcomesWith Kept) (o : FinalState)
@@ -88,7 +88,7 @@ pub lookup-iff_Contains : {Kept : Type 0} (es : OutcomesWith Kept) (o : FinalSta
     → b ≡ is_some (lookup (final_eq o) es)
     → IsTrue b ↔ Contains (outcomes_of es) o
 lookup-iff_Contains es o b e =
-    ((λ t. Contains-if_lookup es o (sym e ∙ t)), (λ i. e ∙ IsSome-lookup_from_Contains final_eq-IsEquivalence o es i))
+    ((λ t. Contains-if_lookup es o (sym e ∙ t)), (λ i. e ∙ IsSome-lookup_from_Contains IsEquivalence-final_eq o es i))
 
 -- An option without a value is `None`.
 None-if_not_some : {X : Type 0} (o : Option X) → (is_some o ≡ true → ⊥) → o ≡ None
@@ -113,7 +113,7 @@ final_state_cmp-Less : (o p : FinalState) (c : Ordering)
     → c ≡ Less
 final_state_cmp-Less o p Less e up other = refl
 final_state_cmp-Less o p Equal e up other =
-    absurd (other ((final_eq-Decides o p).0 (final_eq-is_cmp_equal o p ∙ sym (ap is_eq e))))
+    absurd (other ((Decides-final_eq o p).0 (final_eq-is_cmp_equal o p ∙ sym (ap is_eq e))))
 final_state_cmp-Less o p Greater e up other = absurd (true≢false up)
 
 -- A list sorted by `cmp`, without duplicates, is strictly ascending.
@@ -129,7 +129,7 @@ IsStrictlySorted-of_distinct es sorted once i j d lt within =
     let turned : is_lt (ordering_reverse (final_state_cmp first later)) ≡ false =
     sym (ap is_lt (IsTotalOrder-final_state_cmp.antisymm later first)) ∙ up in
     final_state_cmp-Less first later (final_state_cmp first later) refl turned
-    (AllPairs-from_IsDistinct final_eq-Decides (outcomes_of es) once i j d lt within)
+    (AllPairs-from_IsDistinct Decides-final_eq (outcomes_of es) once i j d lt within)
 
 -- A permutation of a list has the same outcomes.
 pub Contains-permuted_outcomes : {Kept : Type 0} (es fs : OutcomesWith Kept) (o : FinalState)

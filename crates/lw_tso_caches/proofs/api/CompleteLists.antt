@@ -33,9 +33,9 @@ HasOutcomeShape-of_compiled s program starts compiled outcomes =
 
 module _ (s : SourceTest) (program : X86Test) (starts : List (List ℕ)) (compiled : IsCompiled s program starts)
     (Has : FinalState → Type 0) (entries : OutcomeEntries) (c : IsComplete Has program entries) where
-  -- It lists the outcomes of the compiled program on the whole machine, with schedules.
-  pub on_machine : ListsMachine s entries
-  on_machine = record {
+  -- A complete list of the compiled program lists its outcomes on the whole machine, with schedules.
+  pub ListsMachine-of_complete : ListsMachine s entries
+  ListsMachine-of_complete = record {
     program = program;
     starts = starts;
     compiled = compiled;

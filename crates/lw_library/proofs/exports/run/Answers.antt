@@ -1,4 +1,4 @@
--- `run` promises a result that tells the task's output or the line of a true fault. The output is what
+-- `run` promises a result that reports the task's output or the line of a true fault. The output is what
 -- `answer` returned (`IsCallResult-answer`). The line of a fault may itself run out of memory, and then the line of
 -- `Memory` is returned (`IsCallResult-fault_line_or_Memory`).
 use Rattle.std.proofs.Common.{ℕ, sym, subst, ◌∙◌}

@@ -1,4 +1,4 @@
--- `run_film` promises a result that tells the film or the line of a true fault. The film is what `film`
+-- `run_film` promises a result that reports the film or the line of a true fault. The film is what `film`
 -- returned (`IsCallResult-answer`), with status 0. If memory runs out for a fault's line, the line of `Memory` is returned
 -- (`IsCallResult-fault_line_or_Memory`).
 use Rattle.std.proofs.Common.{ℕ, sym, subst, ◌∙◌}

@@ -1,4 +1,4 @@
--- `run_request` promises a result that tells the request's output or the line of a true fault. The output is
+-- `run_request` promises a result that reports the request's output or the line of a true fault. The output is
 -- what `answer_request` returned (`IsReachResult-answer`). A fault's line is returned (`IsReachResult-fault`), or that of `Memory`
 -- if memory runs out for it (`IsReachResult-Memory`).
 use Rattle.std.proofs.Common.{◌≡◌, sym, subst, ◌∙◌, inl, inr}

@@ -39,7 +39,7 @@ returns-in-Err-clause-replayed g c =
       ran = c.loop-done.invariant.ran;
       event_result = rw (c.loop-done.invariant.program, c.loop-done.invariant.start) at c.carry_out_event.ensures.done;
       failed = c.in-Err.is;
-      kept = λ same. ap (λ (r : SourceRunState). r.state) same;
+      state_unchanged = λ same. ap (λ (r : SourceRunState). r.state) same;
     })
 
 pub returns-then-is_final-clause-replayed : goal.returns-then-is_final-clause-replayed

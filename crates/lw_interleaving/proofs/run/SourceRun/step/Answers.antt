@@ -1,9 +1,9 @@
 -- Proves `SourceRun::step`, which executes a thread's next statement. `ReturnsEventResult-step` says that the changed thread
 -- and memory are the state after the step. The statement is on the test's locations, as `carry_out` requires, since the test
--- is well-formed (`next_statement`).
+-- is well-formed (`IsWellFormedStatement-next`).
 use Rattle.lw_interleaving.proofs.Common.{refl, length, length-set, ap, sym, ◌∙◌, arith, slice_get_within}
 use Rattle.lw_interleaving.proofs.Common.{SourceRunState}
-use Rattle.lw_interleaving.proofs.api.Runs.{next_statement, ReturnsEventResult-step}
+use Rattle.lw_interleaving.proofs.api.Runs.{IsWellFormedStatement-next, ReturnsEventResult-step}
 use Rattle.lw_interleaving.proofs.api.Runs.{ReturnsEventResult-no_thread, ReturnsEventResult-at_end}
 use Rattle.lw_interleaving.proofs.api.Runs.{length-apply_change_if_some}
 use Rattle.lw_interleaving.proofs.run.SourceRun.step.Goals as goal
@@ -29,7 +29,7 @@ carry_out-requires g c =
     let thread = rw c.index.ensures.value at c.in-Some.ensures in
     let code = rw (c.as_slice.ensures, c.index-2.ensures.value) at c.index-as_slice-index.is in
     let next =
-    next_statement c.self.inside.threads c.args.cpu c.in-Some.thread.now
+    IsWellFormedStatement-next c.self.inside.threads c.args.cpu c.in-Some.thread.now
     (record { thread_count = c.self.invariant.0; is_thread = thread; is_code = code }) c.in-Some-get.ensures c.self.invariant.1
     c.self.inside.source.now.well_formed.code in
     record { operation = rw c.operation.ensures next.0; room = next.1 }
