@@ -77,7 +77,8 @@ module _ (names : NameTable) (text digits name : Bytes) (cut : text ≡ digits +
 
   -- If the text before the `:` is rejected for a cause, as no digits or no processor's index, so is the piece.
   pub IsFaultyPiece-no_cpu : IsNameShaped name → (e : ScheduleCause) → HasBadDigits digits e → IsFaultyPiece names (69 ∷ text) e
-  IsFaultyPiece-no_cpu named Word bad = λ ds shape. true≢false (sym shape.0 ∙ ap are_digits (sym (HasEventShape-eviction_inv ds shape).0) ∙ bad)
+  IsFaultyPiece-no_cpu named Word bad =
+      λ ds shape. true≢false (sym shape.0 ∙ ap are_digits (sym (HasEventShape-eviction_inv ds shape).0) ∙ bad)
   IsFaultyPiece-no_cpu named Cpu bad = (digits, (bad.0, inr (inr (name, named, ap (λ t. 69 ∷ t) cut))), bad.1)
   IsFaultyPiece-no_cpu named _ bad = absurd bad
 

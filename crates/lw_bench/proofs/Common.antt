@@ -78,12 +78,12 @@ pub use Rattle.lw_tso.proofs.api.Endings.{CanTerminate-reached}
 pub use Rattle.lw_tso.proofs.api.FenceRemoval.{IsFencedCode-code_without}
 pub use Rattle.lw_tso.proofs.api.FlatSimulation.{IsWithin-reached}
 pub use Rattle.lw_fence.proofs.Common.{IsCompiled, IsCompiledWith}
-pub use Rattle.lw_fence.proofs.api.Compilations.{AreSubset-nil, IsCompiled-exists, IsCompiled-unique}
+pub use Rattle.lw_fence.proofs.api.Compilations.{AreSubset-nil, IsCompiled-exists}
+pub use Rattle.lw_fence.proofs.api.Compilations.{IsCompiled-iff_without_fences, IsCompiled-unique}
 pub use Rattle.lw_fence.proofs.api.Compilations.{IsFencedTest-more_fences, IsMachineOutcome-compiled_iff}
 pub use Rattle.lw_fence.proofs.api.Compilations.{IsMachineOutcome-of_source, IsWellFormedProgram-compiled}
 pub use Rattle.lw_fence.proofs.api.Compilations.{IsWellScopedProgram-compiled}
 pub use Rattle.lw_fence.proofs.api.Compilations.{IsWellScopedProgram-with_fences, machine_outcome-exists}
-pub use Rattle.lw_fence.proofs.api.Compilations.{IsCompiled-iff_without_fences}
 pub use Rattle.lw_outcome_map.specs.Listings.{IsStrictlySorted, OutcomeEntries, OutcomesWith, outcomes_of}
 pub use Rattle.lw_outcome_map.specs.Listings.{schedules_of}
 pub use Rattle.lw_paths.proofs.Common.{HasTooManyItems, IsWithinOrderLimit, JumpsForward, items_of_assignment}

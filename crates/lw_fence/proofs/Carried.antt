@@ -144,7 +144,8 @@ module _ (starts : List ℕ) (v : Thread) where
     }
 
     -- The word of register a was moved to d.
-    module _ (d a : ℕ) (d_in_range : d < length v.regs) (regs_after_move : p.regs ≡ slice_set v.regs d (slice_index v.regs a)) where
+    module _ (d a : ℕ) (d_in_range : d < length v.regs)
+        (regs_after_move : p.regs ≡ slice_set v.regs d (slice_index v.regs a)) where
       -- In the processor, register d has the word of register a in the thread.
       word : slice_index p.regs d ≡ slice_index v.regs a
       word = ap (λ r. slice_index r d) regs_after_move ∙ get_or-set_same v.regs d (slice_index v.regs a) 0 d_in_range
@@ -256,11 +257,11 @@ module _ (starts : List ℕ) (v : Thread) where
         both_cases-selected (ExecutesFrom (Load d x)) fence (Two x86.Mfence (x86.Load d x)) (One (x86.Load d x))
         (λ is. ExecutesLowering-fenced d x) (λ is next. EffectExecutesStatement-load p next d x regs (empty refl is))
     ExecutesLowering-lowered (Swap d x a) count are_registers empty =
-        ExecutesLowering-moved (Swap d x a) d a (x86.Xchg x d)
-        (λ q next regs_after_move. EffectExecutesStatement-swap q next d a (omega (arith, are_registers 0 0 (omega arith))) regs_after_move x)
+        ExecutesLowering-moved (Swap d x a) d a (x86.Xchg x d) (λ q next regs_after_move.
+        EffectExecutesStatement-swap q next d a (omega (arith, are_registers 0 0 (omega arith))) regs_after_move x)
     ExecutesLowering-lowered (FetchAdd d x a) count are_registers empty =
-        ExecutesLowering-moved (FetchAdd d x a) d a (x86.Xadd x d)
-        (λ q next regs_after_move. EffectExecutesStatement-fetch_add q next d a (omega (arith, are_registers 0 0 (omega arith))) regs_after_move x)
+        ExecutesLowering-moved (FetchAdd d x a) d a (x86.Xadd x d) (λ q next regs_after_move.
+        EffectExecutesStatement-fetch_add q next d a (omega (arith, are_registers 0 0 (omega arith))) regs_after_move x)
     ExecutesLowering-lowered (Set d w) count are_registers empty =
         λ next. EffectExecutesStatement-local refl (λ b. refl) (sym next) (ap (λ r. slice_set r d (operand_value w r)) regs)
     ExecutesLowering-lowered (Sum d a (Number k)) count are_registers empty =
@@ -276,7 +277,8 @@ module _ (starts : List ℕ) (v : Thread) where
         ExecutesLowering-moved (Sum d a (Register b)) d a _
         (λ q next regs_after_move.
         EffectExecutesStatement-add q next d a in_range regs_after_move (Register b)
-        (ap (λ r. slice_index r b) regs_after_move ∙ get_or-set_other v.regs d b (slice_index v.regs a) 0 (λ e. eqb-false d b is (sym e)))))
+        (ap (λ r. slice_index r b) regs_after_move
+        ∙ get_or-set_other v.regs d b (slice_index v.regs a) 0 (λ e. eqb-false d b is (sym e)))))
     ExecutesLowering-lowered (IfEq a k to) count are_registers empty =
         ExecutesLowering-jump a k to (λ flag. flag) refl (λ q. refl) refl
     ExecutesLowering-lowered (IfNe a k to) count are_registers empty = ExecutesLowering-jump a k to not refl (λ q. refl) refl

@@ -61,14 +61,15 @@ pub use Rattle.lw_tso.proofs.Common.{CanTerminate, EventEffect, IsFencedCode, Is
 pub use Rattle.lw_tso.proofs.Common.{LocalStep, MachineRunsTo, MachineState, MachineTransition}
 pub use Rattle.lw_tso.proofs.Common.{MarksAreFences, Processor, ReplaysTo, advance_processor, cpu_of}
 pub use Rattle.lw_tso.proofs.Common.{drain_effect, event_effect, has_terminated, initial_machine_state}
-pub use Rattle.lw_tso.proofs.Common.{initial_processor, is_final, jump_or_advance_processor, unmarked_instructions}
-pub use Rattle.lw_tso.proofs.Common.{load_effect, machine_outcome, newest_buffered, retarget_to_blocks}
-pub use Rattle.lw_tso.proofs.Common.{set_register, step_effect, unmarked_count_before}
+pub use Rattle.lw_tso.proofs.Common.{initial_processor, is_final, jump_or_advance_processor, load_effect}
+pub use Rattle.lw_tso.proofs.Common.{machine_outcome, newest_buffered, retarget_to_blocks, set_register}
+pub use Rattle.lw_tso.proofs.Common.{step_effect, unmarked_count_before, unmarked_instructions}
 pub use Rattle.lw_tso.proofs.api.Effects.{EffectLeadsTo, EventOccurrence, EventOccurrence-of_event}
 pub use Rattle.lw_tso.proofs.api.Effects.{MachineTransition-of_effect, not-EffectLeadsTo-evict_event, state}
 pub use Rattle.lw_tso.proofs.api.Endings.{CanTerminate-reached}
-pub use Rattle.lw_tso.proofs.api.FenceRemoval.{IsFencedCode-code_without, MarksAreFences-append, unmarked_instructions-append}
+pub use Rattle.lw_tso.proofs.api.FenceRemoval.{IsFencedCode-code_without, MarksAreFences-append}
 pub use Rattle.lw_tso.proofs.api.FenceRemoval.{unmarked_count_before-cons, unmarked_count_before-zero}
+pub use Rattle.lw_tso.proofs.api.FenceRemoval.{unmarked_instructions-append}
 pub use Rattle.lw_tso.proofs.api.Operations.{EffectLeadsTo-if_buffer_empty, IsEnabledEffect-operation}
 pub use Rattle.lw_fence.specs.Compiling.{IsCompiled, IsCompiledThread, instrs_of, lower_compare, lowered}
 pub use Rattle.lw_fence.specs.Compiling.{lowered_code, starts_from, with_move_if}

@@ -143,8 +143,11 @@ module _ (source : SourceTest) (program : X86Test) (starts : List (List ℕ)) (c
       → n ≤ length source.threads
       → SimulationRelation source program starts ss ms
       → CaughtUp ss n
-  CaughtUp-first_threads zero ss le b =
-      record { end = ss; simulated_to_end = SimulatedToEnd-refl source program starts b; first_ended = λ t th c e f lt. absurd (omega arith) }
+  CaughtUp-first_threads zero ss le b = record {
+    end = ss;
+    simulated_to_end = SimulatedToEnd-refl source program starts b;
+    first_ended = λ t th c e f lt. absurd (omega arith);
+  }
   CaughtUp-first_threads (suc n) ss le b = CaughtUp-suc (CaughtUp-first_threads n ss (omega arith) b)
     where
       -- One thread more catches up.
@@ -153,7 +156,11 @@ module _ (source : SourceTest) (program : X86Test) (starts : List (List ℕ)) (c
           let th = ThreadsCorrespond-thread source (LagAt source program starts) d.end ms d.simulated_to_end.related n le in
           let c = ThreadsCorrespond-processor source (LagAt source program starts) d.end ms d.simulated_to_end.related n le in
           let a = CaughtUp-one_thread n d.end th.0 c.0 d.simulated_to_end.related d.first_ended le th.1 c.1 in
-          record { end = a.end; simulated_to_end = SimulatedToEnd-trans source program starts d.end a.end d.simulated_to_end a.simulated_to_end; first_ended = a.first_ended }
+          record {
+            end = a.end;
+            simulated_to_end = SimulatedToEnd-trans source program starts d.end a.end d.simulated_to_end a.simulated_to_end;
+            first_ended = a.first_ended;
+          }
 
 module _ (source : SourceTest) (program : X86Test) (starts : List (List ℕ)) (well_scoped : IsWellScopedSource source)
     (compiled : IsCompiled source program starts) where

@@ -9,10 +9,10 @@ use Rattle.lw_fence.proofs.Common.{thread_code, at_index, Register, Number, Stmt
 use Rattle.lw_fence.proofs.Common.{Set, Sum, IfEq, IfNe, Goto, SourceTest, X86Test, Instr, One, Two, lowered}
 use Rattle.lw_fence.proofs.Common.{with_move_if, instrs_of, lowered_code, starts_from, IsThreadWith}
 use Rattle.lw_fence.proofs.Common.{IsCompiledWith, AreSubset, unmarked_count_before-zero}
-use Rattle.lw_fence.proofs.Common.{unmarked_count_before-cons, unmarked_instructions-append, MarksAreFences-append}
-use Rattle.lw_fence.proofs.Common.{IsFencedCode-code_without, retarget_to_blocks, IsFencedCode, IsFencedTest}
-use Rattle.lw_fence.proofs.Common.{unmarked_count_before, unmarked_instructions, MarksAreFences, cond, sum_by-append}
-use Rattle.lw_fence.proofs.Common.{sum_by-cons, count_by}
+use Rattle.lw_fence.proofs.Common.{unmarked_count_before-cons, unmarked_instructions-append}
+use Rattle.lw_fence.proofs.Common.{MarksAreFences-append, IsFencedCode-code_without, retarget_to_blocks}
+use Rattle.lw_fence.proofs.Common.{IsFencedCode, IsFencedTest, unmarked_count_before, unmarked_instructions}
+use Rattle.lw_fence.proofs.Common.{MarksAreFences, cond, sum_by-append, sum_by-cons, count_by}
 use Rattle.lw_fence.proofs.CodeLayout.{both_cases-selected, start_after_first, lowered_code-cons}
 use Rattle.lw_fence.proofs.CodeLayout.{starts_from-cons, get_or-drop_one, starts_from-first}
 use Rattle.lw_litmus.specs.declared.instr.Instr.TheVariants as instr
@@ -74,7 +74,9 @@ module _ (starts begins : List ℕ) (block : ℕ → ℕ) (leads : (to : ℕ) �
   retargeted is = map (retarget_to_blocks block) is
 
   -- A lowering without a jump and without marks is unchanged.
-  retargeted-none_marked : (is : List Instr) → retargeted is ≡ is → retargeted (unmarked_instructions (replicate (length is) false) is) ≡ is
+  retargeted-none_marked : (is : List Instr)
+      → retargeted is ≡ is
+      → retargeted (unmarked_instructions (replicate (length is) false) is) ≡ is
   retargeted-none_marked is same = ap retargeted (unmarked_instructions-none_marked is) ∙ same
 
   -- A lowering without a jump is unchanged, with or without a move before its last instruction.
@@ -147,7 +149,8 @@ MarksAreFences-thread fs gs (x ∷ code) begins among =
 retargeted-lowered_code : (fs gs : List Bool) (code : List Stmt) (starts begins : List ℕ) (block : ℕ → ℕ)
     → ((to : ℕ) → block (slice_index begins to) ≡ slice_index starts to)
     → AreFlagsAmong fs gs
-    → map (retarget_to_blocks block) (unmarked_instructions (fence_marks fs gs code) (lowered_code begins gs code)) ≡ lowered_code starts fs code
+    → map (retarget_to_blocks block) (unmarked_instructions (fence_marks fs gs code) (lowered_code begins gs code))
+    ≡ lowered_code starts fs code
 retargeted-lowered_code fs gs [] starts begins block leads among = refl
 retargeted-lowered_code fs gs (x ∷ code) starts begins block leads among =
     let f = get_or fs 0 false in

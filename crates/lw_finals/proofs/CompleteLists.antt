@@ -163,7 +163,8 @@ module _ {S : Type 0} (language : Language S) (test : Test S) {State : Type 0} (
   IsComplete-collected Has program can result =
       IfOk-with_fact result (IsCollected (ReplaysFlatTo program)) (IsComplete Has program) (IsWithinLimits language test.threads)
       (λ l gathers within.
-      complete_list can.well_scoped can.alike can.complete within.0 Has can.assignments program can.same can.program_is_flat l gathers)
+      complete_list can.well_scoped can.alike can.complete within.0 Has can.assignments program can.same can.program_is_flat l
+      gathers)
 
   -- If a test has a list without schedules, it has exactly the test's outcomes.
   pub AreAllOutcomes-collected : (Has : FinalState → Type 0) (program : X86Test)
@@ -177,5 +178,5 @@ module _ {S : Type 0} (language : Language S) (test : Test S) {State : Type 0} (
   AreAllOutcomes-collected Has program can Leads reached result =
       IfOk-with_fact result (IsCollected Leads) (λ l. AreAllOutcomes Has program (outcomes_of l))
       (IsWithinLimits language test.threads) (λ l gathers within.
-      all_outcomes can.well_scoped can.alike can.complete within.0 Has can.assignments program can.same can.program_is_flat Leads reached
-      l gathers)
+      all_outcomes can.well_scoped can.alike can.complete within.0 Has can.assignments program can.same can.program_is_flat Leads
+      reached l gathers)

@@ -13,7 +13,8 @@ module _ {Kept : Type 0} (Leads : Kept → FinalState → Type 0) where
   pub CollectsOutcomes-none : (Ends : FinalState → Type 0) (es : OutcomesWith Kept)
       → ((o : FinalState) → Ends o → ⊥)
       → CollectsOutcomes Ends Leads es es
-  CollectsOutcomes-none Ends es none = record { covered = λ o e. absurd (none o e); preserves_outcomes = λ o c. c; each_leads = λ a. a }
+  CollectsOutcomes-none Ends es none =
+      record { covered = λ o e. absurd (none o e); preserves_outcomes = λ o c. c; each_leads = λ a. a }
 
   -- If o is the only outcome, then adding it with a value that leads to it collects all outcomes.
   pub CollectsOutcomes-one : (Ends : FinalState → Type 0) (es fs : OutcomesWith Kept) (o p : FinalState) (s : Kept)
@@ -28,7 +29,8 @@ module _ {Kept : Type 0} (Leads : Kept → FinalState → Type 0) where
             (let is : q ≡ p = only q e ∙ sym same in
             subst (λ (ks : List FinalState). Contains ks q) (sym outcomes_of-push)
             (Contains-append_right (outcomes_of es) (p ∷ []) q (Contains-head p q [] (sym is))));
-        preserves_outcomes = λ q h. subst (λ ks. Contains ks q) (sym outcomes_of-push) (Contains-append_left (outcomes_of es) (p ∷ []) q h);
+        preserves_outcomes =
+            λ q h. subst (λ ks. Contains ks q) (sym outcomes_of-push) (Contains-append_left (outcomes_of es) (p ∷ []) q h);
         each_leads = λ a. All-append (λ e. Leads e.1 e.0) es _ a (All-cons (λ e. Leads e.1 e.0) _ [] leads (All-nil _));
       })
     where
@@ -41,7 +43,8 @@ module _ {Kept : Type 0} (Leads : Kept → FinalState → Type 0) where
       → ((o : FinalState) → Ends o → More o)
       → CollectsOutcomes More Leads es fs
       → CollectsOutcomes Ends Leads es fs
-  CollectsOutcomes-weaker _ _ _ fs h a = record { covered = λ o e. a.covered o (h o e); preserves_outcomes = a.preserves_outcomes; each_leads = a.each_leads }
+  CollectsOutcomes-weaker _ _ _ fs h a =
+      record { covered = λ o e. a.covered o (h o e); preserves_outcomes = a.preserves_outcomes; each_leads = a.each_leads }
 
   -- Sorting preserves what is collected.
   pub CollectsOutcomes-sorted : {Ends : FinalState → Type 0} {es fs gs : OutcomesWith Kept}

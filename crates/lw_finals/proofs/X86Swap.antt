@@ -148,7 +148,8 @@ module _ (program : List (List Instr)) (pending : ℕ → List ℕ) (s m1 m2 : M
     unpreserved : IsUnpreservedPair b c h j k
 
   -- One of them is a drain, and the other commutes with the drain of the oldest entry.
-  AreDrainAndPassing-one_thread : (t j k : ℕ) (b c : Bool) (i h : Instr) (o : Option ℕ) (two : AreItemsOfOneThread t j k b c i h o)
+  AreDrainAndPassing-one_thread : (t j k : ℕ) (b c : Bool) (i h : Instr) (o : Option ℕ)
+      (two : AreItemsOfOneThread t j k b c i h o)
       → AreDrainAndPassing program (event_by b t) (event_by c t) two.moves.carried.old
   AreDrainAndPassing-one_thread t j k false true i h o two =
       let x = two.moves.carried in

@@ -79,8 +79,8 @@ module _ (IsMade : LitmusTest → Bytes → ℕ → Type 0) (FaultIsTrue : Litmu
       → ReturnsFaultLine f call_result before after
       → IsRightResult
   IsCallResult-fault_line f so no_device tells =
-      ReturnsAnswerOrFault-fault (IsAnswer IsMade FaultIsTrue text) (IsFault IsMade FaultIsTrue text) call_result before after (fault_text f)
-      (record { fault = f; is_true = so; no_device = no_device; line_is = refl; status_is = tells.0 }) tells.1
+      ReturnsAnswerOrFault-fault (IsAnswer IsMade FaultIsTrue text) (IsFault IsMade FaultIsTrue text) call_result before after
+      (fault_text f) (record { fault = f; is_true = so; no_device = no_device; line_is = refl; status_is = tells.0 }) tells.1
 
   -- The same, if the call may instead return the line of Memory, since memory ran out for the fault's line.
   pub IsCallResult-fault_line_or_Memory : (f : BenchFault)

@@ -42,5 +42,8 @@ pub use Rattle.lw_mesi.specs.laws.Coherent.{at_index, copy_in, copy_in-map, copy
 pub use Rattle.lw_mesi.specs.laws.Coherent.{copy_in-set_same, copy_word-none_if_invalid}
 pub use Rattle.lw_mesi.specs.laws.Coherent.{dirty_word_or-if_clean, dirty_word_or-if_dirty}
 pub use Rattle.lw_mesi.specs.laws.ProtocolCases.{IsProtocolState-invalid, on_other_get_s-invalid}
-pub use Rattle.lw_mesi.specs.laws.ProtocolLaws.{LineSatisfiesProtocol-after_eviction, LineSatisfiesProtocol-at_location, LineSatisfiesProtocol-after_load, protocol_lawful}
-pub use Rattle.lw_mesi.specs.laws.ProtocolLaws.{SatisfiesProtocol-set, LineSatisfiesProtocol-after_write}
+pub use Rattle.lw_mesi.specs.laws.ProtocolLaws.{LineSatisfiesProtocol-after_eviction}
+pub use Rattle.lw_mesi.specs.laws.ProtocolLaws.{LineSatisfiesProtocol-after_load}
+pub use Rattle.lw_mesi.specs.laws.ProtocolLaws.{LineSatisfiesProtocol-after_write}
+pub use Rattle.lw_mesi.specs.laws.ProtocolLaws.{LineSatisfiesProtocol-at_location, SatisfiesProtocol-set}
+pub use Rattle.lw_mesi.specs.laws.ProtocolLaws.{protocol_lawful}

@@ -30,7 +30,8 @@ copy_at-invalid_beside_only_copy p t u ok only within ne =
     let o = is_owner-of_only_copy (is_owner p.owner t) p.is_dirty p.is_owned _ p.word ok.owned only in
     let own : p.owner ≡ Some t = is_owner-sound p.owner t o.0 in
     let none : slice_index_or p.sharers u false ≡ false =
-    ap (λ (xs : List Bool). slice_index_or xs u false) (ok.no_other_copy t own o.1) ∙ get_or-at_each (λ k. false) u false within in
+    ap (λ (xs : List Bool). slice_index_or xs u false) (ok.no_other_copy t own o.1)
+    ∙ get_or-at_each (λ k. false) u false within in
     let other = ap (λ (x : Option ℕ). is_owner x u) own ∙ ne_eqb t u (λ e. ne (sym e)) in
     ap₂ (λ (x s : Bool). copy_of_bits x p.is_dirty p.is_owned s p.word) other none
 

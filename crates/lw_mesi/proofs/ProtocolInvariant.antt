@@ -7,7 +7,8 @@ use Rattle.lw_mesi.proofs.Common.{get_or, Result, Ok, Err, is_ok, OnOk, OnErr, r
 use Rattle.lw_mesi.proofs.Common.{arith, length-set, length-map, most_threads, most_locations, is_held}
 use Rattle.lw_mesi.proofs.Common.{Protocol, CacheLine, Caches, unheld_cache_line, copy_of, copy_state}
 use Rattle.lw_mesi.proofs.Common.{coherent_word, coherent_words, cache_line_evicted, LineSatisfiesProtocol}
-use Rattle.lw_mesi.proofs.Common.{SatisfiesProtocol, SatisfiesProtocol-set, LineSatisfiesProtocol-at_location, LineSatisfiesProtocol-after_eviction}
+use Rattle.lw_mesi.proofs.Common.{SatisfiesProtocol, SatisfiesProtocol-set, LineSatisfiesProtocol-at_location}
+use Rattle.lw_mesi.proofs.Common.{LineSatisfiesProtocol-after_eviction}
 
 -- At an index in range, a list's item does not depend on the default.
 get_or-any_default : {A : Type 0} (xs : List A) (i : ℕ) (c d : A) → i < length xs → get_or xs i c ≡ get_or xs i d
@@ -110,7 +111,8 @@ module _ (p : Protocol) (m now : Caches) (t x i : ℕ) (before : CacheLine) (bor
       × SatisfiesProtocol p (record { cpus = m.cpus; cache_lines = set m.cache_lines i after })
   SatisfiesProtocol-set_line after keeps = (
     omega (arith, length-set m.cache_lines i after, borrowed.within_line_limit),
-    SatisfiesProtocol-set p m i after borrowed.kept index_lt_line_count (keeps cpu_lt_most_threads LineSatisfiesProtocol-borrowed),
+    SatisfiesProtocol-set p m i after borrowed.kept index_lt_line_count
+        (keeps cpu_lt_most_threads LineSatisfiesProtocol-borrowed),
   )
 
 -- The result r of an eviction: it succeeds if processor t holds the line, and then t's copy is gone; otherwise the line is unchanged.

@@ -54,10 +54,10 @@ pub use Rattle.lw_orders.specs.Swaps.{IsSwapInvariant}
 pub use Rattle.lw_orders.specs.inner.Candidates.{IsBlocked, IsFound, Narrowed}
 pub use Rattle.lw_orders.specs.inner.Closure.{AreGraphTables, IsAcyclicClosure, IsReachedFrom}
 pub use Rattle.lw_orders.specs.inner.Closure.{IsTransitiveBelow, Reaches}
-pub use Rattle.lw_orders.specs.inner.TriedOrientations.{IsTaken, TriedAs, TriesOrientation, pair_at}
 pub use Rattle.lw_orders.specs.inner.Remaining.{CanBeSearched, HasSearchTables, IsSearchState, calls_left}
 pub use Rattle.lw_orders.specs.inner.Remaining.{most_of_call, most_tries, reach, remaining_orders}
-pub use Rattle.lw_orders.specs.inner.Search.{SearchState, ReversesLast, after_reversals, from_reversals}
+pub use Rattle.lw_orders.specs.inner.Search.{ReversesLast, SearchState, after_reversals, from_reversals}
 pub use Rattle.lw_orders.specs.inner.Search.{oriented, reverse_if, search_from, search_on}
 pub use Rattle.lw_orders.specs.inner.Sets.{AreNeighbours, ArePredecessors, EdgesAreIn, are_disjoint, has}
 pub use Rattle.lw_orders.specs.inner.Sets.{has_edge, reaches_in}
+pub use Rattle.lw_orders.specs.inner.TriedOrientations.{IsTaken, TriedAs, TriesOrientation, pair_at}

@@ -164,7 +164,8 @@ module _ {pairs : List (ℕ × ℕ)} {len : ℕ} {predecessors reach neighbours 
   Decides-is_minimal i = (
     λ e j lj c h.
         (let t : is_no_edge_from_left i (j, i) ≡ true =
-        All-contains (λ p. is_no_edge_from_left i p ≡ true) pairs (j, i) (AllPass-from_list_all (is_no_edge_from_left i) pairs e) c in
+        All-contains (λ p. is_no_edge_from_left i p ≡ true) pairs (j, i) (AllPass-from_list_all (is_no_edge_from_left i) pairs e)
+        c in
         grind (arith, nat_tests, is_in-indices (has left) 0 len j)),
     λ none.
         list_all-from_AllPass (is_no_edge_from_left i) pairs
@@ -198,9 +199,8 @@ module _ {pairs : List (ℕ × ℕ)} {len : ℕ} {predecessors reach neighbours 
   IsBlocked-reached (suc m) i k li (h, c, walk) is_candidate w =
       let (_, lh, on, _) = closure-edge tables.closes i h c in
       IsBlocked-reached m h k lh walk (so.closed i h li lh is_candidate on)
-      (λ e.
-      subst (IsBlocked predecessors left) e
-      (false_from_ne_true (are_disjoint (get_or predecessors h 0) left) (λ a. (Decides-are_disjoint h lh).0 a i li c is_candidate)))
+      (λ e. subst (IsBlocked predecessors left) e (false_from_ne_true (are_disjoint (get_or predecessors h 0) left)
+      (λ a. (Decides-are_disjoint h lh).0 a i li c is_candidate)))
 
   module _ {narrow : ℕ} (narrowed : Narrowed len predecessors reach left candidates narrow) where
     -- An item left that is no candidate is still blocked.

@@ -9,10 +9,12 @@ use Rattle.lw_orders.proofs.Common.{cases_lt, take-set, take_more, take_more_set
 use Rattle.lw_orders.proofs.Common.{get_or-replicate, length-replicate, All-append, All-cons, All-nil}
 use Rattle.lw_orders.proofs.Common.{All-drop, All-head, All-tail, Respects, All-push, lowest_order}
 use Rattle.lw_orders.proofs.Common.{AreInRange, has, reaches_in, ArePredecessors, EdgesAreIn, AreNeighbours}
-use Rattle.lw_orders.proofs.Common.{Reaches, IsAcyclicClosure, SearchState, reverse_if, ReversesLast, oriented}
-use Rattle.lw_orders.proofs.Common.{search_from, after_reversals, from_reversals, IsTaken, pair_at, reach}
-use Rattle.lw_orders.proofs.Common.{CanBeSearched, IsSearchState, HasSearchTables, remaining_orders}
-use Rattle.lw_orders.proofs.SearchTree.{oriented-push, from_reversals-push_false, after_reversals-push_false, after_reversals-push_true, from_reversals-all_oriented, from_reversals-no_order}
+use Rattle.lw_orders.proofs.Common.{Reaches, IsAcyclicClosure, SearchState, reverse_if, ReversesLast}
+use Rattle.lw_orders.proofs.Common.{oriented, search_from, after_reversals, from_reversals, IsTaken, pair_at}
+use Rattle.lw_orders.proofs.Common.{reach, CanBeSearched, IsSearchState, HasSearchTables, remaining_orders}
+use Rattle.lw_orders.proofs.SearchTree.{oriented-push, from_reversals-push_false, after_reversals-push_false}
+use Rattle.lw_orders.proofs.SearchTree.{after_reversals-push_true, from_reversals-all_oriented}
+use Rattle.lw_orders.proofs.SearchTree.{from_reversals-no_order}
 use Rattle.lw_orders.proofs.Walks.{closure-antisym}
 use Rattle.lw_orders.proofs.GrowingClosure.{IsAcyclicClosure-start, IsAcyclicClosure-more}
 use Rattle.lw_orders.proofs.GrowingClosure.{not-Before-if_cycle, lowest_order-if_acyclic}
@@ -51,7 +53,8 @@ module _ (len : ℕ) (graph ps : List (ℕ × ℕ)) (reversals : List Bool) (lon
   orders_after-reversed : (k : ℕ) → k < length ps → get_or reversals k false ≡ true → orders_after (k + 1) ≡ orders_after k
   orders_after-reversed k in_range on =
       ap (after_reversals len graph ps) (take_reversals-suc reversals ps long k true in_range on)
-      ∙ after_reversals-push_true len graph ps (take k reversals) (omega (arith, length_take-reversals reversals ps long k (omega arith)))
+      ∙ after_reversals-push_true len graph ps (take k reversals)
+      (omega (arith, length_take-reversals reversals ps long k (omega arith)))
 
   -- After d reversed pairs come the orders that come after the pairs before them.
   orders_after-all_reversed : (d from upto : ℕ)
@@ -344,7 +347,8 @@ from_reversals-start n preserved [] [] long off = refl
 from_reversals-start n preserved (p ∷ ps) [] long off = refl
 from_reversals-start n preserved [] (w ∷ reversals) long off = refl
 from_reversals-start n preserved (p ∷ ps) (w ∷ reversals) long off =
-    ap (λ v. from_reversals n preserved (p ∷ ps) (v ∷ [])) off ∙ sym (from_reversals-push_false n preserved (p ∷ ps) [] (omega arith))
+    ap (λ v. from_reversals n preserved (p ∷ ps) (v ∷ [])) off
+    ∙ sym (from_reversals-push_false n preserved (p ∷ ps) [] (omega arith))
 
 -- If no pair is reversed, the first is not.
 pub get_or-replicate_false : (n : ℕ) → get_or (replicate n false) 0 false ≡ false

@@ -57,7 +57,8 @@ module _ {S : Type 0} (language : Language S) where
 
     -- If there is one successor, the paths through it are within the bound.
     length_paths-one_successor : (k : ℕ) → j < k → length (flat_map rest (k ∷ [])) ≤ 2 ^ branches_from code j
-    length_paths-one_successor k later = omega (arith, few k later, length-append (rest k) [], branches_from-antitone k (omega arith))
+    length_paths-one_successor k later =
+        omega (arith, few k later, length-append (rest k) [], branches_from-antitone k (omega arith))
 
     -- After a branch there are two successors, and at most twice the paths, since the branch counts.
     length_paths-two_successors : (to : ℕ)
@@ -107,8 +108,8 @@ module _ {S : Type 0} (language : Language S) where
   length-paths_through_le code forward j rest few None at = one-le-pow (branches_from code j) 2 (omega arith)
   length-paths_through_le code forward j rest few (Some s) at = omega (
     arith,
-    length_paths-by_successors code forward j s at rest few (branch_target (language.operation_of s)) (falls_through (language.operation_of s))
-        refl,
+    length_paths-by_successors code forward j s at rest few (branch_target (language.operation_of s))
+        (falls_through (language.operation_of s)) refl,
     length-map (flat_map rest (successors language s j)) (λ path. j ∷ path),
   )
 

@@ -120,7 +120,8 @@ DescribeRows-appended program states new rows p row is_known is before describes
     describe false e i q r at and = elim (slice_get-append_cases states p q i (ap (λ l. slice_get l i) (sym e) ∙ at)) [
       | inl old ↦ of_known i q r old and
       | inr new ↦ elim (slice_get-append_cases (take (length states) rows) row r i and) [
-        | inl old ↦ absurd (let lt = slice_get_within (take (length states) rows) i r old in omega (arith, lt, new.0, length_of_taken))
+        | inl old ↦
+            absurd (let lt = slice_get_within (take (length states) rows) i r old in omega (arith, lt, new.0, length_of_taken))
         | inr last ↦
             subst (λ (z : Outlooks). DescribeThread program q z.threads) last.1
             (subst (λ (z : Processor). DescribeThread program z row.threads) new.1 describes)

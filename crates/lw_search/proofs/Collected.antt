@@ -234,12 +234,14 @@ module _ (program : List (List Instr)) (tables : Components) (visited : FoundSta
       → CollectsFirst (n + 1) fs
   CollectsFirst-next n es fs first here = record {
     covered = λ start found closed i s invariant lt at final. elim (cases_lt i n) [
-      | inl less ↦ here.preserves_outcomes (machine_outcome flat_memory s) (first.covered start found closed i s invariant less at final)
+      | inl less ↦
+          here.preserves_outcomes (machine_outcome flat_memory s) (first.covered start found closed i s invariant less at final)
       | inr not ↦
           let same : i ≡ n = omega arith in
           here.covered start found closed s invariant (ap (slice_get found) (sym same) ∙ at) final
     ];
-    each_leads = λ start found closed invariant. here.each_leads start found closed invariant (first.each_leads start found closed invariant);
+    each_leads = λ start found closed invariant.
+        here.each_leads start found closed invariant (first.each_leads start found closed invariant);
   }
 
   -- The collected outcomes are those of all states, in any order.

@@ -45,7 +45,8 @@ module _ (test : X86Test)
       (collected : CollectsAll Agrees Describes test.threads tables visited entries) where
     -- A run from the initial state reaches the outcome of each entry, and the entry represents this run.
     All-LeadsTo : All (LeadsTo Describes test.threads (initial_machine_state test test.head.init_words)) entries
-    All-LeadsTo = collected.each_leads (initial_machine_state test test.head.init_words) finished.0 (length visited.keys) finished.1
+    All-LeadsTo =
+        collected.each_leads (initial_machine_state test test.head.init_words) finished.0 (length visited.keys) finished.1
 
     -- Each listed outcome is one of the test over flat memory.
     reached : (o : FinalState) → Contains (outcomes_of entries) o → IsMachineOutcome flat_memory test test.head.init_words o

@@ -410,7 +410,8 @@ module _ (program : List (List Instr)) (forward : IsForward program) where
       end = z.0;
       e_enabled = z.1;
       f_enabled = subst (λ o. MachineTransition flat_memory program f o (Ok tt) z.0) other_is_first x.2.done;
-      invisible_in_mid = λ p access at is. IsUncontended-after f s mid (cpu_of e) access g (invisible p access (thread_in_s p at) is);
+      invisible_in_mid =
+          λ p access at is. IsUncontended-after f s mid (cpu_of e) access g (invisible p access (thread_in_s p at) is);
     }
       where
         -- The thread of e has in s the state that it has in `mid`, after an event of another thread.

@@ -200,13 +200,15 @@ module _ (names : List Seen) (program : List (List Instr)) (tables : Components)
   ObservesFirst-next n old new first here = record {
     words = λ start found closed invariant. here.observed start found closed invariant (first.words start found closed invariant);
     covered = λ start found closed i s invariant lt at final. elim (cases_lt i n) [
-      | inl less ↦ (let p = first.covered start found closed i s invariant less at final in (p.0, here.preserves_outcomes p.0 p.1, p.2))
+      | inl less ↦
+          (let p = first.covered start found closed i s invariant less at final in (p.0, here.preserves_outcomes p.0 p.1, p.2))
       | inr not ↦
           let same : i ≡ n = omega arith in
           here.covered start found closed s invariant (first.words start found closed invariant)
           (ap (slice_get found) (sym same) ∙ at) final
     ];
-    each_leads = λ start found closed invariant. here.each_leads start found closed invariant (first.each_leads start found closed invariant);
+    each_leads = λ start found closed invariant.
+        here.each_leads start found closed invariant (first.each_leads start found closed invariant);
   }
 
   -- The outcomes that are observed of all states are collected, in any order, and each at least once.

@@ -239,11 +239,11 @@ module _ (program : List (List Instr)) where
   IsCovered-transition {old} {settled} {new} {visited} {now} at c t code key own all next n parent run is cpu coded from_thread from_memory size thread others settles extended next_size memory threads parent_is adds start found closed s invariant found_at key_at has =
       after start found closed s invariant found_at key_at (done, has)
     where
-      moved : SettlesFrom program (IsLoaded program old key t.conflicts c is.acted is.written) old old own is.end_words (t.event ∷ [])
-          (t.event ∷ is.more)
+      moved : SettlesFrom program (IsLoaded program old key t.conflicts c is.acted is.written) old old own is.end_words
+          (t.event ∷ []) (t.event ∷ is.more)
       moved =
-          SettlesFrom-loaded program key own t.conflicts c is.acted is.end is.written is.end_words (t.event ∷ []) (t.event ∷ is.more)
-          is.more refl
+          SettlesFrom-loaded program key own t.conflicts c is.acted is.end is.written is.end_words (t.event ∷ [])
+          (t.event ∷ is.more) is.more refl
           (subst (λ v. Settles program t.conflicts v (events_of is.more) is.acted is.written is.end is.end_words) cpu is.settles)
           (Extends-refl old) size (ap (slice_get old.threads) thread ∙ is.next_thread_row) others
 

@@ -65,15 +65,16 @@ pub use Rattle.lw_tso.specs.EventEffects.{operation_effect, step_effect}
 pub use Rattle.lw_tso.specs.EventRanges.{IsEventInRange}
 pub use Rattle.lw_tso.specs.Evictions.{without_evictions}
 pub use Rattle.lw_tso.specs.Fencing.{EndsBlock, IsFencedCode, IsFencedTest, IsInserted, MarksAreFences}
-pub use Rattle.lw_tso.specs.Fencing.{code_without, unmarked_instructions, retarget_to_blocks, unmarked_count_before}
+pub use Rattle.lw_tso.specs.Fencing.{code_without, retarget_to_blocks, unmarked_count_before}
+pub use Rattle.lw_tso.specs.Fencing.{unmarked_instructions}
 pub use Rattle.lw_tso.specs.Independence.{AreDrainAndPassing, AreIndependent, CommutesWithDrain}
 pub use Rattle.lw_tso.specs.Independence.{DoNotConflict, EventsCommute, IsAtPosition, MayPassOldest}
 pub use Rattle.lw_tso.specs.Independence.{TransitionAt, accessed_location, event_writes}
 pub use Rattle.lw_tso.specs.LockPhases.{Begun, Drains, Free, HasRead, HasWritten, HeldBy, IsAtLocked}
 pub use Rattle.lw_tso.specs.LockPhases.{IsNotBlocked, Lock, Locked, Locks, Phase, PhasedEvent, PhasedRunsTo}
 pub use Rattle.lw_tso.specs.LockPhases.{PhasedState, PhasedStep, PhasedTransition, Reads, Steps, Unlocks}
-pub use Rattle.lw_tso.specs.LockPhases.{Writes, after_locked_write, locked_by, locked_next, read_value, unlocked}
-pub use Rattle.lw_tso.specs.LockPhases.{with_empty_buffer}
+pub use Rattle.lw_tso.specs.LockPhases.{Writes, after_locked_write, locked_by, locked_next, read_value}
+pub use Rattle.lw_tso.specs.LockPhases.{unlocked, with_empty_buffer}
 pub use Rattle.lw_tso.specs.Machines.{EffectTransition, EventResult, EvictionTransition, MachineState}
 pub use Rattle.lw_tso.specs.Machines.{MachineTransition, ProcessorTransition, buffer_of, over_flat_memory}
 pub use Rattle.lw_tso.specs.Machines.{position_of}

@@ -8,9 +8,9 @@ use Rattle.lw_tso.proofs.Common.{Drain, flat_memory, Instr, All, x86_language, x
 use Rattle.lw_tso.proofs.Common.{step_effect, event_effect, MachineState, buffer_of, MachineTransition}
 use Rattle.lw_tso.proofs.Common.{MachineRunsTo, RunsTo-append, Phase, Begun, HasRead, HasWritten, Lock, Free}
 use Rattle.lw_tso.proofs.Common.{HeldBy, PhasedState, PhasedEvent, Steps, Drains, Locks, Reads, Writes}
-use Rattle.lw_tso.proofs.Common.{Unlocks, IsNotBlocked, Locked, with_empty_buffer, read_value, after_locked_write}
-use Rattle.lw_tso.proofs.Common.{locked_next, IsAtLocked, PhasedStep, PhasedTransition, PhasedRunsTo}
-use Rattle.lw_tso.proofs.Common.{unlocked}
+use Rattle.lw_tso.proofs.Common.{Unlocks, IsNotBlocked, Locked, with_empty_buffer, read_value}
+use Rattle.lw_tso.proofs.Common.{after_locked_write, locked_next, IsAtLocked, PhasedStep, PhasedTransition}
+use Rattle.lw_tso.proofs.Common.{PhasedRunsTo, unlocked}
 use Rattle.lw_tso.proofs.LockedSteps.{DoesAs-locked, location_in_range-of_locked, memory_same-plain_operation}
 use Rattle.lw_tso.proofs.LockedSteps.{DrainParts, DrainParts-of_drain, read_value-after_drain}
 use Rattle.lw_tso.proofs.LockedSteps.{length_memory-effect, buffer_empty-after_locked_step}

@@ -187,8 +187,8 @@ pub record IsAtCode (threads : List Thread) (program : List (List Stmt)) (t : �
   pub is_code : code ≡ get_or program t code
 
 -- The next statement of a thread is well-formed on the test's locations, and the position after it does not overflow.
-pub IsWellFormedStatement-next : {words locs : ℕ} {program : List (List Stmt)} {code : List Stmt} {stmt : Stmt} (threads : List Thread)
-    (t : ℕ) (th : Thread)
+pub IsWellFormedStatement-next : {words locs : ℕ} {program : List (List Stmt)} {code : List Stmt} {stmt : Stmt}
+    (threads : List Thread) (t : ℕ) (th : Thread)
     → IsAtCode threads program t th code
     → Some stmt ≡ slice_get code th.position
     → words ≡ locs

@@ -119,8 +119,8 @@ AreDistinct-indices k (suc n) = grind (arith, AreDistinct-indices (suc k) n, ind
 -- An order has no duplicates.
 pub AreDistinct-order : (n : ℕ) (xs : List ℕ) → IsOrder n xs → AreDistinct xs
 AreDistinct-order n xs o =
-    AreDistinct-from_room xs (indices 0 n) (AreDistinct-indices 0 n) (λ i l. omega (arith, o.1 i (lt-of_index_in_indices n i l), o.0))
-    (omega (arith, o.0, length-indices 0 n))
+    AreDistinct-from_room xs (indices 0 n) (AreDistinct-indices 0 n)
+    (λ i l. omega (arith, o.1 i (lt-of_index_in_indices n i l), o.0)) (omega (arith, o.0, length-indices 0 n))
 
 -- An order of n items contains only these.
 pub IsOrder-item_below : (n : ℕ) (xs : List ℕ) → IsOrder n xs → (i : ℕ) → index_in xs i < length xs → i < n
@@ -130,7 +130,8 @@ IsOrder-item_below n xs o i l = elim (cases_lt i n) [
       (let all =
       length_le-if_distinct (indices 0 n) (without xs i) (AreDistinct-indices 0 n)
       (λ j p.
-      index_in-without xs i j (λ e. omega (arith, lt-of_index_in_indices n j p)) (omega (arith, o.1 j (lt-of_index_in_indices n j p), o.0))) in
+      index_in-without xs i j (λ e. omega (arith, lt-of_index_in_indices n j p))
+      (omega (arith, o.1 j (lt-of_index_in_indices n j p), o.0))) in
       absurd (omega (arith, length-indices 0 n, length-without xs i l, o.0)))
 ]
 
@@ -169,7 +170,8 @@ pub IsOrder-of_distinct : (n : ℕ) (xs : List ℕ)
     → ((i : ℕ) → i < n → index_in xs i < length xs)
     → IsOrder n xs
 IsOrder-of_distinct n xs below once there =
-    let least = length_le-if_distinct (indices 0 n) xs (AreDistinct-indices 0 n) (λ i l. there i (lt-of_index_in_indices n i l)) in
+    let least =
+    length_le-if_distinct (indices 0 n) xs (AreDistinct-indices 0 n) (λ i l. there i (lt-of_index_in_indices n i l)) in
     let most =
     length_le-if_distinct xs (indices 0 n) once
     (λ i l. index_in-indices 0 n i (omega arith) (omega (arith, All-index_in (λ i. i < n) xs i below l))) in

@@ -119,7 +119,8 @@ module _ {S : Type 0} (language : Language S) (program : List (List S)) where
       -- A transitive relation that has all preserved pairs has the reduced ones.
       reduced_from_all : All (λ p. R p.0 p.1) (constraints_of language program items).preserved
           → All (λ p. R p.0 p.1) (transitive_reduction language program items).preserved
-      reduced_from_all has = has_reduced R transitive items (HasOrdered-if_preserved_related language program paths R transitive has)
+      reduced_from_all has =
+          has_reduced R transitive items (HasOrdered-if_preserved_related language program paths R transitive has)
 
     -- The same orders respect the reduced pairs and all pairs.
     pub IsLinearExtension-reduced_iff : (order : List ℕ)

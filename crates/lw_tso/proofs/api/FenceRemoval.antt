@@ -3,7 +3,8 @@
 use Rattle.lw_tso.proofs.Common.{◌≡◌, ℕ, zero, suc, ◌+◌, ◌≤◌, Bool, true, false, List, [], ◌∷◌, ◌++◌, length}
 use Rattle.lw_tso.proofs.Common.{map, take, cond, Some, ◌⊎◌, inl, inr, refl, sym, ap, ◌∙◌, subst, arith}
 use Rattle.lw_tso.proofs.Common.{slice_get, same_Some, sum_by-cons, Instr, Mfence, retarget_to_blocks}
-use Rattle.lw_tso.proofs.Common.{IsFencedCode, unmarked_count_before, unmarked_instructions, code_without, MarksAreFences, not}
+use Rattle.lw_tso.proofs.Common.{IsFencedCode, unmarked_count_before, unmarked_instructions, code_without}
+use Rattle.lw_tso.proofs.Common.{MarksAreFences, not}
 
 -- Before index 0 there is no unmarked instruction.
 pub unmarked_count_before-zero : (marks : List Bool) → unmarked_count_before marks 0 ≡ 0
@@ -19,9 +20,11 @@ unmarked_count_before-cons mark marks index = sum_by-cons (λ (m : Bool). cond (
 -- The unmarked instructions of a concatenation are those of its parts, concatenated.
 pub unmarked_instructions-append : (marks others : List Bool) (code more : List Instr)
     → MarksAreFences marks code
-    → unmarked_instructions (marks ++ others) (code ++ more) ≡ unmarked_instructions marks code ++ unmarked_instructions others more
+    → unmarked_instructions (marks ++ others) (code ++ more)
+    ≡ unmarked_instructions marks code ++ unmarked_instructions others more
 unmarked_instructions-append [] others [] more fences = refl
-unmarked_instructions-append (true ∷ marks) others (i ∷ code) more fences = unmarked_instructions-append marks others code more fences.1
+unmarked_instructions-append (true ∷ marks) others (i ∷ code) more fences =
+    unmarked_instructions-append marks others code more fences.1
 unmarked_instructions-append (false ∷ marks) others (i ∷ code) more fences =
     ap (λ (is : List Instr). i ∷ is) (unmarked_instructions-append marks others code more fences)
 unmarked_instructions-append _ others _ more fences = absurd fences

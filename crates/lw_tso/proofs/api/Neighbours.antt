@@ -204,8 +204,8 @@ module _ (program : List (List Instr)) where
 
           way : LeadInSequence draining stepping without_entry step.0 s.memory y.words
           way =
-              LeadInSequence-swap stepping draining step.0 without_entry s.memory y.words (λ z e f. absurd (leaves.free (e ∙ sym f)))
-              (record { between = x.words; first = step.2; second = (refl, words) })
+              LeadInSequence-swap stepping draining step.0 without_entry s.memory y.words
+              (λ z e f. absurd (leaves.free (e ∙ sym f))) (record { between = x.words; first = step.2; second = (refl, words) })
 
           other : MachineState (List ℕ)
           other = state (slice_set s.processors t without_entry) way.between
@@ -274,8 +274,8 @@ module _ (program : List (List Instr)) where
 
           way : LeadInSequence stepping draining y.to without_entry s.memory y.words
           way =
-              LeadInSequence-swap draining stepping without_entry y.to s.memory y.words (λ z e f. absurd (leaves.free (f ∙ sym e)))
-              (record { between = x.words; first = (refl, drain.1); second = step })
+              LeadInSequence-swap draining stepping without_entry y.to s.memory y.words
+              (λ z e f. absurd (leaves.free (f ∙ sym e))) (record { between = x.words; first = (refl, drain.1); second = step })
 
           new : Processor
           new = with_oldest pass.entry y.to

@@ -120,7 +120,8 @@ module _ (Reason : Type 0) (MayAsk : ℕ → Bool → Type 0) (Makes : Processor
       makes _ (OperationTransition-no_store (Set d v) p _ refl refl false-ne_true refl refl (length-set p.regs d _))
   EffectSatisfies-operation (Sum d a v) p reason asks makes =
       makes _ (OperationTransition-no_store (Sum d a v) p _ refl refl false-ne_true refl refl (length-set p.regs d _))
-  EffectSatisfies-operation (Compare a v) p reason asks makes = makes _ (OperationTransition-no_store _ p _ refl refl false-ne_true refl refl refl)
+  EffectSatisfies-operation (Compare a v) p reason asks makes =
+      makes _ (OperationTransition-no_store _ p _ refl refl false-ne_true refl refl refl)
   EffectSatisfies-operation (Store x v) p reason asks makes = makes _ (record {
     leads = inl (refl, refl);
     buffers = inr ((x, operand_value v p.regs), refl, refl, refl);
@@ -133,7 +134,10 @@ module _ (Reason : Type 0) (MayAsk : ℕ → Bool → Type 0) (Makes : Processor
   EffectSatisfies-operation (FetchAdd d x v) p reason asks makes =
       EffectSatisfies-if_buffer_empty p.buffer SwapWaits _ (reason refl) (λ empty. (
         asks x refl,
-        λ w. makes _ (OperationTransition-no_store (FetchAdd d x v) p _ refl refl (λ e. empty) refl refl (length-set_word_if_some p.regs d w)),
+        λ w.
+            makes _
+            (OperationTransition-no_store (FetchAdd d x v) p _ refl refl (λ e. empty) refl refl
+            (length-set_word_if_some p.regs d w)),
       ))
   EffectSatisfies-operation Fence p reason asks makes =
       EffectSatisfies-if_buffer_empty _ _ _ (reason refl)
@@ -144,9 +148,8 @@ module _ (Reason : Type 0) (MayAsk : ℕ → Bool → Type 0) (Makes : Processor
     regs = refl;
     waited = false-ne_true;
   })
-  EffectSatisfies-operation o p reason asks makes =
-      EffectSatisfies-if_buffer_empty p.buffer SwapWaits _ (reason refl)
-      (λ empty. (asks _ refl, λ w. makes _ (OperationTransition-no_store o p _ refl refl (λ e. empty) refl refl (length-set p.regs _ w))))
+  EffectSatisfies-operation o p reason asks makes = EffectSatisfies-if_buffer_empty p.buffer SwapWaits _ (reason refl) (λ empty.
+      (asks _ refl, λ w. makes _ (OperationTransition-no_store o p _ refl refl (λ e. empty) refl refl (length-set p.regs _ w))))
 
 -- The access of a locked operation when the buffer is empty: an update of its location.
 pub record LockedUpdate (o : Operation) (p : Processor) : Type 0 where

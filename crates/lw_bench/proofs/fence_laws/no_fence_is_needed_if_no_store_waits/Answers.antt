@@ -10,8 +10,9 @@ returns c =
     record {
       same_program = IsCompiled-iff_without_fences;
       flat_memory = λ source program starts o ok needless without.
-          compiled.flat_memory source program starts o ok ((IsCompiled-iff_without_fences source program starts needless).1 without);
+          compiled.flat_memory source program starts o ok
+          ((IsCompiled-iff_without_fences source program starts needless).1 without);
       caches = λ source program starts protocol o ok needless without fits.
-          compiled.caches source program starts protocol o ok ((IsCompiled-iff_without_fences source program starts needless).1 without)
-          fits;
+          compiled.caches source program starts protocol o ok
+          ((IsCompiled-iff_without_fences source program starts needless).1 without) fits;
     }

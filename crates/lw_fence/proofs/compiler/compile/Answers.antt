@@ -14,7 +14,8 @@ pub invariant_of-result : goal.invariant_of-result
 invariant_of-result g c =
     let codes_compiled = c.in_ok-codes.ensures in
     let codes = c.in_ok-codes.codes in
-    let compiled = IsCompiled-of_threads c.in_ok-head.ensures codes_compiled.as_many codes_compiled.as_many_starts codes_compiled.threads in
+    let compiled =
+    IsCompiled-of_threads c.in_ok-head.ensures codes_compiled.as_many codes_compiled.as_many_starts codes_compiled.threads in
     record {
       well_formed =
           IsWellFormedProgram-compiled (source_of c.args.source.now) _ codes.starts c.args.source.now.well_formed compiled;
@@ -25,7 +26,8 @@ returns g c =
     let codes_compiled = c.in_ok-codes.ensures in
     let codes = c.in_ok-codes.codes in
     let source = source_of c.args.source.now in
-    let compiled = IsCompiled-of_threads c.in_ok-head.ensures codes_compiled.as_many codes_compiled.as_many_starts codes_compiled.threads in
+    let compiled =
+    IsCompiled-of_threads c.in_ok-head.ensures codes_compiled.as_many codes_compiled.as_many_starts codes_compiled.threads in
     let ok = IsWellScoped-well_formed source_language c.args.source.now.well_formed in
     record {
       compiled = compiled;

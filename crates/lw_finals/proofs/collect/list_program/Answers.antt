@@ -28,7 +28,8 @@ collector_view g = record {
 
 -- The collector of outcomes states causes that hold, as a visitor that counts nothing.
 GivesReasons-collector : (g : Over) → GivesReasons g.S.Statement.language (collector_view g)
-GivesReasons-collector g = record { preserves_program = λ v paths w h. h.0; at_most = λ v paths w h. omega arith; cause_holds = λ v paths e h. h }
+GivesReasons-collector g =
+    record { preserves_program = λ v paths w h. h.0; at_most = λ v paths w h. omega arith; cause_holds = λ v paths e h. h }
 
 pub returns-in_err-visit_assignments-clause-err : goal.returns-in_err-visit_assignments-clause-err
 returns-in_err-visit_assignments-clause-err g c =

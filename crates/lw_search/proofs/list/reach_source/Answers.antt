@@ -1,7 +1,8 @@
 -- Proves `reach_source`, the complete list of a source test with schedules of its compiled program. The
 -- program is searched; by the contract of `compile` it has exactly the outcomes of its source, and the same
 -- threads and locations.
-use Rattle.lw_search.proofs.Common.{IfOk-weaker, program_of, ListsMachine-of_complete, IsListedOutcome-of_source}
+use Rattle.lw_search.proofs.Common.{IfOk-weaker, program_of, ListsMachine-of_complete}
+use Rattle.lw_search.proofs.Common.{IsListedOutcome-of_source}
 use Rattle.lw_search.proofs.list.reach_source.Goals as goal
 
 pub returns-clause-exactly : goal.returns-clause-exactly
@@ -14,8 +15,8 @@ returns-clause-exactly g c =
 pub returns-clause-machine : goal.returns-clause-machine
 returns-clause-machine g c =
     let compiled = c.in_ok-compiled.compiled in
-    IfOk-weaker c.search_schedules.result _ _
-    (λ s is. ListsMachine-of_complete _ (program_of compiled.program) compiled.starts c.in_ok-compiled.ensures.compiled _ s.listing is)
+    IfOk-weaker c.search_schedules.result _ _ (λ s is.
+    ListsMachine-of_complete _ (program_of compiled.program) compiled.starts c.in_ok-compiled.ensures.compiled _ s.listing is)
     c.search_schedules.ensures.complete
 
 pub returns-clause-of_test : goal.returns-clause-of_test

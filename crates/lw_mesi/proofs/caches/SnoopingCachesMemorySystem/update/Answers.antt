@@ -1,6 +1,7 @@
 -- Proves `update` of the caches, which is the protocol's transition for an atomic change. As for `store`; the
 -- word written is the change of the coherent word, which the transaction brings.
-use Rattle.lw_mesi.proofs.Common.{sym, subst, LineSatisfiesProtocol, LineSatisfiesProtocol-after_write, Caches, table_of, Update}
+use Rattle.lw_mesi.proofs.Common.{sym, subst, LineSatisfiesProtocol, LineSatisfiesProtocol-after_write}
+use Rattle.lw_mesi.proofs.Common.{Caches, table_of, Update}
 use Rattle.lw_mesi.proofs.ProtocolInvariant.{IsBorrowedLine, index_in_range, ProtocolTransition-borrowed}
 use Rattle.lw_mesi.proofs.ProtocolInvariant.{SatisfiesProtocol-set_line}
 use Rattle.lw_mesi.proofs.caches.SnoopingCachesMemorySystem.update.Given.{Over}
@@ -28,7 +29,8 @@ pub invariant_of-self : goal.invariant_of-self
 invariant_of-self g c =
     SatisfiesProtocol-set_line g.P.ProtocolType.protocol _ _ c.args.cpu _ _ _
     (IsBorrowedLine-before g (goal.at.invariant_of-self g c).After-index_mut-line) _ (λ lt s.
-    subst (LineSatisfiesProtocol g.P.ProtocolType.protocol) (sym c.write.ensures.line) (LineSatisfiesProtocol-after_write _ c.args.cpu _ lt s _))
+    subst (LineSatisfiesProtocol g.P.ProtocolType.protocol) (sym c.write.ensures.line)
+    (LineSatisfiesProtocol-after_write _ c.args.cpu _ lt s _))
 
 pub returns-clause-served : goal.returns-clause-served
 returns-clause-served g c =
