@@ -27,7 +27,10 @@ fn count_allocations(arena: &Arena, sizes: &[usize]) -> u32 {
 fn a_block_that_is_given_back_is_used_again(rt: HostRuntime) -> Result<(), Fail> {
     let arena = arena_of(rt.alloc(), 4096)?;
     assert_eq!(rt; count_allocations(&arena, &[1000; 100]), 100);
-    assert_eq!(rt; count_allocations(&arena, &[1025, 2048, 1025, 1024, 513]), 5);
+    assert_eq!(rt;
+        count_allocations(&arena, &[1025, 2048, 1025, 1024, 513]),
+        5
+    );
     // 1024 and 2048 bytes are cut off, and what is left is no more than a third block of 1024.
     assert_eq!(rt; count_allocations(&arena, &[4096, 2049, 512, 300, 512]), 3);
     Ok(())

@@ -46,7 +46,8 @@ AllAt-within P instrs k (y ∷ is) j i all at =
       instr_at = at.instr_at;
     })) (cases_eq k j)
 
--- A code of l instructions on `locs` locations that results from n statements: `starts` has the index of each statement's first instruction.
+-- A code of l instructions on `locs` locations that results from n statements: `starts` has the index of each statement's first
+-- instruction.
 module _ (locs l n : ℕ) (starts : List ℕ) where
   -- The instruction at index k is well-formed, and a jump leads forward, at most to the end.
   abbrev IsWellFormedInstrAt : ℕ → Instr → Type 0

@@ -215,7 +215,8 @@ impl Outlook {
         }
     }
 
-    /// Returns whether the thread may have an invisible event that is enabled, given the conflicts of the other threads. No contract depends on the answer.
+    /// Returns whether the thread may have an invisible event that is enabled, given the conflicts of the other threads. No contract
+    /// depends on the answer.
     fn may_settle(&self, conflicts: Conflicts) -> bool {
         self.step.avoids(conflicts) || self.drain.avoids(conflicts)
     }
@@ -285,8 +286,8 @@ impl Outlooks {
         next
     }
 
-    /// Returns whether the accesses that conflict with a thread are those of another outlook of the thread. No contract depends on the answer:
-    /// `false` costs another look at the threads.
+    /// Returns whether the accesses that conflict with a thread are those of another outlook of the thread. No contract depends on the
+    /// answer: `false` costs another look at the threads.
     pub(crate) fn has_same_conflicts(&self, cpu: Cpu, outlook: &Outlook) -> bool {
         self.threads[cpu.index()]
             .conflicts

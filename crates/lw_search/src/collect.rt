@@ -37,8 +37,8 @@ pub(crate) fn is_final<A: Allocator>(
     true
 }
 
-/// Returns whether a thread of a state is past the last of `count` instructions, with an empty store buffer; `false` if the key's number has
-/// no row.
+/// Returns whether a thread of a state is past the last of `count` instructions, with an empty store buffer; `false` if the key's number
+/// has no row.
 fn is_done<A: Allocator>(tables: &Tables<'_, A>, key: &StateKey, cpu: Cpu, count: usize) -> bool
     ensures { ReportsThreadEnd tables.now key.now cpu count result }
 {

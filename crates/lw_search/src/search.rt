@@ -167,8 +167,8 @@ fn with_memory(key: &StateKey, memory: u32) -> StateKey
 const MOST_ROUNDS: u32 = 256;
 
 impl<'a, A: Allocator + Copy> Search<'a, A> {
-    /// Takes the invisible events of a thread of a key in the working copies, if `may_settle` says that the thread may have any. Returns the
-    /// key with the number of the thread's state after them.
+    /// Takes the invisible events of a thread of a key in the working copies, if `may_settle` says that the thread may have any. Returns
+    /// the key with the number of the thread's state after them.
     fn settle_thread(
         &mut self,
         key: &StateKey,
@@ -270,8 +270,8 @@ impl<'a, A: Allocator + Copy> Search<'a, A> {
         })
     }
 
-    /// Takes an event of a thread in the state of a key, with the invisible events that follow it given the conflicts of the other threads, in
-    /// the working copies. Returns where they lead, or `None` if the event is not enabled.
+    /// Takes an event of a thread in the state of a key, with the invisible events that follow it given the conflicts of the other threads,
+    /// in the working copies. Returns where they lead, or `None` if the event is not enabled.
     fn compute_successor(
         &mut self,
         key: &StateKey,

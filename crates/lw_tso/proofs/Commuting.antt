@@ -127,8 +127,8 @@ EffectLeadsTo-without_oldest entry (MemoryAccess x access next) m n q d =
     (next (unwrap_or (value_returned m x access) 0), d.0, (refl, d.1))
 EffectLeadsTo-without_oldest entry _ m n q d = absurd d
 
--- The effect `with_entry`, of a processor with this entry as its oldest, is `act` with the entry still in the buffer, and does not access the
--- entry's location.
+-- The effect `with_entry`, of a processor with this entry as its oldest, is `act` with the entry still in the buffer, and does not access
+-- the entry's location.
 pub record LeavesAlone (entry : ℕ × ℕ) (act with_entry : EventEffect) : Type 0 where
   pub same : with_entry ≡ effect_keeping_oldest entry act
   pub free : accessed_location act ≡ Some entry.0 → ⊥

@@ -22,8 +22,8 @@ retarget_to_blocks block i = i
 abbrev pub IsInserted : (ℕ → ℕ) → ℕ → Instr → Type 0
 IsInserted block index i = (i ≡ Mfence) × (block (index + 1) ≡ block index)
 
--- The instruction at this index ends its block: with a jump retargeted, it is the instruction of the code that the block is for, and the next
--- block begins after it.
+-- The instruction at this index ends its block: with a jump retargeted, it is the instruction of the code that the block is for, and the
+-- next block begins after it.
 abbrev pub EndsBlock : (ℕ → ℕ) → List Instr → ℕ → Instr → Type 0
 EndsBlock block code index i = (slice_get code (block index) ≡ Some (retarget_to_blocks block i)) × (block (index + 1) ≡ block index + 1)
 

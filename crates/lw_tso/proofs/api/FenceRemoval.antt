@@ -11,8 +11,8 @@ pub unmarked_count_before-zero : (marks : List Bool) → unmarked_count_before m
 unmarked_count_before-zero [] = refl
 unmarked_count_before-zero (mark ∷ marks) = refl
 
--- The number of unmarked instructions before a later index: one for the first instruction if it is not marked, and that of the others before
--- the index less one.
+-- The number of unmarked instructions before a later index: one for the first instruction if it is not marked, and that of the others
+-- before the index less one.
 pub unmarked_count_before-cons : (mark : Bool) (marks : List Bool) (index : ℕ)
     → unmarked_count_before (mark ∷ marks) (suc index) ≡ cond (not mark) 1 0 + unmarked_count_before marks index
 unmarked_count_before-cons mark marks index = sum_by-cons (λ (m : Bool). cond (not m) 1 0) mark (take index marks)

@@ -170,8 +170,8 @@ module _ (test fenced : X86Test) (f : IsFencedTest test fenced) where
   abbrev thread_processor_without : ℕ → Processor → Processor
   thread_processor_without t = without (IsFencedCode-thread t).block
 
-  -- The state s of the test corresponds to the state r of the test with fences: each processor of s is that of r at the same position of the
-  -- code without fences, and memory is the same.
+  -- The state s of the test corresponds to the state r of the test with fences: each processor of s is that of r at the same position of
+  -- the code without fences, and memory is the same.
   record AreAlike (s r : MachineState (List ℕ)) : Type 0 where
     as_many : length s.processors ≡ length r.processors
     each : (t : ℕ) (p q : Processor)
