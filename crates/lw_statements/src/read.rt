@@ -116,7 +116,10 @@ fn read_columns<L: StatementReader, A: Allocator + Copy>(
 }
 
 /// Appends zeros to words, up to the length `len`. Appends none if there are as many already.
-fn pad_with_zeros<A: Allocator>(words: &mut Sequence<Word, A>, len: usize) -> Result<(), AllocFailed<Word>>
+fn pad_with_zeros<A: Allocator>(
+    words: &mut Sequence<Word, A>,
+    len: usize,
+) -> Result<(), AllocFailed<Word>>
     ensures { IfOk result (λ _. words.new ≡ words.old ++ replicate (len - length words.old) 0) }
 {
     for _word in 0..len.saturating_sub(words.len()) {

@@ -66,7 +66,11 @@ impl<A: Allocator + Copy> OpenGroup<A> {
     pub(crate) fn close(self, alloc: A, part: Prop<A>) -> Result<Prop<A>, AllocError>
         ensures { IfOk result (λ p. formula_of p ≡ ors_of (group_of self) (formula_of part)) }
     {
-        let OpenGroup { left_of_or, left_of_and, nots } = self;
+        let OpenGroup {
+            left_of_or,
+            left_of_and,
+            nots,
+        } = self;
         match conjoined(alloc, left_of_and, nots, part) {
             Ok(conjuncts) => match left_of_or {
                 None => Ok(conjuncts),
