@@ -34,7 +34,7 @@ ALLOWED = {
     "Rattle.lw_base.specs.Types.TokenList": "a row of tokens and a table of names are lists of texts, and are not meant for one another",
     "Rattle.lw_tso.specs.Runs.InitialWords": "where a run begins is of the shape of an outcome, and is none",
     "Rattle.lw_arena.specs.Ownership.node_val": "a node is a struct of one pointer, of each of which the walks say the same",
-    "Rattle.lw_orders.proofs.api.UnorderedPairs.none_in": "lw_orders depends only on std, which does not have it",
+    "Rattle.lw_orders.proofs.api.UnorderedPairs.not-Contains-nil": "lw_orders depends only on std, which does not have it",
 }
 
 

@@ -91,7 +91,7 @@ impl Shelf {
     }
 
     /// Returns the shelf with one more block. No memory holds more blocks than can be counted; one more would be
-    /// lost.
+    /// lost. The contract promises only the size of the blocks: a lost block costs memory, and makes nothing wrong.
     pub(crate) fn put(self, block: Block) -> Shelf
         requires { block.units ≡ self.units }
         ensures { result.units ≡ self.units }

@@ -48,12 +48,12 @@ pub use Rattle.lw_interleaving.proofs.Common.{state_after_step, thread_after, th
 pub use Rattle.lw_interleaving.proofs.api.Commutation.{StepEffect, StepEffect-of_step}
 pub use Rattle.lw_interleaving.specs.declared.thread.Thread.{Thread}
 pub use Rattle.lw_memory.proofs.Common.{flat_memory}
-pub use Rattle.lw_tso.proofs.Common.{EndsBlock, IsFencedCode, IsFencedTest, IsInserted, IsMachineOutcome}
-pub use Rattle.lw_tso.proofs.Common.{MachineState, MarksAreFences, Processor, TransitionAt, advance_processor}
-pub use Rattle.lw_tso.proofs.Common.{code_without, drain_effect, has_terminated, initial_machine_state}
-pub use Rattle.lw_tso.proofs.Common.{initial_processor, is_final, load_effect, machine_outcome}
-pub use Rattle.lw_tso.proofs.Common.{newest_buffered, operation_effect, retarget_to_blocks, set_register}
-pub use Rattle.lw_tso.proofs.Common.{step_effect}
+pub use Rattle.lw_tso.proofs.Common.{EndsBlock, HasInsertedFences, HasInsertedFencesInCode, IsInserted}
+pub use Rattle.lw_tso.proofs.Common.{IsMachineOutcome, MachineState, MarksAreFences, Processor, TransitionAt}
+pub use Rattle.lw_tso.proofs.Common.{advance_processor, code_without, drain_effect, has_terminated}
+pub use Rattle.lw_tso.proofs.Common.{initial_machine_state, initial_processor, is_final, load_effect}
+pub use Rattle.lw_tso.proofs.Common.{machine_outcome, newest_buffered, operation_effect, retarget_to_blocks}
+pub use Rattle.lw_tso.proofs.Common.{set_register, step_effect}
 pub use Rattle.lw_tso.proofs.api.Effects.{EffectLeadsTo, MachineTransition-of_effect}
 pub use Rattle.lw_tso.proofs.api.Operations.{EffectLeadsTo-if_buffer_empty, IsEnabledEffect-operation}
 pub use Rattle.lw_tso.proofs.api.Operations.{IsSuccessor-branch}

@@ -277,14 +277,14 @@ module _ (test : X86Test) (x : Execution) where
         doubled_increases-HalvesPpo ppo (inr halves) = doubled_increases-AreHalves axioms.happens_before.rank a b halves
 
     -- No write of another thread comes between the halves of a locked instruction.
-    halves_are_atomic : (r w v : Half)
+    no_write-between_halves : (r w v : Half)
         → AreHalves test x r w
         → HalvesFr test x r v
         → AreOfTwoThreads test x r v
         → HalvesCo test x v w
         → AreOfTwoThreads test x v w
         → ⊥
-    halves_are_atomic r w v halves fr two co apart =
+    no_write-between_halves r w v halves fr two co apart =
         let differ : r.event ≢ v.event = λ e. two (ap (λ (z : MemoryEvent). z.thread) e) in
         omega (
           arith,
@@ -297,7 +297,7 @@ module _ (test : X86Test) (x : Execution) where
     pub SatisfiesSplitAxioms-SatisfiesAxioms : SatisfiesSplitAxioms test x
     SatisfiesSplitAxioms-SatisfiesAxioms = record {
       coherence = record { rank = doubled axioms.coherence.rank; increases = coherence_in_halves };
-      atomic = halves_are_atomic;
+      atomic = no_write-between_halves;
       happens_before = record { rank = doubled axioms.happens_before.rank; increases = happens_before_in_halves };
     }
 

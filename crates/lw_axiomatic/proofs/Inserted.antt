@@ -1,17 +1,17 @@
 -- Codes with MFENCEs inserted. The code with them is called the longer one here, the code without them the
 -- shorter one. Each instruction of the shorter code has one index in the longer one, in the same order, and
 -- has the same effect on its thread there. WithFences builds executions of the longer code on this.
-use Rattle.lw_axiomatic.proofs.Common.{◌-◌, List, Instr, IsFencedCode, ℕ, slice_get, ◌≡◌, Some, EndsBlock}
-use Rattle.lw_axiomatic.proofs.Common.{◌<◌, length, ◌⊎◌, slice_get-in_range, IsInserted, inl, ◌∙◌, ap, inr}
-use Rattle.lw_axiomatic.proofs.Common.{arith, ◌≤◌, ◌+◌, zero, suc, cases_lt, cases_order, slice_get_within}
-use Rattle.lw_axiomatic.proofs.Common.{retarget_to_blocks, Operation, Bool, Branch, x86_operation, refl}
-use Rattle.lw_axiomatic.proofs.Common.{location_of, word_written, ThreadState, if◌then◌else◌, true, false}
-use Rattle.lw_axiomatic.proofs.Common.{sym, state_after, guard_holds, IsInsertedAt, Guard, Zero, NotZero}
-use Rattle.lw_axiomatic.proofs.Common.{Always, Je, Jmp, Jne, Mfence}
+use Rattle.lw_axiomatic.proofs.Common.{◌-◌, List, Instr, HasInsertedFencesInCode, ℕ, slice_get, ◌≡◌, Some}
+use Rattle.lw_axiomatic.proofs.Common.{EndsBlock, ◌<◌, length, ◌⊎◌, slice_get-in_range, IsInserted, inl, ◌∙◌}
+use Rattle.lw_axiomatic.proofs.Common.{ap, inr, arith, ◌≤◌, ◌+◌, zero, suc, cases_lt, cases_order}
+use Rattle.lw_axiomatic.proofs.Common.{slice_get_within, retarget_to_blocks, Operation, Bool, Branch}
+use Rattle.lw_axiomatic.proofs.Common.{x86_operation, refl, location_of, word_written, ThreadState}
+use Rattle.lw_axiomatic.proofs.Common.{if◌then◌else◌, true, false, sym, state_after, guard_holds}
+use Rattle.lw_axiomatic.proofs.Common.{IsInsertedAt, Guard, Zero, NotZero, Always, Je, Jmp, Jne, Mfence}
 
 -- ---- indices
 
-module _ {code fenced : List Instr} (fencing : IsFencedCode code fenced) where
+module _ {code fenced : List Instr} (fencing : HasInsertedFencesInCode code fenced) where
   -- The instruction at this index of the longer code is one of the inserted MFENCEs.
   pub record IsInsertedFence (index : ℕ) : Type 0 where
     pub fence : slice_get fenced index ≡ Some Mfence

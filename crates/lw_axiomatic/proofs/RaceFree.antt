@@ -209,12 +209,12 @@ module _ {test : X86Test} (well_scoped : IsWellScopedProgram test) {x : Executio
     earlier_store = event late_read.thread Stored-of_read.position
 
     -- No event between the store and the read waits for an empty buffer.
-    none_waits_between : (h : MemoryEvent)
+    no_wait-between : (h : MemoryEvent)
         → Po x earlier_store h
         → Po x h late_read
         → operation_is x86_language test needs_empty_buffer h ≡ true
         → ⊥
-    none_waits_between h first second w = omega (
+    no_wait-between h first second w = omega (
       arith,
       anchored_by.ghb_rank_increases-Po_to_waiting axioms earlier_store h first w,
       anchored_by.ghb_rank_increases-Po_from_waiting axioms h late_read second w,
@@ -541,7 +541,7 @@ module _ {test : X86Test} (well_scoped : IsWellScopedProgram test) {x : Executio
           ))
           | inr (inr position_gt) ↦
               false_from_ne_true (operation_is x86_language test needs_empty_buffer h)
-              (none_waits_between h (record {
+              (no_wait-between h (record {
                 first_event = Stored-of_read.po.first_event;
                 second_event = is.0;
                 same_thread = sym same_thread;

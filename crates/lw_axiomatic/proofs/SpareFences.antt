@@ -3,16 +3,16 @@
 -- rank, in global happens-before of the shorter test, of the events that it comes after: by preserved
 -- program order, and because they are before an inserted MFENCE. The law of spare fences cites it; the other
 -- direction is proved on the machine.
-use Rattle.lw_axiomatic.proofs.Common.{IsWellScopedProgram, max, X86Test, IsFencedTest, Execution, FinalState}
-use Rattle.lw_axiomatic.proofs.Common.{IsCandidate, x86_language, MemoryEvent, Po, subst, ◌<◌, arith, ap}
-use Rattle.lw_axiomatic.proofs.Common.{length, thread_code, PoLoc, sym, ◌∙◌, Co, ℕ, Reads, ◌≡◌, Some}
-use Rattle.lw_axiomatic.proofs.Common.{IsReadFrom, Rf, refl, Option, option_map, None, none-some, same_Some}
-use Rattle.lw_axiomatic.proofs.Common.{Fr, Coherence, inl, inr, if◌then◌else◌, ◌≤◌, SatisfiesAxioms}
-use Rattle.lw_axiomatic.proofs.Common.{Operation, Bool, operation_is, ◌+◌, ◌==◌, not, ◌&&◌, reads, ◌||◌}
-use Rattle.lw_axiomatic.proofs.Common.{writes, suc, true, cond-true, false, cond-false, cases_Bool}
-use Rattle.lw_axiomatic.proofs.Common.{true≢false, and_parts, and_from, IsEvent, eq-eqb, eqb-true, ap₂}
-use Rattle.lw_axiomatic.proofs.Common.{or_right, or_left, or_cases, cases_lt, location, Writes, Ppo, AreSpare}
-use Rattle.lw_axiomatic.proofs.Common.{List, Instr, AreOnPath, Contains, IsInsertedAt, ◌⊎◌}
+use Rattle.lw_axiomatic.proofs.Common.{IsWellScopedProgram, max, X86Test, HasInsertedFences, Execution}
+use Rattle.lw_axiomatic.proofs.Common.{FinalState, IsCandidate, x86_language, MemoryEvent, Po, subst, ◌<◌}
+use Rattle.lw_axiomatic.proofs.Common.{arith, ap, length, thread_code, PoLoc, sym, ◌∙◌, Co, ℕ, Reads, ◌≡◌}
+use Rattle.lw_axiomatic.proofs.Common.{Some, IsReadFrom, Rf, refl, Option, option_map, None, none-some}
+use Rattle.lw_axiomatic.proofs.Common.{same_Some, Fr, Coherence, inl, inr, if◌then◌else◌, ◌≤◌}
+use Rattle.lw_axiomatic.proofs.Common.{SatisfiesAxioms, Operation, Bool, operation_is, ◌+◌, ◌==◌, not, ◌&&◌}
+use Rattle.lw_axiomatic.proofs.Common.{reads, ◌||◌, writes, suc, true, cond-true, false, cond-false}
+use Rattle.lw_axiomatic.proofs.Common.{cases_Bool, true≢false, and_parts, and_from, IsEvent, eq-eqb, eqb-true}
+use Rattle.lw_axiomatic.proofs.Common.{ap₂, or_right, or_left, or_cases, cases_lt, location, Writes, Ppo}
+use Rattle.lw_axiomatic.proofs.Common.{AreSpare, List, Instr, AreOnPath, Contains, IsInsertedAt, ◌⊎◌}
 use Rattle.lw_axiomatic.proofs.Common.{IsLocationOnlyWrittenBy, [], get_or_past, slice_get, AreStoreAndLoad}
 use Rattle.lw_axiomatic.proofs.Common.{needs_empty_buffer, option_map_or, x86_operation, cases_order}
 use Rattle.lw_axiomatic.proofs.Common.{is_store, HappensBefore, IsAllowed, HasOtherFence}
@@ -35,8 +35,8 @@ use Rattle.lw_litmus.specs.Operations as operations
 
 -- ---- Relations of the longer test's execution are relations of the shorter test's.
 
-module _ {test fenced : X86Test} (fencing : IsFencedTest test fenced) (well_scoped : IsWellScopedProgram fenced) {x : Execution}
-    {o : FinalState} (candidate : IsCandidate x86_language test x o) where
+module _ {test fenced : X86Test} (fencing : HasInsertedFences test fenced) (well_scoped : IsWellScopedProgram fenced)
+    {x : Execution} {o : FinalState} (candidate : IsCandidate x86_language test x o) where
   -- The execution of the longer test.
   abbrev fenced_execution : Execution
   fenced_execution = with_fences fencing well_scoped candidate
@@ -157,8 +157,8 @@ module _ {test fenced : X86Test} (fencing : IsFencedTest test fenced) (well_scop
 
 -- ---- Ranks of the longer test's events.
 
-module _ {test fenced : X86Test} (fencing : IsFencedTest test fenced) (well_scoped : IsWellScopedProgram fenced) {x : Execution}
-    {o : FinalState} (candidate : IsCandidate x86_language test x o) (axioms : SatisfiesAxioms test x) where
+module _ {test fenced : X86Test} (fencing : HasInsertedFences test fenced) (well_scoped : IsWellScopedProgram fenced)
+    {x : Execution} {o : FinalState} (candidate : IsCandidate x86_language test x o) (axioms : SatisfiesAxioms test x) where
   -- The execution of the longer test.
   abbrev longer_execution : Execution
   longer_execution = with_fences fencing well_scoped candidate
@@ -712,7 +712,7 @@ module _ {test fenced : X86Test} (fencing : IsFencedTest test fenced) (well_scop
     }
 
 -- An outcome that the axioms allow a test is one that they allow it with spare MFENCEs inserted.
-pub IsAllowed-with_fences : {test fenced : X86Test} (f : IsFencedTest test fenced)
+pub IsAllowed-with_fences : {test fenced : X86Test} (f : HasInsertedFences test fenced)
     → IsWellScopedProgram fenced
     → AreSpare test fenced f
     → {o : FinalState}

@@ -7,13 +7,14 @@ use Rattle.lw_axiomatic.proofs.Common.{location_of, Some, none-some, slice_get_p
 use Rattle.lw_axiomatic.proofs.Common.{first_state, slice_index_or, All-get_or, IsEvent, Reads, reads, Writes}
 use Rattle.lw_axiomatic.proofs.Common.{IsReadFrom, Option, None, TestHead, slice_index, IsLast}
 use Rattle.lw_axiomatic.proofs.Common.{HasOutcomeShape, ℕ, List, ◌<◌, length, ◌≡◌, thread_code, zero, []}
-use Rattle.lw_axiomatic.proofs.Common.{refl, arith, suc, ◌∷◌, IsFencedCode, X86Test, IsFencedTest, ◌≤◌}
-use Rattle.lw_axiomatic.proofs.Common.{get_or_past, subst, Instr, sym, ◌⊎◌, inl, inr, cases_lt, MemoryEvent}
-use Rattle.lw_axiomatic.proofs.Common.{Execution, option_map, x86_language, ThreadState, ThreadExecutes}
-use Rattle.lw_axiomatic.proofs.Common.{Contains, true≢false, Contains-cons, slice_get_within, Contains-tail}
-use Rattle.lw_axiomatic.proofs.Common.{◌+◌, ap, writes, x86_operation, true, word_written, state_after}
-use Rattle.lw_axiomatic.proofs.Common.{retarget_to_blocks, IsSuccessor, ◌∙◌, Contains-head, not-Contains-nil}
-use Rattle.lw_axiomatic.proofs.Common.{same_Some, slice_get, IsInsertedAt, at_next, Mfence}
+use Rattle.lw_axiomatic.proofs.Common.{refl, arith, suc, ◌∷◌, HasInsertedFencesInCode, X86Test}
+use Rattle.lw_axiomatic.proofs.Common.{HasInsertedFences, ◌≤◌, get_or_past, subst, Instr, sym, ◌⊎◌, inl, inr}
+use Rattle.lw_axiomatic.proofs.Common.{cases_lt, MemoryEvent, Execution, option_map, x86_language}
+use Rattle.lw_axiomatic.proofs.Common.{ThreadState, ThreadExecutes, Contains, true≢false, Contains-cons}
+use Rattle.lw_axiomatic.proofs.Common.{slice_get_within, Contains-tail, ◌+◌, ap, writes, x86_operation, true}
+use Rattle.lw_axiomatic.proofs.Common.{word_written, state_after, retarget_to_blocks, IsSuccessor, ◌∙◌}
+use Rattle.lw_axiomatic.proofs.Common.{Contains-head, not-Contains-nil, same_Some, slice_get, IsInsertedAt}
+use Rattle.lw_axiomatic.proofs.Common.{at_next, Mfence}
 use Rattle.lw_axiomatic.proofs.EventLists.{event}
 use Rattle.lw_axiomatic.proofs.Paths.{IsSuccessor-state_after}
 use Rattle.lw_axiomatic.proofs.Inserted.{IsInsertedFence, IsKeptAt, IsInsertedFence-or_kept}
@@ -47,27 +48,30 @@ paths-from_each (suc n) P each =
 -- ---- The code of each thread.
 
 -- The empty code is the empty code with no MFENCE inserted.
-IsFencedCode-nil : IsFencedCode [] []
-IsFencedCode-nil = record { block = λ index. 0; first = refl; each = λ index i there. absurd cc; last = λ index past. refl }
+HasInsertedFencesInCode-nil : HasInsertedFencesInCode [] []
+HasInsertedFencesInCode-nil =
+    record { block = λ index. 0; first = refl; each = λ index i there. absurd cc; last = λ index past. refl }
 
-module _ {test fenced : X86Test} (fencing : IsFencedTest test fenced) where
+module _ {test fenced : X86Test} (fencing : HasInsertedFences test fenced) where
   -- Past the last thread both codes are empty.
-  pub code_at-past : (t : ℕ) → length test.threads ≤ t → IsFencedCode (thread_code test.threads t) (thread_code fenced.threads t)
+  pub code_at-past : (t : ℕ)
+      → length test.threads ≤ t
+      → HasInsertedFencesInCode (thread_code test.threads t) (thread_code fenced.threads t)
   code_at-past t past =
       let one = get_or_past test.threads t [] past in
       let other = get_or_past fenced.threads t [] (omega (arith, past, fencing.as_many)) in
-      subst (λ (code : List Instr). IsFencedCode code (thread_code fenced.threads t)) (sym one)
-      (subst (λ (code : List Instr). IsFencedCode [] code) (sym other) IsFencedCode-nil)
+      subst (λ (code : List Instr). HasInsertedFencesInCode code (thread_code fenced.threads t)) (sym one)
+      (subst (λ (code : List Instr). HasInsertedFencesInCode [] code) (sym other) HasInsertedFencesInCode-nil)
 
   -- A thread's code in the longer test; threads that do not exist have no code.
   abbrev pub code_at-by_range : (t : ℕ)
       → (t < length test.threads) ⊎ (length test.threads ≤ t)
-      → IsFencedCode (thread_code test.threads t) (thread_code fenced.threads t)
+      → HasInsertedFencesInCode (thread_code test.threads t) (thread_code fenced.threads t)
   code_at-by_range t (inl within) = fencing.threads t within
   code_at-by_range t (inr past) = code_at-past t past
 
   -- The code of each thread of the longer test is that of the shorter one with MFENCEs inserted.
-  abbrev pub code_at : (t : ℕ) → IsFencedCode (thread_code test.threads t) (thread_code fenced.threads t)
+  abbrev pub code_at : (t : ℕ) → HasInsertedFencesInCode (thread_code test.threads t) (thread_code fenced.threads t)
   code_at t = code_at-by_range t (cases_lt t (length test.threads))
 
   -- Returns the event of the shorter test at the block of an event of the longer one.
@@ -90,7 +94,7 @@ module _ {test fenced : X86Test} (fencing : IsFencedTest test fenced) where
 
 -- ---- One thread.
 
-module _ {test fenced : X86Test} (fencing : IsFencedTest test fenced) (x : Execution) (t : ℕ) where
+module _ {test fenced : X86Test} (fencing : HasInsertedFences test fenced) (x : Execution) (t : ℕ) where
   -- The thread's code in the shorter test, and in the longer one.
   abbrev code : List Instr
   code = thread_code test.threads t
@@ -100,7 +104,7 @@ module _ {test fenced : X86Test} (fencing : IsFencedTest test fenced) (x : Execu
   longer = thread_code fenced.threads t
 
   -- How the fences are inserted into it.
-  abbrev inserted : IsFencedCode code longer
+  abbrev inserted : HasInsertedFencesInCode code longer
   inserted = code_at fencing t
 
   -- The execution of the longer test: everything as in the shorter one.
@@ -298,7 +302,7 @@ module _ {test fenced : X86Test} (fencing : IsFencedTest test fenced) (x : Execu
 
 -- ---- Kinds of events.
 
-module _ {test fenced : X86Test} (fencing : IsFencedTest test fenced) where
+module _ {test fenced : X86Test} (fencing : HasInsertedFences test fenced) where
   -- An event at an instruction of both codes is of the same kinds in both tests.
   pub kind-event_without : (kind : Operation → Bool)
       → ((c : Guard) (to other : ℕ) → kind (Branch c to) ≡ kind (Branch c other))
@@ -355,8 +359,8 @@ position-in_code test e l located = elim (cases_lt e.position (length (thread_co
 
 -- ---- The whole execution.
 
-module _ {test fenced : X86Test} (fencing : IsFencedTest test fenced) (well_scoped : IsWellScopedProgram fenced) {x : Execution}
-    {o : FinalState} (candidate : IsCandidate x86_language test x o) where
+module _ {test fenced : X86Test} (fencing : HasInsertedFences test fenced) (well_scoped : IsWellScopedProgram fenced)
+    {x : Execution} {o : FinalState} (candidate : IsCandidate x86_language test x o) where
   -- A route of a thread from its start, to an end with the registers of the outcome.
   pub record IsThreadRoute (t : ℕ) (route : List ℕ) : Type 0 where
     end : ThreadState

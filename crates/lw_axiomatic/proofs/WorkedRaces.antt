@@ -57,8 +57,8 @@ no_store_in_second_thread zero (suc (suc j)) i found_at store = none-some i foun
 no_store_in_second_thread (suc t) j i found_at store = none-some i found_at
 
 -- Message passing has no triangular race.
-pub message_passing_has_no_race : HasTriangularRace message_passing_in_x86 → ⊥
-message_passing_has_no_race race =
+pub not-HasTriangularRace-message_passing : HasTriangularRace message_passing_in_x86 → ⊥
+not-HasTriangularRace-message_passing race =
     no_store_and_load_in_thread race.q race.store.thread.position race.store.statement race.store.statement_at race.stores
     race.load_is_next.thread.position race.load_is_next.instruction race.load_is_next.instruction_at race.load_is_next.has_kind
   where

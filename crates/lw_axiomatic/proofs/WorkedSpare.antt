@@ -1,29 +1,32 @@
 -- Spare fences, worked: in a test whose threads load only what no other thread writes, the fence between store and load is spare. An
 -- example of the law on spare fences, by hand.
-use Rattle.lw_axiomatic.proofs.Common.{List, Bool, Instr, MarksAreFences, IsFencedCode, code_without, ℕ, ◌<◌}
-use Rattle.lw_axiomatic.proofs.Common.{thread_code, zero, false, ◌∷◌, true, [], refl, suc, arith}
-use Rattle.lw_axiomatic.proofs.Common.{IsFencedTest, IsLocationOnlyWrittenBy, Some, ◌≡◌, ap, location_of}
-use Rattle.lw_axiomatic.proofs.Common.{x86_operation, same_Some, ◌∙◌, true≢false, sym, writes, none-some}
-use Rattle.lw_axiomatic.proofs.Common.{AreOnPath, HasOtherFence, ◌⊎◌, inr, subst, AreSpare, own_loads}
-use Rattle.lw_axiomatic.proofs.Common.{own_loads_fenced}
+use Rattle.lw_axiomatic.proofs.Common.{List, Bool, Instr, MarksAreFences, HasInsertedFencesInCode}
+use Rattle.lw_axiomatic.proofs.Common.{code_without, ℕ, ◌<◌, thread_code, zero, false, ◌∷◌, true, [], refl}
+use Rattle.lw_axiomatic.proofs.Common.{suc, arith, HasInsertedFences, IsLocationOnlyWrittenBy, Some, ◌≡◌, ap}
+use Rattle.lw_axiomatic.proofs.Common.{location_of, x86_operation, same_Some, ◌∙◌, true≢false, sym, writes}
+use Rattle.lw_axiomatic.proofs.Common.{none-some, AreOnPath, HasOtherFence, ◌⊎◌, inr, subst, AreSpare}
+use Rattle.lw_axiomatic.proofs.Common.{own_loads, own_loads_fenced}
 use Rattle.lw_litmus.specs.declared.instr.Instr.TheVariants as instr
 
 -- Any MFENCEs of a code can be removed.
 abbrev CanBeLeftOut : Type 0
-CanBeLeftOut = (marks : List Bool) (code : List Instr) → MarksAreFences marks code → IsFencedCode (code_without marks code) code
+CanBeLeftOut =
+    (marks : List Bool) (code : List Instr) → MarksAreFences marks code → HasInsertedFencesInCode (code_without marks code) code
 
 module _ (left_out : CanBeLeftOut) where
   -- Each thread's code is the one without the fence, with the fence inserted.
-  pub IsFencedCode-of_thread : (t : ℕ)
+  pub HasInsertedFencesInCode-of_thread : (t : ℕ)
       → t < 2
-      → IsFencedCode (thread_code own_loads.threads t) (thread_code own_loads_fenced.threads t)
-  IsFencedCode-of_thread zero in_range = left_out (false ∷ true ∷ false ∷ []) (thread_code own_loads_fenced.threads 0) (refl, tt)
-  IsFencedCode-of_thread (suc zero) in_range = left_out (false ∷ false ∷ []) (thread_code own_loads_fenced.threads 1) tt
-  IsFencedCode-of_thread (suc (suc t)) in_range = absurd (omega arith)
+      → HasInsertedFencesInCode (thread_code own_loads.threads t) (thread_code own_loads_fenced.threads t)
+  HasInsertedFencesInCode-of_thread zero in_range =
+      left_out (false ∷ true ∷ false ∷ []) (thread_code own_loads_fenced.threads 0) (refl, tt)
+  HasInsertedFencesInCode-of_thread (suc zero) in_range =
+      left_out (false ∷ false ∷ []) (thread_code own_loads_fenced.threads 1) tt
+  HasInsertedFencesInCode-of_thread (suc (suc t)) in_range = absurd (omega arith)
 
   -- The test with the fence is the one without it, with the fence inserted.
-  abbrev pub IsFencedTest-own_loads : IsFencedTest own_loads own_loads_fenced
-  IsFencedTest-own_loads = record { head = refl; as_many = refl; threads = IsFencedCode-of_thread }
+  abbrev pub HasInsertedFences-own_loads : HasInsertedFences own_loads own_loads_fenced
+  HasInsertedFences-own_loads = record { head = refl; as_many = refl; threads = HasInsertedFencesInCode-of_thread }
 
   -- No other thread writes what the first thread loads.
   IsLocationOnlyWrittenBy-first_thread : IsLocationOnlyWrittenBy own_loads_fenced 0 (instr.Load 0 0)
@@ -41,7 +44,7 @@ module _ (left_out : CanBeLeftOut) where
       → AreOnPath (thread_code own_loads_fenced.threads t) path i j load
       → i < index
       → index < j
-      → HasOtherFence (IsFencedCode-of_thread t within) path i j ⊎ IsLocationOnlyWrittenBy own_loads_fenced t load
+      → HasOtherFence (HasInsertedFencesInCode-of_thread t within) path i j ⊎ IsLocationOnlyWrittenBy own_loads_fenced t load
   HasOtherFence-of_thread zero within path i index zero load on after_store before_load = absurd (omega arith)
   HasOtherFence-of_thread zero within path i index (suc zero) load on after_store before_load = absurd (omega arith)
   HasOtherFence-of_thread zero within path i index (suc (suc zero)) load on after_store before_load =
@@ -56,6 +59,6 @@ module _ (left_out : CanBeLeftOut) where
   HasOtherFence-of_thread (suc (suc t)) within path i index j load on after_store before_load = absurd (omega arith)
 
   -- All fences of the test are spare.
-  pub AreSpare-own_loads : AreSpare own_loads own_loads_fenced IsFencedTest-own_loads
+  pub AreSpare-own_loads : AreSpare own_loads own_loads_fenced HasInsertedFences-own_loads
   AreSpare-own_loads t within path i index j load on among after_store before_load at =
       HasOtherFence-of_thread t within path i index j load on after_store before_load

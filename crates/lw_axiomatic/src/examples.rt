@@ -12,7 +12,7 @@ ghost use Rattle.lw_base.specs.Outcomes.{FinalState};
 ghost use Rattle.lw_bench.specs.Classics.{store_buffering_in_x86, message_passing_in_x86};
 ghost use Rattle.lw_litmus.specs.Programs.{x86_language};
 ghost use Rattle.lw_report.specs.Truth.{is_true};
-ghost use Rattle.lw_tso.specs.Fencing.{IsFencedTest};
+ghost use Rattle.lw_tso.specs.Fencing.{HasInsertedFences};
 
 use crate::programs::critical_sections_do_not_overlap;
 use lw_tso::fences_can_be_removed;
@@ -31,7 +31,7 @@ pub fn store_buffering_has_a_triangular_race()
 /// States of two threads, each of which loads what only it stores, that their fences are spare. A fence between a
 /// store and a load is spare if no other thread writes what the load reads and no further load follows.
 pub fn the_fence_of_own_loads_is_spare()
-    ensures { (inserted : IsFencedTest own_loads own_loads_fenced) × AreSpare own_loads own_loads_fenced inserted }
+    ensures { (inserted : HasInsertedFences own_loads own_loads_fenced) × AreSpare own_loads own_loads_fenced inserted }
 {
     fences_can_be_removed();
 }

@@ -19,7 +19,7 @@ ghost use Rattle.lw_litmus.specs.Tests.{X86Test};
 ghost use Rattle.lw_litmus.specs.WellScopedTests.{IsWellScopedProgram};
 ghost use Rattle.lw_memory.specs.Flat.{flat_memory};
 ghost use Rattle.lw_mesi.specs.declared.protocol.Protocol.{Protocol};
-ghost use Rattle.lw_tso.specs.Fencing.{IsFencedTest};
+ghost use Rattle.lw_tso.specs.Fencing.{HasInsertedFences};
 ghost use Rattle.lw_tso.specs.Runs.{IsMachineOutcome};
 ghost use Rattle.lw_tso_caches.specs.OverCaches.{FitsCaches, OutcomeOverCaches};
 
@@ -142,12 +142,12 @@ pub fn tests_fenced_where_others_write_have_interleaving_outcomes()
 /// instruction, which remains, separates them too, or no instruction of another thread writes what the load reads.
 /// The laws above speak of all loads at once, this one of each fence by itself.
 pub fn spare_fences_change_no_outcome()
-    ensures axioms { (test fenced : X86Test) (o : FinalState) (inserted : IsFencedTest test fenced) → IsWellScopedProgram fenced
+    ensures axioms { (test fenced : X86Test) (o : FinalState) (inserted : HasInsertedFences test fenced) → IsWellScopedProgram fenced
         → AreSpare test fenced inserted → IsAllowed test o ↔ IsAllowed fenced o }
-    ensures flat_memory { (test fenced : X86Test) (o : FinalState) (inserted : IsFencedTest test fenced) → IsWellScopedProgram fenced
+    ensures flat_memory { (test fenced : X86Test) (o : FinalState) (inserted : HasInsertedFences test fenced) → IsWellScopedProgram fenced
         → AreSpare test fenced inserted
         → IsMachineOutcome flat_memory test test.head.init_words o ↔ IsMachineOutcome flat_memory fenced fenced.head.init_words o }
-    ensures caches { (protocol : Protocol) (test fenced : X86Test) (o : FinalState) (inserted : IsFencedTest test fenced)
+    ensures caches { (protocol : Protocol) (test fenced : X86Test) (o : FinalState) (inserted : HasInsertedFences test fenced)
         → IsWellScopedProgram fenced → FitsCaches fenced → AreSpare test fenced inserted
         → OutcomeOverCaches protocol test o ↔ OutcomeOverCaches protocol fenced o }
 {

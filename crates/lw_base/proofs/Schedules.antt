@@ -4,7 +4,7 @@ use Rattle.lw_base.proofs.Common.{◌≡◌, ℕ, zero, suc, ◌<◌, ◌+◌, L
 use Rattle.lw_base.proofs.Common.{subst, arith, map, slice_index_or, Contains, AllByRecursion}
 use Rattle.lw_base.proofs.Common.{Contains-get_or, Bytes, NameTable, IsDuplicateFree, IsNameTable, IsEvent}
 use Rattle.lw_base.proofs.Common.{event_text, IsSchedule, Event, Step, Drain, Evict}
-use Rattle.lw_base.proofs.api.Lists.{cons-ne}
+use Rattle.lw_base.proofs.api.Lists.{not-cons_eq-if_heads_differ}
 
 -- In a list of names without duplicates a name has one index.
 pub name_index-unique : (names : NameTable) (i j : ℕ)
@@ -34,16 +34,22 @@ event_text-injective names once (Step c) (Step d) h k same =
     let e : 48 + c ≡ 48 + d = cc in
     let g : c ≡ d = omega arith in
     ap Step g
-event_text-injective names once (Step c) (Drain d) h k same = absurd (cons-ne 80 68 _ _ (λ differ. omega arith) same)
-event_text-injective names once (Step c) (Evict d l) h k same = absurd (cons-ne 80 69 _ _ (λ differ. omega arith) same)
-event_text-injective names once (Drain c) (Step d) h k same = absurd (cons-ne 68 80 _ _ (λ differ. omega arith) same)
+event_text-injective names once (Step c) (Drain d) h k same =
+    absurd (not-cons_eq-if_heads_differ 80 68 _ _ (λ differ. omega arith) same)
+event_text-injective names once (Step c) (Evict d l) h k same =
+    absurd (not-cons_eq-if_heads_differ 80 69 _ _ (λ differ. omega arith) same)
+event_text-injective names once (Drain c) (Step d) h k same =
+    absurd (not-cons_eq-if_heads_differ 68 80 _ _ (λ differ. omega arith) same)
 event_text-injective names once (Drain c) (Drain d) h k same =
     let e : 48 + c ≡ 48 + d = cc in
     let g : c ≡ d = omega arith in
     ap Drain g
-event_text-injective names once (Drain c) (Evict d l) h k same = absurd (cons-ne 68 69 _ _ (λ differ. omega arith) same)
-event_text-injective names once (Evict c l) (Step d) h k same = absurd (cons-ne 69 80 _ _ (λ differ. omega arith) same)
-event_text-injective names once (Evict c l) (Drain d) h k same = absurd (cons-ne 69 68 _ _ (λ differ. omega arith) same)
+event_text-injective names once (Drain c) (Evict d l) h k same =
+    absurd (not-cons_eq-if_heads_differ 68 69 _ _ (λ differ. omega arith) same)
+event_text-injective names once (Evict c l) (Step d) h k same =
+    absurd (not-cons_eq-if_heads_differ 69 80 _ _ (λ differ. omega arith) same)
+event_text-injective names once (Evict c l) (Drain d) h k same =
+    absurd (not-cons_eq-if_heads_differ 69 68 _ _ (λ differ. omega arith) same)
 event_text-injective names once (Evict c l) (Evict d m) h k same =
     let e : 48 + c ≡ 48 + d = cc in
     let g : c ≡ d = omega arith in

@@ -9,7 +9,7 @@ use Rattle.lw_base.proofs.Common.{NameTable, DoesNotContain, IsSplitAtFirst, fir
 use Rattle.lw_base.proofs.Common.{IsLocationName, IsNameShaped, IsNameTable, are_digits, HasEventParts}
 use Rattle.lw_base.proofs.Common.{HasEventShape, IsCpu, IsFaultyPiece, IsEvent, event_text, HasBadDigits}
 use Rattle.lw_base.proofs.Common.{Event, Step, Drain, Evict, ScheduleCause, Word, Cpu, Memory}
-use Rattle.lw_base.proofs.api.Lists.{cons-ne}
+use Rattle.lw_base.proofs.api.Lists.{not-cons_eq-if_heads_differ}
 use Rattle.lw_base.specs.declared.fault.ScheduleCause.TheVariants.{Location}
 
 -- Equal texts have equal rests after their first bytes.
@@ -52,8 +52,8 @@ pub IsFaultyPiece-no_colon : (names : NameTable) (text : Bytes)
 IsFaultyPiece-no_colon names text others ds shape = go shape.1
   where
     go : HasEventParts (69 ∷ text) ds → ⊥
-    go (inl e) = cons-ne 69 80 _ _ (λ k. omega arith) e
-    go (inr (inl e)) = cons-ne 69 68 _ _ (λ k. omega arith) e
+    go (inl e) = not-cons_eq-if_heads_differ 69 80 _ _ (λ k. omega arith) e
+    go (inr (inl e)) = not-cons_eq-if_heads_differ 69 68 _ _ (λ k. omega arith) e
     go (inr (inr h)) = not-no_colon-of_append ds h.0 (subst (AllByRecursion (λ b. b ≢ 58)) (cons-tail_eq 69 69 _ _ h.2) others)
 
 -- A text after `E`, split at its first `:`.
@@ -64,8 +64,8 @@ module _ (names : NameTable) (text digits name : Bytes) (cut : text ≡ digits +
   HasEventShape-eviction_inv ds shape = go shape.1
     where
       go : HasEventParts (69 ∷ text) ds → (digits ≡ ds) × IsNameShaped name
-      go (inl e) = absurd (cons-ne 69 80 _ _ (λ k. omega arith) e)
-      go (inr (inl e)) = absurd (cons-ne 69 68 _ _ (λ k. omega arith) e)
+      go (inl e) = absurd (not-cons_eq-if_heads_differ 69 80 _ _ (λ k. omega arith) e)
+      go (inr (inl e)) = absurd (not-cons_eq-if_heads_differ 69 68 _ _ (λ k. omega arith) e)
       go (inr (inr h)) =
           let e : digits ++ 58 ∷ name ≡ ds ++ 58 ∷ h.0 = sym cut ∙ cons-tail_eq 69 69 _ _ h.2 in
           let p = colon_split-unique digits ds name h.0 others (event_digits-no_colon ds shape.0) e in
@@ -126,13 +126,13 @@ HasEventShape-unique w ds es shape other = go shape.1 other.1
   where
     go : HasEventParts w ds → HasEventParts w es → ds ≡ es
     go (inl e) (inl f) = cons-tail_eq 80 80 _ _ (sym e ∙ f)
-    go (inl e) (inr (inl f)) = absurd (cons-ne 80 68 _ _ (λ k. omega arith) (sym e ∙ f))
-    go (inl e) (inr (inr f)) = absurd (cons-ne 80 69 _ _ (λ k. omega arith) (sym e ∙ f.2))
-    go (inr (inl e)) (inl f) = absurd (cons-ne 68 80 _ _ (λ k. omega arith) (sym e ∙ f))
+    go (inl e) (inr (inl f)) = absurd (not-cons_eq-if_heads_differ 80 68 _ _ (λ k. omega arith) (sym e ∙ f))
+    go (inl e) (inr (inr f)) = absurd (not-cons_eq-if_heads_differ 80 69 _ _ (λ k. omega arith) (sym e ∙ f.2))
+    go (inr (inl e)) (inl f) = absurd (not-cons_eq-if_heads_differ 68 80 _ _ (λ k. omega arith) (sym e ∙ f))
     go (inr (inl e)) (inr (inl f)) = cons-tail_eq 68 68 _ _ (sym e ∙ f)
-    go (inr (inl e)) (inr (inr f)) = absurd (cons-ne 68 69 _ _ (λ k. omega arith) (sym e ∙ f.2))
-    go (inr (inr e)) (inl f) = absurd (cons-ne 69 80 _ _ (λ k. omega arith) (sym e.2 ∙ f))
-    go (inr (inr e)) (inr (inl f)) = absurd (cons-ne 69 68 _ _ (λ k. omega arith) (sym e.2 ∙ f))
+    go (inr (inl e)) (inr (inr f)) = absurd (not-cons_eq-if_heads_differ 68 69 _ _ (λ k. omega arith) (sym e ∙ f.2))
+    go (inr (inr e)) (inl f) = absurd (not-cons_eq-if_heads_differ 69 80 _ _ (λ k. omega arith) (sym e.2 ∙ f))
+    go (inr (inr e)) (inr (inl f)) = absurd (not-cons_eq-if_heads_differ 69 68 _ _ (λ k. omega arith) (sym e.2 ∙ f))
     go (inr (inr e)) (inr (inr f)) =
         let same : ds ++ 58 ∷ e.0 ≡ es ++ 58 ∷ f.0 = cons-tail_eq 69 69 _ _ (sym e.2 ∙ f.2) in
         (colon_split-unique ds es e.0 f.0 (event_digits-no_colon ds shape.0) (event_digits-no_colon es other.0) same).0
@@ -152,9 +152,9 @@ not-event_text-if_faulty names table w Cpu faulty e is same =
     let s = HasEventShape-event_text names table e is in
     faulty.2 (subst IsCpu (HasEventShape-unique w s.0 faulty.0 (subst (λ v. HasEventShape v s.0) same s.2) faulty.1) s.1)
 not-event_text-if_faulty names table w Location (ds, n, cpu, text, is_word, missing) (Step c) is same =
-    cons-ne 80 69 _ _ (λ k. omega arith) (same ∙ is_word)
+    not-cons_eq-if_heads_differ 80 69 _ _ (λ k. omega arith) (same ∙ is_word)
 not-event_text-if_faulty names table w Location (ds, n, cpu, text, is_word, missing) (Drain c) is same =
-    cons-ne 68 69 _ _ (λ k. omega arith) (same ∙ is_word)
+    not-cons_eq-if_heads_differ 68 69 _ _ (λ k. omega arith) (same ∙ is_word)
 not-event_text-if_faulty names table w Location (ds, n, cpu, text, is_word, missing) (Evict c l) is same =
     let e : (48 + c) ∷ 58 ∷ slice_index_or names l [] ≡ ds ++ 58 ∷ n = cons-tail_eq 69 69 _ _ (same ∙ is_word) in
     let d : ds ≡ (48 + cpu.0) ∷ [] = cpu.2 in
@@ -208,11 +208,15 @@ not-HasEventShape-nil (b ∷ w) ds none shape = omega (arith, none)
 -- If a piece with an event's parts begins with `P` or `D`, its digits are the rest.
 HasEventParts-digits_eq_rest : (w rest ds : Bytes) → (w ≡ 80 ∷ rest) ⊎ (w ≡ 68 ∷ rest) → HasEventParts w ds → rest ≡ ds
 HasEventParts-digits_eq_rest w rest ds (inl e) (inl f) = cons-tail_eq 80 80 _ _ (sym e ∙ f)
-HasEventParts-digits_eq_rest w rest ds (inl e) (inr (inl f)) = absurd (cons-ne 80 68 _ _ (λ k. omega arith) (sym e ∙ f))
-HasEventParts-digits_eq_rest w rest ds (inl e) (inr (inr f)) = absurd (cons-ne 80 69 _ _ (λ k. omega arith) (sym e ∙ f.2))
-HasEventParts-digits_eq_rest w rest ds (inr e) (inl f) = absurd (cons-ne 68 80 _ _ (λ k. omega arith) (sym e ∙ f))
+HasEventParts-digits_eq_rest w rest ds (inl e) (inr (inl f)) =
+    absurd (not-cons_eq-if_heads_differ 80 68 _ _ (λ k. omega arith) (sym e ∙ f))
+HasEventParts-digits_eq_rest w rest ds (inl e) (inr (inr f)) =
+    absurd (not-cons_eq-if_heads_differ 80 69 _ _ (λ k. omega arith) (sym e ∙ f.2))
+HasEventParts-digits_eq_rest w rest ds (inr e) (inl f) =
+    absurd (not-cons_eq-if_heads_differ 68 80 _ _ (λ k. omega arith) (sym e ∙ f))
 HasEventParts-digits_eq_rest w rest ds (inr e) (inr (inl f)) = cons-tail_eq 68 68 _ _ (sym e ∙ f)
-HasEventParts-digits_eq_rest w rest ds (inr e) (inr (inr f)) = absurd (cons-ne 68 69 _ _ (λ k. omega arith) (sym e ∙ f.2))
+HasEventParts-digits_eq_rest w rest ds (inr e) (inr (inr f)) =
+    absurd (not-cons_eq-if_heads_differ 68 69 _ _ (λ k. omega arith) (sym e ∙ f.2))
 
 -- A piece that begins with `P` or `D` has an event's parts, with the rest as its digits.
 HasEventParts-step_or_drain : (w rest : Bytes) → (w ≡ 80 ∷ rest) ⊎ (w ≡ 68 ∷ rest) → HasEventParts w rest

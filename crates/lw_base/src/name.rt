@@ -80,7 +80,7 @@ fn is_reserved(text: &str) -> bool
     is_numbered(text.as_bytes()) || is_keyword(text) || is_x86_register(text)
 }
 
-/// Returns whether the bytes are `r` followed by digits only.
+/// Returns whether the bytes are `r`, followed by at least one digit and nothing else: a name like those of source registers.
 pub fn is_numbered(bytes: &[u8]) -> bool
     ensures { result ≡ names.is_numbered_register bytes.now }
 {

@@ -37,8 +37,8 @@ cons-injective_tail : {a b : List ℕ} {l k : List (List ℕ)} → a ∷ l ≡ b
 cons-injective_tail same = cc
 
 -- The empty list has no first item.
-nil_ne_cons : (a : List ℕ) (l : List (List ℕ)) → [] ≡ a ∷ l → ⊥
-nil_ne_cons a l same = cc
+not-nil_eq_cons : (a : List ℕ) (l : List (List ℕ)) → [] ≡ a ∷ l → ⊥
+not-nil_eq_cons a l same = cc
 
 -- If the comparison says that two arguments do not differ, they are equal.
 texts_equal-by_test : (a b : List ℕ) (differs : Bool) → differs ≡ not (pointwise nat_eq a b) → differs ≡ false → a ≡ b
@@ -51,8 +51,8 @@ texts_equal-by_test a b differs is same =
     not-cases false e = cc
 
 -- If the comparison says that two arguments differ, they are unequal.
-texts_differ-by_test : (a b : List ℕ) (differs : Bool) → differs ≡ not (pointwise nat_eq a b) → differs ≡ true → a ≡ b → ⊥
-texts_differ-by_test a b differs is other same =
+not-texts_eq-by_test : (a b : List ℕ) (differs : Bool) → differs ≡ not (pointwise nat_eq a b) → differs ≡ true → a ≡ b → ⊥
+not-texts_eq-by_test a b differs is other same =
     not-cases (pointwise nat_eq a b) ((pointwise_decides unsigned_Decides a b).1 same) (sym is ∙ other)
   where
     not-cases : (b : Bool) → b ≡ true → not b ≡ true → ⊥
@@ -93,13 +93,13 @@ module _ (words : Arguments) (many : 2 ≤ length words) (few : length words < 3
     where
       go : (p : Protocol) → IsProtocolOption (argument_texts words) p → ⊥
       go p (inl e) = none p (sym (cons-head_eq _ _ _ _ (cons-injective_tail (sym (two_arguments words many few) ∙ e))))
-      go p (inr e) = nil_ne_cons _ _ (sym e.0 ∙ two_arguments words many few)
+      go p (inr e) = not-nil_eq_cons _ _ (sym e.0 ∙ two_arguments words many few)
 
   -- If the first of two arguments is not `--protocol`, they name no protocol.
   pub not-IsProtocolOption-if_other_word : (p : Protocol) → differs ≡ true → IsProtocolOption (argument_texts words) p → ⊥
   not-IsProtocolOption-if_other_word p other (inl e) =
-      texts_differ-by_test _ _ _ is other (cons-head_eq _ _ _ _ (sym (two_arguments words many few) ∙ e))
-  not-IsProtocolOption-if_other_word p other (inr e) = nil_ne_cons _ _ (sym e.0 ∙ two_arguments words many few)
+      not-texts_eq-by_test _ _ _ is other (cons-head_eq _ _ _ _ (sym (two_arguments words many few) ∙ e))
+  not-IsProtocolOption-if_other_word p other (inr e) = not-nil_eq_cons _ _ (sym e.0 ∙ two_arguments words many few)
 
 -- One argument, or more than two, name no protocol.
 pub not-IsProtocolOption-if_other_count : (words : Arguments) (p : Protocol)
@@ -108,11 +108,11 @@ pub not-IsProtocolOption-if_other_count : (words : Arguments) (p : Protocol)
     → IsProtocolOption (argument_texts words) p
     → ⊥
 not-IsProtocolOption-if_other_count [] p other some said = cc
-not-IsProtocolOption-if_other_count (x ∷ []) p other some (inl e) = nil_ne_cons _ _ (cons-injective_tail e)
+not-IsProtocolOption-if_other_count (x ∷ []) p other some (inl e) = not-nil_eq_cons _ _ (cons-injective_tail e)
 not-IsProtocolOption-if_other_count (x ∷ y ∷ []) p other some said = other refl
 not-IsProtocolOption-if_other_count (x ∷ y ∷ z ∷ words) p other some (inl e) =
-    nil_ne_cons _ _ (sym (cons-injective_tail (cons-injective_tail e)))
-not-IsProtocolOption-if_other_count (x ∷ words) p other some (inr e) = nil_ne_cons _ _ (sym e.0)
+    not-nil_eq_cons _ _ (sym (cons-injective_tail (cons-injective_tail e)))
+not-IsProtocolOption-if_other_count (x ∷ words) p other some (inr e) = not-nil_eq_cons _ _ (sym e.0)
 
 -- ---- a task, by its name
 
@@ -153,7 +153,7 @@ IsResultOf-IsCommand_one_word words name task r many is other named = go r
         -- If there are no texts of arguments, there are no arguments.
         texts_empty-inv : (o : Arguments) → argument_texts o ≡ [] → o ≡ []
         texts_empty-inv [] e = refl
-        texts_empty-inv (x ∷ o) e = absurd (nil_ne_cons _ _ (sym e))
+        texts_empty-inv (x ∷ o) e = absurd (not-nil_eq_cons _ _ (sym e))
 
 -- If the first argument is `replay`, the task of all arguments is that of `replay` with the others.
 pub IsResultOf-IsCommand_replay : (words : Arguments) (r : Option Task)
@@ -182,10 +182,10 @@ not-IsCommand-if_bad_option words many none _ said = omega (arith, cons-head_eq 
 -- No arguments name no task.
 pub not-IsCommand-if_no_arguments : (words : Arguments) (t : Task) → length words < 1 → IsCommand (argument_texts words) t → ⊥
 not-IsCommand-if_no_arguments (x ∷ words) t few said = absurd (omega (arith, few))
-not-IsCommand-if_no_arguments [] (Replay schedule protocol) few said = nil_ne_cons _ _ said.1
-not-IsCommand-if_no_arguments [] States few said = nil_ne_cons _ _ said
-not-IsCommand-if_no_arguments [] Compile few said = nil_ne_cons _ _ said
-not-IsCommand-if_no_arguments [] Schedules few said = nil_ne_cons _ _ said
+not-IsCommand-if_no_arguments [] (Replay schedule protocol) few said = not-nil_eq_cons _ _ said.1
+not-IsCommand-if_no_arguments [] States few said = not-nil_eq_cons _ _ said
+not-IsCommand-if_no_arguments [] Compile few said = not-nil_eq_cons _ _ said
+not-IsCommand-if_no_arguments [] Schedules few said = not-nil_eq_cons _ _ said
 
 -- If the first argument is none of the four names, the arguments name no task.
 pub not-IsCommand-if_other_word : (words : Arguments) (t : Task)

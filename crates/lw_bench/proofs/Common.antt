@@ -67,20 +67,20 @@ pub use Rattle.lw_memory.specs.declared.system.LineState.{LineState}
 pub use Rattle.lw_mesi.proofs.Common.{coherent_word, protocol_lawful, protocol_name, unheld_cache_line}
 pub use Rattle.lw_mesi.specs.declared.protocol.Protocol.{Protocol}
 pub use Rattle.lw_mesi.specs.declared.protocol.Protocol.TheVariants.{Mesi}
-pub use Rattle.lw_tso.proofs.Common.{EffectTransition, EventEffect, EventResult, IsFencedCode, IsFencedTest}
-pub use Rattle.lw_tso.proofs.Common.{IsMachineOutcome, MachineRunsTo, MachineState, MachineTransition}
-pub use Rattle.lw_tso.proofs.Common.{Processor, ProcessorTransition, buffer_of, cpu_of, event_effect}
-pub use Rattle.lw_tso.proofs.Common.{initial_machine_state, machine_outcome}
+pub use Rattle.lw_tso.proofs.Common.{EffectTransition, EventEffect, EventResult, HasInsertedFences}
+pub use Rattle.lw_tso.proofs.Common.{HasInsertedFencesInCode, IsMachineOutcome, MachineRunsTo, MachineState}
+pub use Rattle.lw_tso.proofs.Common.{MachineTransition, Processor, ProcessorTransition, buffer_of, cpu_of}
+pub use Rattle.lw_tso.proofs.Common.{event_effect, initial_machine_state, machine_outcome}
 pub use Rattle.lw_tso.proofs.api.Effects.{EffectLeadsTo, EffectLeadsTo-if_done, Leaves}
 pub use Rattle.lw_tso.proofs.api.Effects.{MachineTransition-of_effect, act_after}
 pub use Rattle.lw_tso.proofs.api.Effects.{not-EffectLeadsTo-evict_event, state}
 pub use Rattle.lw_tso.proofs.api.Endings.{CanTerminate-reached}
-pub use Rattle.lw_tso.proofs.api.FenceRemoval.{IsFencedCode-code_without}
+pub use Rattle.lw_tso.proofs.api.FenceRemoval.{HasInsertedFencesInCode-code_without}
 pub use Rattle.lw_tso.proofs.api.FlatSimulation.{IsWithin-reached}
 pub use Rattle.lw_fence.proofs.Common.{IsCompiled, IsCompiledWith}
-pub use Rattle.lw_fence.proofs.api.Compilations.{AreSubset-nil, IsCompiled-exists}
-pub use Rattle.lw_fence.proofs.api.Compilations.{IsCompiled-iff_without_fences, IsCompiled-unique}
-pub use Rattle.lw_fence.proofs.api.Compilations.{IsFencedTest-more_fences, IsMachineOutcome-compiled_iff}
+pub use Rattle.lw_fence.proofs.api.Compilations.{AreSubset-nil, HasInsertedFences-more_fences}
+pub use Rattle.lw_fence.proofs.api.Compilations.{IsCompiled-exists, IsCompiled-iff_without_fences}
+pub use Rattle.lw_fence.proofs.api.Compilations.{IsCompiled-unique, IsMachineOutcome-compiled_iff}
 pub use Rattle.lw_fence.proofs.api.Compilations.{IsMachineOutcome-of_source, IsWellFormedProgram-compiled}
 pub use Rattle.lw_fence.proofs.api.Compilations.{IsWellScopedProgram-compiled}
 pub use Rattle.lw_fence.proofs.api.Compilations.{IsWellScopedProgram-with_fences, machine_outcome-exists}

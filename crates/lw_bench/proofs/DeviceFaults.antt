@@ -8,12 +8,12 @@ pub Err-injective : {T E : Type 0} {a b : E} → (let e : Result T E = Err a in 
 Err-injective same = cc
 
 -- A success is not a failure.
-pub Ok_ne_Err : {T E : Type 0} {a : T} {b : E} → (let r : Result T E = Ok a in r) ≡ Err b → ⊥
-Ok_ne_Err same = cc
+pub not-Ok_eq_Err : {T E : Type 0} {a : T} {b : E} → (let r : Result T E = Ok a in r) ≡ Err b → ⊥
+not-Ok_eq_Err same = cc
 
 -- False is not true.
-false_ne_true : {b : Bool} → b ≡ false → b ≡ true → ⊥
-false_ne_true is_no is_yes = cc
+not-false_eq_true : {b : Bool} → b ≡ false → b ≡ true → ⊥
+not-false_eq_true is_no is_yes = cc
 
 -- If the run reports a fault other than a device's, and the device has not failed, the run reports the device's fault if and only if that
 -- failed: neither holds.
@@ -24,7 +24,7 @@ pub other_fault-iff_not_failed : {T : Type 0} (result : Result T BenchFault) (gi
     → failed ≡ false
     → result ≡ Err other ↔ failed ≡ true
 other_fault-iff_not_failed result given fault other failed is same apart working =
-    (λ told. absurd (apart (sym same ∙ Err-injective (sym is ∙ told))), λ yes. absurd (false_ne_true working yes))
+    (λ told. absurd (apart (sym same ∙ Err-injective (sym is ∙ told))), λ yes. absurd (not-false_eq_true working yes))
 
 -- `Memory` is not the reader's fault.
 Memory_ne_Read : (let f : BenchFault = Memory in f) ≢ Read
@@ -69,4 +69,4 @@ pub no_device_fault-of_success : {T : Type 0} (answer : T) (other : BenchFault) 
     → failed ≡ false
     → (let r : Result T BenchFault = Ok answer in r) ≡ Err other ↔ failed ≡ true
 no_device_fault-of_success answer other failed working =
-    (λ told. absurd (Ok_ne_Err told), λ yes. absurd (false_ne_true working yes))
+    (λ told. absurd (not-Ok_eq_Err told), λ yes. absurd (not-false_eq_true working yes))

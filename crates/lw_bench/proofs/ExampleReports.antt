@@ -218,8 +218,8 @@ JumpsForward-store_buffering =
     IsWellFormedProgram-store_buffering.code
 
 -- Store buffering does not have too many items for a list.
-few_items : HasTooManyItems x86_language store_buffering_threads → ⊥
-few_items (paths, assignment, many) =
+not-HasTooManyItems-store_buffering : HasTooManyItems x86_language store_buffering_threads → ⊥
+not-HasTooManyItems-store_buffering (paths, assignment, many) =
     go ((Contains-path_assignments x86_language store_buffering_threads paths JumpsForward-store_buffering).1 assignment)
   where
     go : Contains (path_assignments x86_language store_buffering_threads) paths → ⊥
@@ -244,6 +244,6 @@ AreStatesOf-store_buffering = record { sorted = AreAscending-states; exactly = �
 pub IsReport-store_buffering : IsStatesReport (Of_x86 store_buffering_in_x86) store_buffering_report
 unfolding digits
 IsReport-store_buffering = record {
-  within = (few_items, few_orders);
+  within = (not-HasTooManyItems-store_buffering, few_orders);
   is_report = record { states = states; states_are = AreStatesOf-store_buffering; text_is = refl };
 }

@@ -3,8 +3,8 @@
 use Rattle.lw_bench.proofs.Common.{◌≡◌, ℕ, zero, suc, ◌<◌, not, Bool, true, false, List, [], ◌∷◌, refl, sym}
 use Rattle.lw_bench.proofs.Common.{subst, arith, Number, X86Test, FinalState, flat_memory, is_true}
 use Rattle.lw_bench.proofs.Common.{IsMachineOutcome, initial_machine_state, store_buffering_in_x86}
-use Rattle.lw_bench.proofs.Common.{thread_code, IsFencedCode, IsFencedTest, IsFencedCode-code_without}
-use Rattle.lw_bench.proofs.Common.{not-true}
+use Rattle.lw_bench.proofs.Common.{thread_code, HasInsertedFencesInCode, HasInsertedFences}
+use Rattle.lw_bench.proofs.Common.{HasInsertedFencesInCode-code_without, not-true}
 use Rattle.lw_bench.proofs.Searches.{every_machine_end_satisfies, every_machine_end_satisfies-sound}
 use Rattle.lw_litmus.specs.declared.instr.Instr.TheVariants as instr
 
@@ -22,18 +22,19 @@ abbrev second_of_three : List Bool
 second_of_three = false ∷ true ∷ false ∷ []
 
 -- The fenced test is store buffering with those fences inserted.
-fences_inserted : IsFencedTest store_buffering_in_x86 fenced_store_buffering_test
-fences_inserted = record { head = refl; as_many = refl; threads = IsFencedCode-store_buffering }
+fences_inserted : HasInsertedFences store_buffering_in_x86 fenced_store_buffering_test
+fences_inserted = record { head = refl; as_many = refl; threads = HasInsertedFencesInCode-store_buffering }
   where
     -- The code of each thread is that of store buffering with a fence inserted.
-    IsFencedCode-store_buffering : (t : ℕ)
+    HasInsertedFencesInCode-store_buffering : (t : ℕ)
         → t < 2
-        → IsFencedCode (thread_code store_buffering_in_x86.threads t) (thread_code fenced_store_buffering_test.threads t)
-    IsFencedCode-store_buffering zero within =
-        IsFencedCode-code_without second_of_three (thread_code fenced_store_buffering_test.threads 0) (refl, tt)
-    IsFencedCode-store_buffering (suc zero) within =
-        IsFencedCode-code_without second_of_three (thread_code fenced_store_buffering_test.threads 1) (refl, tt)
-    IsFencedCode-store_buffering (suc (suc t)) within = absurd (omega (arith, within))
+        → HasInsertedFencesInCode (thread_code store_buffering_in_x86.threads t)
+        (thread_code fenced_store_buffering_test.threads t)
+    HasInsertedFencesInCode-store_buffering zero within =
+        HasInsertedFencesInCode-code_without second_of_three (thread_code fenced_store_buffering_test.threads 0) (refl, tt)
+    HasInsertedFencesInCode-store_buffering (suc zero) within =
+        HasInsertedFencesInCode-code_without second_of_three (thread_code fenced_store_buffering_test.threads 1) (refl, tt)
+    HasInsertedFencesInCode-store_buffering (suc (suc t)) within = absurd (omega (arith, within))
 
 -- Tests whether the outcome has not both loads early.
 abbrev is_late : FinalState → Bool
@@ -59,6 +60,6 @@ both_early_forbidden o run =
 
 -- Some way to insert fences forbids the outcome with both loads early.
 pub fenced_store_buffering : (test : X86Test)
-    × IsFencedTest store_buffering_in_x86 test
+    × HasInsertedFences store_buffering_in_x86 test
     × ((o : FinalState) → IsMachineOutcome flat_memory test test.head.init_words o → is_true test.head.condition o ≡ false)
 fenced_store_buffering = (fenced_store_buffering_test, fences_inserted, both_early_forbidden)

@@ -7,8 +7,8 @@ use Rattle.lw_bench.proofs.Common.{source_grammar, x86_grammar, CellFaultIsTrueI
 use Rattle.lw_base.specs.declared.fault.CellCause.TheVariants as cell
 
 -- The two languages differ.
-Source_ne_X86 : (let arch : Arch = Source in arch) ≡ X86 → ⊥
-Source_ne_X86 same = cc
+not-Source_eq_X86 : (let arch : Arch = Source in arch) ≡ X86 → ⊥
+not-Source_eq_X86 same = cc
 
 -- A frame of the source language that says no source test says no test.
 pub no_test-if_no_source : (frame : TestFrame)
@@ -16,14 +16,14 @@ pub no_test-if_no_source : (frame : TestFrame)
     → HoldsOfNothing (HasSource frame)
     → HoldsOfNothing (FrameHasTest frame)
 no_test-if_no_source frame is none (Of_source s) says = none s says
-no_test-if_no_source frame is none (Of_x86 t) says = absurd (Source_ne_X86 (sym is ∙ says.arch))
+no_test-if_no_source frame is none (Of_x86 t) says = absurd (not-Source_eq_X86 (sym is ∙ says.arch))
 
 -- A frame of x86 that says no x86 test says no test.
 pub no_test-if_no_program : (frame : TestFrame)
     → frame.head.arch ≡ X86
     → HoldsOfNothing (HasProgram frame)
     → HoldsOfNothing (FrameHasTest frame)
-no_test-if_no_program frame is none (Of_source s) says = absurd (Source_ne_X86 (sym says.arch ∙ is))
+no_test-if_no_program frame is none (Of_source s) says = absurd (not-Source_eq_X86 (sym says.arch ∙ is))
 no_test-if_no_program frame is none (Of_x86 t) says = none t says
 
 module _ (one_source : (frame : TestFrame) (s t : SourceTest) → HasSource frame s → HasSource frame t → s ≡ t)
@@ -32,8 +32,8 @@ module _ (one_source : (frame : TestFrame) (s t : SourceTest) → HasSource fram
     -- A frame says at most one test: of its language, since the other language's tests need another head.
     pub HasTest-unique : (frame : TestFrame) (s t : LitmusTest) → FrameHasTest frame s → FrameHasTest frame t → s ≡ t
     HasTest-unique frame (Of_source s) (Of_source t) says other = ap Of_source (one_source frame s t says other)
-    HasTest-unique frame (Of_source s) (Of_x86 t) says other = absurd (Source_ne_X86 (sym says.arch ∙ other.arch))
-    HasTest-unique frame (Of_x86 s) (Of_source t) says other = absurd (Source_ne_X86 (sym other.arch ∙ says.arch))
+    HasTest-unique frame (Of_source s) (Of_x86 t) says other = absurd (not-Source_eq_X86 (sym says.arch ∙ other.arch))
+    HasTest-unique frame (Of_x86 s) (Of_source t) says other = absurd (not-Source_eq_X86 (sym other.arch ∙ says.arch))
     HasTest-unique frame (Of_x86 s) (Of_x86 t) says other = ap Of_x86 (one_program frame s t says other)
 
 -- If at most one fault is true of the same cells in each language, it is so in the language of a text.

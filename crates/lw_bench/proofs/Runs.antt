@@ -7,7 +7,7 @@ use Rattle.lw_bench.proofs.Common.{IsOutputOf, Writes, RunFaultIsTrue, IsNotDevi
 use Rattle.lw_bench.proofs.Common.{Devices, IsRun}
 use Rattle.lw_bench.proofs.DeviceFaults.{Read-iff_failed, input_fault_ne_Write, Write_fault-reader_not_failed}
 use Rattle.lw_bench.proofs.DeviceFaults.{other_fault-iff_not_failed, no_device_fault-of_success}
-use Rattle.lw_bench.proofs.DeviceFaults.{Err-injective, Ok_ne_Err}
+use Rattle.lw_bench.proofs.DeviceFaults.{Err-injective, not-Ok_eq_Err}
 use Rattle.lw_bench.proofs.Outputs.{Writes-of_output}
 use Rattle.lw_bench.proofs.Taken.{TakesBeforeFault-TakesInput, TakesBeforeFault-TakesSome}
 use Rattle.lw_bench.proofs.FaultTruths.{IfSome-of_input_fault, IfSome-of_all, IfSome-FaultIsTrue_of_input}
@@ -129,7 +129,7 @@ module _ {R W T U : Type 0} (readers : Devices R) (writers : Devices W) (P : T �
       → ((let a : Result T BenchFault = Ok answer in a) ≡ Err other ↔ failed ≡ true)
       → (let b : Result U BenchFault = Ok other_answer in b) ≡ Err other ↔ failed ≡ true
   no_device_fault-other_answer answer other_answer other failed told =
-      (λ same. absurd (Ok_ne_Err same), λ yes. absurd (Ok_ne_Err (told.1 yes)))
+      (λ same. absurd (not-Ok_eq_Err same), λ yes. absurd (not-Ok_eq_Err (told.1 yes)))
 
   -- If a run consists of another that succeeds, so does it, and its output satisfies its own rule Q, which P implies.
   pub IsRun-weakened : (answer : T) (other : U)

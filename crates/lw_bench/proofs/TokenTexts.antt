@@ -12,13 +12,13 @@ use Rattle.lw_bench.proofs.Common.{list_all-AllByRecursion, is_name_text, name_b
 -- ---- one token
 
 -- Tests whether a text is one digit, or a name.
-abbrev is_kind_text : Bytes → Bool
-is_kind_text (d ∷ []) = is_ascii_digit d || is_name_text (d ∷ [])
-is_kind_text w = is_name_text w
+abbrev is_name_or_digit_text : Bytes → Bool
+is_name_or_digit_text (d ∷ []) = is_ascii_digit d || is_name_text (d ∷ [])
+is_name_or_digit_text w = is_name_text w
 
 -- Tests whether a text is a name or a digit, and ends before this rest.
 abbrev is_word_text : Bytes → Bytes → Bool
-is_word_text t rest = list_all is_name_byte t && (not (first_byte_is is_name_byte rest) && is_kind_text t)
+is_word_text t rest = list_all is_name_byte t && (not (first_byte_is is_name_byte rest) && is_name_or_digit_text t)
 
 -- Tests whether a text is a symbol, and ends before this rest.
 abbrev is_symbol_text : Bytes → Bytes → Bool
@@ -41,8 +41,8 @@ or_true-cases false b h = inr h
 digit_value_below_10 : (d : ℕ) → is_ascii_digit d ≡ true → digit_value d < 10
 digit_value_below_10 d h = grind (arith, nat_tests)
 
--- A text that passes `is_kind_text` is a name or a number.
-IsNameOrNumber-by_test : (w : Bytes) → is_kind_text w ≡ true → IsNameOrNumber w
+-- A text that passes `is_name_or_digit_text` is a name or a number.
+IsNameOrNumber-by_test : (w : Bytes) → is_name_or_digit_text w ≡ true → IsNameOrNumber w
 IsNameOrNumber-by_test [] h = inl (name_by_test [] h)
 IsNameOrNumber-by_test (d ∷ []) h = go (or_true-cases (is_ascii_digit d) (is_name_text (d ∷ [])) h)
   where

@@ -11,7 +11,7 @@ ghost use Rattle.lw_litmus.specs.WellScopedTests.{IsWellScopedSource, IsWellScop
 ghost use Rattle.lw_memory.specs.Flat.{flat_memory};
 ghost use Rattle.lw_mesi.specs.declared.protocol.Protocol.{Protocol};
 ghost use Rattle.lw_report.specs.Truth.{is_true};
-ghost use Rattle.lw_tso.specs.Fencing.{IsFencedTest};
+ghost use Rattle.lw_tso.specs.Fencing.{HasInsertedFences};
 ghost use Rattle.lw_tso.specs.Runs.{IsMachineOutcome};
 ghost use Rattle.lw_tso_caches.specs.OverCaches.{FitsCaches, OutcomeOverCaches};
 
@@ -23,7 +23,7 @@ use lw_tso_caches::outcomes_over_caches_are_flat;
 /// inserted, at any places, is an outcome of the test.
 pub fn fences_only_remove_outcomes_over_caches()
     ensures { (protocol : Protocol) (test fenced : X86Test) (o : FinalState) → IsWellScopedProgram fenced → FitsCaches fenced
-        → IsFencedTest test fenced → OutcomeOverCaches protocol fenced o → OutcomeOverCaches protocol test o }
+        → HasInsertedFences test fenced → OutcomeOverCaches protocol fenced o → OutcomeOverCaches protocol test o }
 {
     outcomes_over_caches_are_flat();
     fences_only_remove_outcomes();
@@ -33,7 +33,7 @@ pub fn fences_only_remove_outcomes_over_caches()
 /// States that fences do remove outcomes: with an MFENCE inserted in each thread of store buffering, no outcome has
 /// both loads 0.
 pub fn store_buffering_is_forbidden_with_fences()
-    ensures { (fenced : X86Test) × IsFencedTest store_buffering_in_x86 fenced
+    ensures { (fenced : X86Test) × HasInsertedFences store_buffering_in_x86 fenced
         × ((o : FinalState) → IsMachineOutcome flat_memory fenced fenced.head.init_words o → is_true fenced.head.condition o ≡ false) }
 {}
 
@@ -45,7 +45,7 @@ pub fn store_buffering_is_forbidden_with_fences()
 pub fn more_fences_have_no_more_outcomes()
     ensures are_inserted { (fences others : List (List Bool)) (source : SourceTest) (program other : X86Test)
         (starts begins : List (List ℕ)) → AreSubset fences others → IsCompiledWith fences source program starts
-        → IsCompiledWith others source other begins → IsFencedTest program other }
+        → IsCompiledWith others source other begins → HasInsertedFences program other }
     ensures flat_memory { (fences others : List (List Bool)) (source : SourceTest) (program other : X86Test)
         (starts begins : List (List ℕ)) (o : FinalState) → AreSubset fences others → IsCompiledWith fences source program starts
         → IsCompiledWith others source other begins

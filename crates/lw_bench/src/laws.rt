@@ -1,5 +1,5 @@
 //! Theorems about tests as values: of three classic tests, and of all tests. A law is a function without a result,
-//! whose contract states the law; `answer` and the runs cite one of them.
+//! whose contract states the law. `answer` calls `every_test_has_its_program`, and so do the runs, of what they have read.
 ghost use Rattle.std.specs.Prelude.{◌≡◌, ◌↔◌, ℕ, List, Bool, true, false, Option};
 ghost use Rattle.std.specs.Option.{IfSome};
 ghost use Rattle.lw_base.specs.Outcomes.{FinalState};

@@ -57,17 +57,18 @@ pub use Rattle.lw_interleaving.proofs.api.Commutation.{thread_after-no_location,
 pub use Rattle.lw_interleaving.proofs.api.Runs.{ReturnsEventResult-ok}
 pub use Rattle.lw_interleaving.specs.declared.thread.Thread.{Thread}
 pub use Rattle.lw_memory.proofs.Common.{Memory, flat_memory, words_invariant, words_lawful}
-pub use Rattle.lw_tso.proofs.Common.{CanTerminate, EventEffect, IsFencedCode, IsFencedTest, IsMachineOutcome}
-pub use Rattle.lw_tso.proofs.Common.{LocalStep, MachineRunsTo, MachineState, MachineTransition}
-pub use Rattle.lw_tso.proofs.Common.{MarksAreFences, Processor, ReplaysTo, advance_processor, cpu_of}
-pub use Rattle.lw_tso.proofs.Common.{drain_effect, event_effect, has_terminated, initial_machine_state}
-pub use Rattle.lw_tso.proofs.Common.{initial_processor, is_final, jump_or_advance_processor, load_effect}
-pub use Rattle.lw_tso.proofs.Common.{machine_outcome, newest_buffered, retarget_to_blocks, set_register}
-pub use Rattle.lw_tso.proofs.Common.{step_effect, unmarked_count_before, unmarked_instructions}
+pub use Rattle.lw_tso.proofs.Common.{CanTerminate, EventEffect, HasInsertedFences, HasInsertedFencesInCode}
+pub use Rattle.lw_tso.proofs.Common.{IsMachineOutcome, LocalStep, MachineRunsTo, MachineState}
+pub use Rattle.lw_tso.proofs.Common.{MachineTransition, MarksAreFences, Processor, ReplaysTo}
+pub use Rattle.lw_tso.proofs.Common.{advance_processor, cpu_of, drain_effect, event_effect, has_terminated}
+pub use Rattle.lw_tso.proofs.Common.{initial_machine_state, initial_processor, is_final}
+pub use Rattle.lw_tso.proofs.Common.{jump_or_advance_processor, load_effect, machine_outcome, newest_buffered}
+pub use Rattle.lw_tso.proofs.Common.{retarget_to_blocks, set_register, step_effect, unmarked_count_before}
+pub use Rattle.lw_tso.proofs.Common.{unmarked_instructions}
 pub use Rattle.lw_tso.proofs.api.Effects.{EffectLeadsTo, EventOccurrence, EventOccurrence-of_event}
 pub use Rattle.lw_tso.proofs.api.Effects.{MachineTransition-of_effect, not-EffectLeadsTo-evict_event, state}
 pub use Rattle.lw_tso.proofs.api.Endings.{CanTerminate-reached}
-pub use Rattle.lw_tso.proofs.api.FenceRemoval.{IsFencedCode-code_without, MarksAreFences-append}
+pub use Rattle.lw_tso.proofs.api.FenceRemoval.{HasInsertedFencesInCode-code_without, MarksAreFences-append}
 pub use Rattle.lw_tso.proofs.api.FenceRemoval.{unmarked_count_before-cons, unmarked_count_before-zero}
 pub use Rattle.lw_tso.proofs.api.FenceRemoval.{unmarked_instructions-append}
 pub use Rattle.lw_tso.proofs.api.Operations.{EffectLeadsTo-if_buffer_empty, IsEnabledEffect-operation}

@@ -10,9 +10,10 @@ use Rattle.lw_fence.proofs.Common.{Set, Sum, IfEq, IfNe, Goto, SourceTest, X86Te
 use Rattle.lw_fence.proofs.Common.{with_move_if, instrs_of, lowered_code, starts_from, IsThreadWith}
 use Rattle.lw_fence.proofs.Common.{IsCompiledWith, AreSubset, unmarked_count_before-zero}
 use Rattle.lw_fence.proofs.Common.{unmarked_count_before-cons, unmarked_instructions-append}
-use Rattle.lw_fence.proofs.Common.{MarksAreFences-append, IsFencedCode-code_without, retarget_to_blocks}
-use Rattle.lw_fence.proofs.Common.{IsFencedCode, IsFencedTest, unmarked_count_before, unmarked_instructions}
-use Rattle.lw_fence.proofs.Common.{MarksAreFences, cond, sum_by-append, sum_by-cons, count_by}
+use Rattle.lw_fence.proofs.Common.{MarksAreFences-append, HasInsertedFencesInCode-code_without}
+use Rattle.lw_fence.proofs.Common.{retarget_to_blocks, HasInsertedFencesInCode, HasInsertedFences}
+use Rattle.lw_fence.proofs.Common.{unmarked_count_before, unmarked_instructions, MarksAreFences, cond}
+use Rattle.lw_fence.proofs.Common.{sum_by-append, sum_by-cons, count_by}
 use Rattle.lw_fence.proofs.CodeLayout.{both_cases-selected, start_after_first, lowered_code-cons}
 use Rattle.lw_fence.proofs.CodeLayout.{starts_from-cons, get_or-drop_one, starts_from-first}
 use Rattle.lw_litmus.specs.declared.instr.Instr.TheVariants as instr
@@ -207,12 +208,12 @@ unmarked_count_before-start fs gs (x ∷ code) pre among (suc to) =
     ∙ ap (λ (starts : List ℕ). slice_index starts (suc to)) (sym (starts_from-cons (count_by not pre) fs x code))
 
 -- A thread with more fences is the one with fewer, with MFENCEs inserted.
-IsFencedCode-more_fences : (fs gs : List Bool) {code : List Stmt} {instrs others : List Instr} {starts begins : List ℕ}
+HasInsertedFencesInCode-more_fences : (fs gs : List Bool) {code : List Stmt} {instrs others : List Instr} {starts begins : List ℕ}
     → AreFlagsAmong fs gs
     → IsThreadWith fs code instrs starts
     → IsThreadWith gs code others begins
-    → IsFencedCode instrs others
-IsFencedCode-more_fences fs gs {code = code} {instrs = instrs} {others = others} among one other =
+    → HasInsertedFencesInCode instrs others
+HasInsertedFencesInCode-more_fences fs gs {code = code} {instrs = instrs} {others = others} among one other =
     let leads = λ (to : ℕ). unmarked_count_before-start fs gs code [] among to in
     let first = starts_from 0 fs code in
     let second = starts_from 0 gs code in
@@ -222,8 +223,8 @@ IsFencedCode-more_fences fs gs {code = code} {instrs = instrs} {others = others}
     one.instrs_are ∙ ap (λ (s : List ℕ). lowered_code s fs code) one.starts_are in
     let there : others ≡ lowered_code second gs code =
     other.instrs_are ∙ ap (λ (s : List ℕ). lowered_code s gs code) other.starts_are in
-    subst₂ IsFencedCode (same ∙ sym here) (sym there)
-    (IsFencedCode-code_without (fence_marks fs gs code) (lowered_code second gs code) fences)
+    subst₂ HasInsertedFencesInCode (same ∙ sym here) (sym there)
+    (HasInsertedFencesInCode-code_without (fence_marks fs gs code) (lowered_code second gs code) fences)
 
 -- ---- a test
 
@@ -243,11 +244,11 @@ AreFlagsAmong-of_set fs gs each j set = ⊎_elim set_in_range set_past_end (case
 
 module _ (fences others : List (List Bool)) (s : SourceTest) (p q : X86Test) (starts begins : List (List ℕ)) where
   -- A test with more fences is the one with fewer, with MFENCEs inserted.
-  pub IsFencedTest-more_fences : AreSubset fences others
+  pub HasInsertedFences-more_fences : AreSubset fences others
       → IsCompiledWith fences s p starts
       → IsCompiledWith others s q begins
-      → IsFencedTest p q
-  IsFencedTest-more_fences among c d = record {
+      → HasInsertedFences p q
+  HasInsertedFences-more_fences among c d = record {
     head = ap (λ (h : TestHead). record h { name = q.head.name }) (d.head ∙ sym c.head);
     as_many = d.as_many ∙ sym c.as_many;
     threads = λ t within.
@@ -257,7 +258,8 @@ module _ (fences others : List (List Bool)) (s : SourceTest) (p q : X86Test) (st
         let d_code = at_index q.threads t [] (omega (arith, within, c.as_many, d.as_many)) in
         let one = c.threads t _ _ _ code (at_index p.threads t [] within) c_starts in
         let other = d.threads t _ _ _ code d_code d_starts in
-        IsFencedCode-more_fences (thread_code fences t) (thread_code others t) (AreFlagsAmong-of_set _ _ (among t)) one other;
+        HasInsertedFencesInCode-more_fences (thread_code fences t) (thread_code others t) (AreFlagsAmong-of_set _ _ (among t)) one
+        other;
   }
 
 -- No fences are a subset of any fences.

@@ -21,7 +21,7 @@ use Rattle.lw_finals.proofs.Ordered.{OfAssignment-of_run}
 use Rattle.lw_finals.proofs.PathOfRun.{ExecutesItem, AreItemRuns, position-at_start, position-at_start_unique}
 use Rattle.lw_finals.proofs.api.X86Waiting.{ItemStep, ItemStep-of_transition, OperationTransition-of_item}
 use Rattle.lw_finals.proofs.api.X86Waiting.{DrainShape, DrainShape-of_effect, BufferHolds}
-use Rattle.lw_finals.proofs.api.X86Waiting.{BufferHolds-nil_no_store, HoldsStores, AllBuffersHoldStores}
+use Rattle.lw_finals.proofs.api.X86Waiting.{no_store-if_buffer_empty, HoldsStores, AllBuffersHoldStores}
 use Rattle.lw_finals.proofs.api.X86Waiting.{AllBuffersHoldStores-after_item, AllBuffersHoldStores-start}
 
 -- If the buffer has an oldest entry, some store waits, and the one that has waited longest made that entry.
@@ -58,7 +58,7 @@ module _ (test : X86Test) where
       let both = and_parts (nat_le (length (thread_code program t)) q.0.position) (length q.0.buffer == 0) done in
       let empty = nil_from_length q.0.buffer (eqb-true (length q.0.buffer) 0 both.1) in (
         omega (arith, leb-true (length (thread_code program t)) q.0.position both.0, q.2),
-        BufferHolds-nil_no_store _ (pending t)
+        no_store-if_buffer_empty _ (pending t)
             (subst (BufferHolds (thread_code program t) (pending t)) empty (hold t q.0 q.1).waits),
       )
 
@@ -113,7 +113,7 @@ module _ (test : X86Test) where
               (OperationTransition-of_step b f item_step).leads,
         );
         waited = λ f w.
-            BufferHolds-nil_no_store (thread_code program t) (pending t)
+            no_store-if_buffer_empty (thread_code program t) (pending t)
             (subst (BufferHolds (thread_code program t) (pending t)) ((OperationTransition-of_step b f item_step).waited w)
             buffer_holds.waits);
         stays = λ f. ap (λ (x : Processor). x.position) (DrainShape-of_drain b f item_step).processor_is;

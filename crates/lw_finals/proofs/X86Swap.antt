@@ -134,8 +134,8 @@ pub record IsUnpreservedPair (b c : Bool) (h : Instr) (j k : ℕ) : Type 0 where
 
 module _ (program : List (List Instr)) (pending : ℕ → List ℕ) (s m1 m2 : MachineState (List ℕ)) where
   -- A buffer with an entry is not empty.
-  full_empty : (b : List (ℕ × ℕ)) (e : ℕ × ℕ) (newer : List (ℕ × ℕ)) → b ≡ e ∷ newer → b ≡ [] → ⊥
-  full_empty b e newer f is_nil = cc
+  not-empty-if_entry : (b : List (ℕ × ℕ)) (e : ℕ × ℕ) (newer : List (ℕ × ℕ)) → b ≡ e ∷ newer → b ≡ [] → ⊥
+  not-empty-if_entry b e newer f is_nil = cc
 
   -- Two adjacent items of one thread that neither conflict nor are preserved: the statement i or its drain is executed, and then h or its
   -- drain. What the first stores, if it does, is at o.
@@ -161,7 +161,8 @@ module _ (program : List (List Instr)) (pending : ℕ → List ℕ) (s m1 m2 : M
       let (rest, head) = two.oldest refl in
       let (e, newer, full, stores) = drains_found_entry (pending t) at.waits at.climbs rest head in
       MayPassOldest-if_commutes x.old.buffer (slice_get (thread_code program t) x.old.position) e newer i full found_at
-      (CommutesWithDrain-if_elsewhere e.0 (x86_operation i) (λ w. full_empty x.old.buffer e newer full (shape.waited w)) (λ same.
+      (CommutesWithDrain-if_elsewhere e.0 (x86_operation i) (λ w. not-empty-if_entry x.old.buffer e newer full (shape.waited w))
+      (λ same.
       two.free (conflict_by-same_location false true i h e.0 same stores (or_right (writes_by x86_language false i) true refl))))
     where
       -- The drained entry is the first of the buffer, and is for the location of a store.

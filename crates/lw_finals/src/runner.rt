@@ -26,7 +26,7 @@ pub(crate) trait OrderRunner<A: Allocator> {
     /// The relation between what is kept and its outcome: the schedule reaches the outcome, or some schedule does.
     ghost leads: { Test → Self.Kept → FinalState → Type 0 };
 
-    /// The outcome of the last run.
+    /// The outcome of the last run, if that followed its paths; otherwise any.
     ghost end: { Self → FinalState };
 
     /// Runs an order of items from the initial state, and returns whether it follows its paths to a final state.
@@ -35,7 +35,7 @@ pub(crate) trait OrderRunner<A: Allocator> {
         ensures same { test self.new ≡ test self.old }
         ensures ends { RunResult (ends (test self.old) items.now order.now) result (end self.new) };
 
-    /// Returns the outcome of the last run that followed its paths.
+    /// Returns the outcome of the last run, if that followed its paths; otherwise any.
     fn last_outcome(&self) -> &Outcome<A>
         ensures { result.now ≡ end self.now };
 
@@ -98,7 +98,7 @@ impl<A: Allocator + Copy, R: OrderRunner<A>> OrderRunner<A> for OutcomeRunner<R>
         self.runner.run(items, order)
     }
 
-    /// Returns the outcome of the last run that followed its paths.
+    /// Returns the outcome of the last run, if that followed its paths; otherwise any.
     fn last_outcome(&self) -> &Outcome<A> {
         self.runner.last_outcome()
     }

@@ -148,7 +148,7 @@ impl<'a, A: Allocator + Copy> OrderRunner<A> for SourceRunner<'a, A> {
         true
     }
 
-    /// Returns the outcome of the last run that followed its paths.
+    /// Returns the outcome of the last run, if that followed its paths.
     fn last_outcome(&self) -> &Outcome<A> {
         &self.end
     }

@@ -21,7 +21,8 @@ pub enum Operation {
     /// store buffer.
     Swap { dst: Reg, loc: Loc, src: Reg },
     /// Atomically loads the location's word into the register, if there is one, and adds the value to the location,
-    /// modulo 2^32. In x86 this needs an empty store buffer, and the zero flag is set if the sum is 0.
+    /// modulo 2^32. In x86 this needs an empty store buffer, and the zero flag is set if the sum is 0. (All statements and
+    /// instructions of today have the register.)
     FetchAdd(Option<Reg>, Loc, Operand),
     /// Needs an empty store buffer, and does nothing else.
     Fence,

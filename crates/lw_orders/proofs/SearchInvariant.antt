@@ -17,7 +17,7 @@ use Rattle.lw_orders.proofs.SearchTree.{after_reversals-push_true, from_reversal
 use Rattle.lw_orders.proofs.SearchTree.{from_reversals-no_order}
 use Rattle.lw_orders.proofs.Walks.{closure-antisym}
 use Rattle.lw_orders.proofs.GrowingClosure.{IsAcyclicClosure-start, IsAcyclicClosure-more}
-use Rattle.lw_orders.proofs.GrowingClosure.{not-Before-if_cycle, lowest_order-if_acyclic}
+use Rattle.lw_orders.proofs.GrowingClosure.{not-Before-if_reached_back, lowest_order-if_acyclic}
 use Rattle.lw_orders.proofs.api.Complete.{All-parts, IsWithin, IsAscendingPair, Respects-push_inv}
 
 -- The number of orientations that one call tries is at most 3 k, for k unordered pairs. At first the call may go up, from a reversed pair
@@ -238,7 +238,7 @@ module _ {len : ℕ} {preserved unordered : List (ℕ × ℕ)} {s : SearchState}
         no_order : (o : List ℕ) → Respects ((preserved ++ take level s.chosen) ++ p ∷ []) o → ⊥
         no_order o keeps =
             let (graph, pair) = Respects-push_inv (preserved ++ take level s.chosen) p o keeps in
-            not-Before-if_cycle p.0 p.1 p_within.0 p_within.1 closure_at_level back o graph pair
+            not-Before-if_reached_back p.0 p.1 p_within.0 p_within.1 closure_at_level back o graph pair
 
     module _ {next : SearchState} (taken : IsTaken len p level s next) where
       -- After an orientation that closes no cycle, the search is at the next pair.

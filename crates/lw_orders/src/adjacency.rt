@@ -107,8 +107,8 @@ pub(crate) fn fill_next_predecessors(len: usize, tables: &mut [Predecessors], ch
     fill_predecessors(len, &before[0], &mut room[0], chosen);
 }
 
-/// Fills `sets` with each item's predecessors: those in `before`, and those along the chosen pairs. Overwrites what
-/// `sets` held.
+/// Fills the sets of the first `len` items with their predecessors: those in `before`, and those along the chosen pairs.
+/// Overwrites what these sets held, and leaves the others as they are.
 fn fill_predecessors(
     len: usize,
     before: &Predecessors,

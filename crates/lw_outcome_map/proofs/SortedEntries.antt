@@ -22,11 +22,11 @@ use Rattle.lw_outcome_map.specs.Listings.{OutcomesWith, outcomes_of, IsStrictlyS
 use Rattle.lw_outcome_map.proofs.api.Listings.{final_eq, Decides-final_eq, IsEquivalence-final_eq, final_eq-is_cmp_equal, IsTotalOrder-final_state_cmp, IsStrictlySorted-of_distinct, Contains-entry_of_outcome}
 
 -- No two of the results of a comparison are the same.
-Less-ne_Equal : Less ≡ Equal → ⊥
-Less-ne_Equal e = absurd (true≢false (ap is_lt e))
+not-Less_eq_Equal : Less ≡ Equal → ⊥
+not-Less_eq_Equal e = absurd (true≢false (ap is_lt e))
 
-Greater-ne_Equal : Greater ≡ Equal → ⊥
-Greater-ne_Equal e = absurd (true≢false (sym (ap is_eq e)))
+not-Greater_eq_Equal : Greater ≡ Equal → ⊥
+not-Greater_eq_Equal e = absurd (true≢false (sym (ap is_eq e)))
 
 -- Outcomes that compare as equal are equal.
 eq-of_equal : (o p : FinalState) → final_state_cmp o p ≡ Equal → o ≡ p
@@ -141,8 +141,8 @@ module _ {Kept : Type 0} where
       let found : (get_or (e ∷ es) h.0 e).0 ≡ o = sym (outcomes_of-at (e ∷ es) h.0 e o within) ∙ h.2 in
       let equal : final_state_cmp (get_or (e ∷ es) h.0 e).0 o ≡ Equal =
       ap (λ p. final_state_cmp p o) found ∙ tied_itself IsTotalOrder-final_state_cmp o in
-      ⊎_elim (λ before. Less-ne_Equal (sym (split.0 h.0 e (omega arith) before) ∙ equal))
-      (λ after. Greater-ne_Equal (sym (split.1 h.0 e after within) ∙ equal)) (cases_lt h.0 i)
+      ⊎_elim (λ before. not-Less_eq_Equal (sym (split.0 h.0 e (omega arith) before) ∙ equal))
+      (λ after. not-Greater_eq_Equal (sym (split.1 h.0 e after within) ∙ equal)) (cases_lt h.0 i)
 
   -- The result r of a binary search by outcome is the index of the outcome, or `None` if it is not listed.
   pub search-finds_outcome : (es : OutcomesWith Kept) (o : FinalState) (r : Result ℕ ℕ)

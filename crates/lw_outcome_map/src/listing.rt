@@ -170,7 +170,7 @@ impl<A: Allocator> Listing<A> {
     }
 }
 
-/// States that an outcome of a listing is at one index only: the outcomes are distinct.
+/// States that in a strictly sorted list with schedules an outcome is at one index only: the outcomes are distinct.
 pub fn outcomes_are_distinct()
     ensures { (entries : OutcomeEntries) (i j : ℕ) (outcome : FinalState) → IsStrictlySorted entries
         → slice_get (outcomes_of entries) i ≡ Some outcome → slice_get (outcomes_of entries) j ≡ Some outcome → i ≡ j }

@@ -49,7 +49,8 @@ fn push_path<S: Statement, A: Allocator, B: Allocator>(
     Ok(())
 }
 
-/// Appends a statement, and its drain if it has one. Appends nothing if there is no statement. If memory runs out, the list has some of them.
+/// Appends a statement, and its drain if it has one. Appends nothing if there is no statement. If memory runs out, the list
+/// may have the statement without its drain, or neither.
 fn push_statement<S: Statement, A: Allocator>(
     items: &mut Vec<Item, A>,
     thread: Cpu,

@@ -62,13 +62,13 @@ HasInstr-of_step (Some i) p q m n d = record { instr = i; instr_is = refl; does 
 abbrev with_oldest : ℕ × ℕ → Processor → Processor
 with_oldest entry p = record p { buffer = entry ∷ p.buffer }
 
--- The effect of a drain that leads from p and m to q and n: p is the processor `without` the entry and with the entry as its oldest; q is
--- `without`, and n is m with the entry's word written.
+-- The effect of a drain that leads from p and m to q and n: p is the processor `rest` with the entry as its oldest, q is `rest`, and n is m
+-- with the entry's word written.
 record DrainEffect (p q : Processor) (m n : List ℕ) : Type 0 where
   entry : ℕ × ℕ
-  without : Processor
-  processor_is : p ≡ with_oldest entry without
-  end_processor_is : q ≡ without
+  rest : Processor
+  processor_is : p ≡ with_oldest entry rest
+  end_processor_is : q ≡ rest
   words : n ≡ slice_set m entry.0 entry.1
 
 -- A drain that is enabled has an oldest entry, and writes it to memory.
@@ -79,19 +79,20 @@ DrainEffect-of_drain p q m n does = go p.buffer refl does
     go [] e d = absurd d
     go (entry ∷ newer) e d = record {
       entry = entry;
-      without = record p { buffer = newer };
+      rest = record p { buffer = newer };
       processor_is = ap (λ b. record p { buffer = b }) e;
       end_processor_is = d.0;
       words = d.1;
     }
 
--- An operation commutes with the drain of the entry. Before the drain it leads from the processor `without` with the entry as its oldest to q
--- and n: q is `new` with the entry as its oldest, and memory is unchanged. After the drain it leads from `without` to `new`.
-record PassesDrain (entry : ℕ × ℕ) (o : Operation) (without q : Processor) (m n : List ℕ) : Type 0 where
+-- What holds if an operation can be executed after the drain of the entry. Suppose that it leads from the processor `rest` with the entry as
+-- its oldest, over m, to q and n. Then q is `new` with the entry as its oldest, n is m, and over memory after the drain the operation leads from
+-- `rest` to `new`.
+record PassesDrain (entry : ℕ × ℕ) (o : Operation) (rest q : Processor) (m n : List ℕ) : Type 0 where
   new : Processor
   processor_is : q ≡ with_oldest entry new
   memory_unchanged : n ≡ m
-  does : EffectLeadsTo (slice_set m entry.0 entry.1) (operation_effect o without) new (slice_set m entry.0 entry.1)
+  does : EffectLeadsTo (slice_set m entry.0 entry.1) (operation_effect o rest) new (slice_set m entry.0 entry.1)
 
 -- A load beside the drain of an entry: `found` is the newest word of the other entries, `same` says whether the entry is for the location.
 load_effect-after_drain : (entry : ℕ × ℕ) (x : ℕ) (next : ℕ → Processor) (q : Processor) (m n : List ℕ) (found : Option ℕ)
@@ -116,12 +117,12 @@ load_effect-after_drain entry x next q m n None false is range d =
     (next (slice_index m x), d.0, d.1, (ap next (sym read), refl))
 
 -- An operation that does not access memory commutes with the drain of the oldest entry.
-PassesDrain-local : (entry : ℕ × ℕ) (o : Operation) (without next q : Processor) (m n : List ℕ)
-    → operation_effect o without ≡ LocalStep next
+PassesDrain-local : (entry : ℕ × ℕ) (o : Operation) (rest next q : Processor) (m n : List ℕ)
+    → operation_effect o rest ≡ LocalStep next
     → q ≡ with_oldest entry next
     → n ≡ m
-    → PassesDrain entry o without q m n
-PassesDrain-local entry o without next q m n act is memory_unchanged = record {
+    → PassesDrain entry o rest q m n
+PassesDrain-local entry o rest next q m n act is memory_unchanged = record {
   new = next;
   processor_is = is;
   memory_unchanged = memory_unchanged;
@@ -130,24 +131,23 @@ PassesDrain-local entry o without next q m n act is memory_unchanged = record {
 
 -- An operation that does not wait commutes with the drain of the oldest entry: a load of the entry's own location is forwarded the
 -- word before the drain, and reads it from memory after it.
-PassesDrain-operation : (entry : ℕ × ℕ) (o : Operation) (without q : Processor) (m n : List ℕ)
+PassesDrain-operation : (entry : ℕ × ℕ) (o : Operation) (rest q : Processor) (m n : List ℕ)
     → ((x : ℕ) → operation_access o ≡ Some (x, false) → entry.0 ≡ x → x < length m)
-    → EffectLeadsTo m (operation_effect o (with_oldest entry without)) q n
-    → PassesDrain entry o without q m n
-PassesDrain-operation entry (Set d v) without q m n range does =
-    PassesDrain-local entry (Set d v) without _ q m n refl does.0 does.1
-PassesDrain-operation entry (Sum d a v) without q m n range does =
-    PassesDrain-local entry (Sum d a v) without _ q m n refl does.0 does.1
-PassesDrain-operation entry (Compare a v) without q m n range does =
-    PassesDrain-local entry (Compare a v) without _ q m n refl does.0 does.1
-PassesDrain-operation entry (Store x v) without q m n range does =
-    PassesDrain-local entry (Store x v) without _ q m n refl does.0 does.1
-PassesDrain-operation entry (Branch c to) without q m n range does =
-    PassesDrain-local entry (Branch c to) without _ q m n refl does.0 does.1
-PassesDrain-operation entry (Load d x) without q m n range does =
-    let r = load_effect-after_drain entry x _ q m n (newest_buffered without.buffer x) (entry.0 == x) refl (range x refl) does in
+    → EffectLeadsTo m (operation_effect o (with_oldest entry rest)) q n
+    → PassesDrain entry o rest q m n
+PassesDrain-operation entry (Set d v) rest q m n range does = PassesDrain-local entry (Set d v) rest _ q m n refl does.0 does.1
+PassesDrain-operation entry (Sum d a v) rest q m n range does =
+    PassesDrain-local entry (Sum d a v) rest _ q m n refl does.0 does.1
+PassesDrain-operation entry (Compare a v) rest q m n range does =
+    PassesDrain-local entry (Compare a v) rest _ q m n refl does.0 does.1
+PassesDrain-operation entry (Store x v) rest q m n range does =
+    PassesDrain-local entry (Store x v) rest _ q m n refl does.0 does.1
+PassesDrain-operation entry (Branch c to) rest q m n range does =
+    PassesDrain-local entry (Branch c to) rest _ q m n refl does.0 does.1
+PassesDrain-operation entry (Load d x) rest q m n range does =
+    let r = load_effect-after_drain entry x _ q m n (newest_buffered rest.buffer x) (entry.0 == x) refl (range x refl) does in
     record { new = r.0; processor_is = r.1; memory_unchanged = r.2; does = r.3 }
-PassesDrain-operation entry _ without q m n range does = absurd does
+PassesDrain-operation entry _ rest q m n range does = absurd does
 
 -- ---- accesses
 
@@ -183,22 +183,23 @@ no_access-of_eviction : (b : Bool) (x y : ℕ) → accessed_location (if b then 
 no_access-of_eviction true x y at = cc
 no_access-of_eviction false x y at = cc
 
--- An operation that never conflicts with a write does not access the location, and one that never conflicts with a read does not write it.
-not_written-if_no_conflict : (written : Bool) (o : Operation)
+-- If an operation on a location does not conflict with an access of it that writes (`written`) or reads, the access reads, and the operation is
+-- not locked.
+is_locked-false_if_no_conflict : (written : Bool) (o : Operation)
     → ((written || writes o) ≡ true → ⊥)
     → (written ≡ false) × (is_locked o ≡ false)
-not_written-if_no_conflict true o never = absurd (never refl)
-not_written-if_no_conflict false o never = (refl, go (is_store o) (is_locked o) never)
+is_locked-false_if_no_conflict true o never = absurd (never refl)
+is_locked-false_if_no_conflict false o never = (refl, go (is_store o) (is_locked o) never)
   where
     go : (a b : Bool) → ((a || b) ≡ true → ⊥) → b ≡ false
     go true b n = absurd (n refl)
     go false true n = absurd (n refl)
     go false false n = refl
 
--- An operation that stores writes.
-writes-if_conflict : (written : Bool) (o : Operation) → is_store o ≡ true → (written || writes o) ≡ true
-writes-if_conflict true o store = refl
-writes-if_conflict false o store = ap (λ b. b || is_locked o) store
+-- A store conflicts with every access of its location.
+conflicts-if_store : (written : Bool) (o : Operation) → is_store o ≡ true → (written || writes o) ≡ true
+conflicts-if_store true o store = refl
+conflicts-if_store false o store = ap (λ b. b || is_locked o) store
 
 module _ (program : List (List Instr)) (forward : IsForward program) where
   -- The location that an event accesses is that of its access, and the effect writes it if and only if the access does.
@@ -225,7 +226,8 @@ module _ (program : List (List Instr)) (forward : IsForward program) where
       go None is a = absurd cc
       go (Some i) is a =
           let h = accessed_location-of_operation (x86_operation i) p x a in
-          let n = not_written-if_no_conflict written (x86_operation i) (never.instructions p.position i (omega arith) is h.0) in
+          let n =
+          is_locked-false_if_no_conflict written (x86_operation i) (never.instructions p.position i (omega arith) is h.0) in
           (n.0, sym h.1 ∙ n.1)
   not_written-if_never_conflicts locs (Drain t) p x written never at = go p.buffer refl at
     where
@@ -257,7 +259,7 @@ module _ (program : List (List Instr)) (forward : IsForward program) where
       entries (inr added) k entry is = λ e.
           ⊎_elim (λ old. never.entries k entry old e) (λ new.
           never.instructions p.position i (omega arith) at (added.2 ∙ ap (λ (z : ℕ × ℕ). Some z.0) new.1 ∙ ap Some e)
-          (writes-if_conflict written (x86_operation i) added.1))
+          (conflicts-if_store written (x86_operation i) added.1))
           (slice_get-append_cases p.buffer added.0 entry k (ap (λ b. slice_get b k) (sym added.3) ∙ is))
 
       instructions : (j : ℕ) (k : Instr)
@@ -452,15 +454,15 @@ module _ (program : List (List Instr)) (forward : IsForward program) where
 
   -- ---- the step and the drain of one thread
 
-  -- The step and the drain of a thread, both enabled in s, lead to the same state in either order. The thread's processor in s is `without`
-  -- with the entry as its oldest; after the step it is `new` with that entry, and after the drain it is `without`.
+  -- The step and the drain of a thread, both enabled in s, lead to the same state in either order. The thread's processor in s is `rest`
+  -- with the entry as its oldest; after the step it is `new` with that entry, and after the drain it is `rest`.
   record StepDrainDiamond (t : ℕ) (s stepped drained : State) : Type 0 where
     entry : ℕ × ℕ
-    without : Processor
+    rest : Processor
     new : Processor
-    was : slice_get s.processors t ≡ Some (with_oldest entry without)
+    was : slice_get s.processors t ≡ Some (with_oldest entry rest)
     stepped_at : slice_get stepped.processors t ≡ Some (with_oldest entry new)
-    drained_at : slice_get drained.processors t ≡ Some without
+    drained_at : slice_get drained.processors t ≡ Some rest
     end : State
     drains : MachineTransition flat_memory program (Drain t) stepped (Ok tt) end
     steps : MachineTransition flat_memory program (Step t) drained (Ok tt) end
@@ -477,15 +479,15 @@ module _ (program : List (List Instr)) (forward : IsForward program) where
       → StepDrainDiamond t s stepped drained
   StepDrainDiamond-of_thread t s stepped drained range step drain = record {
     entry = b.entry;
-    without = b.without;
+    rest = b.rest;
     new = i.new;
     was = was;
     stepped_at =
         ap (λ (z : State). slice_get z.processors t) stepped_is
-        ∙ get-set_same s.processors t held (with_oldest b.entry b.without) was;
+        ∙ get-set_same s.processors t held (with_oldest b.entry b.rest) was;
     drained_at =
         ap (λ (z : State). slice_get z.processors t) drained_is
-        ∙ get-set_same s.processors t b.without (with_oldest b.entry b.without) was;
+        ∙ get-set_same s.processors t b.rest (with_oldest b.entry b.rest) was;
     end = state (slice_set s.processors t i.new) written;
     drains =
         subst (λ z. MachineTransition flat_memory program (Drain t) z (Ok tt) (state (slice_set s.processors t i.new) written))
@@ -494,16 +496,16 @@ module _ (program : List (List Instr)) (forward : IsForward program) where
         MachineTransition flat_memory program (Drain t) (state (slice_set s.processors t held) s.memory) (Ok tt)
         (state ps written)) (set-set s.processors t held i.new)
         (MachineTransition-of_effect program (Drain t) (slice_set s.processors t held) held i.new s.memory written
-        (get-set_same s.processors t held (with_oldest b.entry b.without) was) (refl, refl)));
+        (get-set_same s.processors t held (with_oldest b.entry b.rest) was) (refl, refl)));
     steps =
         subst (λ z. MachineTransition flat_memory program (Step t) z (Ok tt) (state (slice_set s.processors t i.new) written))
         (sym drained_is)
         (subst (λ ps.
-        MachineTransition flat_memory program (Step t) (state (slice_set s.processors t b.without) written) (Ok tt)
-        (state ps written)) (set-set s.processors t b.without i.new)
-        (MachineTransition-of_effect program (Step t) (slice_set s.processors t b.without) b.without i.new written written
-        (get-set_same s.processors t b.without (with_oldest b.entry b.without) was)
-        (subst (λ o. EffectLeadsTo written (step_effect o b.without) i.new written) (sym instr.instr_is) i.does)));
+        MachineTransition flat_memory program (Step t) (state (slice_set s.processors t b.rest) written) (Ok tt)
+        (state ps written)) (set-set s.processors t b.rest i.new)
+        (MachineTransition-of_effect program (Step t) (slice_set s.processors t b.rest) b.rest i.new written written
+        (get-set_same s.processors t b.rest (with_oldest b.entry b.rest) was)
+        (subst (λ o. EffectLeadsTo written (step_effect o b.rest) i.new written) (sym instr.instr_is) i.does)));
   }
     where
       x : EventOccurrence program (Step t) s stepped
@@ -520,22 +522,20 @@ module _ (program : List (List Instr)) (forward : IsForward program) where
           DrainEffect-of_drain x.from y.to s.memory y.words
           (subst (λ (r : Processor). EffectLeadsTo s.memory (drain_effect r.buffer r) y.to y.words) same y.does)
 
-      was : slice_get s.processors t ≡ Some (with_oldest b.entry b.without)
+      was : slice_get s.processors t ≡ Some (with_oldest b.entry b.rest)
       was = x.was ∙ ap Some b.processor_is
 
-      instr :
-          HasInstr (slice_get (thread_code program t) b.without.position) (with_oldest b.entry b.without) x.to s.memory x.words
+      instr : HasInstr (slice_get (thread_code program t) b.rest.position) (with_oldest b.entry b.rest) x.to s.memory x.words
       instr =
-          HasInstr-of_step (slice_get (thread_code program t) b.without.position) (with_oldest b.entry b.without) x.to s.memory
-          x.words
+          HasInstr-of_step (slice_get (thread_code program t) b.rest.position) (with_oldest b.entry b.rest) x.to s.memory x.words
           (subst
           (λ (r : Processor). EffectLeadsTo s.memory (step_effect (slice_get (thread_code program t) r.position) r) x.to x.words)
           b.processor_is x.does)
 
-      i : PassesDrain b.entry (x86_operation instr.instr) b.without x.to s.memory x.words
+      i : PassesDrain b.entry (x86_operation instr.instr) b.rest x.to s.memory x.words
       i =
-          PassesDrain-operation b.entry (x86_operation instr.instr) b.without x.to s.memory x.words (λ l access e.
-          range (with_oldest b.entry b.without) l was (ap step_access instr.instr_is ∙ access) (ap (λ z. Some (z, true)) e))
+          PassesDrain-operation b.entry (x86_operation instr.instr) b.rest x.to s.memory x.words (λ l access e.
+          range (with_oldest b.entry b.rest) l was (ap step_access instr.instr_is ∙ access) (ap (λ z. Some (z, true)) e))
           instr.does
 
       held : Processor
@@ -547,7 +547,7 @@ module _ (program : List (List Instr)) (forward : IsForward program) where
       stepped_is : stepped ≡ state (slice_set s.processors t held) s.memory
       stepped_is = x.state_is ∙ ap₂ (λ q m. state (slice_set s.processors t q) m) i.processor_is i.memory_unchanged
 
-      drained_is : drained ≡ state (slice_set s.processors t b.without) written
+      drained_is : drained ≡ state (slice_set s.processors t b.rest) written
       drained_is = y.state_is ∙ ap₂ (λ q m. state (slice_set s.processors t q) m) b.end_processor_is b.words
 
   -- The step is invisible, and the drain comes first.
@@ -565,9 +565,9 @@ module _ (program : List (List Instr)) (forward : IsForward program) where
         e_enabled = d.steps;
         f_enabled = d.drains;
         invisible_in_mid = λ p access at is.
-            let same : d.without ≡ p = same_Some d.without p (sym d.drained_at ∙ at) in
+            let same : d.rest ≡ p = same_Some d.rest p (sym d.drained_at ∙ at) in
             IsUncontended-after (Drain t) s mid t access (EventOccurrence-of_event program (Drain t) s mid done)
-            (invisible (with_oldest d.entry d.without) access d.was
+            (invisible (with_oldest d.entry d.rest) access d.was
             (ap (λ (r : Processor). step_access (slice_get (thread_code program t) r.position)) same ∙ is));
       }
 
@@ -587,7 +587,7 @@ module _ (program : List (List Instr)) (forward : IsForward program) where
         invisible_in_mid = λ p access at is.
             let same : with_oldest d.entry d.new ≡ p = same_Some (with_oldest d.entry d.new) p (sym d.stepped_at ∙ at) in
             IsUncontended-after (Step t) s mid t access (EventOccurrence-of_event program (Step t) s mid done)
-            (invisible (with_oldest d.entry d.without) access d.was (ap (λ (r : Processor). drain_access r.buffer) same ∙ is));
+            (invisible (with_oldest d.entry d.rest) access d.was (ap (λ (r : Processor). drain_access r.buffer) same ∙ is));
       }
 
   -- ---- runs
@@ -698,7 +698,7 @@ module _ (program : List (List Instr)) (forward : IsForward program) where
           absurd (omega (arith, past, within))
       go (Drain t) a past empty =
           let b = DrainEffect-of_drain a.from a.to s.memory a.words a.does in
-          let size : length a.from.buffer ≡ length (b.entry ∷ b.without.buffer) =
+          let size : length a.from.buffer ≡ length (b.entry ∷ b.rest.buffer) =
           ap (λ (r : Processor). length r.buffer) b.processor_is in
           let none : length a.from.buffer ≡ 0 = eqb-true (length a.from.buffer) 0 empty in
           absurd (omega (arith, size, none))

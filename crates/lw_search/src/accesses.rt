@@ -66,7 +66,8 @@ impl Conflicts {
         }
     }
 
-    /// Returns the set with the accesses of a location that conflict with one that writes it, or reads it.
+    /// Returns the set with the accesses of a location that conflict with one that writes it, or reads it. A location without bits adds
+    /// nothing. The contract allows more accesses, with which fewer events are known to be invisible.
     fn with_conflicts(self, loc: u8, written: bool) -> Conflicts
         ensures others { (x : ℕ) (w : Bool) → Lacks result x w → Lacks self x w }
         ensures added { (x : ℕ) (w : Bool) → x < most_locations → Lacks result x w → (loc ≡ x) → (w || written) ≡ true → ⊥ }

@@ -14,7 +14,7 @@ use Rattle.lw_statements.proofs.Common.{names_register, has_no_location_slot, ha
 use Rattle.lw_statements.proofs.Common.{IsSpelling}
 use Rattle.lw_statements.proofs.api.Forms.{list_all-get}
 use Rattle.lw_statements.proofs.Slots.{not-Gives-differing_slots, location_slot, no_register-if_keyword}
-use Rattle.lw_statements.proofs.Slots.{not-register_and_location, register_no_number}
+use Rattle.lw_statements.proofs.Slots.{not-register_and_location, not-register_and_number}
 use Rattle.lw_base.specs.declared.operand.Operand.TheVariants as operand
 
 module _ {W Form Stmt : Type 0} (spelling : Spelling W Form Stmt) where
@@ -219,7 +219,7 @@ module _ {W Form Stmt : Type 0} (spelling : Spelling W Form Stmt) where
   IsRegisterSlot-of_name Location x q r free reg h =
       absurd (not-register_and_location _ q r reg (subst IsLocationName (sym h.0) h.1))
   IsRegisterSlot-of_name Value g q r free reg h = inr refl
-  IsRegisterSlot-of_name Number n q r free reg h = absurd (register_no_number _ q r n reg h)
+  IsRegisterSlot-of_name Number n q r free reg h = absurd (not-register_and_number _ q r n reg h)
   IsRegisterSlot-of_name Label x q r free reg h =
       absurd (not-register_and_location _ q r reg (subst IsLocationName (sym h.0) h.1))
 

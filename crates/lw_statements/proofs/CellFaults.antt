@@ -9,7 +9,7 @@ use Rattle.lw_statements.proofs.Common.{IsLocationName, insert_name, Bytes, Name
 use Rattle.lw_statements.proofs.Common.{IsGrammar, BeginsStatement, CanBegin, IsLocationAfter, MaybeStatement}
 use Rattle.lw_statements.proofs.Common.{Labels, BeginsFitting, BeginsWithLabel, IsMeantAsRegister}
 use Rattle.lw_statements.proofs.Common.{IsMisfitCause, IsUnknownRegister, insert_name-if_new}
-use Rattle.lw_statements.proofs.FrontLabels.{Labels-unique, IsDuplicateFree-not_in_both}
+use Rattle.lw_statements.proofs.FrontLabels.{Labels-unique, not-in_both-if_duplicate_free}
 use Rattle.lw_statements.proofs.OneReading.{no_label-if_statement as no_label_begins}
 use Rattle.lw_base.specs.declared.fault.CellCause.TheVariants as cause
 
@@ -145,26 +145,26 @@ module _ {Syntax Stmt : Type 0} (grammar : Grammar Syntax Stmt) where
     -- ---- nothing continues past the place of a fault
 
     -- A bad label is no label of a longer front.
-    bad_label : (labels : List Bytes) (t : Bytes) (c : CellCause)
+    not-label-if_bad : (labels : List Bytes) (t : Bytes) (c : CellCause)
         → IsBadLabel labels t c
         → (ks : List Bytes)
         → IsLocationName t
         → IsDuplicateFree (known ++ (labels ++ t ∷ ks))
         → ⊥
-    bad_label labels t c (inl (none, m)) ks loc once = none loc
-    bad_label labels t c (inr (e, there)) ks loc once =
-        IsDuplicateFree-not_in_both (known ++ labels) (t ∷ ks) t
+    not-label-if_bad labels t c (inl (none, m)) ks loc once = none loc
+    not-label-if_bad labels t c (inr (e, there)) ks loc once =
+        not-in_both-if_duplicate_free (known ++ labels) (t ∷ ks) t
         (subst IsDuplicateFree (sym (append_assoc known labels (t ∷ ks))) once) there (0, omega arith, refl)
 
     -- With a bad token no statement that fits begins.
-    bad_token : (mid : TokenList) (t : Bytes) (c : CellCause)
+    not-statement-if_bad_token : (mid : TokenList) (t : Bytes) (c : CellCause)
         → IsBadToken mid t c
         → HasRoomForStatement
         → BeginsFitting grammar table (mid ++ t ∷ [])
         → ⊥
-    bad_token mid t c (inl (none, m)) free b = none (b.rest, b.syntax, b.says)
-    bad_token mid t c (inr (e, inl (first, can, full))) free b = free full
-    bad_token mid t c (inr (e, inr (loc, full, new))) free b =
+    not-statement-if_bad_token mid t c (inl (none, m)) free b = none (b.rest, b.syntax, b.says)
+    not-statement-if_bad_token mid t c (inr (e, inl (first, can, full))) free b = free full
+    not-statement-if_bad_token mid t c (inr (e, inr (loc, full, new))) free b =
         let named =
         loc.only b.rest b.syntax
         (subst (λ (us : TokenList). grammar.says us b.syntax) (append_assoc mid (t ∷ []) b.rest) b.says) in
@@ -176,7 +176,7 @@ module _ {Syntax Stmt : Type 0} (grammar : Grammar Syntax Stmt) where
     begins_with_label rest more t is = ap (λ (us : TokenList). slice_get us 1) is
 
     -- No front goes on past a bad label.
-    label_past : (labels : List Bytes) (rest more : TokenList) (t : Bytes) (c : CellCause)
+    no_front-past_bad_label : (labels : List Bytes) (rest more : TokenList) (t : Bytes) (c : CellCause)
         → Labels ts labels rest
         → rest ≡ t ∷ codes ":" ∷ more
         → IsBadLabel labels t c
@@ -184,7 +184,7 @@ module _ {Syntax Stmt : Type 0} (grammar : Grammar Syntax Stmt) where
         → IsFront ks mid after
         → 2 * length labels < index_of ks mid
         → ⊥
-    label_past labels rest more t c says is bad ks mid after f less =
+    no_front-past_bad_label labels rest more t c says is bad ks mid after f less =
         go (labels_meet ts rest (mid ++ after) labels ks says f.says)
       where
         -- Fronts that end at different places do not have the same labels.
@@ -201,7 +201,7 @@ module _ {Syntax Stmt : Type 0} (grammar : Grammar Syntax Stmt) where
         go (inl (m ∷ ms, same, h)) =
             let e : t ∷ codes ":" ∷ more ≡ m ∷ codes ":" ∷ h.0 = sym is ∙ h.1 in
             let one : m ≡ t = cc in
-            bad_label labels t c bad ms (subst IsLocationName one h.2)
+            not-label-if_bad labels t c bad ms (subst IsLocationName one h.2)
             (subst (λ (l : Bytes). IsDuplicateFree (known ++ (labels ++ l ∷ ms))) one
             (subst (λ (ls : List Bytes). IsDuplicateFree (known ++ ls)) same f.without_duplicates))
         go (inr ([], same, h)) = label_counts_differ (omega (arith, ap length same, length-append ks [])) (sym h)
@@ -211,7 +211,7 @@ module _ {Syntax Stmt : Type 0} (grammar : Grammar Syntax Stmt) where
         ]
 
     -- No front goes on past a bad token.
-    token_past : (labels : List Bytes) (mid rest back : TokenList) (t : Bytes) (c : CellCause)
+    no_front-past_bad_token : (labels : List Bytes) (mid rest back : TokenList) (t : Bytes) (c : CellCause)
         → Labels ts labels (mid ++ rest)
         → (BeginsWithLabel (mid ++ rest) → ⊥)
         → rest ≡ t ∷ back
@@ -220,7 +220,7 @@ module _ {Syntax Stmt : Type 0} (grammar : Grammar Syntax Stmt) where
         → IsFront ks far after
         → index_of labels mid < index_of ks far
         → ⊥
-    token_past labels mid rest back t c says stops is bad ks far after f less =
+    no_front-past_bad_token labels mid rest back t c says stops is bad ks far after f less =
         go (labels_meet ts (mid ++ rest) (far ++ after) labels ks says f.says)
       where
         label_counts_differ : length labels ≡ length ks → mid ++ rest ≡ far ++ after → ⊥
@@ -228,7 +228,8 @@ module _ {Syntax Stmt : Type 0} (grammar : Grammar Syntax Stmt) where
             let m =
             longer_front mid far t back after (ap (λ (us : TokenList). mid ++ us) (sym is) ∙ same) (omega (arith, less, long)) in
             let b = f.begun (λ none. omega (arith, ap length none, ap length m.1, length-append mid (t ∷ m.0))) in
-            bad_token mid t c bad b.0 (fitting_prefix table mid m.0 t (subst (BeginsFitting grammar table) m.1 b.1))
+            not-statement-if_bad_token mid t c bad b.0
+            (fitting_prefix table mid m.0 t (subst (BeginsFitting grammar table) m.1 b.1))
 
         go : ((ms : List Bytes) × (ks ≡ labels ++ ms) × Labels (mid ++ rest) ms (far ++ after))
             ⊎ ((ms : List Bytes) × (labels ≡ ks ++ ms) × Labels (far ++ after) ms (mid ++ rest))
@@ -254,10 +255,10 @@ module _ {Syntax Stmt : Type 0} (grammar : Grammar Syntax Stmt) where
         → index_of labels mid < index_of ks far
         → ⊥
     not-longer-IsStuck labels mid rest c g (inl (none, t, more, is, bad)) ks far after f less =
-        label_past labels rest more t c (subst (λ (us : TokenList). Labels ts labels (us ++ rest)) none g.says) is bad ks far
-        after f (omega (arith, less, ap length none))
+        no_front-past_bad_label labels rest more t c (subst (λ (us : TokenList). Labels ts labels (us ++ rest)) none g.says) is
+        bad ks far after f (omega (arith, less, ap length none))
     not-longer-IsStuck labels mid rest c g (inr (stops, inl (t, back, is, bad))) ks far after f less =
-        token_past labels mid rest back t c g.says stops is bad ks far after f less
+        no_front-past_bad_token labels mid rest back t c g.says stops is bad ks far after f less
     not-longer-IsStuck labels mid rest c g (inr (stops, inr (is, some, e, none))) ks far after f less = omega (
       arith,
       less,
@@ -270,7 +271,7 @@ module _ {Syntax Stmt : Type 0} (grammar : Grammar Syntax Stmt) where
     -- ---- at one place there is one cause
 
     -- Where a label is due and where none is are different places.
-    label_index_ne_rest_index : (labels : List Bytes) (rest more : TokenList) (t : Bytes)
+    not-label_index_eq_rest_index : (labels : List Bytes) (rest more : TokenList) (t : Bytes)
         → Labels ts labels rest
         → rest ≡ t ∷ codes ":" ∷ more
         → (ks : List Bytes) (far after : TokenList)
@@ -278,7 +279,7 @@ module _ {Syntax Stmt : Type 0} (grammar : Grammar Syntax Stmt) where
         → (BeginsWithLabel (far ++ after) → ⊥)
         → 2 * length labels ≡ index_of ks far
         → ⊥
-    label_index_ne_rest_index labels rest more t says is ks far after h stops same =
+    not-label_index_eq_rest_index labels rest more t says is ks far after h stops same =
         go (labels_meet ts rest (far ++ after) labels ks says h)
       where
         go : ((ms : List Bytes) × (ks ≡ labels ++ ms) × Labels rest ms (far ++ after))
@@ -368,11 +369,11 @@ module _ {Syntax Stmt : Type 0} (grammar : Grammar Syntax Stmt) where
         (subst (λ (w : Bytes). IsBadLabel labels w d) token (subst (λ (ls : List Bytes). IsBadLabel ls u d) (sym one.0) worse))
     IsStuck-unique labels ks mid far rest after c d named g f (inl (none, t, more, is, bad)) (inr (stops, worse)) same =
         let here = subst (λ (us : TokenList). Labels ts labels (us ++ rest)) none g.says in
-        absurd (label_index_ne_rest_index labels rest more t here is ks far after f.says stops
+        absurd (not-label_index_eq_rest_index labels rest more t here is ks far after f.says stops
         (omega (arith, same, ap length none)))
     IsStuck-unique labels ks mid far rest after c d named g f (inr (stops, worse)) (inl (none, t, more, is, bad)) same =
         let here = subst (λ (us : TokenList). Labels ts ks (us ++ after)) none f.says in
-        absurd (label_index_ne_rest_index ks after more t here is labels mid rest g.says stops
+        absurd (not-label_index_eq_rest_index ks after more t here is labels mid rest g.says stops
         (omega (arith, same, ap length none)))
     IsStuck-unique labels ks mid far rest after c d named g f (inr (stops, bad)) (inr (halts, worse)) same =
         let one = Labels-unique ts (mid ++ rest) (far ++ after) labels ks g.says f.says stops halts in

@@ -64,13 +64,13 @@ name_contained (m ∷ ns) n e = go (bytes_eq m n) refl (name_contained ns n)
     go false f further = Contains-append_right (m ∷ []) ns n (further (rw f at e))
 
 -- No name is in both parts of a list without duplicates.
-pub IsDuplicateFree-not_in_both : (ns ms : List Bytes) (n : Bytes)
+pub not-in_both-if_duplicate_free : (ns ms : List Bytes) (n : Bytes)
     → IsDuplicateFree (ns ++ ms)
     → Contains ns n
     → Contains ms n
     → ⊥
-IsDuplicateFree-not_in_both [] ms n once h there = let k : h.0 < 0 = h.1 in omega arith
-IsDuplicateFree-not_in_both (m ∷ ns) ms n once h there = go h.0 h.1 h.2 (IsDuplicateFree-not_in_both ns ms n once.1)
+not-in_both-if_duplicate_free [] ms n once h there = let k : h.0 < 0 = h.1 in omega arith
+not-in_both-if_duplicate_free (m ∷ ns) ms n once h there = go h.0 h.1 h.2 (not-in_both-if_duplicate_free ns ms n once.1)
   where
     -- By the index at which the name is in the first list.
     go : (k : ℕ) → k < length (m ∷ ns) → slice_index_or (m ∷ ns) k n ≡ n → (Contains ns n → Contains ms n → ⊥) → ⊥
@@ -271,12 +271,12 @@ module _ (tokens : List Token) (to : ℕ) (labels : LabelMap) (next : ℕ) (now 
           name_contained (known ++ read.names) token.text.now (sym (HasExactlyLabels-with_read known knows token.text.now) ∙ led)
 
       -- If the next label is one that the thread has already, no labels of the cell fit.
-      pub labels_twice : (ks : List Bytes) → LabelsFit labels (token_texts tokens) ks → ⊥
-      labels_twice ks fit =
+      pub no_labels-if_duplicate : (ks : List Bytes) → LabelsFit labels (token_texts tokens) ks → ⊥
+      no_labels-if_duplicate ks fit =
           let on = Labels-continue ks fit.rest fit.says fit.stops in
           let row : fit.known ++ ks ≡ (fit.known ++ read.names) ++ token.text.now ∷ on.0 =
           ap (λ (ns : List Bytes). fit.known ++ ns) on.1 ∙ sym (append_assoc fit.known read.names (token.text.now ∷ on.0)) in
-          IsDuplicateFree-not_in_both (fit.known ++ read.names) (token.text.now ∷ on.0) token.text.now
+          not-in_both-if_duplicate_free (fit.known ++ read.names) (token.text.now ∷ on.0) token.text.now
           (subst IsDuplicateFree row fit.without_duplicates) (label_known fit.known fit.knows) (0, omega arith, refl)
 
       -- If the next label is one that the thread has already, its token is a duplicate label.

@@ -7,7 +7,7 @@ use Rattle.lw_statements.proofs.Common.{false_from_ne_true, flat_map-append, fil
 use Rattle.lw_statements.proofs.Common.{list_any-append, IsDuplicateFree, contains_name, Bytes}
 use Rattle.lw_statements.proofs.Common.{contains_name-Contains, CellSyntax, statements, labels_of, target_in}
 use Rattle.lw_statements.proofs.Common.{label_target}
-use Rattle.lw_statements.proofs.FrontLabels.{name_contained, IsDuplicateFree-not_in_both}
+use Rattle.lw_statements.proofs.FrontLabels.{name_contained, not-in_both-if_duplicate_free}
 
 module _ {Syntax : Type 0} where
   -- The statements of a concatenation are those of its parts.
@@ -67,11 +67,11 @@ module _ {Syntax : Type 0} where
   )
 
   -- A name that has no target is no label.
-  pub label_target-no_label : (syntaxes : List (CellSyntax Syntax)) (n : Bytes)
+  pub not-label-if_target_none : (syntaxes : List (CellSyntax Syntax)) (n : Bytes)
       → label_target 0 syntaxes n ≡ None
       → Contains (labels_of syntaxes) n
       → ⊥
-  label_target-no_label syntaxes n e there =
+  not-label-if_target_none syntaxes n e there =
       true≢false (sym (contains_name-Contains (labels_of syntaxes) n there)
       ∙ sym (is_some-label_target syntaxes 0 n)
       ∙ ap is_some e)
@@ -122,7 +122,7 @@ module _ {Syntax : Type 0} where
         label_target-shifted xs 0
         ∙ option_or-if (label_target 0 xs n) (contains_name syntax.labels n)
         (λ here. is_some-label_target xs 0 n ∙ false_from_ne_true (contains_name (labels_of xs) n) (λ there.
-        IsDuplicateFree-not_in_both (labels_of xs) syntax.labels n once (name_contained (labels_of xs) n there)
+        not-in_both-if_duplicate_free (labels_of xs) syntax.labels n once (name_contained (labels_of xs) n there)
         (name_contained syntax.labels n here)))
       where
         -- By the old target and by whether the label is new: both ways to compute the target agree.

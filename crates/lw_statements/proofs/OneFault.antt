@@ -285,7 +285,7 @@ module _ {Syntax Stmt : Type 0} (grammar : Grammar Syntax Stmt) (lawful : IsGram
         place-unique (Some t) a b = sym a ∙ b
 
     -- The cell has no content for which the thread and the table have room.
-    faulty_whole : (at : ℕ) (c : CellCause)
+    no_syntax-if_cell_faulty : (at : ℕ) (c : CellCause)
         → Faulty names threads syntaxes cell at c
         → (syntax : CellSyntax Syntax)
         → ParsesCell grammar (texts_of_tokens cell.tokens) syntax
@@ -293,7 +293,7 @@ module _ {Syntax Stmt : Type 0} (grammar : Grammar Syntax Stmt) (lawful : IsGram
         → IsDuplicateFree (labels_of syntaxes ++ syntax.labels)
         → length (insert_names (table_after grammar names threads syntaxes) (names_in grammar (syntax ∷ []))) ≤ most_locations
         → ⊥
-    faulty_whole at c f syntax parse few once room =
+    no_syntax-if_cell_faulty at c f syntax parse few once room =
         not-IsStuck-if_whole_cell grammar _ _ _ _ lawful f.labels f.mid f.rest c f.front f.stuck syntax.labels parse.0 syntax.stmt
         (record {
           says =
@@ -343,7 +343,7 @@ module _ {Syntax Stmt : Type 0} (grammar : Grammar Syntax Stmt) (lawful : IsGram
 
   module _ (names : NameTable) (columns : List (List PlacedCell)) where
     -- The cells down to that of a fault, and those below, are not read.
-    cell_unread : (at : ℕ) (c : CellCause) (v : CellFaulty names columns at c) (more : List PlacedCell)
+    no_cells-down_to_faulty : (at : ℕ) (c : CellCause) (v : CellFaulty names columns at c) (more : List PlacedCell)
         (threads : List (List (CellSyntax Syntax))) (syntaxes : List (CellSyntax Syntax))
         → AllZip (Column grammar) (texts_of_grid v.place.before) threads
         → AllZip (ParsesCell grammar) (texts_of_cells (v.place.above ++ v.place.cell ∷ more)) syntaxes
@@ -351,7 +351,7 @@ module _ {Syntax Stmt : Type 0} (grammar : Grammar Syntax Stmt) (lawful : IsGram
         → IsDuplicateFree (labels_of syntaxes)
         → length (table_after grammar names threads syntaxes) ≤ most_locations
         → ⊥
-    cell_unread at c v more threads syntaxes before says few once room =
+    no_cells-down_to_faulty at c v more threads syntaxes before says few once room =
         let texts = λ (cell : PlacedCell). texts_of_tokens cell.tokens in
         let cut =
         AllZip-split (ParsesCell grammar) (texts_of_cells v.place.above) (texts v.place.cell) (texts_of_cells more) syntaxes
@@ -361,7 +361,7 @@ module _ {Syntax Stmt : Type 0} (grammar : Grammar Syntax Stmt) (lawful : IsGram
         let others = threads_content-unique (texts_of_grid v.place.before) threads v.threads before v.before_says in
         let whole : syntaxes ≡ v.syntaxes ++ cut.here ∷ cut.below =
         cut.whole ∙ ap (λ (ss : List (CellSyntax Syntax)). ss ++ cut.here ∷ cut.below) above in
-        faulty_whole names v.threads v.syntaxes v.place.cell at c v.faulty cut.here cut.says (omega (
+        no_syntax-if_cell_faulty names v.threads v.syntaxes v.place.cell at c v.faulty cut.here cut.says (omega (
           arith,
           few,
           ap (λ (ss : List (CellSyntax Syntax)). length (statements ss)) whole,
@@ -431,10 +431,10 @@ module _ {Syntax Stmt : Type 0} (grammar : Grammar Syntax Stmt) (lawful : IsGram
 
   module _ (names : NameTable) (columns : List (List PlacedCell)) where
     -- The jump does not lead forward.
-    jump_bad : (at : ℕ) (c : CellCause) (j : JumpFaulty names columns at c)
+    not-LabelsLeadForward-if_jump_faulty : (at : ℕ) (c : CellCause) (j : JumpFaulty names columns at c)
         → LabelsLeadForward grammar (all_syntaxes j.above j.syntax j.below) (length (statements j.above)) j.label.jump.0
         → ⊥
-    jump_bad at c j ahead = go j.because
+    not-LabelsLeadForward-if_jump_faulty at c j ahead = go j.because
       where
         go : ((c ≡ LabelMissing) × (Contains (labels_of (all_syntaxes j.above j.syntax j.below)) j.token.token.text → ⊥))
             ⊎ ((c ≡ Backward)
@@ -445,26 +445,27 @@ module _ {Syntax Stmt : Type 0} (grammar : Grammar Syntax Stmt) (lawful : IsGram
         go (inr (e, there, less)) = omega (arith, less, (ahead j.token.token.text j.label.jump.2).1)
 
     -- The thread of a fault is not read.
-    cell_thread : (at : ℕ) (c : CellCause) (v : CellFaulty names columns at c) (threads : List (List (CellSyntax Syntax)))
-        (t : List (CellSyntax Syntax))
+    no_thread-if_cell_faulty : (at : ℕ) (c : CellCause) (v : CellFaulty names columns at c)
+        (threads : List (List (CellSyntax Syntax))) (t : List (CellSyntax Syntax))
         → AllZip (Column grammar) (texts_of_grid v.place.before) threads
         → Column grammar (texts_of_cells (v.place.above ++ v.place.cell ∷ v.place.below)) t
         → length (table_after grammar names threads t) ≤ most_locations
         → ⊥
-    cell_thread at c v threads t before column room =
-        cell_unread names columns at c v v.place.below threads t before column.says column.bounded column.without_duplicates room
+    no_thread-if_cell_faulty at c v threads t before column room =
+        no_cells-down_to_faulty names columns at c v v.place.below threads t before column.says column.bounded
+        column.without_duplicates room
 
     -- Cells in which a jump is at fault are those of no thread of a test.
-    jump_thread : (at : ℕ) (c : CellCause) (j : JumpFaulty names columns at c) (threads : List (List (CellSyntax Syntax)))
-        (t : List (CellSyntax Syntax))
+    no_thread-if_jump_faulty : (at : ℕ) (c : CellCause) (j : JumpFaulty names columns at c)
+        (threads : List (List (CellSyntax Syntax))) (t : List (CellSyntax Syntax))
         → AllZip (Column grammar) (texts_of_grid j.token.place.before) threads
         → Column grammar (texts_of_cells (j.token.place.above ++ j.token.place.cell ∷ j.token.place.below)) t
         → length (table_after grammar names threads t) ≤ most_locations
         → ⊥
-    jump_thread at c j threads t before column room =
+    no_thread-if_jump_faulty at c j threads t before column room =
         let same = cells_content-unique _ t (all_syntaxes j.above j.syntax j.below) column.says j.label.read.says in
         let all = statements-middle j.above j.below j.syntax j.label.jump.0 j.label.jump.1 in
-        jump_bad at c j
+        not-LabelsLeadForward-if_jump_faulty at c j
         (subst (λ (ss : List (CellSyntax Syntax)). LabelsLeadForward grammar ss (length (statements j.above)) j.label.jump.0) same
         (column.forward (length (statements j.above)) j.label.jump.0
         (ap (λ (ss : List (CellSyntax Syntax)). slice_get (statements ss) (length (statements j.above))) same
@@ -546,22 +547,23 @@ module _ {Syntax Stmt : Type 0} (grammar : Grammar Syntax Stmt) (lawful : IsGram
             (subst (λ (ss : List (CellSyntax Syntax)). Faulty names v.threads ss w.place.cell other d) syntaxes
             (subst (λ (ts : List (List (CellSyntax Syntax))). Faulty names ts w.syntaxes w.place.cell other d) threads w.faulty)))
         go (inr (inl (more, above))) =
-            absurd (cell_unread names columns at c v more w.threads w.syntaxes columns_before_second
+            absurd (no_cells-down_to_faulty names columns at c v more w.threads w.syntaxes columns_before_second
             (subst (λ (cs : List PlacedCell). AllZip (ParsesCell grammar) (texts_of_cells cs) w.syntaxes) above w.says) w.bounded
             w.without_duplicates w.room)
         go (inr (inr (more, above))) =
-            absurd (cell_unread names columns other d w more v.threads v.syntaxes columns_before_first
+            absurd (no_cells-down_to_faulty names columns other d w more v.threads v.syntaxes columns_before_first
             (subst (λ (cs : List PlacedCell). AllZip (ParsesCell grammar) (texts_of_cells cs) v.syntaxes) above v.says) v.bounded
             v.without_duplicates v.room)
 
     -- A fault in a cell excludes faults in jumps of its thread.
-    cell_or_jump : (at other : ℕ) (c d : CellCause) (v : CellFaulty names columns at c) (j : JumpFaulty names columns other d)
+    not-cell_and_jump_faulty : (at other : ℕ) (c d : CellCause) (v : CellFaulty names columns at c)
+        (j : JumpFaulty names columns other d)
         → v.place.before ≡ j.token.place.before
         → v.place.above ++ v.place.cell ∷ v.place.below ≡ j.token.place.above ++ j.token.place.cell ∷ j.token.place.below
         → ⊥
-    cell_or_jump at other c d v j before thread =
+    not-cell_and_jump_faulty at other c d v j before thread =
         let r = j.label.read in
-        cell_unread names columns at c v v.place.below j.label.threads (all_syntaxes j.above j.syntax j.below)
+        no_cells-down_to_faulty names columns at c v v.place.below j.label.threads (all_syntaxes j.above j.syntax j.below)
         (subst (λ (cs : List (List PlacedCell)). AllZip (Column grammar) (texts_of_grid cs) j.label.threads) (sym before)
         r.before_says)
         (subst (λ (cs : List PlacedCell). AllZip (ParsesCell grammar) (texts_of_cells cs) (all_syntaxes j.above j.syntax j.below))
@@ -569,12 +571,13 @@ module _ {Syntax Stmt : Type 0} (grammar : Grammar Syntax Stmt) (lawful : IsGram
         (subst IsDuplicateFree (append-nil (labels_of (all_syntaxes j.above j.syntax j.below))) r.without_duplicates) r.room
 
     -- The jumps above one at fault lead forward.
-    jump_above : (at other : ℕ) (c d : CellCause) (i : JumpFaulty names columns at c) (j : JumpFaulty names columns other d)
+    no_faulty_jump-above : (at other : ℕ) (c d : CellCause) (i : JumpFaulty names columns at c)
+        (j : JumpFaulty names columns other d)
         → all_syntaxes i.above i.syntax i.below ≡ all_syntaxes j.above j.syntax j.below
         → (more : List PlacedCell)
         → j.token.place.above ≡ i.token.place.above ++ i.token.place.cell ∷ more
         → ⊥
-    jump_above at other c d i j same more above =
+    no_faulty_jump-above at other c d i j same more above =
         let texts = λ (cell : PlacedCell). texts_of_tokens cell.tokens in
         let cut =
         AllZip-split (ParsesCell grammar) (texts_of_cells i.token.place.above) (texts i.token.place.cell) (texts_of_cells more)
@@ -596,7 +599,7 @@ module _ {Syntax Stmt : Type 0} (grammar : Grammar Syntax Stmt) (lawful : IsGram
         (cells_content-unique (texts_of_cells i.token.place.above) i.above mine.above i.label.above_says mine.above_says)
         mine.whole (texts i.token.place.cell) mine.says) in
         let is : cut.here.stmt ≡ Some i.label.jump.0 = ap (λ (s : CellSyntax Syntax). s.stmt) here ∙ i.label.jump.1 in
-        jump_bad at c i
+        not-LabelsLeadForward-if_jump_faulty at c i
         (subst (λ (ss : List (CellSyntax Syntax)). LabelsLeadForward grammar ss (length (statements i.above)) i.label.jump.0)
         (sym same)
         (j.label.ahead (length (statements i.above)) i.label.jump.0
@@ -676,8 +679,8 @@ module _ {Syntax Stmt : Type 0} (grammar : Grammar Syntax Stmt) (lawful : IsGram
         go (inl (above, cell, below)) =
             let token = token_of_jump-unique cell in
             (sym i.token.begins ∙ ap (λ (t : PlacedToken). t.at) token ∙ j.token.begins, cause_of_jump-unique token)
-        go (inr (inl (more, above))) = absurd (jump_above at other c d i j syntaxes_of_thread_equal more above)
-        go (inr (inr (more, above))) = absurd (jump_above other at d c j i (sym syntaxes_of_thread_equal) more above)
+        go (inr (inl (more, above))) = absurd (no_faulty_jump-above at other c d i j syntaxes_of_thread_equal more above)
+        go (inr (inr (more, above))) = absurd (no_faulty_jump-above other at d c j i (sym syntaxes_of_thread_equal) more above)
 
     -- ---- any two faults
 
@@ -720,23 +723,24 @@ module _ {Syntax Stmt : Type 0} (grammar : Grammar Syntax Stmt) (lawful : IsGram
     before_of at c (inr j) = (j.label.threads, all_syntaxes j.above j.syntax j.below, j.label.read.before_says, j.label.read.room)
 
     -- The thread of a fault is none that a test could have.
-    unread_of : (at : ℕ) (c : CellCause) (v : Fault at c) (threads : List (List (CellSyntax Syntax)))
+    no_thread-of_fault : (at : ℕ) (c : CellCause) (v : Fault at c) (threads : List (List (CellSyntax Syntax)))
         (t : List (CellSyntax Syntax))
         → AllZip (Column grammar) (texts_of_grid (place_of at c v).before) threads
         → Column grammar (texts_of_cells ((place_of at c v).above ++ (place_of at c v).cell ∷ (place_of at c v).below)) t
         → length (table_after grammar names threads t) ≤ most_locations
         → ⊥
-    unread_of at c (inl v) = cell_thread at c v
-    unread_of at c (inr j) = jump_thread at c j
+    no_thread-of_fault at c (inl v) = no_thread-if_cell_faulty at c v
+    no_thread-of_fault at c (inr j) = no_thread-if_jump_faulty at c j
 
     -- A fault in a thread excludes faults in the threads after it.
-    thread_before : (at other : ℕ) (c d : CellCause) (v : Fault at c) (w : Fault other d) (more : List (List PlacedCell))
+    no_fault-after_faulty_thread : (at other : ℕ) (c d : CellCause) (v : Fault at c) (w : Fault other d)
+        (more : List (List PlacedCell))
         → (place_of other d w).before
         ≡ (place_of at c v).before ++ ((place_of at c v).above ++ (place_of at c v).cell ∷ (place_of at c v).below) ∷ more
         → ⊥
-    thread_before at other c d v w more e =
+    no_fault-after_faulty_thread at other c d v w more e =
         let b = before_of other d w in
-        thread_unread (place_of at c v) (unread_of at c v) more b.0 b.1
+        thread_unread (place_of at c v) (no_thread-of_fault at c v) more b.0 b.1
         (subst (λ (cs : List (List PlacedCell)). AllZip (Column grammar) (texts_of_grid cs) b.0) e b.2) b.3
 
     -- At most one cause and place of a fault is true of the columns.
@@ -755,8 +759,9 @@ module _ {Syntax Stmt : Type 0} (grammar : Grammar Syntax Stmt) (lawful : IsGram
             ≡ (place_of other d w).above ++ (place_of other d w).cell ∷ (place_of other d w).below
             → (at ≡ other) × (c ≡ d)
         fault_in_thread-unique (inl v) (inl w) before thread = CellFaulty-unique at other c d v w before thread
-        fault_in_thread-unique (inl v) (inr j) before thread = absurd (cell_or_jump at other c d v j before thread)
-        fault_in_thread-unique (inr i) (inl w) before thread = absurd (cell_or_jump other at d c w i (sym before) (sym thread))
+        fault_in_thread-unique (inl v) (inr j) before thread = absurd (not-cell_and_jump_faulty at other c d v j before thread)
+        fault_in_thread-unique (inr i) (inl w) before thread =
+            absurd (not-cell_and_jump_faulty other at d c w i (sym before) (sym thread))
         fault_in_thread-unique (inr i) (inr j) before thread = JumpFaulty-unique at other c d i j thread
 
         go : Fault at c → Fault other d → (at ≡ other) × (c ≡ d)
@@ -766,8 +771,8 @@ module _ {Syntax Stmt : Type 0} (grammar : Grammar Syntax Stmt) (lawful : IsGram
             ((place_of other d w).above ++ (place_of other d w).cell ∷ (place_of other d w).below) (place_of at c v).after
             (place_of other d w).after (sym (place_of at c v).in_columns ∙ (place_of other d w).in_columns)) [
               | inl (before, thread, after) ↦ fault_in_thread-unique v w before thread
-              | inr (inl (more, e)) ↦ absurd (thread_before at other c d v w more e)
-              | inr (inr (more, e)) ↦ absurd (thread_before other at d c w v more e)
+              | inr (inl (more, e)) ↦ absurd (no_fault-after_faulty_thread at other c d v w more e)
+              | inr (inr (more, e)) ↦ absurd (no_fault-after_faulty_thread other at d c w v more e)
             ]
 
     -- No fault is true of columns that are the threads of a test.
@@ -779,7 +784,7 @@ module _ {Syntax Stmt : Type 0} (grammar : Grammar Syntax Stmt) (lawful : IsGram
         → ⊥
     no_true_fault-if_test at c threads says few known h =
         let v = Fault-of_cause at c known h in
-        thread_unread (place_of at c v) (unread_of at c v) (place_of at c v).after threads []
+        thread_unread (place_of at c v) (no_thread-of_fault at c v) (place_of at c v).after threads []
         (subst (λ (cs : List (List PlacedCell)). AllZip (Column grammar) (texts_of_grid cs) threads) (place_of at c v).in_columns
         says)
         (subst (λ (ns : NameTable). length (insert_names names ns) ≤ most_locations) (sym (append-nil (names_of grammar threads)))

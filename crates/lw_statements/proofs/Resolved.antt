@@ -23,7 +23,7 @@ use Rattle.lw_statements.proofs.Elements.{take_further}
 use Rattle.lw_statements.proofs.FaultPlaces.{TokenPosition-in_cell, FaultClaim-by_cause}
 use Rattle.lw_statements.proofs.FrontLabels.{drop-labels}
 use Rattle.lw_statements.proofs.JumpsResolved.{label_last, is_resolvable, IsResolved-of_draft}
-use Rattle.lw_statements.proofs.Leads.{statements-append, label_target-is_label, label_target-no_label}
+use Rattle.lw_statements.proofs.Leads.{statements-append, label_target-is_label, not-label-if_target_none}
 use Rattle.lw_statements.proofs.OneReading.{ParsesCell-unique}
 use Rattle.lw_statements.proofs.api.Forms.{IsGrammar-of_spelling}
 use Rattle.lw_statements.proofs.api.Zips.{Cut, AllZip-unique, AllZip-snoc, AllZip-length, AllZip-split}
@@ -246,7 +246,7 @@ module _ {W Form Stmt : Type 0} (spelling : Spelling W Form Stmt) where
 
           -- If the map does not have the label, no cell has.
           not-label-if_no_target : target_by column.labels word ≡ None → Contains (labels_of syntaxes) word → ⊥
-          not-label-if_no_target none = label_target-no_label syntaxes word (sym (drafted.labels_are word) ∙ none)
+          not-label-if_no_target none = not-label-if_target_none syntaxes word (sym (drafted.labels_are word) ∙ none)
 
           -- If it has, its target is that of the rule of cells.
           label-target_by : (to : ℕ)

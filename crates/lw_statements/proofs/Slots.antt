@@ -66,8 +66,8 @@ digit_first X86 [] d = absurd cc
 digit_first X86 (c ∷ w) d = digit_lower c d
 
 -- No token is both a register's name and a number.
-pub register_no_number : (arch : Arch) (w : Bytes) (r n : ℕ) → IsRegisterName arch w r → IsNumber w n → ⊥
-register_no_number arch w r n reg num =
+pub not-register_and_number : (arch : Arch) (w : Bytes) (r n : ℕ) → IsRegisterName arch w r → IsNumber w n → ⊥
+not-register_and_number arch w r n reg num =
     true≢false (sym (digit_first arch w (number_first w n num))
     ∙ ap (first_byte_is is_ascii_digit) (sym reg.1)
     ∙ letter_first arch r reg.0)
@@ -76,8 +76,8 @@ register_no_number arch w r n reg num =
 IsOperand-unique : (arch : Arch) (w : Bytes) (u v : Operand) → IsOperand arch w u → IsOperand arch w v → u ≡ v
 IsOperand-unique arch w (operand.Register r) (operand.Register q) h k =
     ap operand.Register (register_of_name-unique arch w r q h k)
-IsOperand-unique arch w (operand.Register r) (operand.Number n) h k = absurd (register_no_number arch w r n h k)
-IsOperand-unique arch w (operand.Number n) (operand.Register r) h k = absurd (register_no_number arch w r n k h)
+IsOperand-unique arch w (operand.Register r) (operand.Number n) h k = absurd (not-register_and_number arch w r n h k)
+IsOperand-unique arch w (operand.Number n) (operand.Register r) h k = absurd (not-register_and_number arch w r n k h)
 IsOperand-unique arch w (operand.Number n) (operand.Number m) h k = ap operand.Number (number-unique w n m h k)
 
 -- No token is both an operand and a location's name.
@@ -95,8 +95,8 @@ colon_case Source = refl
 colon_case X86 = refl
 
 -- A `:` is no location's name.
-colon_location : IsLocationName (codes ":") → ⊥
-colon_location loc = true≢false (sym loc.0.0.are_name_bytes.0)
+not-IsLocationName-colon : IsLocationName (codes ":") → ⊥
+not-IsLocationName-colon loc = true≢false (sym loc.0.0.are_name_bytes.0)
 
 -- A byte is a name's if and only if it is one in lower case.
 is_name_byte-to_ascii_lowercase : (b : ℕ) → is_name_byte (to_ascii_lowercase b) ≡ is_name_byte b
@@ -204,17 +204,17 @@ module _ {W Form Stmt : Type 0} (spelling : Spelling W Form Stmt) where
   location_slot t Label x none h loc = absurd (true≢false none)
 
   -- A `:` is accepted only by its own slot.
-  pub colon_gives : (slot : Slot W) (slots : List (Slot W)) (g : SlotValue slot)
+  pub no_colon-in_other_slot : (slot : Slot W) (slots : List (Slot W)) (g : SlotValue slot)
       → is_no_colon spelling (slot ∷ slots) ≡ true
       → Gives spelling (codes ":") slot g
       → ⊥
-  colon_gives (Keyword w) slots g apart h = bytes_eq-false_inv _ _ apart (h ∙ colon_case spelling.language.arch)
-  colon_gives Register slots r apart h = true≢false (sym (register_reserved _ (codes ":") r h))
-  colon_gives Location slots x apart h = colon_location (subst IsLocationName (sym h.0) h.1)
-  colon_gives Value slots (operand.Register r) apart h = true≢false (sym (register_reserved _ _ r h))
-  colon_gives Value slots (operand.Number n) apart h = true≢false (sym (number_first (codes ":") n h))
-  colon_gives Number slots n apart h = true≢false (sym (number_first (codes ":") n h))
-  colon_gives Label slots l apart h = colon_location (subst IsLocationName (sym h.0) h.1)
+  no_colon-in_other_slot (Keyword w) slots g apart h = bytes_eq-false_inv _ _ apart (h ∙ colon_case spelling.language.arch)
+  no_colon-in_other_slot Register slots r apart h = true≢false (sym (register_reserved _ (codes ":") r h))
+  no_colon-in_other_slot Location slots x apart h = not-IsLocationName-colon (subst IsLocationName (sym h.0) h.1)
+  no_colon-in_other_slot Value slots (operand.Register r) apart h = true≢false (sym (register_reserved _ _ r h))
+  no_colon-in_other_slot Value slots (operand.Number n) apart h = true≢false (sym (number_first (codes ":") n h))
+  no_colon-in_other_slot Number slots n apart h = true≢false (sym (number_first (codes ":") n h))
+  no_colon-in_other_slot Label slots l apart h = not-IsLocationName-colon (subst IsLocationName (sym h.0) h.1)
 
   -- ---- several tokens
 

@@ -10,8 +10,8 @@ use Rattle.lw_text.proofs.api.Numbers.{number_first, bracket_no_number, number-u
 use Rattle.lw_text.proofs.Lists.{IsDeterministic}
 
 -- No token is both a number and a name, since a number starts with a digit.
-pub number_no_name : (w : Bytes) (n : ℕ) → IsNumber w n → IsName w → ⊥
-number_no_name w n p q =
+pub not-number_and_name : (w : Bytes) (n : ℕ) → IsNumber w n → IsName w → ⊥
+not-number_and_name w n p q =
     let h = number_first w n p in
     let k = q.0.front in
     cc
@@ -41,32 +41,33 @@ pub bracket_no_name : IsName (codes "[") → ⊥
 bracket_no_name n = let h = n.0.are_name_bytes.0 in cc
 
 -- Tokens do not start both with a name and with `[`.
-name_or_bracket : {ts l m : TokenList} {x : Bytes} → IsName x → ts ≡ x ∷ l → ts ≡ codes "[" ∷ m → ⊥
-name_or_bracket {x = x} name e f = let k : x ≡ codes "[" = cc in bracket_no_name (subst IsName k name)
+not-name_and_bracket_next : {ts l m : TokenList} {x : Bytes} → IsName x → ts ≡ x ∷ l → ts ≡ codes "[" ∷ m → ⊥
+not-name_and_bracket_next {x = x} name e f = let k : x ≡ codes "[" = cc in bracket_no_name (subst IsName k name)
 
 -- Tokens do not start both with a name and with a number.
-name_or_number : {ts l m : TokenList} {x w : Bytes} {n : ℕ} → IsName x → IsNumber w n → ts ≡ x ∷ l → ts ≡ w ∷ m → ⊥
-name_or_number {x = x} {w = w} {n = n} name number e f = let k : x ≡ w = cc in number_no_name w n number (subst IsName k name)
+not-name_and_number_next : {ts l m : TokenList} {x w : Bytes} {n : ℕ} → IsName x → IsNumber w n → ts ≡ x ∷ l → ts ≡ w ∷ m → ⊥
+not-name_and_number_next {x = x} {w = w} {n = n} name number e f =
+    let k : x ≡ w = cc in not-number_and_name w n number (subst IsName k name)
 
 -- Tokens do not start both with a number and with `[`.
-number_or_bracket : {ts l m : TokenList} {w : Bytes} {n : ℕ} → IsNumber w n → ts ≡ w ∷ l → ts ≡ codes "[" ∷ m → ⊥
-number_or_bracket {w = w} {n = n} number e f =
+not-number_and_bracket_next : {ts l m : TokenList} {w : Bytes} {n : ℕ} → IsNumber w n → ts ≡ w ∷ l → ts ≡ codes "[" ∷ m → ⊥
+not-number_and_bracket_next {w = w} {n = n} number e f =
     let k : w ≡ codes "[" = cc in bracket_no_number n (subst (λ w. IsNumber w n) k number)
 
 -- The parse of a site is unique: `x`, `[x]` and `t : r` start with tokens of three kinds.
 pub IsSite-unique : (arch : Arch) → IsDeterministic (IsSite arch)
 IsSite-unique arch ts (InMemory x) (InMemory y) r s (p, inl e) (q, inl f) = let k : x ≡ y = cc in (ap InMemory k, cc)
-IsSite-unique arch ts (InMemory x) (InMemory y) r s (p, inl e) (q, inr f) = absurd (name_or_bracket p.0 e f)
-IsSite-unique arch ts (InMemory x) (InMemory y) r s (p, inr e) (q, inl f) = absurd (name_or_bracket q.0 f e)
+IsSite-unique arch ts (InMemory x) (InMemory y) r s (p, inl e) (q, inr f) = absurd (not-name_and_bracket_next p.0 e f)
+IsSite-unique arch ts (InMemory x) (InMemory y) r s (p, inr e) (q, inl f) = absurd (not-name_and_bracket_next q.0 f e)
 IsSite-unique arch ts (InMemory x) (InMemory y) r s (p, inr e) (q, inr f) = let k : x ≡ y = cc in (ap InMemory k, cc)
 IsSite-unique arch ts (InMemory x) (InThread t n) r s (p, inl e) (w, v, f, number, register) =
-    absurd (name_or_number p.0 number e f)
+    absurd (not-name_and_number_next p.0 number e f)
 IsSite-unique arch ts (InMemory x) (InThread t n) r s (p, inr e) (w, v, f, number, register) =
-    absurd (number_or_bracket number f e)
+    absurd (not-number_and_bracket_next number f e)
 IsSite-unique arch ts (InThread t n) (InMemory x) r s (w, v, e, number, register) (p, inl f) =
-    absurd (name_or_number p.0 number f e)
+    absurd (not-name_and_number_next p.0 number f e)
 IsSite-unique arch ts (InThread t n) (InMemory x) r s (w, v, e, number, register) (p, inr f) =
-    absurd (number_or_bracket number e f)
+    absurd (not-number_and_bracket_next number e f)
 IsSite-unique arch ts (InThread t n) (InThread u m) r s (w, v, e, is_t, is_n) (w', v', f, is_u, is_m) =
     let words : w' ≡ w = cc in
     let names : v' ≡ v = cc in

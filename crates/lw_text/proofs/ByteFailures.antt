@@ -33,9 +33,12 @@ IsSameFault rest cause other because = (rest ≡ other) × (cause ≡ because)
 -- ---- Tokens.
 
 -- No byte is a digit but no name byte: a digit may be in a name.
-digit_in_name : (bytes : Bytes) → first_byte_is is_ascii_digit bytes ≡ true → first_byte_is is_name_byte bytes ≡ false → ⊥
-digit_in_name [] p q = cc
-digit_in_name (b ∷ bytes) p q = grind (arith, nat_tests)
+not-digit_without_name_byte : (bytes : Bytes)
+    → first_byte_is is_ascii_digit bytes ≡ true
+    → first_byte_is is_name_byte bytes ≡ false
+    → ⊥
+not-digit_without_name_byte [] p q = cc
+not-digit_without_name_byte (b ∷ bytes) p q = grind (arith, nat_tests)
 
 -- A token fails for one cause.
 FailsInToken-unique : (bytes : Bytes) (cause because : TextCause)
@@ -46,14 +49,14 @@ FailsInToken-unique bytes c d (no_number_run w r run digit never p) (no_number_r
 FailsInToken-unique bytes c d (no_number_run w r run digit never p) (no_name_run v s too name other lacks q) =
     absurd (false≢true (sym other ∙ digit))
 FailsInToken-unique bytes c d (no_number_run w r run digit never p) (no_symbol some other lacks q) =
-    absurd (digit_in_name bytes digit other)
+    absurd (not-digit_without_name_byte bytes digit other)
 FailsInToken-unique bytes c d (no_name_run w r run name other never p) (no_number_run v s too digit lacks q) =
     absurd (false≢true (sym other ∙ digit))
 FailsInToken-unique bytes c d (no_name_run w r run name other never p) (no_name_run v s too also another lacks q) = p ∙ sym q
 FailsInToken-unique bytes c d (no_name_run w r run name other never p) (no_symbol some off lacks q) =
     absurd (false≢true (sym off ∙ name))
 FailsInToken-unique bytes c d (no_symbol some other lacks p) (no_number_run w r run digit never q) =
-    absurd (digit_in_name bytes digit other)
+    absurd (not-digit_without_name_byte bytes digit other)
 FailsInToken-unique bytes c d (no_symbol some other lacks p) (no_name_run w r run name off never q) =
     absurd (false≢true (sym other ∙ name))
 FailsInToken-unique bytes c d (no_symbol some other lacks p) (no_symbol also off never q) = p ∙ sym q
@@ -78,7 +81,7 @@ not-FailsInToken-if_parsed t rest cause (no_number_run w r run digit never c) (i
     no_digit_first-of_append [] rest some e = absurd (omega (arith, some))
     no_digit_first-of_append (b ∷ t) rest some e = e
 not-FailsInToken-if_parsed t rest cause (no_number_run w r run digit never c) (inr symbol) =
-    digit_in_name (t ++ rest) digit (symbol_front t rest symbol)
+    not-digit_without_name_byte (t ++ rest) digit (symbol_front t rest symbol)
 not-FailsInToken-if_parsed t rest cause (no_name_run w r run first other never c) (inl name) =
     let same =
     IsLongestPrefix-unique is_name_byte t w {text = t ++ rest}
@@ -152,15 +155,15 @@ plain_front [] after all some = absurd (omega (arith, some))
 plain_front (b ∷ name) after all some = all.0
 
 -- Blanks that are followed by a name that is not blank are not all of a text.
-blanks_end : (blanks name after : Bytes)
+not-all_blank-before_name : (blanks name after : Bytes)
     → AllByRecursion (λ b. is_blank b ≡ true) (blanks ++ (name ++ after))
     → AllByRecursion (λ b. is_blank b ≡ false) name
     → 0 < length name
     → ⊥
-blanks_end [] name after all plain some =
+not-all_blank-before_name [] name after all plain some =
     false≢true (sym (plain_front name after plain some)
     ∙ first_byte-of_blanks (name ++ after) all (omega (arith, some, length-append name after)))
-blanks_end (b ∷ blanks) name after all plain some = blanks_end blanks name after all.1 plain some
+not-all_blank-before_name (b ∷ blanks) name after all plain some = not-all_blank-before_name blanks name after all.1 plain some
 
 -- A text that begins with blanks begins with one.
 blank_first : (text blanks rest : Bytes)
@@ -180,16 +183,16 @@ FailsInTestName-unique text r s c d (no_name all end p) (no_name too is q) = (en
 FailsInTestName-unique text r s c d (no_name all end p) (no_blank some other at q) =
     absurd (false≢true (sym other ∙ first_byte-of_blanks text all some))
 FailsInTestName-unique text r s c d (no_name all end p) (bad_name blanks name after e f some are plain has longest not_name q) =
-    absurd (blanks_end blanks name after (subst (AllByRecursion (λ b. is_blank b ≡ true)) (e ∙ ap (λ x. blanks ++ x) f) all) plain
-    has)
+    absurd (not-all_blank-before_name blanks name after
+    (subst (AllByRecursion (λ b. is_blank b ≡ true)) (e ∙ ap (λ x. blanks ++ x) f) all) plain has)
 FailsInTestName-unique text r s c d (no_blank some other at p) (no_name all end q) =
     absurd (false≢true (sym other ∙ first_byte-of_blanks text all some))
 FailsInTestName-unique text r s c d (no_blank some other at p) (no_blank also off is q) = (at ∙ sym is, p ∙ sym q)
 FailsInTestName-unique text r s c d (no_blank some other at p) (bad_name blanks name after e f has are plain too longest not_name q) =
     absurd (false≢true (sym other ∙ blank_first text blanks s e has are))
 FailsInTestName-unique text r s c d (bad_name blanks name after e f some are plain has longest not_name p) (no_name all end q) =
-    absurd (blanks_end blanks name after (subst (AllByRecursion (λ b. is_blank b ≡ true)) (e ∙ ap (λ x. blanks ++ x) f) all) plain
-    has)
+    absurd (not-all_blank-before_name blanks name after
+    (subst (AllByRecursion (λ b. is_blank b ≡ true)) (e ∙ ap (λ x. blanks ++ x) f) all) plain has)
 FailsInTestName-unique text r s c d (bad_name blanks name after e f has are plain too longest not_name p) (no_blank some other at q) =
     absurd (false≢true (sym other ∙ blank_first text blanks r e has are))
 FailsInTestName-unique text r s c d (bad_name blanks name after e f some are plain has longest not_name p) (bad_name spaces word later g h many blank also too last off q) = (
@@ -205,7 +208,7 @@ pub not-FailsInTestName-if_parsed : (text r name after : Bytes) (c : TextCause)
     → ParsesTestName text name after
     → ⊥
 not-FailsInTestName-if_parsed text r name after c (no_name all end p) is =
-    blanks_end is.blanks name after (subst (AllByRecursion (λ b. is_blank b ≡ true)) is.parts all)
+    not-all_blank-before_name is.blanks name after (subst (AllByRecursion (λ b. is_blank b ≡ true)) is.parts all)
     (All-mono _ _ (λ b e. graphic_no_blank b e) name is.is_name.are_graphic_bytes) is.is_name.not_empty
 not-FailsInTestName-if_parsed text r name after c (no_blank some other at p) is =
     false≢true (sym other ∙ blank_first text is.blanks (name ++ after) is.parts is.blanks_not_empty is.blank)

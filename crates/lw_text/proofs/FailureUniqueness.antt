@@ -9,7 +9,7 @@ use Rattle.lw_text.proofs.Common.{FailsInName, FailsInBrackets, in_bracketed_nam
 use Rattle.lw_text.proofs.Common.{FailsInRegister, no_colon, no_register_name, FailsInSite, in_name}
 use Rattle.lw_text.proofs.Common.{in_brackets, no_thread, in_register, FailsInValue, no_equals, no_number}
 use Rattle.lw_text.proofs.Common.{FailsInAssignment, in_site, in_value, TextCause}
-use Rattle.lw_text.proofs.Atoms.{number_no_name, bracket_no_name, IsSite-unique}
+use Rattle.lw_text.proofs.Atoms.{not-number_and_name, bracket_no_name, IsSite-unique}
 use Rattle.lw_text.proofs.Failures.{cons-tail_unique}
 use Rattle.lw_text.proofs.api.Numbers.{bracket_no_number, number-unique}
 
@@ -234,11 +234,11 @@ module _ (arch : Arch) (threads : Option ℕ) (names : NameTable) (c : TextCause
   not-FailsInSite-if_parsed ts rest mid cause (InMemory x) (in_brackets begins p) (is, inr e) there room =
       not-FailsInBrackets-if_parsed names c _ rest mid cause x p (cons-tail_unique (sym begins ∙ e)) is room
   not-FailsInSite-if_parsed ts rest mid cause (InMemory x) (no_thread q n begins at number refused because) (is, inl e) there room =
-      number_no_name q n number (subst IsName (cons-head_eq _ _ _ _ (sym e ∙ begins)) is.0)
+      not-number_and_name q n number (subst IsName (cons-head_eq _ _ _ _ (sym e ∙ begins)) is.0)
   not-FailsInSite-if_parsed ts rest mid cause (InMemory x) (no_thread q n begins at number refused because) (is, inr e) there room =
       not-bracket_and_number ts _ _ q n e begins number
   not-FailsInSite-if_parsed ts rest mid cause (InMemory x) (in_register q n begins number too w) (is, inl e) there room =
-      number_no_name q n number (subst IsName (cons-head_eq _ _ _ _ (sym e ∙ begins)) is.0)
+      not-number_and_name q n number (subst IsName (cons-head_eq _ _ _ _ (sym e ∙ begins)) is.0)
   not-FailsInSite-if_parsed ts rest mid cause (InMemory x) (in_register q n begins number too w) (is, inr e) there room =
       not-bracket_and_number ts _ _ q n e begins number
   not-FailsInSite-if_parsed ts rest mid cause (InThread t r) (in_name plain p) is there room =

@@ -218,17 +218,17 @@ pub not-IsNameOrNumber-if_empty : {w : Bytes} → w ≡ [] → IsNameOrNumber w 
 not-IsNameOrNumber-if_empty {w} is kind = let some = name_or_number_nonempty w kind in omega (arith, ap length is)
 
 -- A run that starts with a digit and is no number is no name either.
-pub digit_starts_no_name : {w r : Bytes} {b : ℕ}
+pub no_name-if_digit_first : {w r : Bytes} {b : ℕ}
     → w ≡ b ∷ r
     → is_ascii_digit b ≡ true
     → HoldsOfNothing (IsNumber w)
     → IsNameOrNumber w
     → ⊥
-digit_starts_no_name is digit never (inl name) =
+no_name-if_digit_first is digit never (inl name) =
     let front = name.0.front in
     let begin = ap (first_byte_is is_ascii_digit) is in
     cc
-digit_starts_no_name is digit never (inr (n, number)) = never n number
+no_name-if_digit_first is digit never (inr (n, number)) = never n number
 
 -- A run that does not start with a digit is a name if it is short enough.
 pub short_run_is_name : {w r : Bytes} {b : ℕ}

@@ -210,11 +210,12 @@ pub block_no_trivia : (text : Bytes) → first_byte_is (λ b. b == 123) text ≡
 block_no_trivia text h = trivia_free (λ b. b == 123) text refl refl h
 
 -- No note starts with `{`.
-pub note_no_block : (text end : Bytes) → first_byte_is (λ b. b == 123) text ≡ true → Note text end → ⊥
-note_no_block text end h (inl q) =
+pub no_note-at_block : (text end : Bytes) → first_byte_is (λ b. b == 123) text ≡ true → Note text end → ⊥
+no_note-at_block text end h (inl q) =
     not-both_tests-first_byte (λ b. b == 34) (λ b. b == 123) text (Quoted-front text end q) h
     (λ b k. ap (λ x. x == 123) (eqb-true b 34 k))
-note_no_block text end h (inr p) = not-both_tests-first_byte _ _ text h (KeyLine-front _ end p) (λ b k. byte_no_key 123 b refl k)
+no_note-at_block text end h (inr p) =
+    not-both_tests-first_byte _ _ text h (KeyLine-front _ end p) (λ b k. byte_no_key 123 b refl k)
 
 -- A text that starts with no quote and with no line `Key=value` starts with no note.
 pub no_note-if_neither_kind : (text : Bytes)
@@ -246,7 +247,7 @@ Note-suffix text end (inr p) =
 pub Notes-note_inv : {text mid after rest : Bytes} → Notes text rest → Trivia text mid → Note mid after → Notes after rest
 Notes-note_inv {mid = mid} {after} (none {rest = rest} t h) g n =
     absurd (let e : mid ≡ rest = Trivia-unique g t (note_no_trivia mid after n) (block_no_trivia rest h) in
-    note_no_block mid after (subst (λ x. first_byte_is (λ b. b == 123) x ≡ true) (sym e) h) n)
+    no_note-at_block mid after (subst (λ x. first_byte_is (λ b. b == 123) x ≡ true) (sym e) h) n)
 Notes-note_inv {mid = mid} {after} {rest} (note {mid = m} {after = a} t f more) g n =
     let e : m ≡ mid = Trivia-unique t g (note_no_trivia m a f) (note_no_trivia mid after n) in
     subst (λ x. Notes x rest) (Note-unique mid a after (subst (λ x. Note x a) e f) n) more
@@ -261,7 +262,7 @@ Notes-block_inv {start = start} (none {rest = rest} t k) g h =
     Trivia-unique g t (block_no_trivia start h) (block_no_trivia rest k)
 Notes-block_inv {start = start} (note {mid = m} {after = a} t f more) g h =
     absurd (let e : start ≡ m = Trivia-unique g t (block_no_trivia start h) (note_no_trivia m a f) in
-    note_no_block m a (subst (λ x. first_byte_is (λ b. b == 123) x ≡ true) e h) f)
+    no_note-at_block m a (subst (λ x. first_byte_is (λ b. b == 123) x ≡ true) e h) f)
 
 -- The end of a sequence of notes is unique.
 pub Notes-unique : {text a b : Bytes} → Notes text a → Notes text b → a ≡ b

@@ -7,7 +7,7 @@ use Rattle.lw_text.proofs.Common.{ParsesNothing, Bytes, NameTable, TokenList, Ar
 use Rattle.lw_text.proofs.Common.{IsRegisterName, insert_name, Cursor, IsNumber, with_sites, HasRoomFor}
 use Rattle.lw_text.proofs.Common.{HasRoomForName, SiteSyntax, InMemory, InThread, IsSite, ThreadExists}
 use Rattle.lw_text.proofs.Common.{ThreadAllowed, remaining_texts, AdvancesTo, is_allowed, ParsedSite}
-use Rattle.lw_text.proofs.Atoms.{number_no_name, bracket_no_name}
+use Rattle.lw_text.proofs.Atoms.{not-number_and_name, bracket_no_name}
 use Rattle.lw_text.proofs.api.Numbers.{bracket_no_number, number-unique}
 use Rattle.lw_text.proofs.NameTables.{site_by_name-at}
 use Rattle.lw_text.specs.declared.site.Site.TheVariants as made
@@ -73,7 +73,7 @@ module _ (arch : Arch) (names : NameTable) {ts l : TokenList} {t : Bytes} (e : t
       → IsSite arch ts s rest
       → (q : Bytes) × (r : ℕ) × (s ≡ InThread n r) × (l ≡ codes ":" ∷ q ∷ rest) × IsRegisterName arch q r
   site_after_number n number (InMemory x) rest (p, inl f) =
-      absurd (let k : x ≡ t = cc in number_no_name t n number (subst IsName k p.0))
+      absurd (let k : x ≡ t = cc in not-number_and_name t n number (subst IsName k p.0))
   site_after_number n number (InMemory x) rest (p, inr f) =
       absurd (let k : t ≡ codes "[" = cc in bracket_no_number n (subst (λ w. IsNumber w n) k number))
   site_after_number n number (InThread u r) rest p =
@@ -83,7 +83,7 @@ module _ (arch : Arch) (names : NameTable) {ts l : TokenList} {t : Bytes} (e : t
       (p.1, r, ap (λ (v : ℕ). InThread v r) same, cc, p.4)
 
   -- If the thread's number is not allowed, there is no allowed site.
-  pub thread_refused : (n : ℕ)
+  pub no_site-if_thread_refused : (n : ℕ)
       → IsNumber t n
       → (threads : Option ℕ)
       → is_allowed threads n ≡ false
@@ -91,8 +91,8 @@ module _ (arch : Arch) (names : NameTable) {ts l : TokenList} {t : Bytes} (e : t
       → IsSite arch ts s rest
       → ThreadAllowed threads s
       → ⊥
-  thread_refused n number None refused s rest p there = absurd (true≢false refused)
-  thread_refused n number (Some threads) refused s rest p there =
+  no_site-if_thread_refused n number None refused s rest p there = absurd (true≢false refused)
+  no_site-if_thread_refused n number (Some threads) refused s rest p there =
       let exists : n < threads = subst (ThreadExists threads) ((site_after_number n number s rest p).2) there in
       omega (arith, exists, ltb-false n threads refused)
 

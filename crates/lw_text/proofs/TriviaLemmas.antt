@@ -20,8 +20,8 @@ Trivia-comment_inv (blank {b} t g) text e stop = absurd (let h : is_blank b ≡ 
 Trivia-comment_inv (comment {text = t} {after} c g) text e stop = (after, rw (let k : t ≡ text = cc in k) at c, g)
 
 -- A blank starts trivia.
-blank_begins : (l : Bytes) → first_byte_is is_blank l ≡ true → begins_trivia l ≡ false → ⊥
-blank_begins l p q = let h : true || begins_pair 40 42 l ≡ false = rw p at q in cc
+not-blank_without_trivia : (l : Bytes) → first_byte_is is_blank l ≡ true → begins_trivia l ≡ false → ⊥
+not-blank_without_trivia l p q = let h : true || begins_pair 40 42 l ≡ false = rw p at q in cc
 
 -- Trivia that starts with a blank continues after it.
 Trivia-blank_inv : {ts rest : Bytes}
@@ -31,14 +31,15 @@ Trivia-blank_inv : {ts rest : Bytes}
     → is_blank b ≡ true
     → begins_trivia rest ≡ false
     → Trivia text rest
-Trivia-blank_inv (none {rest}) b text e test stop = absurd (blank_begins rest (ap (first_byte_is is_blank) e ∙ test) stop)
+Trivia-blank_inv (none {rest}) b text e test stop =
+    absurd (not-blank_without_trivia rest (ap (first_byte_is is_blank) e ∙ test) stop)
 Trivia-blank_inv {rest = rest} (blank {text = t} h g) b text e test stop = rw (let k : t ≡ text = cc in k) at g
 Trivia-blank_inv (comment c g) b text e test stop = absurd (let h : false ≡ is_blank b = ap (first_byte_is is_blank) e in cc)
 
 -- If no trivia starts, there is none.
 Trivia-none_inv : {text rest : Bytes} → Trivia text rest → begins_trivia text ≡ false → text ≡ rest
 Trivia-none_inv none stop = refl
-Trivia-none_inv (blank {b} {text} h g) stop = absurd (blank_begins (b ∷ text) h stop)
+Trivia-none_inv (blank {b} {text} h g) stop = absurd (not-blank_without_trivia (b ∷ text) h stop)
 Trivia-none_inv (comment c g) stop = absurd cc
 
 -- The end of blanks and comments is unique, if none follow.

@@ -64,8 +64,8 @@ pub use Rattle.lw_tso.specs.EventEffects.{drain_effect, event_effect, if_buffer_
 pub use Rattle.lw_tso.specs.EventEffects.{operation_effect, step_effect}
 pub use Rattle.lw_tso.specs.EventRanges.{IsEventInRange}
 pub use Rattle.lw_tso.specs.Evictions.{without_evictions}
-pub use Rattle.lw_tso.specs.Fencing.{EndsBlock, IsFencedCode, IsFencedTest, IsInserted, MarksAreFences}
-pub use Rattle.lw_tso.specs.Fencing.{code_without, retarget_to_blocks, unmarked_count_before}
+pub use Rattle.lw_tso.specs.Fencing.{EndsBlock, HasInsertedFences, HasInsertedFencesInCode, IsInserted}
+pub use Rattle.lw_tso.specs.Fencing.{MarksAreFences, code_without, retarget_to_blocks, unmarked_count_before}
 pub use Rattle.lw_tso.specs.Fencing.{unmarked_instructions}
 pub use Rattle.lw_tso.specs.Independence.{AreDrainAndPassing, AreIndependent, CommutesWithDrain}
 pub use Rattle.lw_tso.specs.Independence.{DoNotConflict, EventsCommute, IsAtPosition, MayPassOldest}

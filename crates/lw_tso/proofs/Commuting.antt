@@ -148,7 +148,7 @@ LeavesAlone-load entry (Some w) here y next not ne = LeavesAlone-local_step entr
 LeavesAlone-load entry None true y next not ne = absurd (true≢false not)
 LeavesAlone-load entry None _ y next not ne = record { same = refl; free = λ e. ne (sym (same_Some y entry.0 e)) }
 
--- An operation that commutes with the drain of the entry does not access its location.
+-- An operation that commutes with the drain of the entry has the same effect with the entry and without it, and does not access its location.
 pub LeavesAlone-operation : (entry : ℕ × ℕ) (o : Operation) (p : Processor)
     → CommutesWithDrain entry.0 o
     → LeavesAlone entry (operation_effect o p) (operation_effect o (with_oldest entry p))

@@ -19,9 +19,9 @@ use Rattle.lw_tso.proofs.api.Effects.{state, EffectLeadsTo, EventOccurrence, Mac
 use Rattle.lw_tso.proofs.api.Effects.{MachineTransition-of_effect, EventOccurrence-of_event}
 
 -- A list that ends with an item is not empty.
-append_last-ne_nil : {X : Type 0} (xs : List X) (x : X) → xs ++ x ∷ [] ≡ [] → ⊥
-append_last-ne_nil [] x e = cc
-append_last-ne_nil (y ∷ xs) x e = cc
+not-append_last_nil : {X : Type 0} (xs : List X) (x : X) → xs ++ x ∷ [] ≡ [] → ⊥
+not-append_last_nil [] x e = cc
+not-append_last_nil (y ∷ xs) x e = cc
 
 module _ (program : List (List Instr)) where
   -- What the lock's holder has read is what it would read now.
@@ -425,7 +425,7 @@ module _ (program : List (List Instr)) where
           ap (λ (z : MachineState (List ℕ)). slice_get z.processors cpu) pending.machine_is
           ∙ get-set_same m.processors cpu full (record from { buffer = older }) pending.was in
           let none : buffer_of s.machine cpu ≡ [] = subst (λ u. buffer_of s.machine u ≡ []) (sym own) done.1 in
-          absurd (append_last-ne_nil older (locked.location, locked.leaves word)
+          absurd (not-append_last_nil older (locked.location, locked.leaves word)
           (sym (buffer_of-in_range s.machine cpu full there) ∙ none))
 
       -- While a write is pending, the lock's holder has written. So no event is enabled that needs another phase.

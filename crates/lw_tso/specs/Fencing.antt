@@ -28,7 +28,7 @@ abbrev pub EndsBlock : (ℕ → ℕ) → List Instr → ℕ → Instr → Type 0
 EndsBlock block code index i = (slice_get code (block index) ≡ Some (retarget_to_blocks block i)) × (block (index + 1) ≡ block index + 1)
 
 -- `fenced` is `code` with MFENCEs inserted: its first index is in the first block, and its end is after the last.
-pub record IsFencedCode (code fenced : List Instr) : Type 0 where
+pub record HasInsertedFencesInCode (code fenced : List Instr) : Type 0 where
   pub block : ℕ → ℕ  -- The block that an index of `fenced` is in, by the index of the block's instruction in `code`.
   pub first : block 0 ≡ 0
   pub each :
@@ -37,10 +37,10 @@ pub record IsFencedCode (code fenced : List Instr) : Type 0 where
   pub last : (index : ℕ) → length fenced ≤ index → block index ≡ length code
 
 -- `fenced` is `test` with MFENCEs inserted: the heads are the same except for the name, and each thread is fenced.
-pub record IsFencedTest (test fenced : X86Test) : Type 0 where
+pub record HasInsertedFences (test fenced : X86Test) : Type 0 where
   pub head : fenced.head ≡ record test.head { name = fenced.head.name }
   pub as_many : length fenced.threads ≡ length test.threads
-  pub threads : (t : ℕ) → t < length test.threads → IsFencedCode (thread_code test.threads t) (thread_code fenced.threads t)
+  pub threads : (t : ℕ) → t < length test.threads → HasInsertedFencesInCode (thread_code test.threads t) (thread_code fenced.threads t)
 
 -- ---- Removing fences.
 

@@ -16,7 +16,7 @@ ghost use Rattle.lw_tso.specs.Endings.{CanTerminate};
 ghost use Rattle.lw_tso.specs.EventRanges.{IsEventInRange};
 ghost use Rattle.lw_tso.specs.Evictions.{without_evictions};
 ghost use Rattle.lw_tso.specs.Independence.{AreIndependent, EventsCommute};
-ghost use Rattle.lw_tso.specs.Fencing.{IsFencedCode, IsFencedTest, MarksAreFences, code_without};
+ghost use Rattle.lw_tso.specs.Fencing.{HasInsertedFencesInCode, HasInsertedFences, MarksAreFences, code_without};
 ghost use Rattle.lw_tso.specs.Machines.{MachineState, EventResult, over_flat_memory, MachineTransition};
 ghost use Rattle.lw_tso.specs.Runs.{MachineRunsTo, ReplaysTo, IsMachineOutcome, initial_machine_state};
 ghost use Rattle.lw_tso.specs.Starts.{IsInitialMemory};
@@ -93,13 +93,13 @@ pub fn independent_events_commute()
 /// States that fences only remove outcomes: every outcome of a test with MFENCEs inserted, at any
 /// indices, is an outcome of the test.
 pub fn fences_only_remove_outcomes()
-    ensures { (test fenced : X86Test) (o : FinalState) → IsFencedTest test fenced
+    ensures { (test fenced : X86Test) (o : FinalState) → HasInsertedFences test fenced
         → IsMachineOutcome flat_memory fenced fenced.head.init_words o → IsMachineOutcome flat_memory test test.head.init_words o }
 {}
 
 /// States that fences only remove outcomes over every memory system too.
 pub fn fences_only_remove_outcomes_over_every_memory<M: MemorySystem>()
-    ensures { (test fenced : X86Test) (m n : M) (o : FinalState) → IsWellScopedProgram fenced → IsFencedTest test fenced
+    ensures { (test fenced : X86Test) (m n : M) (o : FinalState) → IsWellScopedProgram fenced → HasInsertedFences test fenced
         → IsInitialMemory (memory_of M.content M.state M.serves) (invariant_of M.cpus M.sound) test m
         → IsInitialMemory (memory_of M.content M.state M.serves) (invariant_of M.cpus M.sound) fenced n
         → IsMachineOutcome (memory_of M.content M.state M.serves) fenced n o
@@ -113,13 +113,13 @@ pub fn fences_only_remove_outcomes_over_every_memory<M: MemorySystem>()
 /// States that a test is well-scoped if it is so with MFENCEs inserted. It is well-formed if it has a valid name and is
 /// well-formed with MFENCEs inserted.
 pub fn tests_without_fences_are_well_formed()
-    ensures well_scoped { (test fenced : X86Test) → IsWellScopedProgram fenced → IsFencedTest test fenced → IsWellScopedProgram test }
-    ensures well_formed { (test fenced : X86Test) → IsTestName test.head.name → IsWellFormedProgram fenced → IsFencedTest test fenced
+    ensures well_scoped { (test fenced : X86Test) → IsWellScopedProgram fenced → HasInsertedFences test fenced → IsWellScopedProgram test }
+    ensures well_formed { (test fenced : X86Test) → IsTestName test.head.name → IsWellFormedProgram fenced → HasInsertedFences test fenced
         → IsWellFormedProgram test }
 {}
 
 /// States that any MFENCEs of a code can be removed: inserting them again gives the code.
 pub fn fences_can_be_removed()
     ensures { (left_out : List Bool) (code : List Instr) → MarksAreFences left_out code
-        → IsFencedCode (code_without left_out code) code }
+        → HasInsertedFencesInCode (code_without left_out code) code }
 {}

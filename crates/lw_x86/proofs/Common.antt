@@ -80,8 +80,8 @@ pub use Rattle.lw_text.proofs.api.ConditionTokens.{site_exists, site_tokens, sit
 pub use Rattle.lw_text.proofs.api.ConditionTokens.{terminal_tokens, value_tokens}
 pub use Rattle.lw_text.proofs.api.Frames.{HasFrame-unique}
 pub use Rattle.lw_text.proofs.api.Indices.{is_index}
-pub use Rattle.lw_text.proofs.api.PrintedConditions.{IsLocationName-in_table, Spells-colon, Spells-register}
-pub use Rattle.lw_text.proofs.api.PrintedConditions.{assignment_spelled, blank_no_equals}
+pub use Rattle.lw_text.proofs.api.PrintedConditions.{HasNoEquals-blank, IsLocationName-in_table, Spells-colon}
+pub use Rattle.lw_text.proofs.api.PrintedConditions.{Spells-register, assignment_spelled}
 pub use Rattle.lw_text.proofs.api.PrintedConditions.{most_assignment_bytes, most_node_bytes}
 pub use Rattle.lw_text.proofs.api.PrintedConditions.{most_quantifier_bytes, most_site_bytes}
 pub use Rattle.lw_text.proofs.api.PrintedConditions.{quantifier_spelled, register_is_name, site_spelled}

@@ -7,10 +7,11 @@ use Rattle.lw_x86.proofs.Common.{codes, option_map, slice_get, slice_index_or, s
 use Rattle.lw_x86.proofs.Common.{slice_get_within, get_or_from_slice_get, Bytes, NameTable, TokenList}
 use Rattle.lw_x86.proofs.Common.{IsLocationName, begins_stop, AllByRecursion-append, Anything, IsBlankNext}
 use Rattle.lw_x86.proofs.Common.{Spells, Spells-append, Spells-append_anything, Spells-before, Spells-mono}
-use Rattle.lw_x86.proofs.Common.{Spells-nothing, Spells-space, blank_ends_name, Spells-colon, blank_no_equals}
-use Rattle.lw_x86.proofs.Common.{CellSyntax, MaybeStatement, Labels, ParsesCell, IsWellFormedStatement}
-use Rattle.lw_x86.proofs.Common.{IsWellFormedThread, Instr, ParsesStatement, x86_spelling, x86_language}
-use Rattle.lw_x86.proofs.Common.{label, printed_form, is_target, cells_of, x86_grammar}
+use Rattle.lw_x86.proofs.Common.{Spells-nothing, Spells-space, blank_ends_name, Spells-colon}
+use Rattle.lw_x86.proofs.Common.{HasNoEquals-blank, CellSyntax, MaybeStatement, Labels, ParsesCell}
+use Rattle.lw_x86.proofs.Common.{IsWellFormedStatement, IsWellFormedThread, Instr, ParsesStatement}
+use Rattle.lw_x86.proofs.Common.{x86_spelling, x86_language, label, printed_form, is_target, cells_of}
+use Rattle.lw_x86.proofs.Common.{x86_grammar}
 use Rattle.lw_x86.proofs.PrintedInstructions.{most_label_bytes, most_instruction_bytes, instruction_tokens}
 use Rattle.lw_x86.proofs.PrintedInstructions.{HasSmallTarget, label_is_location, Spells-label}
 use Rattle.lw_x86.proofs.PrintedInstructions.{IsPrintedAs-each, instruction_spelled, Fills-instruction_tokens}
@@ -87,7 +88,7 @@ end_printed : (needed : Bool) (k : ℕ)
 end_printed true k h = record {
   spells =
       Spells-mono most_cell_bytes (omega arith)
-      (Spells-append (λ rest g. refl) (Spells-label k h) (Spells-before IsBlankNext blank_no_equals Spells-colon));
+      (Spells-append (λ rest g. refl) (Spells-label k h) (Spells-before IsBlankNext HasNoEquals-blank Spells-colon));
   plain = front_plain true k h;
   starts = refl;
 }

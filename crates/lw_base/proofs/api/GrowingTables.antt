@@ -7,18 +7,18 @@ use Rattle.lw_base.proofs.Common.{IsDuplicateFree, contains_name, insert_name, i
 use Rattle.lw_base.proofs.api.Tables.{IsDuplicateFree-push, contains_name-Contains}
 
 -- A table after inserting a name, by whether it had the name.
-insert_name-case : (names : NameTable) (n : Bytes) (b : Bool)
+insert_name-by_presence : (names : NameTable) (n : Bytes) (b : Bool)
     → contains_name names n ≡ b
     → insert_name names n ≡ (if b then names else names ++ n ∷ [])
-insert_name-case names n b e = rw e refl
+insert_name-by_presence names n b e = rw e refl
 
 -- A table after inserting a name is an extension of the table.
 pub insert_name-grows : (names : NameTable) (n : Bytes) → (more : NameTable) × (insert_name names n ≡ names ++ more)
 insert_name-grows names n = go (contains_name names n) refl
   where
     go : (b : Bool) → contains_name names n ≡ b → (more : NameTable) × (insert_name names n ≡ names ++ more)
-    go true e = ([], insert_name-case names n true e ∙ sym (append-nil names))
-    go false e = (n ∷ [], insert_name-case names n false e)
+    go true e = ([], insert_name-by_presence names n true e ∙ sym (append-nil names))
+    go false e = (n ∷ [], insert_name-by_presence names n false e)
 
 -- Inserting a concatenation of names is inserting the first names and then the others.
 pub insert_names-append : (names ns ms : NameTable) → insert_names names (ns ++ ms) ≡ insert_names (insert_names names ns) ms
@@ -71,8 +71,8 @@ pub contains_name-of_inserted : (names : NameTable) (n : Bytes) → contains_nam
 contains_name-of_inserted names n = go (contains_name names n) refl
   where
     go : (b : Bool) → contains_name names n ≡ b → contains_name (insert_name names n) n ≡ true
-    go true e = rw (insert_name-case names n true e) e
-    go false e = rw (insert_name-case names n false e) (contains_name-last names n)
+    go true e = rw (insert_name-by_presence names n true e) e
+    go false e = rw (insert_name-by_presence names n false e) (contains_name-last names n)
 
 -- A name that is in a table is still in it after another is inserted.
 pub contains_name-insert_name : (names : NameTable) (m n : Bytes)
@@ -119,9 +119,9 @@ pub IsDuplicateFree-insert_name : (names : NameTable) (n : Bytes) → IsDuplicat
 IsDuplicateFree-insert_name names n once = go (contains_name names n) refl
   where
     go : (b : Bool) → contains_name names n ≡ b → IsDuplicateFree (insert_name names n)
-    go true e = rw (insert_name-case names n true e) once
+    go true e = rw (insert_name-by_presence names n true e) once
     go false e =
-        rw (insert_name-case names n false e)
+        rw (insert_name-by_presence names n false e)
         (IsDuplicateFree-push names n once (λ h. let k = contains_name-Contains names n h in cc))
 
 -- Inserting names preserves that a table has no duplicates.

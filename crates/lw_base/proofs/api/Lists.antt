@@ -7,8 +7,8 @@ use Rattle.lw_base.proofs.Common.{None, set_word_if_some, length-set}
 pub use Rattle.std.proofs.lemmas.Option.{slice_get-get_or as at_index}
 
 -- Lists with different first items are different.
-pub cons-ne : {X : Type 0} (a b : X) (u v : List X) → (a ≡ b → ⊥) → a ∷ u ≡ b ∷ v → ⊥
-cons-ne a b u v differ same = differ cc
+pub not-cons_eq-if_heads_differ : {X : Type 0} (a b : X) (u v : List X) → (a ≡ b → ⊥) → a ∷ u ≡ b ∷ v → ⊥
+not-cons_eq-if_heads_differ a b u v differ same = differ cc
 
 -- Equal lists have the same first item.
 pub cons-head_eq : {X : Type 0} (a b : X) (u v : List X) → a ∷ u ≡ b ∷ v → a ≡ b

@@ -210,7 +210,7 @@ has_seen-flat_map f a (suc n) k s le lt h = elim (cases_Bool (a == k)) [
 pub has_seen-register : (threads t r : ℕ) → t < threads → r < registers → has_seen (all_registers threads) (Register t r) ≡ true
 has_seen-register threads t r h k =
     has_seen-flat_map thread_registers 0 threads t (Register t r) (omega arith) (omega (arith, h))
-    (has_seen-map (λ q. Register t q) 0 6 r (omega arith) (omega (arith, k)))
+    (has_seen-map (λ q. Register t q) 0 registers r (omega arith) (omega (arith, k)))
 
 -- The locations of a table are among all locations.
 pub has_seen-location : (locs x : ℕ) → x < locs → has_seen (locations locs) (Location x) ≡ true

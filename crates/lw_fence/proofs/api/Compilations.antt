@@ -14,7 +14,7 @@ pub use Rattle.lw_fence.proofs.Programs.{IsWellFormedProgram-compiled, IsWellSco
 -- Where no statement needs a fence, it is the program without fences.
 pub use Rattle.lw_fence.proofs.NoFence.{IsCompiled-iff_without_fences}
 -- With more fences it is the one with fewer, with MFENCEs inserted.
-pub use Rattle.lw_fence.proofs.MoreFences.{IsFencedTest-more_fences, AreSubset-nil}
+pub use Rattle.lw_fence.proofs.MoreFences.{HasInsertedFences-more_fences, AreSubset-nil}
 
 -- What a source is compiled to has over flat memory exactly the outcomes of its source.
 pub IsMachineOutcome-compiled_iff : (s : SourceTest) (p : X86Test) (starts : List (List ℕ)) (o : FinalState)

@@ -100,9 +100,9 @@ BufferHolds code (w ∷ ws) (e ∷ b) = (entry_location x86_language (slice_get 
 BufferHolds code _ _ = ⊥
 
 -- If the buffer is empty, no store waits.
-pub BufferHolds-nil_no_store : (code : List Instr) (ws : List ℕ) → BufferHolds code ws [] → (j : ℕ) → IsMember j ws → ⊥
-BufferHolds-nil_no_store code [] h j is_member = is_member
-BufferHolds-nil_no_store code (w ∷ ws) h j is_member = h
+pub no_store-if_buffer_empty : (code : List Instr) (ws : List ℕ) → BufferHolds code ws [] → (j : ℕ) → IsMember j ws → ⊥
+no_store-if_buffer_empty code [] h j is_member = is_member
+no_store-if_buffer_empty code (w ∷ ws) h j is_member = h
 
 -- A further store waits, with its entry after all others.
 BufferHolds-push : (code : List Instr) (ws : List ℕ) (b : List (ℕ × ℕ)) (j x w : ℕ)

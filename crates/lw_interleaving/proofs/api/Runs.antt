@@ -109,9 +109,9 @@ abbrev pub SameSize : State → State → Type 0
 SameSize s end = (length end.threads ≡ length s.threads) × (length end.words ≡ length s.words)
 
 -- A rejection for either of two causes leads to no state.
-refusal-ne_Ok : (b : Bool) (x y : Stop) (mid : State) → (if b then Err x else Err y) ≡ Ok mid → ⊥
-refusal-ne_Ok true x y mid e = absurd cc
-refusal-ne_Ok false x y mid e = absurd cc
+not-Ok-if_refused : (b : Bool) (x y : Stop) (mid : State) → (if b then Err x else Err y) ≡ Ok mid → ⊥
+not-Ok-if_refused true x y mid e = absurd cc
+not-Ok-if_refused false x y mid e = absurd cc
 
 -- An event preserves the numbers of threads and words.
 pub SameSize-source_event : (program : List (List Stmt)) (e : Event) (s mid : State)
@@ -133,14 +133,14 @@ SameSize-source_event program (Step t) s mid e = SameSize-of_thread (slice_get s
     SameSize-of_thread : (th : Option Thread) → thread_step program t s th ≡ Ok mid → SameSize s mid
     SameSize-of_thread None e = absurd cc
     SameSize-of_thread (Some th) e = SameSize-of_statement th (slice_get (thread_code program t) th.position) e
-SameSize-source_event program (Drain t) s mid e = absurd (refusal-ne_Ok (nat_lt t (length s.threads)) BufferEmpty NoCpu mid e)
+SameSize-source_event program (Drain t) s mid e = absurd (not-Ok-if_refused (nat_lt t (length s.threads)) BufferEmpty NoCpu mid e)
 SameSize-source_event program (Evict t x) s mid e = SameSize-of_refusal (nat_lt t (length s.threads)) e
   where
     -- An eviction is refused, whether there is the processor or not.
     SameSize-of_refusal : (b : Bool)
         → (if b then (if nat_lt x (length s.words) then Err NotHeld else Err NoLocation) else Err NoCpu) ≡ Ok mid
         → SameSize s mid
-    SameSize-of_refusal true e = absurd (refusal-ne_Ok (nat_lt x (length s.words)) NotHeld NoLocation mid e)
+    SameSize-of_refusal true e = absurd (not-Ok-if_refused (nat_lt x (length s.words)) NotHeld NoLocation mid e)
     SameSize-of_refusal false e = absurd cc
 
 -- The item that is read at an index is the item of an equal list at an equal index.

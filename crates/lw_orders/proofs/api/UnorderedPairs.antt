@@ -10,8 +10,8 @@ use Rattle.lw_orders.proofs.Common.{filter_passes, IsOrderedByPath}
 use Rattle.lw_orders.proofs.Walks.{IsOrderedByPath-if_ordered, is_ordered-if_path}
 
 -- An empty list contains nothing.
-none_in : {X : Type 0} (x : X) → Contains [] x → ⊥
-none_in x (k, l, e) = absurd (omega arith)
+not-Contains-nil : {X : Type 0} (x : X) → Contains [] x → ⊥
+not-Contains-nil x (k, l, e) = absurd (omega arith)
 
 -- A list contains its first pair.
 Contains-first_pair : (p : ℕ × ℕ) (ps : List (ℕ × ℕ)) → Contains (p ∷ ps) p
@@ -83,8 +83,8 @@ not-Contains-sorted_tail p ps s is_member =
 -- Two sorted lists with the same pairs are equal.
 AreSorted-unique : (ps qs : List (ℕ × ℕ)) → AreSorted ps → AreSorted qs → ((r : ℕ × ℕ) → Contains ps r ↔ Contains qs r) → ps ≡ qs
 AreSorted-unique [] [] s t same = refl
-AreSorted-unique [] (q ∷ qs) s t same = absurd (none_in q ((same q).1 (Contains-first_pair q qs)))
-AreSorted-unique (p ∷ ps) [] s t same = absurd (none_in p ((same p).0 (Contains-first_pair p ps)))
+AreSorted-unique [] (q ∷ qs) s t same = absurd (not-Contains-nil q ((same q).1 (Contains-first_pair q qs)))
+AreSorted-unique (p ∷ ps) [] s t same = absurd (not-Contains-nil p ((same p).0 (Contains-first_pair p ps)))
 AreSorted-unique (p ∷ ps) (q ∷ qs) s t same =
     let first : p ≡ q = elim (Contains-pair_cases q p qs ((same p).0 (Contains-first_pair p ps))) [
       | inl e ↦ sym e
@@ -116,7 +116,7 @@ Contains-filter_pair : (test : ℕ × ℕ → Bool) (ps : List (ℕ × ℕ)) (p 
     → Contains ps p
     → test p ≡ true
     → Contains (filter test ps) p
-Contains-filter_pair test [] p is_member e = absurd (none_in p is_member)
+Contains-filter_pair test [] p is_member e = absurd (not-Contains-nil p is_member)
 Contains-filter_pair test (q ∷ ps) p is_member e = elim (cases_Bool (test q)) [
   | inl f ↦ rw f (elim (Contains-pair_cases q p ps is_member) [
     | inl is ↦ subst (λ r. Contains (r ∷ filter test ps) p) (sym is) (Contains-first_pair p (filter test ps))

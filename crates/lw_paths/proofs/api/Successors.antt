@@ -34,8 +34,8 @@ IsDuplicateFree-singleton : (k : ℕ) → IsDuplicateFree (k ∷ [])
 IsDuplicateFree-singleton k = (not-Contains-nil k, tt)
 
 -- The list of the next position and a target has no duplicates.
-next_and_target-once : (next to : ℕ) → IsDuplicateFree (next_and_target next to)
-next_and_target-once next to = elim (cases_eq next to) [
+IsDuplicateFree-next_and_target : (next to : ℕ) → IsDuplicateFree (next_and_target next to)
+IsDuplicateFree-next_and_target next to = elim (cases_eq next to) [
   | inl e ↦ rw (eq-eqb next to e) (IsDuplicateFree-singleton next)
   | inr ne ↦ rw (ne_eqb next to ne) (
     λ c. elim (Contains-cons to next [] c) [ inl is_head ↦ ne (sym is_head) | inr in_tail ↦ not-Contains-nil next in_tail ],
@@ -46,7 +46,7 @@ next_and_target-once next to = elim (cases_eq next to) [
 -- The list of successors has no duplicates, even if a jump targets the next position.
 pub IsDuplicateFree-successor_list : (o : Option ℕ) (goes : Bool) (j : ℕ) → IsDuplicateFree (successor_list o goes j)
 IsDuplicateFree-successor_list None goes j = IsDuplicateFree-singleton (j + 1)
-IsDuplicateFree-successor_list (Some to) true j = next_and_target-once (j + 1) to
+IsDuplicateFree-successor_list (Some to) true j = IsDuplicateFree-next_and_target (j + 1) to
 IsDuplicateFree-successor_list (Some to) false j = IsDuplicateFree-singleton to
 
 -- An operation without a target falls through to the next statement.

@@ -9,7 +9,7 @@ use Rattle.lw_statements.proofs.Common.{Operands, Slot, Register, Location, Valu
 use Rattle.lw_statements.proofs.Common.{Spelling, Filling, Gives, Fills, ParsesStatement, grammar_of, name_in}
 use Rattle.lw_statements.proofs.Common.{are_disjoint_forms, all_disjoint, is_statement, is_label_last}
 use Rattle.lw_statements.proofs.Common.{registers_in, numbers_in, IsSpelling}
-use Rattle.lw_statements.proofs.Slots.{Fills-unique, not-Fills-disjoint, colon_gives}
+use Rattle.lw_statements.proofs.Slots.{Fills-unique, not-Fills-disjoint, no_colon-in_other_slot}
 use Rattle.lw_base.specs.declared.operand.Operand.TheVariants as operand
 
 -- If all elements of a list pass a test, each does.
@@ -89,7 +89,7 @@ module _ {W Form Stmt : Type 0} (spelling : Spelling W Form Stmt) where
   no_colon-if_statement (t ∷ u ∷ ts) [] f is h e = h
   no_colon-if_statement (t ∷ u ∷ ts) (a ∷ []) f is h e = h.1
   no_colon-if_statement (t ∷ u ∷ ts) (a ∷ b ∷ slots) f is h e =
-      colon_gives spelling b slots f.1.0 is
+      no_colon-in_other_slot spelling b slots f.1.0 is
       (subst (λ (w : Bytes). Gives spelling w b f.1.0) (let same : u ≡ codes ":" = cc in same) h.1.0)
 
   -- The registers and numbers that tokens give are in range.

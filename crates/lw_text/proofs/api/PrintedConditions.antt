@@ -43,18 +43,19 @@ is_star-false_if_name_byte : (b : ℕ) → is_name_byte b ≡ true → (b == 42)
 is_star-false_if_name_byte b h = grind (arith, nat_tests)
 
 -- A name makes no symbol with `:` before it.
-name_no_equals : (w rest : Bytes) → IsName w → first_byte_is (is_two_byte_symbol 58) (w ++ rest) ≡ false
-name_no_equals [] rest n = absurd (let h = n.0.not_empty in omega arith)
-name_no_equals (b ∷ w) rest n = is_two_byte_symbol-false_after_colon b n.0.are_name_bytes.0
+HasNoEquals-name : (w rest : Bytes) → IsName w → HasNoEquals (w ++ rest)
+HasNoEquals-name [] rest n = absurd (let h = n.0.not_empty in omega arith)
+HasNoEquals-name (b ∷ w) rest n = is_two_byte_symbol-false_after_colon b n.0.are_name_bytes.0
 
 -- `:` spells one token, if no `=` follows.
 pub Spells-colon : Spells HasNoEquals 1 (58 ∷ []) ((58 ∷ []) ∷ [])
 Spells-colon = Spells-symbol 58 refl (λ rest f. f) (λ rest f. refl) (omega arith)
 
 -- A blank after `:` is no `=`.
-pub blank_no_equals : (rest : Bytes) → IsBlankNext rest → first_byte_is (is_two_byte_symbol 58) rest ≡ false
-blank_no_equals [] h = refl
-blank_no_equals (b ∷ rest) h = not-true (is_two_byte_symbol 58 b) (is_blank-passes (λ c. not (is_two_byte_symbol 58 c)) b refl h)
+pub HasNoEquals-blank : (rest : Bytes) → IsBlankNext rest → HasNoEquals rest
+HasNoEquals-blank [] h = refl
+HasNoEquals-blank (b ∷ rest) h =
+    not-true (is_two_byte_symbol 58 b) (is_blank-passes (λ c. not (is_two_byte_symbol 58 c)) b refl h)
 
 -- ---- the texts
 
@@ -108,7 +109,7 @@ module _ (arch : Arch) (threads : ℕ) (few : threads ≤ most_threads) (names :
   site_spelled (Register t r) h =
       let number = Spells-number t (omega (arith, h.0, few)) in
       (Spells-append (λ rest g. refl) number
-      (Spells-append (λ rest g. name_no_equals (register_name arch r) rest (register_is_name arch r h.1)) Spells-colon
+      (Spells-append (λ rest g. HasNoEquals-name (register_name arch r) rest (register_is_name arch r h.1)) Spells-colon
       (Spells-register arch r h.1)))
   site_spelled (Location x) h =
       Spells-mono most_site_bytes (omega arith)

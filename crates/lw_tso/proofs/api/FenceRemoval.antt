@@ -3,8 +3,8 @@
 use Rattle.lw_tso.proofs.Common.{◌≡◌, ℕ, zero, suc, ◌+◌, ◌≤◌, Bool, true, false, List, [], ◌∷◌, ◌++◌, length}
 use Rattle.lw_tso.proofs.Common.{map, take, cond, Some, ◌⊎◌, inl, inr, refl, sym, ap, ◌∙◌, subst, arith}
 use Rattle.lw_tso.proofs.Common.{slice_get, same_Some, sum_by-cons, Instr, Mfence, retarget_to_blocks}
-use Rattle.lw_tso.proofs.Common.{IsFencedCode, unmarked_count_before, unmarked_instructions, code_without}
-use Rattle.lw_tso.proofs.Common.{MarksAreFences, not}
+use Rattle.lw_tso.proofs.Common.{HasInsertedFencesInCode, unmarked_count_before, unmarked_instructions}
+use Rattle.lw_tso.proofs.Common.{code_without, MarksAreFences, not}
 
 -- Before index 0 there is no unmarked instruction.
 pub unmarked_count_before-zero : (marks : List Bool) → unmarked_count_before marks 0 ≡ 0
@@ -135,10 +135,10 @@ module _ (lead : Instr → Instr) where
   unmarked_count_before-end _ _ fences index past = absurd fences
 
 -- A code is what is left of it, with the marked MFENCEs inserted.
-pub IsFencedCode-code_without : (marks : List Bool) (code : List Instr)
+pub HasInsertedFencesInCode-code_without : (marks : List Bool) (code : List Instr)
     → MarksAreFences marks code
-    → IsFencedCode (code_without marks code) code
-IsFencedCode-code_without marks code fences = record {
+    → HasInsertedFencesInCode (code_without marks code) code
+HasInsertedFencesInCode-code_without marks code fences = record {
   block = unmarked_count_before marks;
   first = unmarked_count_before-zero marks;
   each = IsEither-at_each (retarget_to_blocks (unmarked_count_before marks)) marks code fences;

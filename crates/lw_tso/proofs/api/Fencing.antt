@@ -13,9 +13,10 @@ use Rattle.lw_tso.proofs.Common.{cpu_of, event_effect, operation_effect, step_ef
 use Rattle.lw_tso.proofs.Common.{load_effect, if_buffer_empty, MachineState, MachineTransition, MachineRunsTo}
 use Rattle.lw_tso.proofs.Common.{IsMachineOutcome, initial_machine_state, has_terminated, is_final}
 use Rattle.lw_tso.proofs.Common.{set_zero_flag, enqueue_store, retarget_to_blocks, IsInserted, EndsBlock}
-use Rattle.lw_tso.proofs.Common.{IsFencedCode, IsFencedTest, slice_get-in_range, OfFellows-set_both, get-map}
-use Rattle.lw_tso.proofs.Common.{maps_equal-at_each_index, list_all_zip-of_each, list_all_zip-at_index, Je}
-use Rattle.lw_tso.proofs.Common.{Jne, Jmp, Stop, FenceWaits, leb-true, nat_le, and_from, and_parts}
+use Rattle.lw_tso.proofs.Common.{HasInsertedFencesInCode, HasInsertedFences, slice_get-in_range}
+use Rattle.lw_tso.proofs.Common.{OfFellows-set_both, get-map, maps_equal-at_each_index, list_all_zip-of_each}
+use Rattle.lw_tso.proofs.Common.{list_all_zip-at_index, Je, Jne, Jmp, Stop, FenceWaits, leb-true, nat_le}
+use Rattle.lw_tso.proofs.Common.{and_from, and_parts}
 use Rattle.lw_tso.proofs.api.Effects.{EventOccurrence, EffectLeadsTo, MachineTransition-of_effect}
 use Rattle.lw_tso.proofs.api.Effects.{EventOccurrence-of_event, not-EffectLeadsTo-evict_event, state}
 
@@ -105,7 +106,7 @@ module _ (block : ℕ → ℕ) where
   EffectLeadsTo-drain_without [] p q m n does = does
   EffectLeadsTo-drain_without (entry ∷ newer) p q m n does = (ap without does.0, does.1)
 
-module _ (code fenced : List Instr) (f : IsFencedCode code fenced) where
+module _ (code fenced : List Instr) (f : HasInsertedFencesInCode code fenced) where
   -- The step is one of the code without fences, or is at an inserted MFENCE and changes nothing there.
   abbrev pub IsStep : Processor → Processor → List ℕ → List ℕ → Type 0
   IsStep p q m n =
@@ -150,25 +151,26 @@ module _ (code fenced : List Instr) (f : IsFencedCode code fenced) where
 -- ---- whole states
 
 -- No instructions with MFENCEs inserted are no instructions.
-IsFencedCode-empty : IsFencedCode [] []
-IsFencedCode-empty = record { block = λ index. 0; first = refl; each = λ index i there. absurd cc; last = λ index past. refl }
+HasInsertedFencesInCode-empty : HasInsertedFencesInCode [] []
+HasInsertedFencesInCode-empty =
+    record { block = λ index. 0; first = refl; each = λ index i there. absurd cc; last = λ index past. refl }
 
-module _ (test fenced : X86Test) (f : IsFencedTest test fenced) where
+module _ (test fenced : X86Test) (f : HasInsertedFences test fenced) where
   -- Each thread of the fenced test is the thread of the test with MFENCEs inserted.
-  IsFencedCode-thread : (t : ℕ) → IsFencedCode (thread_code test.threads t) (thread_code fenced.threads t)
-  IsFencedCode-thread t = ⊎_elim (f.threads t) IsFencedCode-past_threads (cases_lt t (length test.threads))
+  HasInsertedFencesInCode-thread : (t : ℕ) → HasInsertedFencesInCode (thread_code test.threads t) (thread_code fenced.threads t)
+  HasInsertedFencesInCode-thread t = ⊎_elim (f.threads t) HasInsertedFencesInCode-past_threads (cases_lt t (length test.threads))
     where
-      IsFencedCode-past_threads : length test.threads ≤ t
-          → IsFencedCode (thread_code test.threads t) (thread_code fenced.threads t)
-      IsFencedCode-past_threads beyond =
+      HasInsertedFencesInCode-past_threads : length test.threads ≤ t
+          → HasInsertedFencesInCode (thread_code test.threads t) (thread_code fenced.threads t)
+      HasInsertedFencesInCode-past_threads beyond =
           let one = get_or_past test.threads t [] beyond in
           let other = get_or_past fenced.threads t [] (omega (arith, beyond, f.as_many)) in
-          subst (λ (code : List Instr). IsFencedCode code (thread_code fenced.threads t)) (sym one)
-          (subst (λ (code : List Instr). IsFencedCode [] code) (sym other) IsFencedCode-empty)
+          subst (λ (code : List Instr). HasInsertedFencesInCode code (thread_code fenced.threads t)) (sym one)
+          (subst (λ (code : List Instr). HasInsertedFencesInCode [] code) (sym other) HasInsertedFencesInCode-empty)
 
   -- A processor of thread t in the test without the fences.
   abbrev thread_processor_without : ℕ → Processor → Processor
-  thread_processor_without t = without (IsFencedCode-thread t).block
+  thread_processor_without t = without (HasInsertedFencesInCode-thread t).block
 
   -- The state s of the test corresponds to the state r of the test with fences: each processor of s is that of r at the same position of
   -- the code without fences, and memory is the same.
@@ -256,11 +258,11 @@ module _ (test fenced : X86Test) (f : IsFencedTest test fenced) where
     Follows-event : (e : Event) → EventOccurrence fenced.threads e r after → Follows s after
     Follows-event (Step t) d =
         ⊎_elim (λ none. Follows-no_event (Step t) d none.0 none.1) (Follows-same_event (Step t) d)
-        (IsStep-of_effect (thread_code test.threads t) (thread_code fenced.threads t) (IsFencedCode-thread t) d.from d.to r.memory
-        d.words d.does)
+        (IsStep-of_effect (thread_code test.threads t) (thread_code fenced.threads t) (HasInsertedFencesInCode-thread t) d.from
+        d.to r.memory d.words d.does)
     Follows-event (Drain t) d =
         Follows-same_event (Drain t) d
-        (EffectLeadsTo-drain_without (IsFencedCode-thread t).block d.from.buffer d.from d.to r.memory d.words d.does)
+        (EffectLeadsTo-drain_without (HasInsertedFencesInCode-thread t).block d.from.buffer d.from d.to r.memory d.words d.does)
     Follows-event (Evict t x) d =
         absurd (not-EffectLeadsTo-evict_event fenced.threads (length r.memory) t x d.from d.to r.memory d.words d.does)
 
@@ -303,7 +305,7 @@ module _ (test fenced : X86Test) (f : IsFencedTest test fenced) where
           let first = get-map initial_processor test.head.init_regs t p one in
           let one_start = ap (λ (rows : List (List ℕ)). slice_get (map initial_processor rows) t) regs_same in
           let same : q ≡ p = same_Some q p (sym other ∙ one_start ∙ one) in
-          let block = IsFencedCode-thread t in
+          let block = HasInsertedFencesInCode-thread t in
           first.2
           ∙ ap (at block.block (initial_processor first.0)) (sym block.first)
           ∙ sym (ap (thread_processor_without t) (same ∙ first.2))
@@ -327,7 +329,8 @@ module _ (test fenced : X86Test) (f : IsFencedTest test fenced) where
           let its_code = get_or_from_slice_get fenced.threads t other.0 [] other.1 in
           let here = subst (λ (c : List Instr). has_terminated c q.0 ≡ true) (sym its_code) done in
           let own_code = thread_code test.threads t in
-          let without = has_terminated-without own_code (thread_code fenced.threads t) (IsFencedCode-thread t) q.0 here in
+          let without =
+          has_terminated-without own_code (thread_code fenced.threads t) (HasInsertedFencesInCode-thread t) q.0 here in
           subst (λ (c : List Instr). has_terminated c p ≡ true) (get_or_from_slice_get test.threads t code [] one)
           (subst (λ (x : Processor). has_terminated own_code x ≡ true) (sym (alike.each t p q.0 was q.1)) without)
 

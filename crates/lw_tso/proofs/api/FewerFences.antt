@@ -7,11 +7,11 @@ use Rattle.lw_tso.proofs.Common.{◌⊎◌, inl, inr, ⊎_elim, refl, sym, ap, �
 use Rattle.lw_tso.proofs.Common.{same_Some, slice_get, thread_code, slice_get_within, slice_get-get_or}
 use Rattle.lw_tso.proofs.Common.{ForSome, Instr, IsWellFormedStatement, IsWellFormedThread}
 use Rattle.lw_tso.proofs.Common.{IsWellFormedProgram, X86Test, x86_language, x86_operation}
-use Rattle.lw_tso.proofs.Common.{retarget_to_blocks, IsInserted, EndsBlock, IsFencedCode, IsFencedTest}
-use Rattle.lw_tso.proofs.Common.{slice_get-in_range, TestHead, IsTestName, IsWellFormedHead, branch_target}
-use Rattle.lw_tso.proofs.Common.{Je, Jne, Jmp}
+use Rattle.lw_tso.proofs.Common.{retarget_to_blocks, IsInserted, EndsBlock, HasInsertedFencesInCode}
+use Rattle.lw_tso.proofs.Common.{HasInsertedFences, slice_get-in_range, TestHead, IsTestName}
+use Rattle.lw_tso.proofs.Common.{IsWellFormedHead, branch_target, Je, Jne, Jmp}
 
-module _ (code fenced : List Instr) (f : IsFencedCode code fenced) where
+module _ (code fenced : List Instr) (f : HasInsertedFencesInCode code fenced) where
   -- From index to index the block is the same or the next.
   block-advance : (index : ℕ)
       → index < length fenced
@@ -145,7 +145,7 @@ module _ (code fenced : List Instr) (f : IsFencedCode code fenced) where
 
 -- A thread is well-formed if it is so with MFENCEs inserted.
 IsWellFormedThread-without_fences : (code fenced : List Instr)
-    → IsFencedCode code fenced
+    → HasInsertedFencesInCode code fenced
     → (locs : ℕ)
     → IsWellFormedThread x86_language locs fenced
     → IsWellFormedThread x86_language locs code
@@ -160,9 +160,9 @@ IsWellFormedThread-without_fences code fenced f locs ok =
 -- If what holds of a code with MFENCEs inserted holds of the code, what holds of each code of a test with MFENCEs inserted holds of each
 -- of the test's.
 All-without_fences : (P : ℕ → List Instr → Type 0)
-    → ((code fenced : List Instr) → IsFencedCode code fenced → (locs : ℕ) → P locs fenced → P locs code)
+    → ((code fenced : List Instr) → HasInsertedFencesInCode code fenced → (locs : ℕ) → P locs fenced → P locs code)
     → (test fenced : X86Test)
-    → IsFencedTest test fenced
+    → HasInsertedFences test fenced
     → All (P (length fenced.head.locs)) fenced.threads
     → All (P (length test.head.locs)) test.threads
 All-without_fences P left test fenced f all t d within =
@@ -176,7 +176,7 @@ All-without_fences P left test fenced f all t d within =
 -- A test is well-scoped if it is so with MFENCEs inserted.
 pub IsWellScopedProgram-without_fences : (test fenced : X86Test)
     → IsWellScopedProgram fenced
-    → IsFencedTest test fenced
+    → HasInsertedFences test fenced
     → IsWellScopedProgram test
 IsWellScopedProgram-without_fences test fenced ok f = record {
   head =
@@ -214,7 +214,7 @@ IsWellFormedHead-other_name h name named ok = record {
 pub IsWellFormedProgram-without_fences : (test fenced : X86Test)
     → IsTestName test.head.name
     → IsWellFormedProgram fenced
-    → IsFencedTest test fenced
+    → HasInsertedFences test fenced
     → IsWellFormedProgram test
 IsWellFormedProgram-without_fences test fenced named ok f = record {
   head = IsWellFormedHead-other_name test.head fenced.head.name named (subst IsWellFormedHead f.head ok.head);

@@ -6,8 +6,8 @@ use Rattle.lw_search.specs.declared.fault.SearchFault.TheVariants as fault
 use Rattle.lw_search.proofs.list.search_states.Goals as goal
 
 -- A refusal of memory is not that the budget is exceeded.
-Memory-is_no_budget : (f : SearchFault) → f ≡ fault.Memory → f ≡ fault.Budget → ⊥
-Memory-is_no_budget f memory budget = let clash = sym memory ∙ budget in absurd cc
+not-Budget-if_memory : (f : SearchFault) → f ≡ fault.Memory → f ≡ fault.Budget → ⊥
+not-Budget-if_memory f memory budget = let clash = sym memory ∙ budget in absurd cc
 
 pub run-requires-clause-kept : goal.run-requires-clause-kept
 run-requires-clause-kept g c = rw (← c.in_ok-search.ensures.program) at c.in_ok-search.ensures.kept
@@ -40,4 +40,4 @@ returns-clause-within g c =
 pub returns-in_err-run-clause-budget : goal.returns-in_err-run-clause-budget
 returns-in_err-run-clause-budget g c =
     let p = err_from_is_err_and c.from_residual-in_err-run.result c.from_residual-in_err-run.ensures.1 in
-    rw p.1 (λ e. absurd (Memory-is_no_budget _ p.2 e))
+    rw p.1 (λ e. absurd (not-Budget-if_memory _ p.2 e))

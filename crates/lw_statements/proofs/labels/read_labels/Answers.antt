@@ -1,13 +1,13 @@
 -- `read_labels` promises the labels at the start of a cell, or that they are refused. Each round takes a name
 -- and its `:` (`LabelsRead-push`). A token before a `:` that is no name, or that is a label already, refuses the
--- cell: every reading of it takes this token as a label (`Labels-continue`, `labels_twice`). The loop ends before a token that no `:`
+-- cell: every reading of it takes this token as a label (`Labels-continue`, `no_labels-if_duplicate`). The loop ends before a token that no `:`
 -- follows: no label is left (`stops`).
 use Rattle.lw_statements.proofs.Common.{ℕ, ◌+◌, ◌-◌, ◌<◌, ◌≤◌, sym, ap, ◌∙◌, arith, true≢false, is_some}
 use Rattle.lw_statements.proofs.Common.{btree_map_updates_str, refl, slice_get_read, subst}
 use Rattle.lw_statements.proofs.Causes.{FaultClaim-wrong, FaultClaim-Memory, FaultClaim-Twice, Refused-Memory}
 use Rattle.lw_statements.proofs.Exits.{MatchResult-out_of_memory}
 use Rattle.lw_statements.proofs.FrontLabels.{get-drop_tokens, next_within, LabelsRead-none, LabelsRead-push}
-use Rattle.lw_statements.proofs.FrontLabels.{Labels-continue, IsAtLabel-of_token, labels_twice}
+use Rattle.lw_statements.proofs.FrontLabels.{Labels-continue, IsAtLabel-of_token, no_labels-if_duplicate}
 use Rattle.lw_statements.proofs.FrontLabels.{HasDuplicateLabelAt-of_token}
 use Rattle.lw_statements.proofs.labels.read_labels.Goals as goal
 
@@ -63,7 +63,7 @@ returns-then-is_some g c =
     let token = slice_get_read c.args.tokens.now _ c.loop-token.next _ refl (omega arith) c.index-tokens-next.is in
     let led = ap is_some (sym c.in_ok-insert.ensures.old) ∙ sym c.is_some.ensures ∙ c.if-is_some.true in
     record {
-      none = λ known. labels_twice _ _ _ _ _ c.loop-token.invariant _ token colon led;
+      none = λ known. no_labels-if_duplicate _ _ _ _ _ c.loop-token.invariant _ token colon led;
       cause = FaultClaim-Twice (HasDuplicateLabelAt-of_token _ _ _ _ _ c.loop-token.invariant _ token colon led);
       place = λ len lies. subst (λ t. t.at ≤ len) (sym c.index-tokens-next.is) (lies c.loop-token.next _ (omega arith));
     }

@@ -35,11 +35,11 @@ offset_bounds-phrase-index g c =
     )
 
 -- The cause `TooMany` differs from `Memory`.
-TooMany-not_memory : TooMany ≡ Memory → ⊥
-TooMany-not_memory e = cc
+not-TooMany_eq_Memory : TooMany ≡ Memory → ⊥
+not-TooMany_eq_Memory e = cc
 
 pub invariant_of-result : goal.invariant_of-result
-invariant_of-result g c = record { memory = λ e. absurd (TooMany-not_memory e) }
+invariant_of-result g c = record { memory = λ e. absurd (not-TooMany_eq_Memory e) }
 
 pub loop-form-preserved : goal.loop-form-preserved
 loop-form-preserved g c =

@@ -1,8 +1,8 @@
 -- `kind_of_run` promises the kind of a run of name bytes, or that it is neither a name nor a number. The
--- first byte decides: a digit begins numbers only (`digit_starts_no_name`), another byte begins names only, of at
+-- first byte decides: a digit begins numbers only (`no_name-if_digit_first`), another byte begins names only, of at
 -- most 32 bytes (`not-IsNameOrNumber-if_long`).
 use Rattle.lw_text.proofs.Common.{sym, ◌∙◌, inl, inr, arith}
-use Rattle.lw_text.proofs.NameRuns.{not-IsNameOrNumber-if_empty, digit_starts_no_name, short_run_is_name}
+use Rattle.lw_text.proofs.NameRuns.{not-IsNameOrNumber-if_empty, no_name-if_digit_first, short_run_is_name}
 use Rattle.lw_text.proofs.NameRuns.{not-IsNameOrNumber-if_long}
 use Rattle.lw_text.proofs.lexeme.kind_of_run.Goals as goal
 
@@ -14,7 +14,7 @@ returns-in-Some-number c = (inr (c.in-Some-number.number, c.in-Some-number.ensur
 
 pub returns-in-None : goal.returns-in-None
 returns-in-None c =
-    digit_starts_no_name (sym c.as_bytes.ensures.value ∙ c.in-Some.ensures) (sym c.if-is_ascii_digit.ensures.value)
+    no_name-if_digit_first (sym c.as_bytes.ensures.value ∙ c.in-Some.ensures) (sym c.if-is_ascii_digit.ensures.value)
     c.in-None.ensures
 
 pub returns-then-run-le-MAX_NAME_BYTES : goal.returns-then-run-le-MAX_NAME_BYTES

@@ -9,8 +9,8 @@ use Rattle.lw_text.proofs.Atoms.{no_site-if_empty}
 use Rattle.lw_text.proofs.Lists.{IsSuffix-join}
 use Rattle.lw_text.proofs.Texts.{bytes_equal, not-equal-if_bytes_differ}
 use Rattle.lw_text.proofs.Sites.{location_site_parsed, allowed_thread, not-ThreadAllowed-if_above_threads}
-use Rattle.lw_text.proofs.Sites.{no_site-if_no_location_in_brackets, thread_refused, no_site-if_no_register}
-use Rattle.lw_text.proofs.Sites.{no_site-if_no_location}
+use Rattle.lw_text.proofs.Sites.{no_site-if_no_location_in_brackets, no_site-if_thread_refused}
+use Rattle.lw_text.proofs.Sites.{no_site-if_no_register, no_site-if_no_location}
 use Rattle.lw_text.proofs.Faults.{Err-clause_known}
 use Rattle.lw_text.proofs.Failures.{Fails-here, Fails-later, IfFirst-cons, IfFirst-nil, BeginsAt-cons}
 use Rattle.lw_text.proofs.Failures.{BeginsAt-nil}
@@ -60,8 +60,8 @@ pub returns-then-not-is_allowed : goal.returns-then-not-is_allowed
 returns-then-not-is_allowed g c = λ ne.
     let refused = sym c.is_allowed.ensures ∙ c.if-not-is_allowed.true in (
       λ s rest p there few.
-          thread_refused c.args.arch c.args.locs.now c.in_ok-first.ensures.ok _ c.in-Some.ensures c.args.threads refused s rest p
-          there,
+          no_site-if_thread_refused c.args.arch c.args.locs.now c.in_ok-first.ensures.ok _ c.in-Some.ensures c.args.threads
+          refused s rest p there,
       Fails-here c.args.self.now _ (BeginsAt-cons _ _ _ c.in_ok-first.ensures.token)
           (no_thread _ _ c.in_ok-first.ensures.ok refl c.in-Some.ensures
           (λ r. not-ThreadAllowed-if_above_threads c.args.threads _ r refused) refl),
