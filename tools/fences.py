@@ -133,7 +133,9 @@ def format_fence_place(test: plain.Test, fence: Place) -> str:
 
 
 def format_fence(row: Row, is_spare: bool, question: str) -> list[str]:
-    """Returns the line on a fence that is left out by itself, and whether it is spare. Advice names what was asked, since it is read by itself."""
+    """Returns the lines on a fence that is left out by itself: that it is spare, that it can be left out alone, or the states added without it.
+    `is_spare` says whether a law lets it be left out; `question` is what was asked, which the advice names, since it is read by itself.
+    """
     if is_spare:
         return [f"{row['place']}: spare: can be left out by a proved law, whatever is asked"]
     if not row["added"]:
@@ -174,7 +176,7 @@ def find_enough_sets(test: plain.Test, fences: list[Place], states: list[str]) -
 
 
 def find_helping_sets(test: plain.Test) -> list[list[Place]]:
-    """Returns all smallest sets of places at which fences answer the question; none if no fence does."""
+    """Returns all smallest sets of places at which fences leave no unwanted state (`count_unwanted_states`); none if no fence does."""
     return find_smallest_sets(list_fence_places(test), lambda chosen: not count_unwanted_states(insert_fences(test, sorted(chosen))))
 
 
@@ -194,7 +196,7 @@ def format_enough_sets(test: plain.Test, states: list[str], question: str, are_e
 
 
 def format_helping_places(test: plain.Test, number: int, states: int) -> list[str]:
-    """Returns the lines on where further fences would answer the question: what it is against is present in `number` of the states."""
+    """Returns the lines on where further fences would leave no unwanted state (`count_unwanted_states`), of which there are `number`."""
     presence = "What has to be always is not there" if test.quantifier == "forall" else "What is asked about is there"
     sets = find_helping_sets(test)
     end = "an MFENCE more at these places changes that" if sets else "no MFENCE changes that"

@@ -183,7 +183,7 @@ function answerFences(program, text, { everything, search = false }, onProgress)
   return { table: makeFenceTable(compared, listOf), condition: formatCondition(test), texts, language: languageOf(text) };
 }
 
-/** Returns where further fences would answer the question of an x86 test; for a source test, whose compiler adds them, nothing. */
+/** Returns where further fences would leave no unwanted state of an x86 test; for a source test, whose compiler adds them, nothing. */
 function answerMoreFences(program, text, { search = false }, onProgress) {
   if (languageOf(text) === "SRC") return { fenced: null };
   const listOf = (canonical) => listOrNull(program, bytesOf(canonical), { search, onProgress });

@@ -41,7 +41,9 @@ class Access:
         return self.path.extract_bytes(value, size, offset) if known_bytes >= size + offset else None
 
     def read_register_or_number(self, operand: Any, size: int) -> Value:
-        """Returns the value of a Register, or of a Number, which may be a symbol's address. (c/forms.py has refused other operands.)"""
+        """Returns the value of a Register, or of a Number, which may be the address of a name of the assembly. Raises Refused if that is defined
+        elsewhere. (`Step.execute` and c/forms.py have refused other operands.)
+        """
         if isinstance(operand, Number):
             return self.program.layout.find_address(operand.symbol, operand.number) & MASK[size]
         return self.read_register(operand.name, size, operand.offset)

@@ -117,7 +117,7 @@ class CombinedTest:
         return find_smallest_sets(fences, lambda chosen: self.list_states_without(set(fences) - chosen) == states)
 
     def find_helping_sets(self) -> list[list[Place]]:
-        """Returns all smallest sets of places at which fences answer the question; none if no fence does."""
+        """Returns all smallest sets of places at which fences leave no unwanted state; none if no fence does."""
         places_in = list_places_after_stores if self.is_tried_everywhere else list_fence_places
         places = self.collect_places(lambda part: part.find_places(places_in(part.test)))
         return find_smallest_sets(
@@ -184,19 +184,21 @@ def format_sets(sets: list[list[str]], question: str, are_enough: bool) -> list[
     return [f"{'Enough' if are_enough else 'As good as all its fences'}, with none to spare, by {question}: {texts}"] if sets else []
 
 
-def format_fences(tests: CombinedTest, original: Original, question: str, are_enough: bool) -> Iterator[str]:
-    """Yields the lines on each fence, and the sets of fences that add no state, for the question."""
+def format_fences(tests: CombinedTest, original: Original, asked_by: str, are_enough: bool) -> Iterator[str]:
+    """Yields the lines on each fence, and the smallest sets that add no state. `asked_by` says in words what was asked; `are_enough` is set if all
+    fences together forbid it (then, without a fence, the empty set is enough).
+    """
     before, fences = {*tests.list_states()}, tests.list_fences()
     for place in fences:
         added = [line for line in tests.list_states_without({place}) if line not in before]
-        yield f"{original.format_place(place)}: " + (f"needed, {len(added)} more without it" if added else f"can be left out alone, by {question}")
+        yield f"{original.format_place(place)}: " + (f"needed, {len(added)} more without it" if added else f"can be left out alone, by {asked_by}")
         yield from format_added_states(added, "  ")
     sets = tests.find_enough_sets() if fences or are_enough else []
-    yield from format_sets([list(map(original.format_place_briefly, it)) for it in sets], question, are_enough)
+    yield from format_sets([list(map(original.format_place_briefly, it)) for it in sets], asked_by, are_enough)
 
 
 def format_helping_places(tests: CombinedTest, format_place: Callable[[Place], str]) -> Iterator[str]:
-    """Yields where further fences would answer the question, if what it is against is present."""
+    """Yields the lines on where further fences would leave no unwanted state, if there is one."""
     number, states = tests.count_unwanted_states(), len(tests.list_states())
     if not number:
         return

@@ -49,8 +49,8 @@ def find_last_line(start_of_line: str, text: str) -> str | None:
     return lines[-1] if lines else None
 
 
-def read_reached(text: str) -> dict[str, tuple[list[str], int]]:
-    """Returns, for each crate of the report, the functions that are named as reached, and their number."""
+def parse_reached(text: str) -> dict[str, tuple[list[str], int]]:
+    """Returns, for each crate of which the report reaches a function, those that it names, and their number; a crate with none is left out."""
     reached = {}
     for crate, names, count in re.findall(r"^ *axioms (\w+): (.*) \((\d+) of the \d+ declared\)$", text, re.M):
         reached[crate] = [it for it in names.split(", ") if it != "..."], int(count)
@@ -72,12 +72,12 @@ def find_line_faults(log: str, page: str) -> Iterator[str]:
 def find_function_faults(log: str, page: str) -> Iterator[str]:
     """Yields how the functions of the report differ from the page's rows."""
     rows = ROW.findall(page)
-    for crate, (names, count) in read_reached(log).items():
+    for crate, (names, count) in parse_reached(log).items():
         rows_of_crate = [it for it in rows if it.startswith(f"{crate}::")]
         if len(rows_of_crate) != count or rows_of_crate[: len(names)] != names:
             listed = f"docs/TRUSTED.md lists {len(rows_of_crate)} functions of {crate}, {', '.join(rows_of_crate)}"
             yield f"{listed}; the verdict reaches {count}, {', '.join(names)} first"
-    for crate in sorted({it.partition("::")[0] for it in rows} - set(read_reached(log))):
+    for crate in sorted({it.partition("::")[0] for it in rows} - set(parse_reached(log))):
         yield f"docs/TRUSTED.md lists functions of {crate}, of which the verdict reaches none"
 
 

@@ -271,7 +271,7 @@ def answer_fences(text: bytes, everything: bool) -> Answer:
 
 
 def answer_more_fences(text: bytes) -> Answer:
-    """Returns the places of fences that would answer the question, as tools/fences.py finds them; of a source test nothing."""
+    """Returns the places of fences that would leave no unwanted state, as tools/fences.py finds them; of a source test nothing."""
     if read_language(text) == "SRC":
         return {"fenced": None}
     test = plain.read_test(ask(["compile"], text))

@@ -3,7 +3,7 @@
     python3 tools gate.test_fences, or in tools/ python3 -m unittest gate.test_fences
 
 - For each compiled example, the sets of fences that are enough are those of a search through all sets.
-- For random x86 tests: no smaller set of places answers the question, wherever fences are put, and each set that is printed does.
+- For random x86 tests: no smaller set of places leaves no unwanted state, wherever fences are put, and each set that is printed does so.
 - Exchanges without their lock have all states of those with it.
 - A fence that is called spare adds no state if it is left out, of examples and of random tests with fences anywhere.
 - An answer says that it is not proved, if the programs did not make all of its lists.

@@ -38,7 +38,7 @@ class Bounds(NamedTuple):
 class Running(NamedTuple):
     """A crate that is being proved: the share of it that is left, and its jobs."""
 
-    minutes_left: float
+    share_left: float
     jobs: int
 
 
@@ -78,11 +78,11 @@ class Plan:
                 waiting_crates.remove(crate)
                 running[crate] = Running(1.0, jobs)
             share = min(1.0, self.processors / sum(find_speed(it.jobs) for it in running.values()))
-            ends = {it: self.minutes[it] * running[it].minutes_left / find_speed(running[it].jobs) / share for it in running}
+            ends = {it: self.minutes[it] * running[it].share_left / find_speed(running[it].jobs) / share for it in running}
             step = min(ends.values())
             passed += step
             running = {
-                it: Running(was.minutes_left * (1 - step / ends[it]), was.jobs) for it, was in running.items() if ends[it] > step
+                it: Running(was.share_left * (1 - step / ends[it]), was.jobs) for it, was in running.items() if ends[it] > step
             }
         return passed
 
