@@ -41,7 +41,7 @@ def find_command_file(name: str) -> str | None:
     return path if os.path.exists(path) and RUNS in read_text(path) else None
 
 
-def read_first_sentence(text: str) -> str:
+def parse_first_sentence(text: str) -> str:
     """Returns the first sentence of a module's docstring, in one line."""
     paragraph = (ast.get_docstring(ast.parse(text)) or "").split("\n\n")[0]
     return paragraph.replace("\n", " ").split(". ")[0].rstrip(".") + "."
@@ -54,7 +54,7 @@ def list_commands() -> dict[str, str]:
         module = os.path.relpath(path, TOOLS)[: -len(".py")].replace(os.sep, ".")
         name = module[: -len(".__main__")] if module.endswith(".__main__") else module
         if name != "__main__" and find_command_file(name) == path:
-            commands[name] = read_first_sentence(read_text(path))
+            commands[name] = parse_first_sentence(read_text(path))
     return commands
 
 

@@ -33,7 +33,7 @@ from shared import answers, batch, command, start
 Words = Tuple[int, ...]
 
 
-def read_page_state(page: str, test: plain.Test) -> Words:
+def parse_page_state(page: str, test: plain.Test) -> Words:
     """Returns the words that are observed, on the page of a replay that is final."""
     lines = page.splitlines()
     if lines[2:3] != ["End Final"]:
@@ -54,7 +54,7 @@ def replay_all(test: plain.Test, text: str, exploration: SearchResult) -> str:
     if pages is None:
         pages, maker = [plain.replay(test, schedule)[0] for schedule in schedules], answers.Maker.PLAIN.value
     for (words, schedule), page in zip(exploration.schedules.items(), pages):
-        if read_page_state(page, test) != words:
+        if parse_page_state(page, test) != words:
             raise SystemExit(f"beyond: the search is wrong: {maker} replays {schedule!r} to another state than {words}")
     return maker
 

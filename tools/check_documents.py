@@ -376,7 +376,7 @@ def list_rows(text: str) -> list[str]:
     return [row for row in rows[1:] if row.strip()]
 
 
-def read_state_words(page: str) -> tuple[list[int], list[list[str]], str]:
+def parse_state_words(page: str) -> tuple[list[int], list[list[str]], str]:
     """Returns the positions, the registers' words and the words of memory that a page has."""
     threads = re.findall(r"^P\d at (\d+)((?: \w+=\d+)+)$", page, re.M)
     words = re.findall(r"^(?:Memory|Content)(.*)$", page, re.M)[-1]
@@ -392,14 +392,14 @@ def check_compiled(name: str) -> Iterator[Comparison]:
     report = capture_streams([PROGRAM, "states"], stdin)[0].decode()
     in_x86 = re.sub(r"\b(\d):r([0-5])\b", lambda it: f"{it[1]}:{plain.REGISTERS['X86'][int(it[2])]}", report)
     yield f"{name}, compiled, its report", (in_x86.encode(), b"", 0), capture_streams([PROGRAM, "states"], compiled)
-    threads = len(read_state_words(capture_streams([PROGRAM, "replay", ""], stdin)[0].decode())[0])
+    threads = len(parse_state_words(capture_streams([PROGRAM, "replay", ""], stdin)[0].decode())[0])
     sizes = [measure_statements(source, compiled.decode(), thread) for thread in range(threads)]
     for _ in range(5):
         order: list[str] = []
         events: list[str] = []
         while True:
             page = capture_streams([PROGRAM, "replay", " ".join(order)], stdin)[0].decode()
-            index, *end = read_state_words(page)
+            index, *end = parse_state_words(page)
             running = [thread for thread in range(threads) if index[thread] < len(sizes[thread])]
             if not running:
                 break
@@ -408,7 +408,7 @@ def check_compiled(name: str) -> Iterator[Comparison]:
             order.append(f"P{thread}")
             events += [f"P{thread}"] * size + [f"D{thread}"] * is_store
         out, _, status = capture_streams([PROGRAM, "replay", " ".join(events)], compiled)
-        yield f"{name}, compiled, by {' '.join(events)}", (end, 0), (list(read_state_words(out.decode())[1:]), status)
+        yield f"{name}, compiled, by {' '.join(events)}", (end, 0), (list(parse_state_words(out.decode())[1:]), status)
 
 
 def check_refused_memory(program: str, test: str, *arguments: str) -> Iterator[Comparison]:
@@ -629,18 +629,18 @@ def check_classics() -> Iterator[Comparison]:
         yield f"examples/{name}.litmus is what lw_text_tests reads", read_file(f"examples/{name}.litmus"), text.replace("\\\\", "\\")
 
 
-def read_spec_text(source: str, name: str) -> str:
+def parse_spec_text(source: str, name: str) -> str:
     """Returns the bytes of a text that a file of definitions writes out, by the names of its parts."""
     block = require_match(re.search(rf"^{name} =\s*((?:.+\n?)*)", source, re.M))[1]
     parts: list[tuple[str, str]] = re.findall(r'codes "((?:[^"\\]|\\.)*)"|\b([a-z]\w*_\w+)\b', block)
     written, escaped = {"\\n": "\n", "\\\\": "\\", '\\"': '"'}, re.compile(r"\\.")
-    return "".join(read_spec_text(source, part) if part else escaped.sub(lambda it: written[it[0]], text) for text, part in parts)
+    return "".join(parse_spec_text(source, part) if part else escaped.sub(lambda it: written[it[0]], text) for text, part in parts)
 
 
 def check_theorem_on_bytes() -> Iterator[Comparison]:
     """Compares the text and the report of the law on bytes with those of the files."""
     source = read_file("crates/lw_bench/specs/Examples.antt")
-    text, report = (read_spec_text(source, f"store_buffering_{it}") for it in ("text", "report"))
+    text, report = (parse_spec_text(source, f"store_buffering_{it}") for it in ("text", "report"))
     yield "examples/SB-x86.litmus is the text of the law on bytes", read_file("examples/SB-x86.litmus"), text
     yield "its report is that of the law on bytes", (report.encode(), b"", 0), capture_streams([PROGRAM, "states"], text.encode())
     shown = [

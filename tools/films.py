@@ -13,7 +13,7 @@ sys.dont_write_bytecode = True
 from shared.home import PROGRAM
 import plain
 from effects import Cells, Effect, describe_event
-from replay_state import State, read_state
+from replay_state import State, parse_replay_state
 
 MAX_STEPS = 1000
 
@@ -79,12 +79,12 @@ def ask_program(arguments: list[str], text: bytes) -> str:
 
 def replay_schedule(text: bytes, schedule: str, protocol: str, ask: Asker | None = None) -> State:
     """Returns the state that a schedule reaches, by the program, or by `ask` in its place."""
-    return read_state((ask or ask_program)(["replay", schedule, "--protocol", protocol], text))
+    return parse_replay_state((ask or ask_program)(["replay", schedule, "--protocol", protocol], text))
 
 
-def read_language(text: bytes) -> str:
+def parse_language(text: bytes) -> str:
     """Returns the language of a test that the program has accepted."""
-    return plain.read_heading(text.decode())[0]
+    return plain.parse_heading(text.decode())[0]
 
 
 # Code and films.
@@ -127,7 +127,7 @@ def format_cell(tokens: list[tuple[str, str]]) -> str:
 
 def list_cells(text: bytes, ask: Asker | None = None) -> list[Cells]:
     """Returns, for each thread, the code to show: that of the canonical text for an x86 test."""
-    if read_language(text) == "X86":
+    if parse_language(text) == "X86":
         return list_x86_cells((ask or ask_program)(["compile"], text))
     return list_source_cells(plain.read_test(text.decode()))
 
@@ -148,6 +148,6 @@ def make_film(text: bytes, schedule: str, protocol: str, ask: Asker | None = Non
     cells = list_cells(text, ask)
     effects = [describe_event(event, cells, *states[index : index + 2]) for index, event in enumerate(events)]
     return {
-        "language": read_language(text), "text": text.decode(), "cells": cells,
+        "language": parse_language(text), "text": text.decode(), "cells": cells,
         "events": events, "effects": effects, "states": states, "refused": refused, "protocol": protocol,
     }

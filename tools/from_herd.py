@@ -31,7 +31,7 @@ import plain
 from herd.convert import ConvertedTest, ConversionResult, convert
 from herd.order import ORDERS
 from herd.origin import make_comment
-from herd.text import read_heading
+from herd.text import parse_heading
 from shared import command, start
 
 
@@ -63,7 +63,7 @@ class Folder:
 
     def write_tests(self, conversion: ConversionResult, name: str, text: str) -> None:
         """Writes the tests of one input, all or none."""
-        offset = read_heading(text)[2] - len(conversion.frame.name)
+        offset = parse_heading(text)[2] - len(conversion.frame.name)
         files = [(os.path.join(self.path, make_file_name(it.test.name)), write_converted_text(conversion, it)) for it in conversion.conversions]
         for path, test in files:
             self.check_file(path, test, conversion, name, offset)

@@ -40,7 +40,7 @@ from interpreter.machines import (
 )
 from interpreter.orders import collect_accesses, count_conflicts, count_orders, list_paths
 from interpreter.reading import (
-    BLANKS, LANGUAGE, MAX_BYTES, MAX_NODES, MAX_ROWS, MAX_STATEMENTS, NAME_OF_TEST, RESERVED, Reader, read_heading, read_test,
+    BLANKS, LANGUAGE, MAX_BYTES, MAX_NODES, MAX_ROWS, MAX_STATEMENTS, NAME_OF_TEST, RESERVED, Reader, parse_heading, read_test,
 )
 from interpreter.replays import SourceReplay, X86Replay, format_words, read_schedule, replay, start_replay
 from interpreter.reports import (
@@ -50,7 +50,7 @@ from interpreter.tests import (
     REGISTERS, WORD, And, Constant, Eq, LocationSite, NoSchedule, NoTest, Not, Number, Or, Outcome, Proposition, Refused, Register, RegisterSite,
     Site, Statement, Test, Value, join_lines,
 )
-from interpreter.tokens import KEY, LETTERS, TOKEN, quote, quote_at, read_tokens, skip_comment, skip_notes, skip_quoted
+from interpreter.tokens import KEY, LETTERS, TOKEN, quote, quote_at, parse_tokens, skip_comment, skip_notes, skip_quoted
 from interpreter.walks import (
     explore_states, list_interleaved_moves, list_outcomes, list_source_moves, list_x86_moves, make_outcome, make_schedule, make_source_start,
     make_x86_start,

@@ -60,7 +60,7 @@ class Quizzes:
         """Returns the contents of a line's code: the student, the numbers of answers and of right ones, and the wrong ones. Raises BadCode if
         it is of another quiz.
         """
-        handed_in = codes.read_code(line)
+        handed_in = codes.parse_code(line)
         begin = len(line) - len(line.lstrip(codes.BETWEEN))
         if handed_in.seed != self.seed:
             raise codes.BadCode(f"the code is of the quiz with the seed {handed_in.seed}, not {self.seed}", begin)

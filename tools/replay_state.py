@@ -153,7 +153,7 @@ def read_threads(page: Page) -> list[ThreadState]:
     return threads
 
 
-def read_state(text: str) -> State:
+def parse_replay_state(text: str) -> State:
     """Returns the state that a replay's text describes."""
     page = Page(text)
     name, steps = page.take_line("Test ([!-~]{1,128})")[0], int(page.take_line(f"Steps {NUMBER}")[0])
@@ -191,7 +191,7 @@ def is_final_in(state: State, line: str) -> bool:
 
 def print_state(text: str) -> int:
     """Prints the state that a replay's text describes. Returns the exit status."""
-    print(json.dumps(read_state(text), indent=1))
+    print(json.dumps(parse_replay_state(text), indent=1))
     return 0
 
 

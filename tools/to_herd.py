@@ -26,7 +26,7 @@ from herd.write import FORMS, write_herd_report, write_herd_text
 from shared import answers, command, start
 
 
-def read_program(text: str) -> plain.Test:
+def make_x86_test(text: str) -> plain.Test:
     """Returns the x86 test that a test is, or is compiled to."""
     test = plain.read_test(text)
     if test.language == "X86":
@@ -37,7 +37,7 @@ def read_program(text: str) -> plain.Test:
 def print_herd_form(arguments: Namespace, text: str) -> int:
     """Prints one test, or one report. Returns the exit status. Raises Fault if the input of --report is no report."""
     if not arguments.report:
-        print(write_herd_text(read_program(text), arguments.form), end="")
+        print(write_herd_text(make_x86_test(text), arguments.form), end="")
         return 0
     try:
         print(write_herd_report(text, arguments.form), end="")

@@ -4,8 +4,8 @@
 // One in a text or a schedule has its `place`, a byte, and the same as a `row`, a `column` and an `index` in a string.
 
 import { Trap } from "./module.js";
-import { readState } from "./replays.js";
-import { readHeading } from "./tokens.js";
+import { parseReplayState } from "./replays.js";
+import { parseHeading } from "./tokens.js";
 
 const FAULT = /^lw: (text|cell|schedule) (\d+) (\w+) at (\d+)$/;
 const LIMIT = /^lw: limit (\d+) (\w+)$/;
@@ -60,7 +60,7 @@ export function textOf(bytes) {
  * @returns {"SRC" | "X86"}
  */
 export function languageOf(text) {
-  return readHeading(textOf(text)).language;
+  return parseHeading(textOf(text)).language;
 }
 
 /**
@@ -163,7 +163,7 @@ export class Program {
    * @returns {State}
    */
   replayed(text, schedule, protocol) {
-    return readState(this.ask(["replay", schedule, "--protocol", protocol], text));
+    return parseReplayState(this.ask(["replay", schedule, "--protocol", protocol], text));
   }
 
   /**
@@ -178,7 +178,7 @@ export class Program {
       return Array.from({ length: events.length + 1 }, (_, count) => this.replayed(text, events.slice(0, count).join(" "), protocol));
     }
     const pages = this.ask(["film", events.join(" "), "--protocol", protocol], text).split("\n\n");
-    return pages.slice(0, -1).map((page) => readState(`${page}\n`));
+    return pages.slice(0, -1).map((page) => parseReplayState(`${page}\n`));
   }
 
   /**

@@ -107,7 +107,7 @@ function readThreads(page) {
  * @param {string} text
  * @returns {State}
  */
-export function readState(text) {
+export function parseReplayState(text) {
   const page = new Page(text);
   const [name] = page.takeLine("Test ([!-~]{1,128})");
   const steps = Number(page.takeLine(`Steps ${NUMBER}`)[0]);

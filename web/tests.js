@@ -7,7 +7,7 @@
 import { countNodes, listSites, siteKey } from "./propositions.js";
 import { readThread } from "./statements.js";
 import { TokenReader } from "./token_reader.js";
-import { NoTest, readHeading, readTokens, skipNotes } from "./tokens.js";
+import { NoTest, parseHeading, parseTokens, skipNotes } from "./tokens.js";
 
 const MAX_BYTES = 65536;
 const MAX_THREADS = 4;
@@ -23,9 +23,9 @@ const ENDS_OF_ROWS = ["locations", "exists", "forall", "filter", "~"];
  */
 export function readTest(text) {
   if (new TextEncoder().encode(text).length > MAX_BYTES) throw new NoTest("the text is too long");
-  const { language, name, end } = readHeading(text);
+  const { language, name, end } = parseHeading(text);
   const test = { language, name, locations: [], listed: [] };
-  const reader = new TokenReader(test, readTokens(text, skipNotes(text, end)));
+  const reader = new TokenReader(test, parseTokens(text, skipNotes(text, end)));
   reader.takeToken("{");
   const initial = new Map(reader.readEntries(() => reader.readEquation(), "}").map(({ site, word }) => [siteKey(site), { site, word }]));
   const threads = readHeader(reader);

@@ -51,7 +51,7 @@ function skipComment(text, offset) {
  * @param {number} offset
  * @returns {Token[]}
  */
-export function readTokens(text, offset) {
+export function parseTokens(text, offset) {
   const tokens = [];
   while (offset < text.length) {
     if (text.startsWith("(*", offset)) {
@@ -91,7 +91,7 @@ export function skipNotes(text, offset) {
  * @param {string} text
  * @returns {{language: string, name: string, end: number}}
  */
-export function readHeading(text) {
+export function parseHeading(text) {
   let offset = 0;
   while (offset < text.length && (BLANKS.includes(text[offset]) || text.startsWith("(*", offset))) {
     offset = text.startsWith("(*", offset) ? skipComment(text, offset) : offset + 1;
@@ -108,7 +108,7 @@ export function readHeading(text) {
  */
 export function nameOf(text) {
   try {
-    return readHeading(text).name;
+    return parseHeading(text).name;
   } catch {
     return "A test";
   }

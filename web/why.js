@@ -11,7 +11,7 @@ import { parseReportLine } from "./replays.js";
 import { namesOf } from "./reports.js";
 import { siteNode, tintsOf } from "./tint.js";
 import { showError } from "./errors.js";
-import { readHeading } from "./tokens.js";
+import { parseHeading } from "./tokens.js";
 
 const ARROWS = "Each arrow means “comes before”. ";
 const CIRCLE = "The bold ones form a cycle, so no run can end this way.";
@@ -119,7 +119,7 @@ export class Why {
     if (!answer) return null;
     this.answers.replaceChildren();
     if (!answer.lines) return showError(answer, this.answers, this.editor);
-    this.answers.append(...this.partsOf(answer, readHeading(text).language === "SRC"));
+    this.answers.append(...this.partsOf(answer, parseHeading(text).language === "SRC"));
     return this.bringIntoSight();
   }
 

@@ -109,9 +109,9 @@ class Access:
         elif self.is_only_writer(begin, length):
             value = self.read_own_last_store(begin, length)
         else:
-            symbol = self.make_symbol(begin, length)
-            value = Symbol(symbol, length, 0, length)
-            self.finish_load(Load(symbol, begin), value)
+            symbol_id = self.make_symbol_id(begin, length)
+            value = Symbol(symbol_id, length, 0, length)
+            self.finish_load(Load(symbol_id, begin), value)
         return value if (begin, length) == (address, size) else self.path.apply(value, lambda it: it >> 8 * (address - begin) & MASK[size])
 
     def finish_load(self, effect: Effect, value: Value) -> None:
@@ -154,30 +154,30 @@ class Access:
 
     # Symbols.
 
-    def make_symbol(self, address: int, size: int) -> int:
-        """Returns a symbol for what a load of a location finds."""
+    def make_symbol_id(self, address: int, size: int) -> int:
+        """Returns the id of a new symbol, for what a load of a location finds."""
         path, locations = self.path, self.program.locations
-        symbol = self.find_free_symbol()
-        path.begin_symbol(symbol)
+        symbol_id = self.find_free_symbol_id()
+        path.begin_symbol_id(symbol_id)
         if self.is_only_writer(address, size):
             clocks = path.list_clocked_words(self.read_own_last_store(address, size))
             words = frozenset(clocks)
         else:
             clocks = dict(locations.words[address])
             words = locations.list_readable_words(address, self.thread, path.stores)
-        path.clocks[symbol] = clocks
-        path.narrow(symbol, words)
-        return symbol
+        path.clocks[symbol_id] = clocks
+        path.narrow(symbol_id, words)
+        return symbol_id
 
-    def find_free_symbol(self) -> int:
-        """Returns the first symbol that nothing refers to any more, so that paths that continue in the same way are equal."""
+    def find_free_symbol_id(self) -> int:
+        """Returns the first id of a symbol that nothing refers to any more, so that paths that continue in the same way are equal."""
         self.forget_dead()
         path = self.path
         values = [*(value for value, _ in path.registers.values()), *(value for _, value in path.memory.values())]
         values += [*path.shown_values.values(), *path.last_stored.values()]
         values += [path.flags.left, path.flags.right] if path.flags else []
-        taken_symbols = frozenset().union(*map(symbols_in, values))
-        return next(it for it in range(len(taken_symbols) + 1) if it not in taken_symbols)
+        taken_ids = frozenset().union(*map(symbols_in, values))
+        return next(it for it in range(len(taken_ids) + 1) if it not in taken_ids)
 
     def forget_dead(self) -> None:
         """Forgets registers, flags and places of the stack that cannot be read any more."""

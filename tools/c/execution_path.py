@@ -154,10 +154,10 @@ class ExecutionPath:
 
     # What is found out.
 
-    def narrow(self, symbol: int, possible: Iterable[int]) -> None:
+    def narrow(self, symbol_id: int, possible: Iterable[int]) -> None:
         """Records that a symbol's word is one of these."""
-        self.words[symbol] = frozenset(possible)
-        self.past = later_clock(self.past, earliest_clock([self.clocks[symbol][possible_word] for possible_word in self.words[symbol]]))
+        self.words[symbol_id] = frozenset(possible)
+        self.past = later_clock(self.past, earliest_clock([self.clocks[symbol_id][possible_word] for possible_word in self.words[symbol_id]]))
 
     def learn(self, question: Question, holds: bool) -> None:
         """Records the answer to a question."""
@@ -166,10 +166,10 @@ class ExecutionPath:
         else:
             self.narrow(question.symbol, question.words if holds else question.others)
 
-    def begin_symbol(self, symbol: int) -> None:
-        """Starts to use a symbol, of which nothing is known any more."""
-        self.words.pop(symbol, None)
-        for fact in [it for it in self.facts if symbol in (it.symbol, getattr(it, "other", None))]:
+    def begin_symbol_id(self, symbol_id: int) -> None:
+        """Starts to use an id for a new symbol: nothing is known any more of the one that had it."""
+        self.words.pop(symbol_id, None)
+        for fact in [it for it in self.facts if symbol_id in (it.symbol, getattr(it, "other", None))]:
             del self.facts[fact]
 
     def snapshot(self) -> tuple[Any, ...]:

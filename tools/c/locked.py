@@ -127,10 +127,10 @@ class Locked(Vectors):
         if self.take_pending(register, size):
             return
         words = self.path.list_clocked_words(value)
-        symbol = self.make_symbol(address, size)
+        symbol_id = self.make_symbol_id(address, size)
         self.record_store(address, words)
         self.path.last_stored[address] = value
-        self.finish_locked(register, size, Exchange(symbol, address, value))
+        self.finish_locked(register, size, Exchange(symbol_id, address, value))
 
     def execute_locked_add(self, base: str, address: int, size: int, value: Value, register: Operand | None) -> None:
         """Does LOCK XADD, ADD, SUB, INC and DEC. Raises Refused if a thread needs the sum of two words that are not known."""
@@ -141,8 +141,8 @@ class Locked(Vectors):
         added = {"inc": 1, "dec": MASK[size]}.get(base, value)
         added = -path.require_number(value) & MASK[size] if base == "sub" else added
         addends = path.list_clocked_words(added)
-        symbol = self.make_symbol(address, size)
-        old = Symbol(symbol, size, 0, size)
+        symbol_id = self.make_symbol_id(address, size)
+        old = Symbol(symbol_id, size, 0, size)
         words: dict[int, Clock] = {}
         for word, clock in path.list_clocked_words(old).items():
             for addend, other_clock in addends.items():
@@ -154,7 +154,7 @@ class Locked(Vectors):
             except Ask:
                 raise Refused("two words that are not known are added in a location to which only one thread stores") from None
         self.set_flags_of_sum(base, old, added, value, size)
-        self.finish_locked(result_register, size, ExchangeAdd(symbol, address, added))
+        self.finish_locked(result_register, size, ExchangeAdd(symbol_id, address, added))
 
     def set_flags_of_sum(self, base: str, old: Symbol, added: Value, value: Value, size: int) -> None:
         """Sets the flags of a locked sum."""
@@ -175,13 +175,13 @@ class Locked(Vectors):
         if base == "xadd":
             self.write_register(register, size, old)
         before = path.flags
-        symbol = self.make_symbol(address, size)
-        self.record_store(address, {path.resolve(result): path.clocks[symbol][old]})
+        symbol_id = self.make_symbol_id(address, size)
+        self.record_store(address, {path.resolve(result): path.clocks[symbol_id][old]})
         path.last_stored[address] = result
         path.flags = flags or before
-        self.effects.append(Exchange(symbol, address, result))
+        self.effects.append(Exchange(symbol_id, address, result))
         if len(words) > 1:
-            self.guess = IsOneOf(symbol, (old,), tuple(it for it in words if it != old)), True
+            self.guess = IsOneOf(symbol_id, (old,), tuple(it for it in words if it != old)), True
 
     def list_words_now(self, address: int, size: int) -> frozenset[int]:
         """Returns the words that an access of a location can find now."""
@@ -198,21 +198,21 @@ class Locked(Vectors):
         succeeds = can_succeed and (not can_fail or self.take_guess(2) == 0)
         question = self.make_question(expected, words, size)
         stored = path.list_clocked_words(new)
-        symbol = self.make_symbol(address, size)
+        symbol_id = self.make_symbol_id(address, size)
         path.flags = Flags(Source.EXCHANGE, int(succeeds), None, size)
         if succeeds:
             self.record_store(address, stored)
             path.last_stored[address] = new
-            self.effects.append(Exchange(symbol, address, new))
+            self.effects.append(Exchange(symbol_id, address, new))
         else:
-            self.put_found(symbol, size)
-            self.effects.append(ExchangeAdd(symbol, address, 0))
+            self.put_found(symbol_id, size)
+            self.effects.append(ExchangeAdd(symbol_id, address, 0))
         if can_succeed and can_fail:
-            self.guess = question(symbol), succeeds
+            self.guess = question(symbol_id), succeeds
 
-    def put_found(self, symbol: int, size: int) -> None:
+    def put_found(self, symbol_id: int, size: int) -> None:
         """Puts what a failed CMPXCHG has found into RAX. Bytes above it that are not 0 are forgotten, so that no question is needed."""
-        value = Symbol(symbol, size, 0, size)
+        value = Symbol(symbol_id, size, 0, size)
         try:
             self.write_register(RAX, size, value)
         except Ask:
@@ -223,8 +223,8 @@ class Locked(Vectors):
         expected_word = self.path.resolve(expected)
         if expected_word is not None:
             others = tuple(sorted(words - {expected_word}))
-            return lambda symbol: IsOneOf(symbol, (expected_word,), others)
+            return lambda symbol_id: IsOneOf(symbol_id, (expected_word,), others)
         union = {it % 2**32 for it in words | self.path.list_words(expected)}
         if size < 4 or expected.width != size or len(union) != len(words | self.path.list_words(expected)):
             self.path.require_number(expected)
-        return lambda symbol: IsSame(symbol, expected.id, expected.added, size)
+        return lambda symbol_id: IsSame(symbol_id, expected.id, expected.added, size)

@@ -114,7 +114,7 @@ def insert_sees(text: str, names_by_thread: dict[int, set[str]], is_rust: bool) 
     return text, added
 
 
-def read_source_condition(text: str) -> Condition:
+def parse_source_condition(text: str) -> Condition:
     """Returns the condition in the comment that starts with `lw:`. Raises Fault unless there is exactly one."""
     marks = list(MARK.finditer(text))
     if not marks:
@@ -131,7 +131,7 @@ def read_source(path: str, text: str) -> Source:
     name, ending = os.path.splitext(os.path.basename(path))
     if is_herd_form(text):
         return convert_herd_form(blank_comments(text, HERD_COMMENT))
-    condition = read_source_condition(text)
+    condition = parse_source_condition(text)
     threads = len(find_bodies(blank_comments(text)))
     text_with_sees, added = insert_sees(text, condition.collect_names(), ending == ".rs")
     ending = ending if ending in (".rs", ".cc", ".cpp", ".cxx") else ".c"

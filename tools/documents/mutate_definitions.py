@@ -83,7 +83,7 @@ class Mutation:
     """A changed definition: its title and its edits. The first edit is of the definition, further ones are of code that goes with it."""
 
     def __init__(self, title: str, edits: list[Edit]) -> None:
-        """Makes a mutation of a title and of edits."""
+        """Makes a mutation. `title` says in words what is changed; `edits` has at least one edit, and that of the definition is first."""
         self.title, self.edits = title, edits
         self.first = edits[0]
         self.crate = self.first.file.split("/")[1]
@@ -306,7 +306,7 @@ def read_results(path: str) -> dict[tuple[str, ...], Result]:
 
 
 def print_table(listed: list[Mutation], results: dict[tuple[str, ...], Result]) -> None:
-    """Prints the results of the mutations as a table in Markdown."""
+    """Prints the results of the mutations as a table in Markdown. Mutations without a result are left out."""
     print("| Definition | Change | What fails | What depends on it |\n|---|---|---|---|")
     for mutation in listed:
         result = results.get(tuple(mutation.list_texts()))

@@ -33,7 +33,7 @@ def ask_program(lines: list[str]) -> tuple[str, int]:
     return ran.stderr.decode(), ran.returncode
 
 
-def read_tests(card: str) -> dict[str, list[str]]:
+def parse_tests(card: str) -> dict[str, list[str]]:
     """Returns the lines of the two tests, which are next to each other."""
     block = next(lines for kind, lines in markdown.split_blocks(card) if kind == "fence")
     column = block[0].index("X86")
@@ -47,7 +47,7 @@ def replace_rows(test: list[str], written: str) -> list[str]:
     return [*test[:QUESTION], written]
 
 
-def read_tables(card: str) -> list[list[list[str]]]:
+def parse_tables(card: str) -> list[list[list[str]]]:
     """Returns the rows of the tables, each with its cells, without their headers."""
     return [[markdown.split_cells(it) for it in lines[2:]] for kind, lines in markdown.split_blocks(card) if kind == "table"]
 
@@ -60,8 +60,8 @@ def list_code_spans(cell: str) -> list[str]:
 def make_comparisons() -> Iterator[Comparison]:
     """Yields all comparisons: what is compared, what is expected, and what was found."""
     card, form = read_file("docs/CARD.md"), " ".join(read_file("docs/FORMAT.md").split())
-    tests = read_tests(card)
-    statements, faults = read_tables(card)
+    tests = parse_tests(card)
+    statements, faults = parse_tables(card)
     for language, test in tests.items():
         yield f"docs/CARD.md, the test in {language}", ("", 0), ask_program(test)
     for source, x86, meaning in statements:

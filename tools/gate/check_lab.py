@@ -102,7 +102,7 @@ def check_tests(lab: str, tests: dict[str, str]) -> Iterator[Comparison]:
     """Compares the tests with their examples."""
     yield "how many tests the lab has", True, len(tests) >= MIN_TESTS
     rows = re.findall(r"^\| ([A-Z]\d) \| \S+ \| ([\d, ]+) \|$", find_section(lab, "For the teacher"), re.M)
-    tasks = read_tasks(find_section(lab, "The sheet"))
+    tasks = parse_tasks(find_section(lab, "The sheet"))
     tasks_by_test = {name: [int(number) for number, *_, text in tasks if name in find_tests(text)] for name in tests}
     yield "tasks name the tests that the table says", tasks_by_test, {name: [int(it) for it in numbers.split(", ")] for name, numbers in rows}
     for name, example in list_examples(lab).items():
@@ -118,7 +118,7 @@ def find_tests(text: str) -> dict[str, bool]:
     return {name: bool(by_hand) for by_hand, names in lines for name in names.split()}
 
 
-def read_comments(lab: str) -> dict[str, str]:
+def parse_comments(lab: str) -> dict[str, str]:
     """Returns, for each example of the lab, its comment."""
     return {it: require_match(re.search(r"\(\*(.*?)\*\)", read_file(f"examples/{it}.litmus"), re.S))[1] for it in list_examples(lab).values()}
 
@@ -129,7 +129,7 @@ def check_silence(lab: str, page: str, tests: dict[str, str]) -> Iterator[Compar
     yield "the sheet says no verdict", [], re.findall(VERDICTS, visible_text, re.I)
     bases = {it.replace("-x86", "") for it in list_examples(lab).values()}
     yield "the sheet names no example", [], sorted(it for it in bases if re.search(rf"(?<![\w+]){re.escape(it)}(?![\w+])", visible_text))
-    for name, comment in read_comments(lab).items():
+    for name, comment in parse_comments(lab).items():
         schedule = require_match(re.search(r"A (?:telling schedule|run): ([\w\s:]*)", comment))[1].split()
         yield f"the sheet has not the schedule of {name}", False, len(schedule) > 5 and " ".join(schedule) in " ".join(visible_text.split())
         about = comment.partition("Interleaving: ")[0]
@@ -153,7 +153,7 @@ def check_links(tests: dict[str, str]) -> Iterator[Comparison]:
     """
     lab = read_file("docs/LAB.md")
     page = sheets.make_sheet(lab, tests, "site/index.html")
-    tests_shown = [it for *_, text in read_tasks(find_section(lab, "The sheet")) for it in find_tests(text).items()]
+    tests_shown = [it for *_, text in parse_tasks(find_section(lab, "The sheet")) for it in find_tests(text).items()]
     links = re.findall(r'<figcaption>(\w+) <a class="screen" target="lw" href="site/index\.html#([^"]*)">', page)
     yield "each test has a link where it is used", [name for name, _ in tests_shown], [name for name, _ in links]
     for (name, by_hand), (_, link) in zip(tests_shown, links):
@@ -162,7 +162,7 @@ def check_links(tests: dict[str, str]) -> Iterator[Comparison]:
     yield "the card has a link", 1, page.count('<a href="card.html" target="_blank">')
 
 
-def read_tasks(text: str) -> list[tuple[str, str, int, int, str]]:
+def parse_tasks(text: str) -> list[tuple[str, str, int, int, str]]:
     """Returns the tasks of a text by their numbers: the title, minutes and points of each, with the text below its heading."""
     matches = list(TASK.finditer(text))
     ends = [it.start() for it in matches[1:]] + [len(text)]
@@ -171,8 +171,8 @@ def read_tasks(text: str) -> list[tuple[str, str, int, int, str]]:
 
 def check_points(lab: str) -> Iterator[Comparison]:
     """Compares the points and minutes of the tasks with those of their items, of docs/SOLUTIONS.md and of the timetable."""
-    tasks = read_tasks(find_section(lab, "The sheet"))
-    solved = read_tasks(find_section(read_file("docs/SOLUTIONS.md"), "The lab"))
+    tasks = parse_tasks(find_section(lab, "The sheet"))
+    solved = parse_tasks(find_section(read_file("docs/SOLUTIONS.md"), "The lab"))
     yield "docs/SOLUTIONS.md has the tasks", [it[:4] for it in tasks], [it[:4] for it in solved]
     items = {number: ITEM.findall(text) for number, _, _, _, text in tasks}
     yield "how many items there are", True, sum(map(len, items.values())) >= MIN_ITEMS

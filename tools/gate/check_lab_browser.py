@@ -20,7 +20,7 @@ import sys
 import tempfile
 from collections.abc import Iterator, Sequence
 
-from gate.check_lab import read_tasks
+from gate.check_lab import parse_tasks
 from gate.browser.user import Element, User
 from gate.cases import Comparison
 from lab.markdown import find_section
@@ -68,7 +68,7 @@ class Solutions:
     def __init__(self) -> None:
         """Reads the solutions."""
         text = find_section(read_file("docs/SOLUTIONS.md"), "The lab")
-        self.tasks = {int(number): answers for number, *_, answers in read_tasks(text)}
+        self.tasks = {int(number): answers for number, *_, answers in parse_tasks(text)}
         lists = re.findall(r"^Observation (\S+) \w+ (\d+) (\d+)$", text, re.M)
         self.true_of = {name: [int(positive), int(positive) + int(negative)] for name, positive, negative in lists}
 

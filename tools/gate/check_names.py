@@ -210,7 +210,7 @@ def read_repository_file(path: str) -> str | None:
     return read_file(f"{HOME}/{path}") if os.path.isfile(f"{HOME}/{path}") else None
 
 
-def read_crate_rows(text: str) -> dict[str, str]:
+def parse_crate_rows(text: str) -> dict[str, str]:
     """Returns the rows of docs/MAP.md's table of crates: each crate with those that it names, in words."""
     return dict(re.findall(r"^\| [\w ]+ \| (?!Crate )(\w+) \| [^|]* \| ([^|]*?) \|$", text, re.M))
 
@@ -261,7 +261,7 @@ def find_faults() -> list[str]:
             *find_path_faults(path, text), *find_linked_name_faults(path, text, read_repository_file),
             *find_crate_path_faults(path, text, names.crates),
         ]
-    faults += find_table_faults(read_crate_rows(read_file(f"{HOME}/docs/MAP.md")), check_wings.read_dependencies())
+    faults += find_table_faults(parse_crate_rows(read_file(f"{HOME}/docs/MAP.md")), check_wings.read_dependencies())
     return [*faults, *find_logic_faults(read_file(f"{HOME}/README.md"), read_version()), *check_trusted.find_faults()]
 
 

@@ -48,7 +48,7 @@ NO_CODE = "the check sum is right, and yet this is no code of a quiz"
 OTHER_QUIZ = "the code is of another quiz"
 
 
-def read_data(page: str) -> quiz.Data:
+def parse_data(page: str) -> quiz.Data:
     """Returns the contents of a quiz's page."""
     return json.loads(require_match(re.search(r"^const quiz = (\{.*\});$", page, re.M))[1])
 
@@ -80,7 +80,7 @@ def check_verdicts(seed: str) -> Iterator[Comparison]:
 
 def check_page(page: str, tests: list[quiz.QuizTest]) -> Iterator[Comparison]:
     """Checks the page as a whole."""
-    data = read_data(page)
+    data = parse_data(page)
     yield "the same bytes again", True, page == make_quiz.make_page(TESTS, "1", quiz.make_report_by_program)
     yield "the same bytes by tools/plain.py", True, page == make_quiz.make_page(TESTS, "1", quiz.make_report_by_plain)
     yield "the same bytes for another seed", False, page == make_quiz.make_page(TESTS, "2", quiz.make_report_by_program)
@@ -132,14 +132,14 @@ def check_codes(page: str, folder: str) -> Iterator[Comparison]:
     """Checks that a code is read as what it was made of, also with letters that are misread for others, and what tools/read_codes.py prints of codes;
     and the comparisons of `check_bad_codes` and `check_node`.
     """
-    data, rights = read_data(page), quiz.read_answers(read_data(page))
+    data, rights = parse_data(page), quiz.read_answers(parse_data(page))
     code_of_page = codes.CodeContents(data["mark"], data["seed"], STUDENT, make_answers(rights, WRONG))
     code = codes.make_code(code_of_page)
     yield "a code has letters and digits", True, bool(re.fullmatch(r"[0-9A-Z]{12,40}", code))
-    yield "a code is read", code_of_page, codes.read_code(code)
+    yield "a code is read", code_of_page, codes.parse_code(code)
     for students in ("a", "z" * codes.MAX_LETTERS, "0", "007"):
         handed_in = codes.CodeContents(data["mark"], "z" * quiz.MAX_SEED_LETTERS, students, rights)
-        yield f"a code of {students} is read", handed_in, codes.read_code(codes.make_code(handed_in))
+        yield f"a code of {students} is read", handed_in, codes.parse_code(codes.make_code(handed_in))
     for quiz_word in (f"{folder}/quiz.html", "1"):
         yield f"read_codes.py {quiz_word[-9:]}", ([HEADING, ["1", *ROW]], "", 0), run_and_split(f"{code}\n", quiz_word)
     spread = "-".join(re.findall(".{1,4}", code.lower().replace("0", "o").replace("1", "l")))
@@ -159,13 +159,13 @@ def check_node(page: str, code: str, rights: list[int]) -> Iterator[Comparison]:
     answers = make_answers(rights, WRONG)
     printed = subprocess.run([NODE, "-"], input=(require_match(SCRIPT.search(page))[1] + "console.log(JSON.stringify(quiz.tests.map((_, at) => reasonsOf(at))));").encode(),
                           capture_output=True, timeout=60, check=False)
-    yield "the page's own JavaScript finds the reasons", quiz.read_reasons(read_data(page)), json.loads(
+    yield "the page's own JavaScript finds the reasons", quiz.read_reasons(parse_data(page)), json.loads(
         printed.stdout or b"0"
     ) or printed.stderr.decode()
     script = f"console.log(JSON.stringify([rightAnswers(), codeOf(studentOf('  Ana  17 '), {answers}), studentOf(' Ä  é '), studentOf('a<b'), studentOf('a'.repeat(17))]));"
     ran = subprocess.run([NODE, "-"], input=(require_match(SCRIPT.search(page))[1] + script).encode(), capture_output=True, timeout=60, check=False)
     yield "the page's own JavaScript", [rights, code, "ä é", None, None], json.loads(ran.stdout or b"0") or ran.stderr.decode()
-    data = read_data(page)
+    data = parse_data(page)
     for name in ("ä é", "李明", "ольга", "o'neil"):
         script = f"console.log(codeOf({json.dumps(name)}, {answers}));"
         ran = subprocess.run(
@@ -173,7 +173,7 @@ def check_node(page: str, code: str, rights: list[int]) -> Iterator[Comparison]:
         )
         handed_in = codes.CodeContents(data["mark"], data["seed"], name, answers)
         yield f"the page's code of {name}", codes.make_code(handed_in), ran.stdout.decode().strip()
-        yield f"the code of {name} is read", handed_in, codes.read_code(ran.stdout.decode().strip())
+        yield f"the code of {name} is read", handed_in, codes.parse_code(ran.stdout.decode().strip())
     handed_in = codes.CodeContents(data["mark"], data["seed"], STUDENT, answers)
     lines = [codes.make_code(handed_in._replace(student=name)) for name in (STUDENT, "ä é", "李明", "z" * codes.MAX_LETTERS)]
     others = [
@@ -183,14 +183,14 @@ def check_node(page: str, code: str, rights: list[int]) -> Iterator[Comparison]:
     ]
     script = f"console.log(JSON.stringify({json.dumps([*lines, *(line for line, _ in others)])}.map(rowOf)));"
     ran = subprocess.run([NODE, "-"], input=(require_match(SCRIPT.search(page))[1] + script).encode(), capture_output=True, timeout=60, check=False)
-    rows = [[codes.read_code(line).student, *ROW[1:]] for line in lines]
+    rows = [[codes.parse_code(line).student, *ROW[1:]] for line in lines]
     yield "the page reads codes as the command does", [*rows, *(list(row) for _, row in others)], json.loads(ran.stdout or b"0") or ran.stderr.decode()
 
 
 def can_read(code: str) -> bool:
     """Returns whether a code is read."""
     try:
-        codes.read_code(code)
+        codes.parse_code(code)
     except codes.BadCode:
         return False
     return True
@@ -242,7 +242,7 @@ def check_browser(page: str, folder: str) -> Iterator[Comparison]:
         yield "what is missing is reported", ('Test 1 has no answer to "Can it end this way by interleaving?"', "interleaving1"), printed
         is_in_sight = "const { top, bottom } = document.getElementById('fault').getBoundingClientRect(); return top >= 0 && bottom <= innerHeight"
         yield "what is missing is reported in sight", True, user.run(is_in_sight)
-        for index, answer in enumerate(make_answers(quiz.read_answers(read_data(page)), WRONG), 1):
+        for index, answer in enumerate(make_answers(quiz.read_answers(parse_data(page)), WRONG), 1):
             for kind, bit in (("interleaving", 1), ("x86", 2)):
                 user.click(f"input[name={kind}{index}][value={'yes' if answer & bit else 'no'}]")
         user.click("#done")
@@ -287,7 +287,7 @@ def check_links(page: str, folder: str) -> Iterator[Comparison]:
         user.find("#score")
         links = user.run("return [...document.querySelectorAll('a.open')].map((it) => [it.target, it.getAttribute('href')])")
         views = [dict(parse_qsl(href.partition("site/index.html#")[2])) for _, href in links]
-        data = read_data(page)
+        data = parse_data(page)
         expected = [
             {"text": text, **({"view": "hand", "schedule": str(reason["schedule"])} if "schedule" in reason else {"view": "why"})}
             for text, both in zip(data["tests"], quiz.read_reasons(data)) for reason in both

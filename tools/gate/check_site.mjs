@@ -398,7 +398,7 @@ function compareReplays(page, program, tally, name, text) {
     const ran = program.run(words, compiled);
     const printed = page.program.textOf(ran.out);
     program.workbench.compare?.(words, compiled, ran);
-    tally.compare(`${name}: ${words.join(" ")} is read`, printed, asPrinted(page.replays.readState(printed)));
+    tally.compare(`${name}: ${words.join(" ")} is read`, printed, asPrinted(page.replays.parseReplayState(printed)));
   }
 }
 
@@ -417,11 +417,11 @@ function asPrinted({ name, steps, end, threads, memory, content }) {
 /** Compares that texts that are no replays are refused. */
 function compareRefused(page, tally) {
   const right = "Test A\nSteps 0\nEnd NotFinal\nP0 at 0 r0=0 r1=0 r2=0 r3=0 r4=0 r5=0\nMemory x=0\n";
-  tally.compare("a replay is read", right, asPrinted(page.replays.readState(right)));
+  tally.compare("a replay is read", right, asPrinted(page.replays.parseReplayState(right)));
   for (const [from, to] of [["End NotFinal\n", ""], ["End NotFinal", "End Soon"], ["P0 at", "P0 on"], ["Steps 0", "Steps"], ["x=0", "x=y"]]) {
     let outcome = "read";
     try {
-      page.replays.readState(right.replace(from, to));
+      page.replays.parseReplayState(right.replace(from, to));
     } catch (error) {
       outcome = error instanceof page.replays.NoReplay ? "refused" : String(error);
     }

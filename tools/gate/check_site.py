@@ -44,7 +44,7 @@ from lab import markdown
 from lab.tests import read_file
 from page import answers, commands, documents, letters, origin, web_files
 from page.condition_words import describe_verdict
-from replay_state import read_state
+from replay_state import parse_replay_state
 from shared import command
 from shared.home import HOME, close_check
 from shared.matches import require_match
@@ -222,7 +222,7 @@ def check_answers() -> Iterator[Comparison]:
                 yield f"the ticks of {shell_command}", f"Positive: {positive} Negative: {len(states) - positive}", output[-3]
             elif output[0].startswith("Test ") and len(output) > 5 and "replay" in shell_command and "head" not in shell_command:
                 replays += 1
-                state = read_state("".join(f"{it}\n" for it in output if not it.startswith("[status")))
+                state = parse_replay_state("".join(f"{it}\n" for it in output if not it.startswith("[status")))
                 shown = answers.draw_runs([(shell_command, output)], documents.make_page_link)
                 yield from check_slides.compare_state(f"the picture of {shell_command}", shown.partition("<svg")[2], state)
     yield "reports and replays of the tutorial are compared", (True, True), (reports > 8, replays > 4)

@@ -31,7 +31,7 @@ from gate.cases import Comparison
 from gate.examples import run
 from lab import slides
 from lab.tests import read_file
-from replay_state import State, read_state
+from replay_state import State, parse_replay_state
 from shared import command
 from shared.home import PROGRAM, close_check
 
@@ -72,7 +72,7 @@ def ask_program(arguments: list[str], text: bytes) -> str:
 
 def replay_schedule(text: bytes, schedule: str) -> State:
     """Returns the state that a schedule reaches, by the program."""
-    return read_state(ask_program(["replay", schedule], text))
+    return parse_replay_state(ask_program(["replay", schedule], text))
 
 
 def check_page(page: str) -> Iterator[Comparison]:

@@ -39,12 +39,12 @@ class WebDriverError(Exception):
 class Element:
     """An element of the page."""
 
-    def __init__(self, firefox: Firefox, number: str) -> None:
-        self.firefox, self.number = firefox, number
+    def __init__(self, firefox: Firefox, reference: str) -> None:
+        self.firefox, self.reference = firefox, reference
 
     def _ask(self, name: str, **parameters: Any) -> Any:
         """Asks Firefox about this element."""
-        return self.firefox.ask(f"WebDriver:{name}", id=self.number, **parameters)
+        return self.firefox.ask(f"WebDriver:{name}", id=self.reference, **parameters)
 
     def is_displayed(self) -> bool:
         """Returns whether the element is shown."""
@@ -70,7 +70,7 @@ class Element:
 
     def find_elements(self, by: str, value: str) -> list[Element]:
         """Returns the elements below this one that a selector of a kind selects."""
-        references = self.firefox.ask("WebDriver:FindElements", element=self.number, using=by, value=value)
+        references = self.firefox.ask("WebDriver:FindElements", element=self.reference, using=by, value=value)
         return [Element(self.firefox, it[ELEMENT]) for it in references]
 
     @property
@@ -88,7 +88,7 @@ class Firefox:
     """A Firefox with a new profile, in a window that is not shown. What it saves goes to the folder `saved_to`."""
 
     def __init__(self, saved_to: str) -> None:
-        """Starts Firefox, and connects with it."""
+        """Starts Firefox, and connects with it. Raises WebDriverError or OSError if it does not start."""
         self.profile = tempfile.mkdtemp(prefix="lw-firefox-")
         settings: dict[str, object] = {**SETTINGS, "browser.download.dir": saved_to}
         with open(f"{self.profile}/user.js", "w", encoding="utf-8") as file:
@@ -199,7 +199,7 @@ class Firefox:
 
     def execute_script(self, script: str, *arguments: Any) -> Any:
         """Returns the result of a script; elements may be passed, and none is returned."""
-        sent_arguments = [{ELEMENT: it.number} if isinstance(it, Element) else it for it in arguments]
+        sent_arguments = [{ELEMENT: it.reference} if isinstance(it, Element) else it for it in arguments]
         return self.ask("WebDriver:ExecuteScript", script=script, args=sent_arguments, newSandbox=True, sandbox=None)
 
     def press(self, key: str) -> None:

@@ -22,7 +22,7 @@ import graph
 import picture
 import plain
 from effects import describe_refusal
-from films import Film, Refused, make_film, read_language, replay_schedule
+from films import Film, Refused, make_film, parse_language, replay_schedule
 from replay_state import State, is_final_in
 from shared import command
 from shared.matches import require_match
@@ -198,13 +198,13 @@ def make_source_film(text: bytes, compiled_film: Film, state: str) -> Film | Non
 
 def answer_states(text: bytes) -> Answer:
     """Returns the report of a test. (The words on its verdict are typed in tools/gate/check_site.mjs.)"""
-    return {"report": make_report(text), "language": read_language(text)}
+    return {"report": make_report(text), "language": parse_language(text)}
 
 
 def answer_film(text: bytes, state: str, protocol: str) -> Answer:
     """Returns the film to a state; of a source test that of its compiled program, and that of the source run."""
     schedule = find_schedule(text, state)
-    is_source = read_language(text) == "SRC"
+    is_source = parse_language(text) == "SRC"
     film = make_film(ask(["compile"], text).encode() if is_source else text, schedule, protocol)
     films: dict[str, Film | None] = {"x86": film}
     if is_source:
@@ -221,7 +221,7 @@ def answer_moves(text: bytes, schedule: str, protocol: str, whole: bool = False)
         event = schedule.split()[end["at"]]
         why = f"Event {end['at'] + 1} of the schedule, {event}, is refused: {describe_refusal(end['number'])}."
         raise NoAnswer(why, refused={"event": event, "at": end["at"], "number": end["number"], "cause": end["cause"]})
-    is_x86 = read_language(text) == "X86"
+    is_x86 = parse_language(text) == "X86"
     moves = []
     for thread in range(len(state["threads"])):
         evictions = [f"E{thread}:{name}" for name, _ in state["content"]] if is_x86 else []
@@ -234,7 +234,7 @@ def answer_moves(text: bytes, schedule: str, protocol: str, whole: bool = False)
     answer: Answer = {
         "state": state, "before": before, "effect": effect, "written": list_set_registers(film) if whole else None, "ending": make_ending(text, state)
     }
-    return {**answer, "moves": moves, "cells": film["cells"], "language": read_language(text)}
+    return {**answer, "moves": moves, "cells": film["cells"], "language": parse_language(text)}
 
 
 def list_set_registers(film: Film) -> list[list[str]] | None:
@@ -252,7 +252,7 @@ def answer_compile(text: bytes) -> Answer:
     program = plain.read_test(compiled)
     places = fences.list_fences(program)
     bare = plain.format_canonical_text(fences.remove_fences(program, places))
-    answer: Answer = {"language": read_language(text), "compiled": compiled, "bare": bare, "cells": films.list_x86_cells(compiled), "fences": places}
+    answer: Answer = {"language": parse_language(text), "compiled": compiled, "bare": bare, "cells": films.list_x86_cells(compiled), "fences": places}
     answer["bare_cells"] = films.list_x86_cells(bare)
     if answer["language"] == "SRC":
         answer["cells_of_source"] = films.list_source_cells(plain.read_test(text.decode()))
@@ -267,12 +267,12 @@ def answer_fences(text: bytes, everything: bool) -> Answer:
     table = fences.make_fence_table(compared)
     # The page makes lists that the program refuses by a plain interpreter of its own, and not by a search.
     table["answered_by"] = sorted({it if it == "program" else "plain" for it in table["answered_by"]})
-    return {"table": table, "condition": plain.format_condition(test), "texts": texts, "language": read_language(text)}
+    return {"table": table, "condition": plain.format_condition(test), "texts": texts, "language": parse_language(text)}
 
 
 def answer_more_fences(text: bytes) -> Answer:
     """Returns the places of fences that would leave no unwanted state, as tools/fences.py finds them; of a source test nothing."""
-    if read_language(text) == "SRC":
+    if parse_language(text) == "SRC":
         return {"fenced": None}
     test = plain.read_test(ask(["compile"], text))
     fences.lists.clear()
@@ -327,7 +327,7 @@ def answer_why_not(text: bytes, state: str) -> Answer:
         message = why.cause
         raise NoAnswer(f"{message[0].upper()}{message[1:]}.") from None
     drawn = [{"graph": it.picture, "words": it.words, "kind": it.drawbacks} for it in cycles]
-    return {"lines": lines, "cycles": drawn, "language": read_language(text)}
+    return {"lines": lines, "cycles": drawn, "language": parse_language(text)}
 
 
 QUESTIONS: dict[str, Callable[..., Answer]] = {

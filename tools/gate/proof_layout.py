@@ -295,7 +295,7 @@ def put_clause(page: Page, nodes: list[Node], equals: int) -> None:
 def lay_out(sentence: Sentence) -> list[str]:
     """Returns the lines of a sentence in this layout, or unchanged."""
     raise_if(antt.has_comment(sentence.text) or "" in sentence.lines, "a comment")
-    nodes = group_tokens(antt.read_tokens(sentence.text))
+    nodes = group_tokens(antt.parse_tokens(sentence.text))
     words = [it for it in nodes if it not in MARKS]
     page = Page(sentence.indent)
     if not isinstance(words[0], str) or words[0] in NO_DECLARATION:
@@ -314,15 +314,15 @@ def lay_out_checked(sentence: Sentence) -> list[str]:
         lines = lay_out(sentence)
     except Unread:
         return sentence.lines
-    is_same = read_tokens("\n".join(lines)) == read_tokens(sentence.text)
+    is_same = parse_tokens("\n".join(lines)) == parse_tokens(sentence.text)
     # (A line that is not broken, and fits, shows how words are spaced.)
     is_spaced = len(sentence.lines) > 1 or len(lines) > 1 or lines == sentence.lines
     return lines if is_same and is_spaced else sentence.lines
 
 
-def read_tokens(text: str) -> list[str]:
+def parse_tokens(text: str) -> list[str]:
     """Returns the tokens of a text, without those that only items on lines of their own have."""
-    tokens, kept_tokens = antt.read_tokens(text), []
+    tokens, kept_tokens = antt.parse_tokens(text), []
     for index, token in enumerate(tokens):
         is_end = token in (",", ";") and tokens[index + 1 : index + 2] and tokens[index + 1] in antt.CLOSING
         is_lead = token == "|" and index and tokens[index - 1] == "["
@@ -335,7 +335,7 @@ def lay_out_text(text: str) -> str:
     """Returns a file's text in this layout."""
     if "{-" in text or " \n" in text:
         return text
-    lines = [line for it in antt.read_sentences(text) for line in (it.lines if it.is_between else lay_out_checked(it))]
+    lines = [line for it in antt.parse_sentences(text) for line in (it.lines if it.is_between else lay_out_checked(it))]
     return "\n".join(lines)
 
 
@@ -357,7 +357,7 @@ def check_file(path: str, is_writing: bool) -> bool:
     if new == text:
         return True
     print(os.path.relpath(path, HOME))
-    if read_tokens(new) != read_tokens(text):
+    if parse_tokens(new) != parse_tokens(text):
         print("  its words would change: it is left as it is")
     elif is_writing:
         with open(path, "w", encoding="utf-8") as file:

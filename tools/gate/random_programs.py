@@ -152,7 +152,7 @@ class Program:
         return len(self.names) - 1
 
     def make_expression(self) -> str:
-        """Returns a random expression."""
+        """Returns a random key of `EXPRESSIONS`, which is the text of an expression."""
         return self.random.choice(list(EXPRESSIONS))
 
     def make_statement(self, thread: int) -> WrittenCode:

@@ -29,8 +29,8 @@ from editor import grammar, words
 from gate import cases, oniguruma
 from gate.examples import examples, read
 from gate.oniguruma import Match, Pattern
-from interpreter.reading import RESERVED, read_heading
-from interpreter.tokens import read_tokens, skip_notes
+from interpreter.reading import RESERVED, parse_heading
+from interpreter.tokens import parse_tokens, skip_notes
 from shared.home import HOME
 
 # For a kind of token, the scopes that it may have.
@@ -228,10 +228,10 @@ class Grammar(cases.Case):
         """Each token of each example has the scope of its kind."""
         colours = Colours(grammar.make_grammar())
         for name, text in examples():
-            language, _, end = read_heading(text)
+            language, _, end = parse_heading(text)
             begin = skip_notes(text, end)
             scopes, wrong = colours.find_scopes(text), []
-            tokens, places = read_tokens(text, begin)
+            tokens, places = parse_tokens(text, begin)
             for before, (kind, token), offset in zip([("symbol", "")] + tokens, tokens, places):
                 token_scopes = {it and it[: -len(".lw")] for it in scopes[offset : offset + len(token)]}
                 allowed = {*list_wanted_scopes(language, kind, token, before[1] == "[")}

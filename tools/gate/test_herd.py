@@ -556,7 +556,7 @@ class Files(cases.Case):
         return path
 
     def test_one_name(self) -> None:
-        """If two tests have one name the second is refused, both inputs are named, and the first is not overwritten."""
+        """If two tests have one name the second is refused, both inputs are named, and the first is not overwritten. The same text again is allowed."""
         with tempfile.TemporaryDirectory(prefix="lw-herd-") as folder:
             into = os.path.join(folder, "into")
             os.mkdir(into)

@@ -481,11 +481,11 @@ class Runs(cases.Case):
     def test_read(self) -> None:
         """Counts of several threads are added, and the first sight is the earliest."""
         facts = "facts runs 9 batches 1 microseconds 2500000 traps 1 clocks_differ 0 is_full 0 is_pinned 1 switches 4"
-        seen = runs.parse_seen(["state 3 0.500000 1 0 4294967295", "state 2 0.250000 2 0 4294967295", "state 4 0.1 0 1 1", facts])
+        seen = runs.parse_sightings(["state 3 0.500000 1 0 4294967295", "state 2 0.250000 2 0 4294967295", "state 4 0.1 0 1 1", facts])
         expected = {(0, 4294967295): Sighting(5, 0.25, "by a schedule"), (1, 1): Sighting(4, 0.1, "by a race")}
         self.assertEqual((expected, 9, 2.5, 3.6), (seen.states, seen.runs, seen.seconds, seen.rate))
         self.assertEqual({"batches": 1, "traps": 1, "clocks_differ": 0, "is_full": 0, "is_pinned": 1, "switches": 4}, seen.facts)
-        self.assertEqual("the harness ends without its line of facts", find_refusal(runs.parse_seen, ["state 1 0.1 0 1"]))
+        self.assertEqual("the harness ends without its line of facts", find_refusal(runs.parse_sightings, ["state 1 0.1 0 1"]))
 
     def test_ends(self) -> None:
         """A harness that ends otherwise is reported with its cause."""

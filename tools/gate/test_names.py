@@ -10,7 +10,7 @@ import sys
 
 from gate import cases
 from gate.check_names import (
-    Names, find_crate_path_faults, find_linked_name_faults, find_logic_faults, find_path_faults, find_table_faults, read_crate_rows,
+    Names, find_crate_path_faults, find_linked_name_faults, find_logic_faults, find_path_faults, find_table_faults, parse_crate_rows,
 )
 from gate.check_trusted import PAGE, find_differences, read_text
 
@@ -78,11 +78,11 @@ class Table(cases.Case):
 
     def test_same(self) -> None:
         """A table that is as crates.txt has no fault; `std` is no crate, and a row may name all above."""
-        self.assertEqual([], list(find_table_faults(read_crate_rows(TABLE), LINES)))
+        self.assertEqual([], list(find_table_faults(parse_crate_rows(TABLE), LINES)))
 
     def test_crate_of_any_name(self) -> None:
         """A crate needs no row less because its name begins otherwise; the head of the table is no row."""
-        rows = read_crate_rows(TABLE + "| top | beyond | a program | lw_base |\n")
+        rows = parse_crate_rows(TABLE + "| top | beyond | a program | lw_base |\n")
         self.assertEqual([*LINES, "beyond"], list(rows))
         self.assertEqual([], list(find_table_faults(rows, {**LINES, "beyond": ["lw_base"]})))
 
@@ -90,18 +90,18 @@ class Table(cases.Case):
         """A row that names a further crate is a fault, and so is one that lacks a crate."""
         for named in ("lw_base, lw_text, linked_list_allocator", "lw_base"):
             with self.subTest(named):
-                faults = list(find_table_faults(read_crate_rows(TABLE.replace("lw_base, lw_text |", f"{named} |")), LINES))
+                faults = list(find_table_faults(parse_crate_rows(TABLE.replace("lw_base, lw_text |", f"{named} |")), LINES))
                 self.assertEqual(["lw_order_tests"], [it.split()[3] for it in faults])
 
     def test_rows(self) -> None:
         """A crate without a row, and a row without a crate, are faults."""
         self.assertEqual(
             ["docs/MAP.md has no row for lw_more, which crates.txt has"],
-            list(find_table_faults(read_crate_rows(TABLE), {**LINES, "lw_more": []})),
+            list(find_table_faults(parse_crate_rows(TABLE), {**LINES, "lw_more": []})),
         )
         self.assertEqual(
             ["docs/MAP.md has a row for lw_text, which crates.txt has not"],
-            [it for it in find_table_faults(read_crate_rows(TABLE), {it: LINES[it] for it in LINES if it != "lw_text"}) if "row" in it],
+            [it for it in find_table_faults(parse_crate_rows(TABLE), {it: LINES[it] for it in LINES if it != "lw_text"}) if "row" in it],
         )
 
 

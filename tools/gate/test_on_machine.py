@@ -544,7 +544,7 @@ class Surroundings(cases.Case):
                 return
             libc.ptrace(7, traced.pid, None, None)
             out, _ = traced.communicate(plans.format_plan(plan).encode(), timeout=60)
-        seen = runs.parse_seen(out.decode().splitlines())
+        seen = runs.parse_sightings(out.decode().splitlines())
         self.assertEqual(runs.TRAPS_TRACED, seen.facts["traps"])
         self.assertEqual({runs.KINDS[0]}, {it.kind for it in seen.states.values()})
 

@@ -271,7 +271,7 @@ class Faults(cases.Case):
         """A text that no replay prints is reported with its place."""
         for text, message in REPLAYS:
             with self.subTest(text=text):
-                self.assertEqual(f"T:{message}", make_fault_line(text.encode(), replay_state.read_state))
+                self.assertEqual(f"T:{message}", make_fault_line(text.encode(), replay_state.parse_replay_state))
 
 
 class Numbers(cases.Case):

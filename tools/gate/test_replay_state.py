@@ -62,11 +62,11 @@ CHANGES = (
     ("Memory ", "memory "),
 )
 BY_NODE = """
-import { readState, NoReplay } from %s;
+import { parseReplayState, NoReplay } from %s;
 import { readFileSync } from "node:fs";
 const stateOf = (text) => {
   try {
-    return readState(text);
+    return parseReplayState(text);
   } catch (why) {
     if (why instanceof NoReplay) return null;
     throw why;
@@ -116,15 +116,15 @@ def list_wrong_pages() -> Iterator[str]:
     yield from ("", "\n", "\r\n", "Test SB\n")
 
 
-def read_in_python(page: str) -> object:
+def parse_in_python(page: str) -> object:
     """Returns the state of a page by tools/replay_state.py, as JSON has it; `None` if it refuses the page."""
     try:
-        return json.loads(json.dumps(replay_state.read_state(page)))
+        return json.loads(json.dumps(replay_state.parse_replay_state(page)))
     except replay_state.NoReplay:
         return None
 
 
-def read_in_node(texts: list[str]) -> list[object]:
+def parse_in_node(texts: list[str]) -> list[object]:
     """Returns the states of pages by web/replays.js."""
     with tempfile.TemporaryDirectory(prefix="lw-") as folder:
         # Node takes a file for a module by its name, or by its folder.
@@ -147,24 +147,24 @@ class Pages(cases.Case):
     def test_taken(self) -> None:
         """tools/replay_state.py takes what a replay prints, with line ends of either kind."""
         for page in list_pages():
-            state = read_in_python(page)
+            state = parse_in_python(page)
             with self.subTest(page):
                 self.assertTrue(state)
-                self.assertEqual(state, read_in_python(page.replace("\n", "\r\n")))
+                self.assertEqual(state, parse_in_python(page.replace("\n", "\r\n")))
 
     def test_refused(self) -> None:
         """It refuses texts that no replay prints."""
         for page in list_wrong_pages():
             with self.subTest(page):
-                self.assertEqual(None, read_in_python(page))
+                self.assertEqual(None, parse_in_python(page))
 
     @unittest.skipUnless(shutil.which("node"), "node is missing")
     def test_same(self) -> None:
         """web/replays.js reads the same from all these pages, and refuses the same."""
         texts = [*list_pages(), *(it.replace("\n", "\r\n") for it in list_pages()), *list_wrong_pages()]
-        for page, state in zip(texts, read_in_node(texts)):
+        for page, state in zip(texts, parse_in_node(texts)):
             with self.subTest(page):
-                self.assertEqual(read_in_python(page), state)
+                self.assertEqual(parse_in_python(page), state)
 
     def test_content(self) -> None:
         """A page of an x86 test without its last line is refused where that line should be."""
@@ -173,7 +173,7 @@ class Pages(cases.Case):
         for text, message in ((head, "the text ends, and a replay prints more"), (page[:-1], "the last line has no end")):
             with self.subTest(message):
                 with self.assertRaises(replay_state.NoReplay) as raised:
-                    replay_state.read_state(text)
+                    replay_state.parse_replay_state(text)
                 self.assertEqual((message, len(head)), raised.exception.args)
 
 

@@ -7,7 +7,7 @@ from dataclasses import dataclass, field
 from herd.cells import AddressOf
 from herd.propositions import PropositionReader
 from herd.registers import parse_register
-from herd.text import Reader, Refused, Token, read_tokens
+from herd.text import Reader, Refused, Token, parse_tokens
 from plain import Constant, LocationSite, Number, Proposition, RegisterSite, Site
 
 WORDS = ("int", "unsigned", "signed", "uint32_t", "int32_t", "long", "uint64_t", "int64_t", "intptr_t", "uintptr_t")
@@ -268,5 +268,5 @@ class FrameReader(PropositionReader):
 
 def read_frame(text: str) -> Frame:
     """Returns the frame of a test in herd's form."""
-    language, name, tokens = read_tokens(text)
+    language, name, tokens = parse_tokens(text)
     return FrameReader(Frame(language, name), tokens).read()

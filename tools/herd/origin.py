@@ -53,7 +53,7 @@ class Origin:
     tries: int = 0
 
 
-def read_origin(text: str) -> Origin | None:
+def parse_origin(text: str) -> Origin | None:
     """Returns the origin of a test's text, or `None` if it has no comment of tools/from_herd.py."""
     match = COMMENT.match(text)
     if not match:

@@ -28,7 +28,7 @@ class Token(NamedTuple):
     offset: int
 
 
-def read_heading(text: str) -> tuple[str, str, int]:
+def parse_heading(text: str) -> tuple[str, str, int]:
     """Returns the language and the name of a test, and where its heading ends. Raises Refused if there is none, or for another language."""
     if text.startswith(BYTE_ORDER_MARK):
         if text == BYTE_ORDER_MARK:
@@ -47,9 +47,9 @@ def read_heading(text: str) -> tuple[str, str, int]:
     return match[1], match[2], match.end()
 
 
-def read_tokens(text: str) -> tuple[str, str, list[Token]]:
+def parse_tokens(text: str) -> tuple[str, str, list[Token]]:
     """Returns the language and the name of a test, and its tokens from the initial block on. Raises Refused at a character that begins none."""
-    language, name, offset = read_heading(text)
+    language, name, offset = parse_heading(text)
     offset, tokens = plain.skip_notes(text, offset), []
     while offset < len(text):
         if text.startswith("(*", offset):

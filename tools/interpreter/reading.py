@@ -9,7 +9,7 @@ from typing import Tuple, TypeVar
 from interpreter.tests import (
     And, Constant, Eq, LocationSite, NoTest, Not, Number, Or, Proposition, REGISTERS, Register, RegisterSite, Site, Statement, Test, Value, WORD,
 )
-from interpreter.tokens import Token, quote, quote_at, read_tokens, skip_comment, skip_notes
+from interpreter.tokens import Token, quote, quote_at, parse_tokens, skip_comment, skip_notes
 
 RESERVED = re.compile(
     r"r\d+|if|goto|swap|fetchadd|exists|forall|locations|filter|true|false|not|(?i:EAX|EBX|ECX|EDX|ESI|EDI|EBP|ESP)"
@@ -406,7 +406,7 @@ class Reader:
         return test
 
 
-def read_heading(text: str) -> tuple[str, str, int]:
+def parse_heading(text: str) -> tuple[str, str, int]:
     """Returns the language and the name of a test, and the offset of the heading's end. Raises NoTest if there is none."""
     offset = 0
     while text[offset : offset + 1] and text[offset] in " \t\r\n" or text.startswith("(*", offset):
@@ -429,5 +429,5 @@ def read_test(text: str) -> Test:
     given_bytes = text.encode()
     if len(given_bytes) > MAX_BYTES:
         raise NoTest(f"the text has more than {MAX_BYTES} bytes", len(given_bytes[:MAX_BYTES].decode(errors="ignore")))
-    language, name, offset = read_heading(text)
-    return Reader(language, name, *read_tokens(text, skip_notes(text, offset))).read()
+    language, name, offset = parse_heading(text)
+    return Reader(language, name, *parse_tokens(text, skip_notes(text, offset))).read()

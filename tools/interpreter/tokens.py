@@ -45,7 +45,7 @@ def skip_comment(text: str, offset: int) -> int:
             return offset
 
 
-def read_tokens(text: str, offset: int) -> tuple[list[Token], list[int]]:
+def parse_tokens(text: str, offset: int) -> tuple[list[Token], list[int]]:
     """Returns the tokens from an offset on, and the offset of each, followed by the end's. Raises NoTest at a character that begins none."""
     tokens: list[Token] = []
     offsets: list[int] = []

@@ -73,7 +73,7 @@ def make_code(contents: CodeContents) -> str:
     return format_number(number) + format_number(number % PRIME, LENGTH_OF_SUM)
 
 
-def read_symbols(line: str) -> list[int]:
+def parse_symbols(line: str) -> list[int]:
     """Returns the symbols of a line, each by its value. Raises BadCode at another letter."""
     values = []
     for index, letter in enumerate(line):
@@ -118,10 +118,10 @@ def take_student(digits: Digits) -> str:
         return ""
 
 
-def read_code(line: str) -> CodeContents:
+def parse_code(line: str) -> CodeContents:
     """Returns the contents of a line's code. Raises BadCode if it is too long, mistyped, or of no quiz."""
     begin = next((index for index, letter in enumerate(line) if letter not in BETWEEN), 0)
-    values = read_symbols(line)
+    values = parse_symbols(line)
     if len(values) <= LENGTH_OF_SUM:
         raise BadCode("a code is longer", begin)
     number = 0

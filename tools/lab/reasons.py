@@ -14,7 +14,7 @@ from effects import describe_event
 from graph import Names
 from interpreter.tests import State
 from interpreter.walks import Move
-from replay_state import read_state
+from replay_state import parse_replay_state
 
 MAX_CANDIDATES = 400_000
 Moves = Callable[[plain.Test, State], Iterator[Move]]
@@ -32,7 +32,7 @@ def list_asked_schedules(test: plain.Test, start: Callable[[plain.Test], State],
 def describe_steps(test: plain.Test, schedule: str) -> list[str]:
     """Returns the effect of each event of a run, in words."""
     events = schedule.split()
-    states = [read_state(plain.replay(test, " ".join(events[:number]))[0]) for number in range(len(events) + 1)]
+    states = [parse_replay_state(plain.replay(test, " ".join(events[:number]))[0]) for number in range(len(events) + 1)]
     cells = films.list_x86_cells(plain.format_canonical_text(test)) if test.language == "X86" else films.list_source_cells(test)
     return [describe_event(event, cells, *states[index : index + 2])["words"] for index, event in enumerate(events)]
 

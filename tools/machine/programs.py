@@ -21,7 +21,7 @@ from herd.convert import ConvertedTest
 from machine.faults import NotRun
 from machine.laboratory import Laboratory, MeasuredRun, Settings, list_notes
 from machine.plans import Limits
-from machine.runs import Sightings, Sighting, merge_sights
+from machine.runs import Sightings, Sighting, merge_sightings
 from machine.subjects import StateList, Subject, Words, make_list, make_other_list
 from machine.summary import Result, format_contradiction
 from many.files import is_program
@@ -128,7 +128,7 @@ def merge_seen(done: Sequence[tuple[Part, MeasuredRun]]) -> Sightings:
         for words, sight in ran.seen.states.items():
             state, later = part.find_program_state(words), sight._replace(first=sight.first + seconds)
             if state is not None:
-                states[state] = merge_sights(states[state], later) if state in states else later
+                states[state] = merge_sightings(states[state], later) if state in states else later
         seconds += ran.seen.seconds
     all_facts = [ran.seen.facts for _, ran in done]
     facts = {name: max(it[name] for it in all_facts) for name in all_facts[0]}

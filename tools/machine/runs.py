@@ -17,6 +17,9 @@ KINDS = ("by a race", "by a halt", "by a schedule")
 TRAPS_UNUSED, TRAPS_WORK, TRAPS_TRACED, TRAPS_CAUGHT = range(4)
 # The maximal number of times a second that threads lose their processor on a machine that is not busy.
 MAX_SWITCHES = 100
+# When a run is given up. The harness looks at the clock only between batches, which are slow on a busy machine: so a run may take this many times
+# the plan's seconds, and these seconds more, in which it starts, tries the trap flag and prints.
+SLOWNESS, SECONDS_AROUND = 10, 60
 
 
 class Sighting(NamedTuple):
@@ -41,13 +44,13 @@ class Sightings(NamedTuple):
         return self.runs / self.seconds if self.seconds else 0.0
 
 
-def merge_sights(first: Sighting, second: Sighting) -> Sighting:
+def merge_sightings(first: Sighting, second: Sighting) -> Sighting:
     """Returns the sighting of a state that was counted twice, by two threads or in two runs."""
     earlier = min(first, second, key=lambda it: it.first)
     return Sighting(first.times + second.times, earlier.first, earlier.kind)
 
 
-def parse_seen(lines: list[str]) -> Sightings:
+def parse_sightings(lines: list[str]) -> Sightings:
     """Returns the sightings that the harness prints. Raises NotRun if its line of facts, the last one, is missing."""
     states: dict[Words, Sighting] = {}
     facts: dict[str, int] = {}
@@ -57,7 +60,7 @@ def parse_seen(lines: list[str]) -> Sightings:
             facts = {key: int(value) for key, value in zip(rest[::2], rest[1::2])}
         else:
             words, sight = tuple(map(int, rest[3:])), Sighting(int(rest[0]), float(rest[1]), KINDS[int(rest[2])])
-            states[words] = merge_sights(states[words], sight) if words in states else sight
+            states[words] = merge_sightings(states[words], sight) if words in states else sight
     if "runs" not in facts:
         raise NotRun("the harness ends without its line of facts")
     return Sightings(states, facts.pop("runs"), facts.pop("microseconds") / 1e6, facts)
@@ -65,7 +68,7 @@ def parse_seen(lines: list[str]) -> Sightings:
 
 def choose_patience(plan: Plan) -> float | None:
     """Returns the seconds after which a run that should have ended is killed, or `None` if it has no limit of time."""
-    return None if plan.limits.seconds is None else 60 + 10 * plan.limits.seconds
+    return None if plan.limits.seconds is None else SECONDS_AROUND + SLOWNESS * plan.limits.seconds
 
 
 def explain_status(status: int, printed: bytes) -> str:
@@ -88,7 +91,7 @@ def run_plan(program: str, plan: Plan) -> Sightings:
         raise NotRun(f"the run does not end within {patience:.0f} seconds, and is given up") from None
     if ran.returncode:
         raise NotRun(explain_status(ran.returncode, ran.stderr))
-    return parse_seen(ran.stdout.decode().splitlines())
+    return parse_sightings(ran.stdout.decode().splitlines())
 
 
 def list_missing(seen: Sightings, plan: Plan) -> list[str]:

@@ -15,7 +15,7 @@ import given
 from c.source import is_herd_form
 from herd.convert import convert
 from herd.order import ORDERS
-from herd.text import read_heading
+from herd.text import parse_heading
 from herd.together import collect_answers, merge_reports, translate_report
 from many import rows
 from many.files import is_program
@@ -101,7 +101,7 @@ def answer_test(file: str, text: str, choices: Choices, run: spawn.Run) -> rows.
     if fault_offset is None:
         return rows.make_refusal(file, batch.format_fault(run))
     try:
-        language = read_heading(text)[0]
+        language = parse_heading(text)[0]
         result = convert(text, choices.tries, ORDERS[choices.order])
     except given.Fault as fault:
         return rows.make_refusal(file, choose_fault(file, text, run, fault_offset, fault))
@@ -127,7 +127,7 @@ def choose_fault(file: str, text: str, run: spawn.Run, lw_offset: int, fault: gi
     """Returns the line of what is wrong in a text that neither lw, at a place, nor tools/from_herd.py takes: of the two, what the one says that
     reads further, and what both say if they end in one line and differ."""
     try:
-        is_x86 = read_heading(text)[0] == "X86"
+        is_x86 = parse_heading(text)[0] == "X86"
     except given.Fault:
         return batch.format_fault(run)
     line_of_lw, line_of_herd = text.count("\n", 0, lw_offset), text.count("\n", 0, fault.offset)

@@ -18,7 +18,7 @@ import plain
 from interpreter.tests import NoTest, Test
 from page.commands import View, list_views
 from page.condition_words import describe_verdict
-from replay_state import read_state
+from replay_state import parse_replay_state
 from shared.home import HOME
 from shared.matches import require_match
 
@@ -150,7 +150,7 @@ def draw_schedules(test: Test, output: list[str], link: LinkMaker) -> str:
 def find_end(view: View) -> str | None:
     """Returns the state in which a run ends, as a report's line; None if the run is not at its end."""
     text = read_text(view)
-    state = read_state(ask_plain(["replay", view.fields["schedule"]], text.encode()))
+    state = parse_replay_state(ask_plain(["replay", view.fields["schedule"]], text.encode()))
     if state["end"]["kind"] != "Final":
         return None
     words = {name: word for name, word in state["content"]}

@@ -369,7 +369,7 @@ class Server:
         return self.runs.run_program(*parse_run(body), connection)
 
     def find_file(self, path: str) -> tuple[int, str, bytes]:
-        """Returns a file by the path of a request, which may have a query. Raises Refusal if there is none."""
+        """Returns the status, the type and the bytes of the file at the path of a request, which may have a query. Raises Refusal if there is none."""
         name = path.partition("?")[0]
         if name not in self.files:
             raise Refusal(404, "There is no such file.")

@@ -21,7 +21,7 @@ def list_files(*patterns: str) -> list[str]:
     return sorted(it for it in paths if it.endswith(".antt") and "/out/" not in it)
 
 
-def read_tokens(text: str) -> list[str]:
+def parse_tokens(text: str) -> list[str]:
     """Returns the tokens of a text, without comments."""
     return [it[0] for it in TOKEN.finditer(text) if not it["comment"]]
 
@@ -56,7 +56,7 @@ def count_indent(line: str) -> int:
 
 def count_open_brackets(line: str, depth: int) -> int:
     """Returns the number of brackets that are open after a line, before which `depth` are open."""
-    tokens = read_tokens(line)
+    tokens = parse_tokens(line)
     return depth + sum(it in OPENING for it in tokens) - sum(it in CLOSING for it in tokens)
 
 
@@ -104,11 +104,11 @@ class Reader:
             last.lines += [it.lines[0] for it in self.lines_between] + [line]
             self.lines_between = []
         self.depth = count_open_brackets(line, self.depth)
-        tokens = read_tokens(line)
+        tokens = parse_tokens(line)
         self.opens = not self.depth and tokens[-1:] in (["where"], ["mutual"])
 
 
-def read_sentences(text: str) -> list[Sentence]:
+def parse_sentences(text: str) -> list[Sentence]:
     """Returns the sentences of a text, and the lines between them, in their order."""
     reader = Reader()
     for number, line in enumerate(text.split("\n"), 1):

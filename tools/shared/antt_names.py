@@ -45,7 +45,7 @@ class Declaration:
 
 def read_words(sentence: antt.Sentence) -> list[str]:
     """Returns the tokens of a sentence, without comments."""
-    return antt.read_tokens(sentence.text)
+    return antt.parse_tokens(sentence.text)
 
 
 class File:
@@ -59,7 +59,7 @@ class File:
         inner = os.path.relpath(path, f"{HOME}/crates")[: -len(".antt")]
         self.crate = inner.split("/")[0]
         self.module = "Rattle." + re.sub(r"/Lib$", "", inner).replace("/", ".")
-        self.all_sentences = antt.read_sentences(self.text)  # with the lines between them
+        self.all_sentences = antt.parse_sentences(self.text)  # with the lines between them
         self.sentences = [it for it in self.all_sentences if not it.is_between]
         self.imports: dict[str, tuple[str, str]] = {}  # for each name that is imported, its module and its name there
         self.modules: dict[str, str] = {}  # for each name of a module that is imported, the whole name

@@ -6,7 +6,7 @@ from collections.abc import Iterable, Iterator
 from typing import FrozenSet, NamedTuple
 
 import given
-from herd.origin import TranslatedStates, add_states, read_origin
+from herd.origin import TranslatedStates, add_states, parse_origin
 from herd.registers import parse_register
 from shared import answers
 
@@ -123,7 +123,7 @@ def collect_lists(reports: Iterable[tuple[str, str]]) -> ListedTests:
         for name, states in read_states(report.splitlines()).items():
             is_other = name in tests.own and tests.own[name].states != states
             tests.own[name] = ListedTest(states, why=TWO_FILES if is_other else "")
-        origin = read_origin(text)
+        origin = parse_origin(text)
         if origin:
             try:
                 add_states(translations, origin, text, answers.filter_state_lines(report))
