@@ -29,7 +29,7 @@ REFUSALS = {
 
 
 def describe_refusal(number: int) -> str:
-    """Returns why an event is refused, as a sentence without marks."""
+    """Returns why an event is refused, in words without backquotes; `number` is that of its cause."""
     return REFUSALS[number].replace("`", "")
 
 

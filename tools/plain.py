@@ -50,7 +50,7 @@ from interpreter.tests import (
     REGISTERS, WORD, And, Constant, Eq, LocationSite, NoSchedule, NoTest, Not, Number, Or, Outcome, Proposition, Refused, Register, RegisterSite,
     Site, Statement, Test, Value, join_lines,
 )
-from interpreter.tokens import KEY, LETTERS, TOKEN, quote, quote_at, parse_tokens, skip_comment, skip_notes, skip_quoted
+from interpreter.tokens import KEY, LETTERS, TOKEN, parse_tokens, quote, quote_at, skip_comment, skip_notes, skip_quoted
 from interpreter.walks import (
     explore_states, list_interleaved_moves, list_outcomes, list_source_moves, list_x86_moves, make_outcome, make_schedule, make_source_start,
     make_x86_start,

@@ -3,7 +3,7 @@
 // stated only if the state after the event agrees with it.
 //
 // An `Effect` has a `thread`; `words`, in which code is between backquotes; and, if the event has one, a `register` (its name), a
-// `location` that is read from memory, or an `entry` that is read (its number in the buffer). If a word that is said to be in memory is in
+// `location` that is read from memory, or an `entry` that is read (its index in the buffer). If a word that is said to be in memory is in
 // a cache, `cache` is the thread of that cache.
 
 import { WORD } from "./token_reader.js";
@@ -21,7 +21,7 @@ const REFUSALS = {
 };
 
 /**
- * Returns why an event is refused, as a sentence without marks.
+ * Returns why an event is refused, in words without backquotes; `number` is that of its cause.
  * @param {number} number
  * @returns {string}
  */

@@ -3,7 +3,7 @@
 
 import { explainLacked } from "./instead.js";
 import { nearest } from "./nearest.js";
-import { explainCode, explainHead, otherRegister } from "./other_language.js";
+import { explainCode, explainOtherFirstWord, otherRegister } from "./other_language.js";
 import { TEMPLATE } from "./template.js";
 import { readTest } from "./tests.js";
 
@@ -163,7 +163,7 @@ function explainMissingInQuestion(place) {
   return `The question lacks ${missing === 1 ? "a `)`" : `${missing} \`)\``} at its end.`;
 }
 
-/** Returns that the test has no thread of the number at a place, if that is so; or "". */
+/** Returns a sentence that says that the test has no thread of the number at a place, or "" if that is not so. */
 function explainMissingThread({ token, after, text }) {
   const names = /^[ \t]*P0\b[^;]*(?=;)/m.exec(text)?.[0].split("|").map((_, thread) => `\`P${thread}\``);
   if (!names || !/^\d+$/.test(token) || !/^\s*:/.test(after) || Number(token) < names.length) return "";
@@ -177,7 +177,7 @@ function isInBlock(text) {
 }
 
 /**
- * Returns that a question is written as in another notation, if that is so; or "".
+ * Returns a sentence on a question or initial values that are written as in another notation, and proposes lw's; or "".
  * @param {Place} place
  * @returns {string}
  */
@@ -212,7 +212,7 @@ function explainFirstWord(place) {
   return meant && `A test begins with \`SRC\` or \`X86\`.${meant}`;
 }
 
-/** Returns that the initial values have no end, if that is so; or "". */
+/** Returns a sentence that says that the initial values have no end, or "" if that is not so. By `place.lacks` it sets where they should end. */
 function explainOpenBlock(place) {
   const code = withoutComments(place.text);
   if (!isInBlock(code)) return "";
@@ -221,14 +221,17 @@ function explainOpenBlock(place) {
   return "The initial values lack a `}` at their end.";
 }
 
-/** Returns that the threads' names are written in small letters, if that is so, and proposes them in capital letters; or "". */
+/** Returns a sentence that says that the threads' names are in small letters, and proposes capital letters; or "" if that is not so. */
 function explainThreadNames(place) {
   const { text, index, token } = place;
   const header = /^p\d$/.test(token) && /[^;\n]*/.exec(text.slice(index))[0].trimEnd();
   return header ? `The threads are \`P0\`, \`P1\` and so on.${place.propose(header.toUpperCase(), index, index + header.length)}` : "";
 }
 
-/** Returns that the list of locations before the question has no end, if that is so; or "". */
+/**
+ * Returns a sentence that says that the list of locations before the question has no end, or "" if that is not so. By `place.lacks` it sets where
+ * the list should end, and proposes `]` there.
+ */
 function explainOpenList(place) {
   const front = withoutComments(place.text.slice(0, place.index)).trimEnd();
   if (!/^(?:exists|forall|~)$/.test(place.token) || !/\blocations\s*\[[^\]]*$/.test(front)) return "";
@@ -236,7 +239,7 @@ function explainOpenList(place) {
   return "The list of locations lacks a `]` at its end.";
 }
 
-/** Returns that a constant is negative or no whole number, if that is so; or "". */
+/** Returns a sentence that says what a constant is, if the one at a place is negative or no whole number; or "" if that is not so. */
 function explainConstant({ text, index }) {
   return /(?:[=,$+]\s*|\b\d+)$/.test(text.slice(0, index)) && /^[-.]\s*\d/.test(text.slice(index)) ? CONSTANT : "";
 }
@@ -256,7 +259,7 @@ function lineWithoutEnd({ row }, text) {
 }
 
 /**
- * Returns that the last line of code before a fault has no `;` at its end, if that is so; or "".
+ * Returns a sentence that says that the last line of code before a fault has no `;` at its end, or "" if that is not so.
  * @param {Fault} fault
  * @param {string} text
  * @returns {string}
@@ -309,7 +312,7 @@ function hintOnRowsWithoutEnd(fault, text) {
   return { words, change: { begin, end, text: withEnds, title }, at };
 }
 
-/** Returns that a text is empty, and proposes a small test in its place, if that is so; or "". */
+/** Returns a sentence that says that a text is empty, and proposes a small test in its place; or "" if that is not so. */
 function explainEmptyText(place) {
   if (place.text.trim()) return "";
   place.put(TEMPLATE, 0, place.text.length);
@@ -392,7 +395,7 @@ const SENTENCES = {
   "text Name": (place) =>
     explainOpenList(place) ||
     explainMissingThread(place) ||
-    (otherRegister(place.token, place.isX86) !== null && explainHead(place)) ||
+    (otherRegister(place.token, place.isX86) !== null && explainOtherFirstWord(place)) ||
     `${place.tokenWords} can't be a name here. A question names a location, as \`x=1\`, or a register with its thread, as ` +
     `\`${place.isX86 ? "0:EAX=1" : "0:r0=1"}\`.${place.meantRegister()}`,
   "text Ragged": () => "This row has too few or too many cells: it needs one for each thread, with `|` between them. A cell may be empty.",

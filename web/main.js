@@ -257,7 +257,7 @@ function follow() {
   editor.text = examples.textOf(example) ?? link.text ?? examples.textOf(FIRST);
   clear();
   byId("predict").checked = link.predict === "1";
-  showUnknown([link.text === undefined && link.example, link.beside].filter((it) => it && examples.textOf(it) === undefined));
+  showUnknownExample([link.text === undefined && link.example, link.beside].filter((it) => it && examples.textOf(it) === undefined));
   const isOwn = !example && link.text !== undefined;
   show(example || (isOwn ? "" : FIRST), isOwn);
   states.isByHand = link.view === "hand";
@@ -266,8 +266,8 @@ function follow() {
   list({ link: link.state || link.view === "hand" ? link : null, timeout: MAX_MILLISECONDS });
 }
 
-/** Says that a link names examples that do not exist, and offers to open one of nearly the name of the first. */
-function showUnknown([name]) {
+/** Says that a link names examples that do not exist, and offers to open one of nearly the name of the first. An empty list clears the notice. */
+function showUnknownExample([name]) {
   const all = [...examples.tests.keys()];
   const meant = name && (all.find((it) => it.toLowerCase() === name.toLowerCase()) ?? nearest(name, all));
   const words = name && `There is no example named ${name}. ${meant ? "Did you mean " : "The button at the top opens all examples."}`;

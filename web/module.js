@@ -32,6 +32,7 @@ export class Trap extends Error {}
 export class Workbench {
   /** Says that it has films and marks, which the program `lw` has not. */
   hasFilmsAndMarks = true;
+  /** Says how much memory a run may take, as the end of a sentence on a run that needed more. */
   room = "the browser gives it";
   kept = null;
 

@@ -81,15 +81,16 @@ function isAllIn(language, text) {
 }
 
 /**
- * Returns that all code of a text is in the other language than its first word says, if that is so, and proposes the other first word; or "".
+ * Returns a sentence that says that all code of a text is in the other language than its first word says, and proposes the other first word; or ""
+ * if that is not so.
  * @param {Place} place
  * @returns {string}
  */
-export function explainHead(place) {
+export function explainOtherFirstWord(place) {
   const other = place.isX86 ? "SRC" : "X86";
   if (!isAllIn(other, place.text)) return "";
-  const head = place.text.search(/\S/);
-  return `${SAID_OF_ALL[other]}${place.propose(other, head, head + other.length)}`;
+  const { 0: word, index } = /\S+/.exec(place.text);
+  return `${SAID_OF_ALL[other]}${place.propose(other, index, index + word.length)}`;
 }
 
 /**
@@ -106,8 +107,8 @@ export function cellAt(text, index) {
 }
 
 /**
- * Returns that the code at a fault's place is in the other language, if that is so, and proposes the other first word if all code is, or else the
- * same in the language of the test; or "".
+ * Returns a sentence that says that the code at a fault's place is in the other language, or "" if that is not so. It proposes the other first word
+ * if all code is in the other language, and otherwise the same code in the language of the test.
  * @param {Place} place
  * @returns {string}
  */
@@ -116,7 +117,7 @@ export function explainCode(place) {
   const other = isX86 ? "SRC" : "X86";
   const { begin: start, code } = cellAt(text, index);
   if (!CODE[other].test(code)) return "";
-  const proposal = explainHead(place);
+  const proposal = explainOtherFirstWord(place);
   if (proposal) return proposal;
   const translated = isX86 ? inX86(code) : inSource(code);
   if (translated === null) return SAID[other];

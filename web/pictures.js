@@ -188,10 +188,10 @@ function drawCode(drawing, cells, position, x, top) {
 function drawBuffer(drawing, buffer, bufferBefore, entryRead, x, top, measures) {
   drawing.drawText(x, top, "store buffer", "faint");
   if (!buffer.length) drawing.drawText(x, top + 6 + (measures.entries - 1) * (LINE + 3) + 14, "(empty)", "faint");
-  for (const [number, [name, word]] of buffer.entries()) {
-    const isNew = buffer.length > bufferBefore.length && number === buffer.length - 1;
-    const y = top + 6 + (measures.entries - 1 - number) * (LINE + 3);
-    drawing.drawFramedText(x, y, `${name}=${word}`, "entry", isNew ? "changed" : number === entryRead ? "read" : "");
+  for (const [index, [name, word]] of buffer.entries()) {
+    const isNew = buffer.length > bufferBefore.length && index === buffer.length - 1;
+    const y = top + 6 + (measures.entries - 1 - index) * (LINE + 3);
+    drawing.drawFramedText(x, y, `${name}=${word}`, "entry", isNew ? "changed" : index === entryRead ? "read" : "");
   }
 }
 

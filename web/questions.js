@@ -102,7 +102,7 @@ function answerMoves(program, text, { schedule, protocol, whole = false }) {
   const cells = listCells(program, text);
   const ending = endingOf(text, state);
   const registers = whole ? registersWritten(program, text, { schedule, protocol }, cells) : null;
-  return { state, ...lastOf(program, text, { schedule, protocol }, cells, state), written: registers, ending, moves, cells, language };
+  return { state, ...describeLastEvent(program, text, { schedule, protocol }, cells, state), written: registers, ending, moves, cells, language };
 }
 
 /**
@@ -126,7 +126,7 @@ function registersWritten(program, text, { schedule, protocol }, cells) {
 }
 
 /**
- * Returns that an event of a schedule is refused: which, and why.
+ * Returns the exception that says which event of a schedule is refused, and why.
  * @param {{at: number, number: number, cause: string}} end
  * @param {string[]} events
  * @returns {NoAnswer}
@@ -137,7 +137,8 @@ function noAnswerOfRefusal({ at, number, cause }, events) {
 }
 
 /**
- * Returns the state before the last event of a schedule, and what that event does; without an event the state itself, and null.
+ * Returns the state before the last event of a schedule, and what that event does; without an event the state itself, and null. `state` is
+ * the state after the schedule.
  * @param {Program} program
  * @param {Uint8Array} text
  * @param {{schedule: string, protocol: string}} run
@@ -145,7 +146,7 @@ function noAnswerOfRefusal({ at, number, cause }, events) {
  * @param {State} state
  * @returns {{before: State, effect: Effect | null}}
  */
-function lastOf(program, text, { schedule, protocol }, cells, state) {
+function describeLastEvent(program, text, { schedule, protocol }, cells, state) {
   const events = eventsIn(schedule);
   const last = events.pop();
   if (!last) return { before: state, effect: null };

@@ -73,8 +73,8 @@ function doneWords({ thread, words, cache }) {
 }
 
 /**
- * Returns that the run has ended, in which state, and whether the condition holds there: as the list says, or else as the page finds it. If the
- * list shows the state, it is not named.
+ * Returns the words that say that the run has ended, in which state, and whether the condition holds there: as the list says, or otherwise as the
+ * page finds it. If the list shows the state, it is not named. There are no words if the run has not ended.
  */
 function endWords({ frame, isByHand, ending, goal, isLinked, editor, truthOf }) {
   if (frame.state.end.kind !== "Final") return [];

@@ -7,6 +7,7 @@ export const NO_SERVER = "The server does not answer. Start ./page again.";
 
 /** The program on this machine, as a workbench. */
 export class Served {
+  /** Says how much memory a run may take, as the end of a sentence on a run that needed more. */
   room = "it may have (1 GiB)";
 
   /**
@@ -22,7 +23,7 @@ export class Served {
   }
 }
 
-/** Returns the server's answer to a question. */
+/** Asks the server, and waits. Returns its answer, of which `error` says why there is none. */
 function ask(path, question) {
   try {
     const request = new XMLHttpRequest();

@@ -22,7 +22,7 @@ function readValue(reader) {
 }
 
 /**
- * Reads a statement of a source test.
+ * Reads a statement of a source test. Throws NoTest if it is none.
  * @param {TokenReader} reader
  * @returns {Statement}
  */
@@ -44,7 +44,7 @@ function readStatement(reader) {
 }
 
 /**
- * Reads `if r = n goto L`, or one with `!=`.
+ * Reads `if r = n goto L`, or one with `!=`. Throws NoTest if it has another sign.
  * @param {TokenReader} reader
  * @returns {Statement}
  */
@@ -81,7 +81,7 @@ function readAssignment(reader, register) {
 }
 
 /**
- * Reads an instruction of an x86 test.
+ * Reads an instruction of an x86 test. Throws NoTest if it is none that lw has.
  * @param {TokenReader} reader
  * @returns {Statement}
  */
@@ -136,7 +136,7 @@ function readExchange(reader, kind) {
 }
 
 /**
- * Reads the statements of a thread, and resolves its jumps.
+ * Reads the statements of a thread, and resolves its jumps. Throws NoTest if a cell has more than its statement, or the thread has too many.
  * @param {Test} test
  * @param {Token[][]} cells
  * @returns {Statement[]}
@@ -155,7 +155,7 @@ export function readThread(test, cells) {
 }
 
 /**
- * Reads a label, and records its target: a statement's position.
+ * Reads a label, and records its target: a statement's position. Throws NoTest if it is reserved, or defined twice in its thread.
  * @param {TokenReader} reader
  * @param {Map<string, number>} labels
  * @param {number} position
@@ -168,7 +168,8 @@ function readLabel(reader, labels, position) {
 }
 
 /**
- * Returns the statement at a position, with the position that its jump targets in place of the label.
+ * Returns the statement at a position, with the position that its jump targets in place of the label. Throws NoTest if there is no such label,
+ * or the target does not follow the statement.
  * @param {Statement} statement
  * @param {number} position
  * @param {Map<string, number>} labels

@@ -42,7 +42,7 @@ export function readTest(text) {
 }
 
 /**
- * Reads the header. Returns the number of threads.
+ * Reads the header. Returns the number of threads. Throws NoTest if there are more than four.
  * @param {TokenReader} reader
  * @returns {number}
  */
@@ -59,7 +59,7 @@ function readHeader(reader) {
 }
 
 /**
- * Reads the rows. Returns, for each thread, its cells, each a list of tokens.
+ * Reads the rows. Returns, for each thread, its cells, each a list of tokens. Throws NoTest if there are too many rows, or a row has no end.
  * @param {TokenReader} reader
  * @param {number} threads
  * @returns {Token[][][]}
@@ -90,7 +90,7 @@ function readListedSites(reader) {
 }
 
 /**
- * Reads the condition, after which nothing may follow.
+ * Reads the condition. Throws NoTest if something follows it, or it has too many nodes.
  * @param {TokenReader} reader
  */
 function readCondition(reader) {
@@ -102,7 +102,7 @@ function readCondition(reader) {
 }
 
 /**
- * Reads `exists`, `~exists` or `forall`.
+ * Reads `exists`, `~exists` or `forall`. Throws NoTest if it is none of them.
  * @param {TokenReader} reader
  * @returns {string}
  */
@@ -164,7 +164,7 @@ function readDisjunction(reader) {
 }
 
 /**
- * Refuses a site of a thread that does not exist.
+ * Throws NoTest if a site is of a thread that does not exist.
  * @param {Site[]} sites
  * @param {number} threads
  */

@@ -77,7 +77,7 @@ export function testName(text) {
 }
 
 /**
- * Returns a piece of code of a thread, in colours.
+ * Returns a piece of code of a thread, in colours; if `thread` is null, registers have no colour.
  * @param {string} text
  * @param {Tints} tints
  * @param {number | string | null} thread

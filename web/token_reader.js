@@ -53,7 +53,7 @@ export class TokenReader {
   }
 
   /**
-   * Takes the next token, which has to be `wanted` unless that is null. Returns its text.
+   * Takes the next token, which has to be `wanted` unless that is null. Returns its text. Throws NoTest if it is another token, or there is none.
    * @param {string | null} [wanted]
    * @returns {string}
    */
@@ -65,7 +65,7 @@ export class TokenReader {
   }
 
   /**
-   * Reads a number, which is a word.
+   * Reads a number, which is a word. Throws NoTest if it is none, or too large.
    * @returns {number}
    */
   readNumber() {
@@ -76,7 +76,7 @@ export class TokenReader {
   }
 
   /**
-   * Reads a name.
+   * Reads a name. Throws NoTest if it is none, or too long.
    * @returns {string}
    */
   readName() {
@@ -95,7 +95,7 @@ export class TokenReader {
   }
 
   /**
-   * Reads a register. Returns its index.
+   * Reads a register. Returns its index. Throws NoTest if it is none.
    * @returns {number}
    */
   readRegister() {
@@ -106,7 +106,7 @@ export class TokenReader {
   }
 
   /**
-   * Reads a location. Returns its index; a new one is appended to the table of the test.
+   * Reads a location. Returns its index; a new one is appended to the table of the test. Throws NoTest if it is none, or the table is full.
    * @returns {number}
    */
   readLocation() {

@@ -3,7 +3,7 @@
 // A `Token` has its `kind` (number, name or symbol) and its `text`.
 
 const TOKEN = new RegExp(
-  "(?<blank>[ \\t\\r\\n]+)|(?<number>0x[0-9a-fA-F]+|[0-9]+)(?![A-Za-z_])|(?<name>[A-Za-z_][A-Za-z0-9_]*)" +
+  "(?<blank>[ \\t\\r\\n]+)|(?<number>0x[0-9a-fA-F]+|[0-9]+)(?![A-Za-z0-9_])|(?<name>[A-Za-z_][A-Za-z0-9_]*)" +
     "|(?<symbol>:=|!=|/\\\\|\\\\/|[{}\\[\\]()|;:,$=+~])",
   "y",
 );
@@ -15,7 +15,7 @@ const BLANKS = " \t\r\n";
 export class NoTest extends Error {}
 
 /**
- * Returns the match of a pattern at an offset, or null.
+ * Returns the match of a sticky pattern at an offset, or null.
  * @param {RegExp} pattern
  * @param {string} text
  * @param {number} offset
@@ -27,7 +27,7 @@ function matchAt(pattern, text, offset) {
 }
 
 /**
- * Returns the offset of the end of the comment that starts at an offset; comments nest.
+ * Returns the offset of the end of the comment that starts at an offset; comments nest. Throws NoTest if it has no end.
  * @param {string} text
  * @param {number} offset
  * @returns {number}
@@ -68,7 +68,7 @@ export function parseTokens(text, offset) {
 }
 
 /**
- * Returns the offset of the initial block, which follows quoted texts, lines `Key=value`, blanks and comments.
+ * Returns the offset of the initial block, which follows quoted texts, lines `Key=value`, blanks and comments. Throws NoTest if there is none.
  * @param {string} text
  * @param {number} offset
  * @returns {number}
@@ -87,7 +87,7 @@ export function skipNotes(text, offset) {
 }
 
 /**
- * Returns the language and the name of a test, and the offset of its heading's end.
+ * Returns the language and the name of a test, and the offset of its heading's end. Throws NoTest if there is none.
  * @param {string} text
  * @returns {{language: string, name: string, end: number}}
  */

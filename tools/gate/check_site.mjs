@@ -292,6 +292,9 @@ function typedTexts() {
     "locations [x; 0:r0;]\nforall (~(x=1 /\\ y=2) \\/ not (1:r2=0 \\/ true) /\\ [x]=0)\n";
   return [
     ["a fault after letters of two and four bytes", "SRC Mine (* é𝄞 *)\n{}\n P0 ;\n(* é𝄞 *) x = 1 ;\nexists (x=1)\n"],
+    ["a number that ends with a letter", "SRC A\n{}\n P0 ;\n x := 12a ;\nexists (x=1)\n"],
+    ["a number of base 16 with two zeros", "SRC A\n{}\n P0 ;\n x := 00x1 ;\nexists (x=1)\n"],
+    ["numbers of base 16 and of one digit", "SRC A\n{}\n P0 ;\n x := 0x1F ; x := 7 ;\nexists (x=31)\n"],
     ["no test", "no test"],
     ["nothing", ""],
     ["a letter of two bytes in a wrong place", "SRC A\n{}\n P0 ;\n é := 1 ;\nexists (x=1)\n"],

@@ -9,7 +9,7 @@ from typing import Tuple, TypeVar
 from interpreter.tests import (
     And, Constant, Eq, LocationSite, NoTest, Not, Number, Or, Proposition, REGISTERS, Register, RegisterSite, Site, Statement, Test, Value, WORD,
 )
-from interpreter.tokens import Token, quote, quote_at, parse_tokens, skip_comment, skip_notes
+from interpreter.tokens import Token, parse_tokens, quote, quote_at, skip_comment, skip_notes
 
 RESERVED = re.compile(
     r"r\d+|if|goto|swap|fetchadd|exists|forall|locations|filter|true|false|not|(?i:EAX|EBX|ECX|EDX|ESI|EDI|EBP|ESP)"

@@ -1,5 +1,6 @@
 """Browsers that are driven, and somebody who uses the page in one: Debian's chromium, by its chromium-driver and python3-selenium, and
-Firefox, by tools/gate/firefox.py.
+Firefox, by tools/gate/firefox.py. What a user does is named by verbs (`click`, `carry_out`), and what a user sees by nouns (`schedule`, `step`),
+so that a comparison reads as a sentence.
 
 The driver is taken from where Debian puts it, or from CHROMEDRIVER, and otherwise selenium looks for one. With SCREENSHOTS set to a folder,
 a picture of each stage is put there.
