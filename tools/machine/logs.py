@@ -14,8 +14,8 @@ ASKED = {"exists": "Allowed", "~exists": "Forbidden", "forall": "Required"}
 
 def count_runs(subject: Subject, seen: Sightings) -> list[int]:
     """Counts the runs in which the proposition was true, and those in which it was not."""
-    positive = sum(sight.times for words, sight in seen.states.items() if subject.is_true(words))
-    return [positive, sum(sight.times for sight in seen.states.values()) - positive]
+    positive = sum(sighting.times for words, sighting in seen.states.items() if subject.is_true(words))
+    return [positive, sum(sighting.times for sighting in seen.states.values()) - positive]
 
 
 def format_log(subject: Subject, seen: Sightings) -> list[str]:

@@ -125,8 +125,8 @@ def merge_seen(done: Sequence[tuple[Part, MeasuredRun]]) -> Sightings:
     states: dict[Words, Sighting] = {}
     seconds = 0.0
     for part, ran in done:
-        for words, sight in ran.seen.states.items():
-            state, later = part.find_program_state(words), sight._replace(first=sight.first + seconds)
+        for words, sighting in ran.seen.states.items():
+            state, later = part.find_program_state(words), sighting._replace(first=sighting.first + seconds)
             if state is not None:
                 states[state] = merge_sightings(states[state], later) if state in states else later
         seconds += ran.seen.seconds

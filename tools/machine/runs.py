@@ -59,8 +59,8 @@ def parse_sightings(lines: list[str]) -> Sightings:
         if name == "facts":
             facts = {key: int(value) for key, value in zip(rest[::2], rest[1::2])}
         else:
-            words, sight = tuple(map(int, rest[3:])), Sighting(int(rest[0]), float(rest[1]), KINDS[int(rest[2])])
-            states[words] = merge_sightings(states[words], sight) if words in states else sight
+            words, sighting = tuple(map(int, rest[3:])), Sighting(int(rest[0]), float(rest[1]), KINDS[int(rest[2])])
+            states[words] = merge_sightings(states[words], sighting) if words in states else sighting
     if "runs" not in facts:
         raise NotRun("the harness ends without its line of facts")
     return Sightings(states, facts.pop("runs"), facts.pop("microseconds") / 1e6, facts)

@@ -65,16 +65,16 @@ def format_summary(result: Result) -> list[str]:
         f"{result.describe_list()}, has {format_count(len(result.listed.states), 'state')}; seen here: {len(seen_and_listed)}",
     ]
     for words in seen_and_listed[:MAX_RARE_STATES]:
-        sight = seen.states[words]
-        lines.append(f"  rarest: {sight.times} of {seen.runs}, first after {sight.first:.3f} s {sight.kind}: {result.subject.format_state(words)}")
+        sighting = seen.states[words]
+        lines.append(f"  rarest: {sighting.times} of {seen.runs}, first after {sighting.first:.3f} s {sighting.kind}: {result.subject.format_state(words)}")
     lines += [f"  not seen: {result.subject.format_state(words)}" for words in result.list_not_seen()]
     return [*lines, *(format_contradiction(seen, words, result.subject.format_state(words)) for words in result.list_not_listed()), *result.others]
 
 
 def format_contradiction(seen: Sightings, words: Words, line: str) -> str:
     """Returns the line on a state that is not listed."""
-    sight = seen.states[words]
-    return f"  {NOT_LISTED}: {sight.times} of {seen.runs}, first after {sight.first:.3f} s {sight.kind}: {line}"
+    sighting = seen.states[words]
+    return f"  {NOT_LISTED}: {sighting.times} of {seen.runs}, first after {sighting.first:.3f} s {sighting.kind}: {line}"
 
 
 def format_result(result: Result) -> str:
@@ -87,8 +87,8 @@ def make_json(result: Result) -> dict[str, object]:
     seen, subject, line_of = result.seen, result.subject, result.subject.format_state
     listed = set(result.listed.states)
     states: list[dict[str, object]] = []
-    for words, sight in sorted(seen.states.items()):
-        facts = {"count": sight.times, "first": sight.first, "how": sight.kind, "holds": subject.is_true(words), "listed": words in listed}
+    for words, sighting in sorted(seen.states.items()):
+        facts = {"count": sighting.times, "first": sighting.first, "how": sighting.kind, "holds": subject.is_true(words), "listed": words in listed}
         states.append({"state": line_of(words), **facts})
     return {
         "file": result.file,
