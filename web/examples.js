@@ -3,7 +3,7 @@
 import { aligned } from "./aligned.js";
 import { button, byId, el, sentence } from "./dom.js";
 import { caches } from "./preferences.js";
-import { nameOf } from "./tokens.js";
+import { beginsWithX86, nameOf } from "./tokens.js";
 
 // The suffixes after the `+` in the name of a test to which fences or locked exchanges were added: the clearest first.
 const FENCED = [/^mfences$/, /mfence/, /^(?:xchgs|xadds)$/, /^(?:xchg|swap)$/];
@@ -134,7 +134,7 @@ export class Examples {
    */
   noteOn(text, isAllowed) {
     const name = this.nameOf(aligned(text));
-    const isX86 = /^\s*X86\b/.test(text);
+    const isX86 = beginsWithX86(text);
     if (isX86 && !name) return null;
     const by = isX86 && isAllowed ? KNOWN.exec(this.tests.get(name)?.known)?.[1] : undefined;
     return by ? (SURPRISES[name] ?? BY_INTERLEAVING[by]) : "";

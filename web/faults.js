@@ -6,6 +6,7 @@ import { nearest } from "./nearest.js";
 import { explainCode, explainOtherFirstWord, otherRegister } from "./other_language.js";
 import { TEMPLATE } from "./template.js";
 import { readTest } from "./tests.js";
+import { beginsWithX86 } from "./tokens.js";
 
 const TOKEN = /0x[\da-fA-F]+|\d\w*|[A-Za-z_]\w*|:=|[!=]=|=>|<>|&&|\|\||\/\\|\\\/|[^]/uy;
 const STATEMENTS =
@@ -52,7 +53,7 @@ function wordsOfToken(token) {
 class Place {
   constructor(text, index) {
     const token = tokenAt(text, index);
-    Object.assign(this, { text, index, token, tokenWords: wordsOfToken(token), change: null, at: undefined, isX86: /^\s*X86\b/.test(text) });
+    Object.assign(this, { text, index, token, tokenWords: wordsOfToken(token), change: null, at: undefined, isX86: beginsWithX86(text) });
     Object.assign(this, { before: cellBefore(text, index), after: text.slice(index + token.length) });
   }
 

@@ -1,6 +1,7 @@
 // Finds code in another language than the first word of its text: source statements in an x86 test, and instructions in a source test. Not proved.
 
 import { REGISTERS } from "./token_reader.js";
+import { findFirstWord } from "./tokens.js";
 
 const LABELS = "(?:\\w+\\s*:(?!=)\\s*)*";
 // How code of each language begins, after its labels.
@@ -10,12 +11,12 @@ const CODE = {
 };
 const END_OF_ROWS = /;\s*(?:locations|filter|~?\s*exists|forall)\b/;
 const SAID = {
-  SRC: "This is a statement of a source test, and the text begins with `X86`.",
-  X86: "This is an x86 instruction, and the text begins with `SRC`.",
+  SRC: "This is a statement of a source test, and the text's first word is `X86`.",
+  X86: "This is an x86 instruction, and the text's first word is `SRC`.",
 };
 const SAID_OF_ALL = {
-  SRC: "All code is that of a source test, and the text begins with `X86`.",
-  X86: "All code is x86 code, and the text begins with `SRC`.",
+  SRC: "All code is that of a source test, and the text's first word is `X86`.",
+  X86: "All code is x86 code, and the text's first word is `SRC`.",
 };
 
 /**
@@ -89,8 +90,8 @@ function isAllIn(language, text) {
 export function explainOtherFirstWord(place) {
   const other = place.isX86 ? "SRC" : "X86";
   if (!isAllIn(other, place.text)) return "";
-  const { 0: word, index } = /\S+/.exec(place.text);
-  return `${SAID_OF_ALL[other]}${place.propose(other, index, index + word.length)}`;
+  const { word, offset } = findFirstWord(place.text);
+  return `${SAID_OF_ALL[other]}${place.propose(other, offset, offset + word.length)}`;
 }
 
 /**

@@ -87,15 +87,48 @@ export function skipNotes(text, offset) {
 }
 
 /**
+ * Returns the offset after the blanks and comments at the start of a text. Throws NoTest if a comment is left open.
+ * @param {string} text
+ * @returns {number}
+ */
+function skipTrivia(text) {
+  let offset = 0;
+  while (offset < text.length && (BLANKS.includes(text[offset]) || text.startsWith("(*", offset))) {
+    offset = text.startsWith("(*", offset) ? skipComment(text, offset) : offset + 1;
+  }
+  return offset;
+}
+
+/**
+ * Returns the first word of a text, which follows blanks and comments, and its offset; at the end of the text, and empty, if there is none.
+ * @param {string} text
+ * @returns {{word: string, offset: number}}
+ */
+export function findFirstWord(text) {
+  try {
+    const offset = skipTrivia(text);
+    return { word: /^\S*?(?=\s|\(\*|$)/.exec(text.slice(offset))[0], offset };
+  } catch {
+    return { word: "", offset: text.length };
+  }
+}
+
+/**
+ * Returns whether the first word of a text is that of an x86 test.
+ * @param {string} text
+ * @returns {boolean}
+ */
+export function beginsWithX86(text) {
+  return findFirstWord(text).word === "X86";
+}
+
+/**
  * Returns the language and the name of a test, and the offset of its heading's end. Throws NoTest if there is none.
  * @param {string} text
  * @returns {{language: string, name: string, end: number}}
  */
 export function parseHeading(text) {
-  let offset = 0;
-  while (offset < text.length && (BLANKS.includes(text[offset]) || text.startsWith("(*", offset))) {
-    offset = text.startsWith("(*", offset) ? skipComment(text, offset) : offset + 1;
-  }
+  const offset = skipTrivia(text);
   const heading = matchAt(HEADING, text, offset);
   if (!heading) throw new NoTest("there is no heading");
   return { language: heading[1], name: heading[2], end: offset + heading[0].length };
