@@ -33,7 +33,10 @@ fn lines_of_faults(rt: HostRuntime) {
             3,
         ),
     ] {
-        assert!(rt; has_line_and_status(rt.alloc(), fault, line, status), "{line}");
+        assert!(rt;
+            has_line_and_status(rt.alloc(), fault, line, status),
+            "{line}"
+        );
     }
 }
 
