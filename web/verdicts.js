@@ -76,10 +76,10 @@ const MAX_LINES = 3;
  * @returns {string}
  */
 export function interleavedWords({ states, number }, interleaved) {
-  if (!interleaved) return "Which of these states interleaving gives, too, is not known: the list that would say so is refused.";
+  if (!interleaved) return "Which of these states interleaving gives is not known: the list that would say so is refused.";
   const lines = new Set(interleaved);
   const others = states.filter(({ line }) => !lines.has(line)).map(({ line }) => `\`${line.replace(/;$/, "")}\``);
-  if (!others.length) return "Interleaving gives all of this, too: it needs no store buffer.";
+  if (!others.length) return `Interleaving gives the same state${number === 1 ? "" : "s"}: store buffers add none.`;
   const more = others.length > MAX_LINES ? `, and ${others.length - MAX_LINES} others` : "";
-  return `Interleaving gives ${lines.size} of the ${number} states, too. Only with store buffers: ${others.slice(0, MAX_LINES).join(", ")}${more}.`;
+  return `Interleaving gives ${lines.size} of the ${number} states. Only with store buffers: ${others.slice(0, MAX_LINES).join(", ")}${more}.`;
 }
