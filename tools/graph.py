@@ -43,6 +43,8 @@ MAX_CYCLES = 6
 MAX_DRAWN_CYCLES = 3
 MAX_NAMED_READS = 4  # the number of reads of the initial word with a name at their arrow
 LETTERS = "abcdefghijklmnopqrstuvwxyz"
+# What the axioms forbid if a word of it is `?`: no state.
+UNKNOWN_WORDS = "executions whose words are not known"
 NONE_FORBIDDEN = "x86-TSO allows every state that some candidate execution has."
 # Why a cycle teaches little about buffers and fences, each with its weight: cycles of less weight are printed and drawn first.
 COMPUTED = "The code computes some of these words: they are no constants of the test."
@@ -393,8 +395,9 @@ def draw_cycle(test: plain.Test, way: Way, line: str) -> DrawnCycle:
 
 
 def explain_state(test: plain.Test, words: Words, ways: list[Way]) -> list[str]:
-    """Returns the lines on a state that the axioms forbid."""
-    lines = [f"x86-TSO forbids {format_state(test, words)}", *(f"  {sentence}" for sentence in ways[0].drawbacks)]
+    """Returns the lines on a state that the axioms forbid, or on executions with words that are not known, which end in no state."""
+    unknown = f"{UNKNOWN_WORDS}: " if None in words else ""
+    lines = [f"x86-TSO forbids {unknown}{format_state(test, words)}", *(f"  {sentence}" for sentence in ways[0].drawbacks)]
     for way in ways[:MAX_CYCLES]:
         breaking = "1 candidate execution breaks" if way.times == 1 else f"{way.times} candidate executions break"
         lines += [f"  {breaking} {way.axiom}: {way.cycle}", *(f"    {event}" for event in way.events)]

@@ -13,6 +13,8 @@ import { WORD } from "./token_reader.js";
 const MAX_EXECUTIONS = 400000;
 const MAX_CYCLES = 6;
 const MAX_DRAWN = 3;
+// What the axioms forbid if a word of it is `?`: no state.
+const UNKNOWN_WORDS = "executions whose words are not known";
 const NONE_FORBIDDEN = "x86-TSO allows every state that some candidate execution has.";
 // Why a cycle teaches little about buffers and fences, each with its weight: cycles of less weight are named and drawn first.
 const COMPUTED = "The code computes some of these words: they are no constants of the test.";
@@ -110,13 +112,14 @@ function formatState(test, words) {
 }
 
 /**
- * Returns the lines on a state that the axioms forbid.
+ * Returns the lines on a state that the axioms forbid, or on executions with words that are not known, which end in no state.
  * @param {Test} test
  * @param {{words: number[], ways: Way[]}} state
  * @returns {string[]}
  */
 function explainState(test, { words, ways }) {
-  const lines = [`x86-TSO forbids ${formatState(test, words)}`, ...ways[0].kinds.map((it) => `  ${it}`)];
+  const unknown = words.includes(null) ? `${UNKNOWN_WORDS}: ` : "";
+  const lines = [`x86-TSO forbids ${unknown}${formatState(test, words)}`, ...ways[0].kinds.map((it) => `  ${it}`)];
   for (const { axiom, cycle, events, times } of ways.slice(0, MAX_CYCLES)) {
     const breaking = times === 1 ? "1 candidate execution breaks" : `${times} candidate executions break`;
     lines.push(`  ${breaking} ${axiom}: ${cycle}`, ...events.map((it) => `    ${it}`));

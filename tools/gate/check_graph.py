@@ -268,7 +268,10 @@ def check_tool() -> Iterator[Comparison]:
     for name, state, begin in CLEAREST:
         ran = run("--why-not", state, f"{HOME}/examples/{name}.litmus")
         yield f"the cycle of {name} that comes first", begin, ran.stdout.splitlines()[1 : 1 + len(begin)]
-    drawn = graph.explain_states(read_compiled(f"{HOME}/examples/Counter-x86.litmus"), "all").cycles
+    explanation = graph.explain_states(read_compiled(f"{HOME}/examples/Counter-x86.litmus"), "all")
+    drawn, lines = explanation.cycles, [it for it in explanation.lines if "=?;" in it]
+    unknown = ["x86-TSO forbids executions whose words are not known: 0:EAX=?; 1:EAX=?; x=?;"]
+    yield "what is forbidden of Counter without known words is called no state", unknown, lines
     yield "the states of Counter whose cycles are drawn have known words", [False] * 2, ["?" in it.words for it in drawn]
     ran = run("--why-not", "0:r0=0; 1:r0=0;", SOURCE)
     front = "x86-TSO forbids 0:r0=0; 1:r0=0;\n"

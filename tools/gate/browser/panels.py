@@ -52,6 +52,8 @@ class WhyNot(PageCase):
             self.assertEqual([], [it for it in user.texts("#why figure svg.graph text") if "?" in it], name)
             self.assertEqual([], user.all("#why .kind"))
         user.open_listed("#example=Counter-x86&view=why")
+        several = "x86-TSO forbids 3 states that some candidate execution has, and executions whose words are not known."
+        self.assertSays(several, "#why .why-head")
         self.assertSays("The accesses of one location contradict each other", "#why .kind")
         self.assertSays("0:EAX=0; 1:EAX=0; x=1; coherence: a -co-> b -fr-> a", "#why .cycle-words")
         self.assertEqual([], user.all("#why .rule"))
