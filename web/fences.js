@@ -88,7 +88,7 @@ export class Fences {
     if (!sets.length) return [el("p", { class: "next-step" }, el("b", {}, `No further MFENCE would ${goal}.`))];
     const rows = sets.map(({ places, text, states }) => {
       const placeWords = places.map((it) => it.replace(/^(P\d) at \d+, before (.*)$/, "in $1 before `$2`")).join(" and ");
-      const result = isForall ? `it holds in all ${statesOf(states)}` : `it holds in none of ${statesOf(states)}`;
+      const result = states === 1 ? `it ${isForall ? "holds" : "does not hold"} in the only state` : `it holds in ${isForall ? "all" : "none of"} ${states} states`;
       const tryIt = () => this.take(fencedText(this.editor.text, { places, text }));
       return el("li", {}, `An MFENCE `, sentence(placeWords), `: ${result}. `, button("Try it", tryIt, { class: "take" }));
     });
@@ -136,7 +136,7 @@ export class Fences {
 
   /** Returns the row of a fence, by its name, given the text without it. */
   rowOf(name, { added }, text) {
-    const effect = added.length ? `adds ${statesOf(added.length)}` : "changes nothing";
+    const effect = added.length ? `adds ${added.length} state${added.length === 1 ? "" : "s"}` : "changes nothing";
     const of = [`without the fence of ${name} `, plainMark(), " "];
     const watch = (line) => watchButton(line, () => this.film.show(line, { text, of, search: this.isSearched }));
     return el("tr", {}, el("th", { scope: "row" }, name), el("td", {}, effect), el("td", {}, shownLines(added, watch)));
@@ -159,9 +159,15 @@ export function fencedText(text, set) {
   return textWithFences(text, set.places.map(parsePlace)) ?? set.text;
 }
 
-/** Returns a number of states in words. */
-function statesOf(number) {
-  return number === 1 ? "1 state" : `${number} states`;
+/** Returns states that two programs have in common, in words. */
+function sameStates(number) {
+  return number === 1 ? "the same state" : `the same ${number} states`;
+}
+
+/** Returns the words on how many of some states have the condition: of several, which are called by a name, or of the only `one`. */
+function holdingIn({ states, positive }, several = `${states} states`, one = "the only state") {
+  if (states === 1) return `the condition ${positive ? "holds" : "does not hold"} in ${one}.`;
+  return `the condition holds in ${positive || "none"} of ${several}.`;
 }
 
 /** Returns the page's names of the fences: by the instruction after each, since their numbers count instructions from 0. */
@@ -178,23 +184,22 @@ function fenceNames({ rows }) {
  * condition holds. `names` are those of the fences, in the order of the rows.
  */
 function verdictOnTable({ table, language }, names) {
-  const { rows, enough, states, positive } = table;
+  const { rows, enough, states } = table;
   const program = language === "SRC" ? "the compiled program" : "the test";
-  const holding = ` the condition holds in ${positive || "none"} of `;
   const isOne = rows.length === 1;
-  if (!rows.length) return [`${program[0].toUpperCase()}${program.slice(1)} has no MFENCE to leave out:${holding}${statesOf(states)}.`];
+  if (!rows.length) return [`${program[0].toUpperCase()}${program.slice(1)} has no MFENCE to leave out: ${holdingIn(table)}`];
   if (!enough.length) {
     const [fences, all] = isOne ? ["The fence changes", "it and without it"] : ["The fences change", "all of them and with none"];
-    return [`${fences} nothing: with ${all} ${program} ends in the same ${statesOf(states)}, and${holding}${states === 1 ? "it." : "them."}`];
+    return [`${fences} nothing: with ${all} ${program} ends in ${sameStates(states)}, and ${holdingIn(table, "them", "it")}`];
   }
   if (enough.length < rows.length) {
     // The comma keeps `P0 at 1` from being the start of `P0 at 12`.
     const kept = names.filter((_, index) => enough.some((it) => `${rows[index].place},`.startsWith(`${it},`)));
-    const needed = `These are enough for the same ${statesOf(states)}, and none of them can be left out: ${kept.join("; ")}.`;
-    return [`${needed} With them${holding}these states.`];
+    const needed = `These are enough for ${sameStates(states)}, and none of them can be left out: ${kept.join("; ")}.`;
+    return [`${needed} With them ${holdingIn(table, "these states", "this state")}`];
   }
   const needed = isOne ? "The fence is needed: without it" : "Every fence is needed: if any one of them is left out,";
-  return [`${needed} ${program} ends in more states. With ${isOne ? "it" : "all"}${holding}${statesOf(states)}.`];
+  return [`${needed} ${program} ends in more states. With ${isOne ? "it" : "all"} ${holdingIn(table)}`];
 }
 
 /** Returns the first states of some lines, each with its button to watch a run, and how many others there are. */

@@ -61,9 +61,9 @@ export function describeVerdict(language, { asked, verdict }, condition = null) 
  * @returns {string}
  */
 export function countWords({ positive, number }) {
+  if (number === 1) return `The condition ${positive ? "holds" : "does not hold"} in the only final state.`;
   const format = (it) => it.toLocaleString("en");
-  const states = `${format(number)} final state${number === 1 ? "" : "s"}`;
-  return `The condition holds in ${positive === number && number > 1 ? "all" : positive ? `${format(positive)} of` : "none of"} ${states}.`;
+  return `The condition holds in ${positive === number ? "all" : positive ? `${format(positive)} of` : "none of"} ${format(number)} final states.`;
 }
 
 // Of how many states that interleaving does not give a sentence has the lines at most.

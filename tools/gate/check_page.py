@@ -836,7 +836,7 @@ class Misbehaving(page_case.PageCase):
         self.assertSays("Cancelled.", "#outcome .notice")
         self.assertTrue(wait_until_gone(started))
         user.run_text("SRC A")
-        self.assertSays("The condition holds in 1 of 1 final state.", "#outcome .asked")
+        self.assertSays("The condition holds in the only final state.", "#outcome .asked")
         copy.write_program(f"{copy.home}/crates/lw/src/main.rt", "// lw, changed\n")
         user.click("#run-it")
         self.assertSays("The sources have changed, or the program is gone: start ./page again.", "#outcome .notice")

@@ -763,7 +763,8 @@ const VERDICTS = [
 ];
 const COUNTS = [
   [0, 3, "The condition holds in none of 3 final states."], [1, 4, "The condition holds in 1 of 4 final states."],
-  [4, 4, "The condition holds in all 4 final states."], [1, 1, "The condition holds in 1 of 1 final state."],
+  [4, 4, "The condition holds in all 4 final states."], [1, 1, "The condition holds in the only final state."],
+  [0, 1, "The condition does not hold in the only final state."],
 ];
 const MOVES = [
   ["P0", "FenceWaits"], ["D0", null], ["E0:x", "NotHeld"], ["E0:y", "NotHeld"],

@@ -96,8 +96,10 @@ def render_code_words(sentence: str) -> str:
 
 def count_words(positive: int, count: int) -> str:
     """Returns a sentence that says in how many states the condition holds."""
-    holding = "all" if positive == count > 1 else f"{positive} of" if positive else "none of"
-    return f"The condition holds in {holding} {count} final state{'' if count == 1 else 's'}."
+    if count == 1:
+        return f"The condition {'holds' if positive else 'does not hold'} in the only final state."
+    holding = "all" if positive == count else f"{positive} of" if positive else "none of"
+    return f"The condition holds in {holding} {count} final states."
 
 
 def draw_list(test: Test) -> str:
