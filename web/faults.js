@@ -1,12 +1,13 @@
 // Explains a fault of a text in a sentence for beginners: what is at its place, what lw expects there, and what may be meant, which a button puts
 // into the text. The sentence depends on the fault's name and on the token at its place; lw's own line is shown beside it. Not proved.
 
+import { explainAttOrder } from "./att_order.js";
 import { explainLacked } from "./instead.js";
 import { nearest } from "./nearest.js";
 import { explainCode, explainOtherFirstWord, otherRegister } from "./other_language.js";
 import { TEMPLATE } from "./template.js";
 import { readTest } from "./tests.js";
-import { beginsWithX86 } from "./tokens.js";
+import { beginsWithX86, withoutComments } from "./tokens.js";
 
 const TOKEN = /0x[\da-fA-F]+|\d\w*|[A-Za-z_]\w*|:=|[!=]=|=>|<>|&&|\|\||\/\\|\\\/|[^]/uy;
 const STATEMENTS =
@@ -109,15 +110,6 @@ class Place {
 /** Returns the cell that a fault is in, as far as its place. */
 function cellBefore(text, index) {
   return text.slice(Math.max(...["|", ";"].map((it) => text.lastIndexOf(it, index - 1))) + 1, index).trim();
-}
-
-/**
- * Returns a text with spaces in place of its comments, whose ends of lines stay.
- * @param {string} text
- * @returns {string}
- */
-function withoutComments(text) {
-  return text.replace(/\(\*[^]*?\*\)/g, (it) => it.replace(/./g, " "));
 }
 
 /**
@@ -435,6 +427,6 @@ const SENTENCES = {
 export function hintOn(fault, text) {
   const { kind, name, index } = fault;
   const place = new Place(text, index);
-  const explain = () => ({ words: SENTENCES[`${kind} ${name}`]?.(place) ?? null, change: place.change, at: place.at });
+  const explain = () => ({ words: explainAttOrder(place) || (SENTENCES[`${kind} ${name}`]?.(place) ?? null), change: place.change, at: place.at });
   return hintOnRowsWithoutEnd(fault, text) ?? explain();
 }

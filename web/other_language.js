@@ -1,7 +1,7 @@
 // Finds code in another language than the first word of its text: source statements in an x86 test, and instructions in a source test. Not proved.
 
 import { REGISTERS } from "./token_reader.js";
-import { findFirstWord } from "./tokens.js";
+import { findFirstWord, withoutComments } from "./tokens.js";
 
 const LABELS = "(?:\\w+\\s*:(?!=)\\s*)*";
 // How code of each language begins, after its labels.
@@ -69,14 +69,31 @@ function inSource(cell) {
 }
 
 /**
+ * Returns the cells of the rows of code of a text, also the empty ones; none if the text has no header or no question after the rows.
+ * @param {string} text
+ * @returns {Cell[]}
+ */
+export function cellsOf(text) {
+  const code = withoutComments(text);
+  let begin = code.indexOf(";", code.search(/\bP0\b/)) + 1;
+  let thread = 0;
+  const rows = code.slice(begin, begin + code.slice(begin).search(END_OF_ROWS) + 1);
+  return rows.split(/(?<=[|;])/).map((cell) => {
+    const made = { begin: begin + /^\s*/.exec(cell)[0].length, code: cell.slice(0, -1).trim(), thread };
+    begin += cell.length;
+    thread = cell.endsWith("|") ? thread + 1 : 0;
+    return made;
+  });
+}
+
+/**
  * Returns whether all code of a text is in a language.
  * @param {string} language
  * @param {string} text
  * @returns {boolean}
  */
 function isAllIn(language, text) {
-  const rows = text.slice(text.indexOf(";", text.search(/\bP0\b/)) + 1);
-  const cells = rows.slice(0, rows.search(END_OF_ROWS) + 1).split(/[|;]/).map((it) => it.trim()).filter(Boolean);
+  const cells = cellsOf(text).map(({ code }) => code).filter(Boolean);
   const isInLanguage = (it) => CODE[language].test(it) || (language === "X86" && /^MFENCE$/i.test(it));
   return cells.length > 0 && cells.every(isInLanguage);
 }

@@ -46,6 +46,15 @@ function skipComment(text, offset) {
 }
 
 /**
+ * Returns a text with spaces in place of its comments, whose ends of lines stay. Of nested comments it leaves the end of the outer one.
+ * @param {string} text
+ * @returns {string}
+ */
+export function withoutComments(text) {
+  return text.replace(/\(\*[^]*?\*\)/g, (it) => it.replace(/./g, " "));
+}
+
+/**
  * Returns the tokens from an offset on. Throws NoTest at a character that begins none.
  * @param {string} text
  * @param {number} offset

@@ -648,6 +648,8 @@ const NO_END_OF_ROW = "This row has no `;` at its end.";
 // A cell of the other thread, as it is in rows that are put in.
 const OTHER = "            |";
 const NO_END = "The initial values lack a `}` at their end.";
+const ALL_ROWS = "MOV [x],$1 | MOV EAX,[x] ;\n MFENCE | XCHG [y],EAX ;";
+const ATT_ORDER = "This is AT&T's order, with the destination last: lw has the destination first.";
 // A part of a text, what is there in place of it, some of the page's words, the line of a row that lacks its end, the proposed text, and the line that is
 // to be changed, if it is not that of the fault.
 const HINTS = [
@@ -680,6 +682,12 @@ const HINTS = [
   ["MOV [x],$1", "MOV x,$1", "Did you mean `[x]`?", undefined, "[x]"],
   ["MOV EAX,[x]", "LOCK CMPXCHG [x],EBX", "lw has no compare-and-swap", undefined, undefined],
   ["MOV EAX,[x]", "AND EAX,$1", "lw has no `AND`, and nothing that does the same.", undefined, undefined],
+  [ALL_ROWS, "MOV $1,[x] | MOV $1,[y] ;\n MOV [y],EAX | MOV [x],EAX ;", ATT_ORDER, undefined, "MOV [x],$1 | MOV [y],$1 ;\n MOV EAX,[y] | MOV EAX,[x]"],
+  [ALL_ROWS, "movl $1,(x) | L: movl (x),%eax ;\n mfence | xchg (y),%eax ;", ATT_ORDER, undefined, "MOV [x],$1  | L: MOV EAX,[x]   ;\n mfence | XCHG [y],EAX"],
+  [ALL_ROWS, "add $1,%eax | lock xaddl %eax,(x) ;", ATT_ORDER, undefined, "ADD EAX,$1  | LOCK XADD [x],EAX"],
+  [ALL_ROWS, "movl $1,4(%rax) | ;", ATT_ORDER, undefined, undefined],
+  ["MOV [x],$1", "MOV $1,[x]", "lw does this by `MOV [x],$1`.", undefined, "MOV [x],$1 | MOV EAX,[x] ;"],
+  ["EAX,[x]", "%eax,[x]", "A register has no `%` before it.", undefined, "EAX"],
   ["{ x=0 }", "{ x=0 && y=1 }", "Initial values have a `;` between them.", undefined, ";"],
   ["EAX,[x]", "EAX [x]", NO_COMMA, undefined, "MOV EAX,[x]"],
   ["[x],$1", "[x] $1", NO_COMMA, undefined, "MOV [x],$1"],

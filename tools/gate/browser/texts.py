@@ -102,6 +102,7 @@ class Faults(PageCase):
             (text, "[x],$1", "[x] $1", "Did you mean MOV [x],$1?"),
             (text, "MOV [x]", "MOV x", "x is no register, and one is needed here: EAX, EBX, ECX, EDX, ESI or EDI. Did you mean [x]?"),
             (text, "MOV [x],$1", "MOV $1,x", "lw does this by MOV [x],$1."),
+            (text, "MOV [x],$1 | MOV EAX,[x]", "movl $1,x | movl x,%eax", "This is AT&T's order, with the destination last: lw has the destination first."),
             (text, "P0 | P1", "p0 | p1", "The threads are P0, P1 and so on. Did you mean P0 | P1?"),
             (text, "X86", "X86_64", "A test begins with SRC or X86. Did you mean X86?"),
             (source, "SRC", "X86", "All code is that of a source test, and the text's first word is X86. Did you mean SRC?"),
