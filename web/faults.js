@@ -5,6 +5,7 @@ import { explainAttOrder } from "./att_order.js";
 import { explainLacked } from "./instead.js";
 import { nearest } from "./nearest.js";
 import { explainCode, explainOtherFirstWord, otherRegister } from "./other_language.js";
+import { explainComment, explainMissingFront, explainOtherLanguage, explainTypes } from "./other_tools.js";
 import { TEMPLATE } from "./template.js";
 import { readTest } from "./tests.js";
 import { beginsWithX86, withoutComments } from "./tokens.js";
@@ -200,7 +201,6 @@ function explainNotation(place) {
  */
 function explainFirstWord(place) {
   if (place.text.slice(0, place.index).trim()) return "";
-  if (place.token === "C") return "lw reads tests that begin with `SRC` or `X86`. This one begins as a test in C does.";
   const meant = /86/.test(place.token) ? place.propose(HEADS[1]) : place.meant(HEADS);
   return meant && `A test begins with \`SRC\` or \`X86\`.${meant}`;
 }
@@ -377,7 +377,10 @@ const SENTENCES = {
     explainMissingInQuestion(place) ||
     "The text ends too early. The last row may lack its `;`, a comment its `*)`, or the test its question, as `exists (x=1)`.",
   "text Unexpected": (place) =>
+    explainComment(place) ||
     explainOpenBlock(place) ||
+    explainMissingFront(place) ||
+    explainTypes(place) ||
     explainConstant(place) ||
     explainThreadNames(place) ||
     explainNotation(place) ||
@@ -418,15 +421,17 @@ const SENTENCES = {
 
 /**
  * Returns the explanation of a text's fault, a `Hint`: `words`, a sentence in which code is between backquotes, or null if the fault is not known;
- * the proposed `change`, a text with the `begin` and the `end` of the part that it replaces, and a `title` if the text says little, or null; and where
+ * the `document` on it, if there is one; the proposed `change`, a text with the `begin` and the `end` of the part that it replaces, and a `title` if the text says little, or null; and where
  * the text is to be changed (`at`), if that is not the place of the fault.
  * @param {Fault} fault
  * @param {string} text
- * @returns {{words: string | null, change: {begin: number, end: number, text: string, title?: string} | null, at?: object}}
+ * @returns {{words: string | null, document?: string, change: {begin: number, end: number, text: string, title?: string} | null, at?: object}}
  */
 export function hintOn(fault, text) {
   const { kind, name, index } = fault;
   const place = new Place(text, index);
+  const other = kind === "text" && explainOtherLanguage(place);
+  if (other) return { ...other, change: null };
   const explain = () => ({ words: explainAttOrder(place) || (SENTENCES[`${kind} ${name}`]?.(place) ?? null), change: place.change, at: place.at });
   return hintOnRowsWithoutEnd(fault, text) ?? explain();
 }

@@ -92,7 +92,7 @@ export function cellsOf(text) {
  * @param {string} text
  * @returns {boolean}
  */
-function isAllIn(language, text) {
+export function isAllIn(language, text) {
   const cells = cellsOf(text).map(({ code }) => code).filter(Boolean);
   const isInLanguage = (it) => CODE[language].test(it) || (language === "X86" && /^MFENCE$/i.test(it));
   return cells.length > 0 && cells.every(isInLanguage);

@@ -605,7 +605,8 @@ function compareFinding(page, tally, families) {
   const fullNames = ["load buffering", "Store buffer", "message passing", "independent reads of independent writes", "stale"];
   tally.compare("full names, and what readers call them", ["LB-x86", "SB-x86", "MP-x86", "IRIW-x86", "MP-x86"], fullNames.map(first));
   const notes = (text) => page.finding.notesOn(text).length;
-  tally.compare("notes on what the format has not", [1, 1, 1, 1, 0], ["CAS", "deadlock", "volatile flag", "nontemporal", "MP"].map(notes));
+  tally.compare("notes on what the format has not", [1, 1, 1, 1, 1, 1, 1, 0],
+    ["CAS", "deadlock", "volatile flag", "nontemporal", "herd", "c11", "AT&T", "MP"].map(notes));
   const near = ["MFENC", "JZ", "MVO", "INC", "MFENCE"].map((it) => page.nearest.nearest(it, ["MOV", "JE", "JNE", "MFENCE", "ADD"]));
   tally.compare("the nearest words", ["MFENCE", "JE", "MOV", null, null], near);
 }
@@ -631,9 +632,8 @@ function compareSlips(page, tally) {
 
 /** Compares the page's words on faults, each made by a change of a text; and the texts that it proposes in place of a part. */
 function compareHints(page, program, tally) {
-  const right = "X86 A\n{ x=0 }\n P0 | P1 ;\n MOV [x],$1 | MOV EAX,[x] ;\n MFENCE | XCHG [y],EAX ;\nexists (x=1 /\\ 1:EAX=0)\n";
   for (const [part, wrong, words, line, proposed, changed] of HINTS) {
-    const text = right.replace(part, () => wrong);
+    const text = RIGHT.replace(part, () => wrong);
     const { fault } = page.questions.answerTo(program, "states", { text });
     const hint = page.faults.hintOn(fault, text);
     const row = page.faults.explainMissingRowEnd(fault, text).match(/^Line (\d+) has no `;`/)?.[1];
@@ -649,6 +649,9 @@ const NO_END_OF_ROW = "This row has no `;` at its end.";
 const OTHER = "            |";
 const NO_END = "The initial values lack a `}` at their end.";
 const ALL_ROWS = "MOV [x],$1 | MOV EAX,[x] ;\n MFENCE | XCHG [y],EAX ;";
+const RIGHT = "X86 A\n{ x=0 }\n P0 | P1 ;\n MOV [x],$1 | MOV EAX,[x] ;\n MFENCE | XCHG [y],EAX ;\nexists (x=1 /\\ 1:EAX=0)\n";
+const COMMENTS = "Comments are `(*` and `*)`.";
+const NO_TYPES = "The initial values have no types.";
 const ATT_ORDER = "This is AT&T's order, with the destination last: lw has the destination first.";
 // A part of a text, what is there in place of it, some of the page's words, the line of a row that lacks its end, the proposed text, and the line that is
 // to be changed, if it is not that of the fault.
@@ -688,6 +691,23 @@ const HINTS = [
   [ALL_ROWS, "movl $1,4(%rax) | ;", ATT_ORDER, undefined, undefined],
   ["MOV [x],$1", "MOV $1,[x]", "lw does this by `MOV [x],$1`.", undefined, "MOV [x],$1 | MOV EAX,[x] ;"],
   ["EAX,[x]", "%eax,[x]", "A register has no `%` before it.", undefined, "EAX"],
+  ["X86 A", "// mine\nX86 A", COMMENTS, undefined, `(* mine *)\n${RIGHT}`],
+  ["P1 ;", "P1 ; # a\n(* b # *)", COMMENTS, undefined, `(* a *)\n(* b # *)${RIGHT.split("P1 ;")[1]}`],
+  ["P1 ;", "P1 ; /* a\n b */", COMMENTS, undefined, `(* a\n b *)${RIGHT.split("P1 ;")[1]}`],
+  ["P1 ;", "P1 ; // (* a *) b", COMMENTS, undefined, undefined],
+  ["{ x=0 }\n", "", "The initial values are missing before the threads", undefined, "{}\n"],
+  ["X86 A\n{ x=0 }\n", "", "The first line is missing", undefined, "X86 Mine\n{}\n"],
+  ["X86 A\n", "", "The first line is missing", undefined, "X86 Mine\n"],
+  ["X86 A", "X86", "The test has no name", undefined, " Mine"],
+  ["{ x=0 }", "{ uint64_t x; }", NO_TYPES, undefined, "{ x=0 }"],
+  ["{ x=0 }", "{ int x = 0; int y; y=2 }", NO_TYPES, undefined, "{ x=0; y=2 }"],
+  ["{ x=0 }", "{ int x = 0; int y[2]; }", NO_TYPES, undefined, undefined],
+  ["{ x=0 }", "{ int x = 0; x=1; }", NO_TYPES, undefined, undefined],
+  ["X86 A", "C A", "tools/from_c.py", undefined, undefined],
+  ["X86 A", "#include <stdatomic.h>\nX86 A", "tools/from_c.py", undefined, undefined],
+  ["X86 A", "atomic_int x;\nX86 A", "tools/from_c.py", undefined, undefined],
+  ["X86 A", "AArch64 A", "`AArch64` is the language of another processor in herd's tests.", undefined, undefined],
+  ["X86 A\n{ x=0 }", "X86_64 A\n{ x=0; 0:rbx=x; }", "tools/from_herd.py", undefined, undefined],
   ["{ x=0 }", "{ x=0 && y=1 }", "Initial values have a `;` between them.", undefined, ";"],
   ["EAX,[x]", "EAX [x]", NO_COMMA, undefined, "MOV EAX,[x]"],
   ["[x],$1", "[x] $1", NO_COMMA, undefined, "MOV [x],$1"],
