@@ -2,7 +2,7 @@
 
 import { button, byId, el, sentence } from "./dom.js";
 import { explainMissingRowEnd, hintOn } from "./faults.js";
-import { table } from "./supplies.js";
+import { documents, table } from "./supplies.js";
 
 let sentences = {};
 
@@ -95,9 +95,11 @@ function showFaultInEditor(fault, editor) {
   const marked = { ...fault, ...hint.at };
   const { change } = hint;
   editor.mark(marked);
+  const [file, title] = documents.find(([it]) => it === hint.document) ?? [];
+  const read = file && el("a", { href: file, target: "reading" }, title);
   const apply = change && button(change.title ?? `Change it to ${change.text}`, () => editor.replace(change), { class: "apply" });
   byId("fault").replaceChildren(
-    el("p", { class: "notice" }, faultWords(fault, editor.text, hint), " ", apply, " ", button("Go to it", () => editor.goToFault(), { class: "go-to" })),
+    el("p", { class: "notice" }, faultWords(fault, editor.text, hint), " ", read, apply, " ", button("Go to it", () => editor.goToFault(), { class: "go-to" })),
   );
   return marked;
 }

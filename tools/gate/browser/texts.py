@@ -105,6 +105,7 @@ class Faults(PageCase):
             (text, "MOV [x],$1 | MOV EAX,[x]", "movl $1,x | movl x,%eax", "This is AT&T's order, with the destination last: lw has the destination first."),
             (text, "P0 | P1", "p0 | p1", "The threads are P0, P1 and so on. Did you mean P0 | P1?"),
             (text, "X86", "X86_64", "A test begins with SRC or X86. Did you mean X86?"),
+            (text, "{}\n", "", "The initial values are missing before the threads: they are {} if all are 0."),
             (source, "SRC", "X86", "All code is that of a source test, and the text's first word is X86. Did you mean SRC?"),
             (text, "X86", "SRC", "All code is x86 code, and the text's first word is SRC. Did you mean X86?"),
             (source, "r0 := x", "MOV EAX,[x]", "This is an x86 instruction, and the text's first word is SRC. Did you mean r0 := x?"),
@@ -188,8 +189,22 @@ class Faults(PageCase):
         self.assertSays("There is a run in which P1 reads x=0.", "#outcome .verdict")
         user.paste("C SB\n{}\n")
         self.assertEqual("Changed: Ctrl+Enter lists its states.", user.run("return document.getElementById('said').textContent"))
-        self.assertSays("lw reads tests that begin with SRC or X86. This one begins as a test in C does.", "#fault")
+        self.assertSays("This begins as a program or a test in C does. Here only SRC and X86 tests are read. tools/from_c.py", "#fault")
         self.assertSoon("", lambda: user.run("return document.getElementById('said').textContent"))
+
+    def test_other_tools(self) -> None:
+        """A text of another tool is named, with what converts it, and on a site with a link to the document on that."""
+        user = self.user
+        user.open_listed()
+        is_site = user.run("return typeof site === 'object'")
+        for text, words, title in (
+            ("C SB\n{}\n", "tools/from_c.py compiles programs in C", "From C and Rust"),
+            ("AArch64 MP\n{}\n", "AArch64 is the language of another processor in herd's tests.", "From herd"),
+            ("X86_64 SB\n{ uint32_t x; }\n", "tools/from_herd.py converts tests of herd for X86 and X86_64.", "From herd"),
+        ):
+            user.run_text(text)
+            self.assertSays(words, "#fault")
+            self.assertEqual([title] if is_site else [], user.texts("#fault a"))
 
     def test_edit_is_answered(self) -> None:
         """An edit pales what was answered, and is answered by itself."""
