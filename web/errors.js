@@ -2,6 +2,7 @@
 
 import { button, byId, el, sentence } from "./dom.js";
 import { explainMissingRowEnd, hintOn } from "./faults.js";
+import { fold } from "./placing.js";
 import { documents, table } from "./supplies.js";
 
 let sentences = {};
@@ -85,7 +86,7 @@ function faultWords(fault, text, hint = isInText(fault) ? hintOn(fault, text) : 
 }
 
 /**
- * Marks a fault in the editor, with a hint on it. Returns where it is marked.
+ * Marks a fault in the editor, with a hint on it, and unfolds the text. Returns where it is marked.
  * @param {Fault} fault
  * @param {Editor} editor
  * @returns {{row: number}}
@@ -94,6 +95,7 @@ function showFaultInEditor(fault, editor) {
   const hint = hintOn(fault, editor.text);
   const marked = { ...fault, ...hint.at };
   const { change } = hint;
+  fold(false);
   editor.mark(marked);
   const [file, title] = documents.find(([it]) => it === hint.document) ?? [];
   const read = file && el("a", { href: file, target: "reading" }, title);

@@ -1,6 +1,8 @@
 """The parts in sight, in windows of all sizes: the verdict, the step, the next instruction and memory; and no scroll bar inside another."""
 from __future__ import annotations
 
+from urllib.parse import quote
+
 from gate.browser.lists import IN_SIGHT
 from gate.browser.page_case import PageCase
 from gate.browser.predicting import open_anew
@@ -288,6 +290,9 @@ class InSight(PageCase):
         self.assertStep("Step 4 of 6: P1 reads x=0 from memory into EAX")
 
 
+FAULTY = "SRC A\n{}\n P0 ;\n x = 1 ;\nexists (x=1)\n"
+
+
 class Phone(PageCase):
     """A window as narrow as a phone."""
 
@@ -378,15 +383,21 @@ class Phone(PageCase):
                 self.assertEqual([], user.run(over), (name, part))
 
     def test_unfolded(self) -> None:
-        """A button unfolds the text, which is edited and run; a fault is seen also if it is folded."""
+        """A button unfolds the text, which is edited and run; a fault unfolds it. *Link* is beside the button, also if the text is folded."""
         user = self.user
         self.assertEqual("false", user.find("#unfold").get_attribute("aria-expanded"))
+        self.assertEqual(["Link"], user.texts("#test .tools :is(button, label)"))
         user.click("#unfold")
         self.assertEqual("true", user.find("#unfold").get_attribute("aria-expanded"))
         self.assertSoon(True, lambda: user.run(IN_SIGHT, "#editor"))
-        user.run_text("SRC A\n{}\n P0 ;\n x = 1 ;\nexists (x=1)\n")
+        user.run_text(FAULTY)
         user.click("#unfold")
         self.assertSays("Line 4, column 4: = does not fit here.", "#fault")
+        self.assertEqual([], user.all("#text"))
+        user.open(f"#text={quote(FAULTY)}")
+        self.assertSays("Line 4, column 4: = does not fit here.", "#fault")
+        self.assertEqual("true", user.find("#unfold").get_attribute("aria-expanded"))
+        self.assertTrue(bool(user.find("#text")))
 
     def test_narrowed(self) -> None:
         """If a wide window or a rotated phone becomes narrow, the list goes below the verdict, and nothing of the verdict is covered or cut."""
