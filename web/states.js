@@ -197,17 +197,12 @@ export class States {
     this.showList();
   }
 
-  /** Returns whether the number of states is kept back, too: it is a part of the answer to a prediction that is still open. */
-  get isUncounted() {
-    return this.isVeiled && guess.isOpen(this.editor.text);
-  }
-
-  /** Shows the list; by hand only the words of the states that are found, and if their number is kept back no others. */
+  /** Shows the list; by hand only the words of the states that are found, and while the verdict is kept back no others: their number says a part of it. */
   showList() {
-    const { report, found, isByHand, isUncounted } = this;
-    const known = report.states.filter(({ line }) => isUncounted && found.has(keyOf(line))).map((it, index) => ({ ...it, index }));
+    const { report, found, isByHand, isVeiled } = this;
+    const known = report.states.filter(({ line }) => isVeiled && found.has(keyOf(line))).map((it, index) => ({ ...it, index }));
     this.strip.hide(isByHand ? found : null);
-    const shown = isUncounted ? { ...report, states: known, number: known.length, positive: 0 } : report;
+    const shown = isVeiled ? { ...report, states: known, number: known.length, positive: 0 } : report;
     this.strip.show(shown, tintsOf(this.editor.text), this.missing);
   }
 
@@ -386,7 +381,7 @@ export class States {
     if (isAll || decides) this.unveil();
     const decided = decides ? " This run decides the question." : "";
     const more = isAll ? " These are all: no run ends otherwise." : isNew ? " Start again with |◀ and look for another." : "";
-    const counted = this.isUncounted ? `States found so far: ${this.found.size}.` : `Found ${this.found.size} of ${number} states.`;
+    const counted = this.isVeiled ? `States found so far: ${this.found.size}.` : `Found ${this.found.size} of ${number} states.`;
     const words = el("b", {}, counted);
     this.list.replaceChildren(el("p", { class: `found${isNew ? " new" : ""}`, role: "status" }, words, decided, more));
   }

@@ -64,7 +64,7 @@ class Clicks(PageCase):
         """By hand to the state that interleaving lacks, which is found."""
         user = self.user
         begin(user, "#example=SB-x86&view=hand")
-        self.assertSays("Found 0 of 4 states.", "#outcome .found")
+        self.assertSays("States found so far: 0.", "#outcome .found")
         user.carry_out("P0", "P0", "P1", "P1", "D0", "D1")
         self.assertStep("The run has ended. The condition holds.")
         self.assertFalse("not proved" in user.step())
@@ -82,7 +82,7 @@ class Clicks(PageCase):
         self.assertSays("Can a run on x86-TSO end this way: P0 reads y=0 and P1 reads x=0?", "#outcome .verdict")
         self.assertEqual(([], []), (user.all("#about p"), user.all(".number-of-step")))
         user.carry_out("P0", "P0", "D0", "P1", "P1", "D1")
-        self.assertSays("Found 1 of 4 states. Start again", "#outcome .found")
+        self.assertSays("States found so far: 1. Start again", "#outcome .found")
         self.assertSays("Can a run on x86-TSO end this way:", "#outcome .verdict")
         user.click(".unveil")
         self.assertSays("Allowed.", "#outcome .verdict")

@@ -375,9 +375,9 @@ class FenceEdits(PageCase):
         user = self.user
         user.open_listed("#example=SB-x86&view=hand")
         user.carry_out("P0", "P0", "D0", "P1", "P1", "D1")
-        self.assertSays("Found 1 of 4 states.", "#outcome .found")
+        self.assertSays("States found so far: 1.", "#outcome .found")
         self.put("0:1")
-        self.assertSays("Found 0 of 4 states.", "#outcome .found")
+        self.assertSays("States found so far: 0.", "#outcome .found")
 
     def test_where(self) -> None:
         """No fence button is in a source test, in another program than that in the editor, and before the guess."""
