@@ -1,6 +1,6 @@
 // Finds x86 code in AT&T's order, in which an instruction has its destination last, and turns it. Not proved.
 //
-// A `Cell` has its `code`, without comments, the index in the text at which this `begin`s, and its `thread`.
+// A `Cell` has its `code`, without comments, the index in the text at which this `begin`s, its `thread`, and the indices of its `front` and its `end`.
 
 import { cellsOf } from "./other_language.js";
 

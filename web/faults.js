@@ -2,7 +2,7 @@
 // into the text. The sentence depends on the fault's name and on the token at its place; lw's own line is shown beside it. Not proved.
 
 import { explainAttOrder } from "./att_order.js";
-import { explainLacked } from "./instead.js";
+import { explainLacked, explainSpareFence } from "./instead.js";
 import { nearest } from "./nearest.js";
 import { explainCode, explainOtherFirstWord, otherRegister } from "./other_language.js";
 import { explainComment, explainMissingFront, explainOtherLanguage, explainTypes } from "./other_tools.js";
@@ -343,7 +343,7 @@ function explainSourceForm(place) {
  */
 function explainX86Form(place) {
   const { token, before, index, text } = place;
-  if (/^xadd$/i.test(token) && before === "") return "Write `LOCK XADD`.";
+  if (/^xadd$/i.test(token) && before === "") return "Write `LOCK XADD`: lw has no `XADD` of two steps.";
   if (token === "=" || token === ":=") return "The operands of an instruction have a comma between them: `MOV [x],$1`.";
   if (token === "[" && before.includes("[")) return "An instruction has one location at most: load it into a register first.";
   if (ONE_OPERAND.test(before) && /^[[$\w]/.test(token)) {
@@ -356,7 +356,8 @@ function explainX86Form(place) {
   if (token === ";" || token === "|") return `The instruction before it is not complete. ${INSTRUCTIONS}`;
   if (/\block$/i.test(before)) return `\`LOCK\` comes before \`XADD\` or \`XCHG\`.${place.meant(["XADD", "XCHG"])}`;
   if (!LABELS.test(before) || MNEMONIC.test(token)) return INSTRUCTIONS;
-  if (/^[SL]FENCE$/i.test(token)) return `${token} orders nothing that x86-TSO does not order already: leave it out. Only MFENCE holds back a later load.`;
+  const spare = explainSpareFence(place);
+  if (spare) return spare;
   return `lw has no instruction of this name.${place.meant(MNEMONICS)} ${INSTRUCTIONS}`;
 }
 

@@ -79,8 +79,9 @@ export function cellsOf(text) {
   let thread = 0;
   const rows = code.slice(begin, begin + code.slice(begin).search(END_OF_ROWS) + 1);
   return rows.split(/(?<=[|;])/).map((cell) => {
-    const made = { begin: begin + /^\s*/.exec(cell)[0].length, code: cell.slice(0, -1).trim(), thread };
+    const front = begin;
     begin += cell.length;
+    const made = { front, begin: front + /^\s*/.exec(cell)[0].length, end: begin - 1, code: cell.slice(0, -1).trim(), thread };
     thread = cell.endsWith("|") ? thread + 1 : 0;
     return made;
   });

@@ -657,7 +657,14 @@ const ATT_ORDER = "This is AT&T's order, with the destination last: lw has the d
 // to be changed, if it is not that of the fault.
 const HINTS = [
   ["[y],EAX ;", "[y],EAX", NO_END_OF_ROW, 5, " ;"],
-  ["MFENCE", "SFENCE", "SFENCE orders nothing that x86-TSO does not order already", undefined, undefined],
+  ["MFENCE", "SFENCE", "SFENCE orders nothing that x86-TSO does not order already", undefined, "      "],
+  ["MFENCE", "L: LFENCE", "LFENCE orders nothing that x86-TSO does not order already", undefined, undefined],
+  ["MOV EAX,[x]", "CAS [x],EAX", "lw has no compare-and-swap", undefined, undefined],
+  ["MOV EAX,[x]", "XADD [x],EAX", "Without `LOCK` it is no single step", undefined,
+    `MOV EBX,[x] ;\n${OTHER} ADD EAX,EBX  ;\n${OTHER} MOV [x],EAX  ;\n${OTHER} MOV EAX,$0   ;\n${OTHER} ADD EAX,EBX  ;`],
+  ["MOV EAX,[x] ;", "XADD [x],EAX ;\n | JE L ;\n | L: ;", "Write `LOCK XADD`", undefined, undefined],
+  ["MOV EAX,[x] ;\n MFENCE |", "INC [x] ;\n  | ;\n MFENCE |", "lw does this by `MOV EBX,[x]`", undefined,
+    `MOV EBX,[x] ;\n  | ADD EBX,$1 ;\n${OTHER} MOV [x],EBX ;`],
   ["[y],EAX ;", "[y],EAX (* ; *)\n\n(* a; b\n *)", NO_END_OF_ROW, 5, " ;"],
   ["[y],EAX ;", "[y],EAX\n locations [x;]\n", NO_END_OF_ROW, 5, " ;"],
   ["[y],EAX ;\n", "[y],EAX ", NO_END_OF_ROW, 5, " ;"],

@@ -79,6 +79,11 @@ class Faults(PageCase):
         rows = " MOV [x],$1 | MOV EAX,[x] ;\n            | ADD EAX,$1 ;\n            | MOV [x],EAX ;\n"
         self.assertSoon(text.replace(" MOV [x],$1 | INC [x] ;\n", rows), user.value)
         self.assertSays("Allowed.", "#outcome .verdict")
+        user.run_text(text.replace("MOV [x],$1", "INC [x]"))
+        for _ in range(2):
+            user.click("#fault .apply")
+        rows = " MOV EAX,[x] | MOV EAX,[x] ;\n ADD EAX,$1 | ADD EAX,$1 ;\n MOV [x],EAX | MOV [x],EAX ;\n"
+        self.assertSoon(rows, lambda: user.value()[user.value().index(" MOV") : user.value().index("exists")])
         user.run_text(text.replace("INC [x]", "LOCK CMPXCHG [x],EBX"))
         self.assertSays("lw has no compare-and-swap", "#fault")
         self.assertEqual([], user.all("#fault .apply"))
@@ -198,9 +203,9 @@ class Faults(PageCase):
         user.open_listed()
         is_site = user.run("return typeof site === 'object'")
         for text, words, title in (
-            ("C SB\n{}\n", "tools/from_c.py compiles programs in C", "From C and Rust"),
-            ("AArch64 MP\n{}\n", "AArch64 is the language of another processor in herd's tests.", "From herd"),
-            ("X86_64 SB\n{ uint32_t x; }\n", "tools/from_herd.py converts tests of herd for X86 and X86_64.", "From herd"),
+            ("C SB\n{}\n", "tools/from_c.py compiles programs in C", "From C and Rust: programs as tests"),
+            ("AArch64 MP\n{}\n", "AArch64 is the language of another processor in herd's tests.", "From herd: its tests, and logs"),
+            ("X86_64 SB\n{ uint32_t x; }\n", "tools/from_herd.py converts tests of herd for X86 and X86_64.", "From herd: its tests, and logs"),
         ):
             user.run_text(text)
             self.assertSays(words, "#fault")
