@@ -1,4 +1,5 @@
-// Shows a document of a made site in light or dark, as the reader has chosen here or on the page, or otherwise as the system asks.
+// Shows a document of a made site in light or dark, as the reader has chosen here or on the page, or otherwise as the system asks. A link to a test
+// that has the file of the document on the page in place of the page itself leads to the page.
 
 "use strict";
 (() => {
@@ -36,6 +37,8 @@
     addEventListener("storage", (event) => event.key === KEY && show(event.newValue, list));
   }
 
+  const { pathname, hash } = location;
+  if (pathname.endsWith("/page.html") && /^#(?:.*&)?(?:example|test|text)=/.test(hash)) location.replace(`index.html${hash}`);
   show(stored());
   addEventListener("DOMContentLoaded", bind);
 })();

@@ -57,6 +57,19 @@ class Reading(PageCase):
         self.assertSays("SB-x86", "#example-name")
         self.assertSays("Allowed", "#outcome .verdict")
 
+    def test_page_by_its_document(self) -> None:
+        """A link to a test with the file of the document on the page leads to the page; one to a heading of that document does not."""
+        user = self.user
+        folder = user.address.rpartition("/")[0]
+        user.driver.get("about:blank")
+        user.driver.get(f"{folder}/page.html#example=MP-x86")
+        user.find("body[data-ready]")
+        self.assertSays("MP-x86", "#example-name")
+        user.driver.get("about:blank")
+        user.driver.get(f"{folder}/page.html#what-it-shows")
+        user.find("main h1")
+        self.assertEqual("page.html", user.run("return location.pathname.split('/').at(-1)"))
+
     def test_test_of_a_document(self) -> None:
         """A test that a document shows opens as a text of the reader's own, and is answered at once, as the document itself answers it."""
         user = self.user
