@@ -195,6 +195,7 @@ export class States {
     this.isVeiled = false;
     this.showVerdict();
     this.showList();
+    if (this.isByHand) this.showFound();
   }
 
   /** Shows the list; by hand only the words of the states that are found, and while the verdict is kept back no others: their number says a part of it. */
@@ -381,7 +382,7 @@ export class States {
     if (isAll || decides) this.unveil();
     const decided = decides ? " This run decides the question." : "";
     const more = isAll ? " These are all: no run ends otherwise." : isNew ? " Start again with |◀ and look for another." : "";
-    const counted = this.isVeiled ? `States found so far: ${this.found.size}.` : `Found ${this.found.size} of ${number} states.`;
+    const counted = this.isVeiled ? `States found so far: ${this.found.size}.` : `Found ${this.found.size} of ${number} state${number === 1 ? "" : "s"}.`;
     const words = el("b", {}, counted);
     this.list.replaceChildren(el("p", { class: `found${isNew ? " new" : ""}`, role: "status" }, words, decided, more));
   }

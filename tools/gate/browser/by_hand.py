@@ -86,6 +86,7 @@ class Clicks(PageCase):
         self.assertSays("Can a run on x86-TSO end this way:", "#outcome .verdict")
         user.click(".unveil")
         self.assertSays("Allowed.", "#outcome .verdict")
+        self.assertSays("Found 1 of 4 states.", "#outcome .found")
         user.open_listed("#example=CoRR-x86&view=hand")
         for events in ("P0 D0 P1 P1", "P1 P0 D0 P1", "P1 P1 P0 D0"):
             user.carry_out(*events.split())
