@@ -5,7 +5,7 @@ import { explainAttOrder } from "./att_order.js";
 import { explainLacked, explainSpareFence } from "./instead.js";
 import { nearest } from "./nearest.js";
 import { explainCode, explainOtherFirstWord, otherRegister } from "./other_language.js";
-import { explainComment, explainMissingFront, explainOtherLanguage, explainTypes } from "./other_tools.js";
+import { explainComment, explainMissingFront, explainTypes, findOtherLanguage } from "./other_tools.js";
 import { TEMPLATE } from "./template.js";
 import { readTest } from "./tests.js";
 import { beginsWithX86, withoutComments } from "./tokens.js";
@@ -343,7 +343,7 @@ function explainSourceForm(place) {
  */
 function explainX86Form(place) {
   const { token, before, index, text } = place;
-  if (/^xadd$/i.test(token) && before === "") return "Write `LOCK XADD`: lw has no `XADD` of two steps.";
+  if (/^xadd$/i.test(token) && before === "") return "Write `LOCK XADD`.";
   if (token === "=" || token === ":=") return "The operands of an instruction have a comma between them: `MOV [x],$1`.";
   if (token === "[" && before.includes("[")) return "An instruction has one location at most: load it into a register first.";
   if (ONE_OPERAND.test(before) && /^[[$\w]/.test(token)) {
@@ -422,8 +422,8 @@ const SENTENCES = {
 
 /**
  * Returns the explanation of a text's fault, a `Hint`: `words`, a sentence in which code is between backquotes, or null if the fault is not known;
- * the `document` on it, if there is one; the proposed `change`, a text with the `begin` and the `end` of the part that it replaces, and a `title` if the text says little, or null; and where
- * the text is to be changed (`at`), if that is not the place of the fault.
+ * the `document` on it, if there is one; the proposed `change`, a text with the `begin` and the `end` of the part that it replaces, and a `title` if
+ * the text says little, or null; and where the text is to be changed (`at`), if that is not the place of the fault.
  * @param {Fault} fault
  * @param {string} text
  * @returns {{words: string | null, document?: string, change: {begin: number, end: number, text: string, title?: string} | null, at?: object}}
@@ -431,7 +431,7 @@ const SENTENCES = {
 export function hintOn(fault, text) {
   const { kind, name, index } = fault;
   const place = new Place(text, index);
-  const other = kind === "text" && explainOtherLanguage(place);
+  const other = kind === "text" && findOtherLanguage(place);
   if (other) return { ...other, change: null };
   const explain = () => ({ words: explainAttOrder(place) || (SENTENCES[`${kind} ${name}`]?.(place) ?? null), change: place.change, at: place.at });
   return hintOnRowsWithoutEnd(fault, text) ?? explain();

@@ -12,10 +12,8 @@ const SAME = [
   [/^(ADD \w+,\$\d+)$/i, "$1"],
   [/^MOV (\$\w+),(E[A-D]X|E[SD]I|\[\w+\])$/i, "MOV $2,$1"],
   [/^MOV (\$\w+),(\w+)$/i, "MOV [$2],$1"],
+  [/^XADD (\[\w+\]),(E\w\w)$/i, "MOV T,$1;ADD $2,T;MOV $1,$2;MOV $2,T"],
 ];
-// XADD without LOCK, if no jump depends on its flags.
-const XADD = [/^XADD (\[\w+\]),(E\w\w)$/i, "MOV T,$1;ADD $2,T;MOV $1,$2;MOV $2,$0;ADD $2,T"];
-const JUMP = /\bJN?E\b/i;
 const ADDING = /^(LOCK )?(INC|DEC|SUB) (\[?\w+\]?)(?:,\$?(\d+))?$/i;
 // Instructions that are often written, and that nothing in lw does.
 const NEVER = /^(?:LOCK )?(AND|X?OR|NOT|NEG|TEST|BT[SRC]?|SH[LR]|I?MUL|LEA|PUSH|POP|CALL|RET|PAUSE|J[GLAB]E?)\b/i;
@@ -62,7 +60,7 @@ function rowsLike(row, thread, instructions) {
  * @param {string[]} instructions
  * @returns {{rows: string, end: number}}
  */
-function rowsBelow(text, row, thread, instructions) {
+function makeRowsBelow(text, row, thread, instructions) {
   const below = cellsOf(text).filter((it) => it.thread === thread && it.front > row.end);
   const isBlank = (it) => !text.slice(it.front, it.end).trim();
   const taken = below.findIndex((it) => !isBlank(it));
@@ -106,7 +104,7 @@ export function explainLacked(place) {
   const added = asAdd(instruction);
   const [, never] = NEVER.exec(added) ?? [];
   if (never) return `lw has no \`${never}\`, and nothing that does the same.`;
-  const [pattern, same] = (JUMP.test(text) ? SAME : [XADD, ...SAME]).find(([it]) => it.test(added)) ?? [];
+  const [pattern, same] = SAME.find(([it]) => it.test(added)) ?? [];
   const front = text.lastIndexOf(";", begin - 1) + 1;
   const end = text.indexOf(";", begin);
   const thread = text.slice(front, begin).split("|").length - 1;
@@ -115,9 +113,9 @@ export function explainLacked(place) {
   const [first, ...others] = added.replace(pattern, same.replace(/\bT\b/g, register)).split(";");
   const start = begin + labels.length;
   const rest = text.slice(start + instruction.length, end);
-  const below = rowsBelow(text, { front, end }, thread, others);
+  const below = makeRowsBelow(text, { front, end }, thread, others);
   place.put(`${first}${rest}${below.rows}`, start, below.end);
   place.change.title = others.length ? `Put in these ${others.length + 1}` : `Change it to ${first}`;
-  const oneStep = pattern === XADD[0] ? "Without `LOCK` it is no single step; `LOCK XADD` is one. " : "";
+  const oneStep = /^XADD/i.test(added) ? "Without `LOCK` it is no single step; `LOCK XADD` is one. " : "";
   return `${oneStep}lw does this by ${[first, ...others].map((it) => `\`${it}\``).join(", then ")}.`;
 }
