@@ -22,7 +22,7 @@ function operandOf(word) {
 }
 
 /** Returns an instruction in lw's order; null if it has an operand that lw lacks. What is no such instruction is unchanged. */
-function turned(code) {
+function formatInLwOrder(code) {
   const [, labels, lock = "", name, , first, second] = INSTRUCTION.exec(code) ?? [];
   if (!name) return /[%(]/.test(code) ? null : code;
   const operands = [second, first].filter((it) => it !== undefined).map(operandOf);
@@ -70,7 +70,7 @@ export function explainAttOrder(place) {
   const end = cells.length && cells.at(-1).begin + cells.at(-1).code.length;
   if (!cells.length || index < cells[0].begin || index > end) return "";
   if (!areInAttOrder(cells)) return explainPercent(place);
-  const codes = cells.map(({ code }) => turned(code));
+  const codes = cells.map(({ code }) => formatInLwOrder(code));
   if (codes.includes(null)) return SAID;
   const changed = cells.filter(({ code }, at) => code !== codes[at]).length;
   const parts = cells.map(({ begin, code }, at) => {

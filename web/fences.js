@@ -88,7 +88,8 @@ export class Fences {
     if (!sets.length) return [el("p", { class: "next-step" }, el("b", {}, `No further MFENCE would ${goal}.`))];
     const rows = sets.map(({ places, text, states }) => {
       const placeWords = places.map((it) => it.replace(/^(P\d) at \d+, before (.*)$/, "in $1 before `$2`")).join(" and ");
-      const result = states === 1 ? `it ${isForall ? "holds" : "does not hold"} in the only state` : `it holds in ${isForall ? "all" : "none of"} ${states} states`;
+      const several = `it holds in ${isForall ? "all" : "none of"} ${states} states`;
+      const result = states === 1 ? `it ${isForall ? "holds" : "does not hold"} in the only state` : several;
       const tryIt = () => this.take(fencedText(this.editor.text, { places, text }));
       return el("li", {}, `An MFENCE `, sentence(placeWords), `: ${result}. `, button("Try it", tryIt, { class: "take" }));
     });
@@ -160,12 +161,12 @@ export function fencedText(text, set) {
 }
 
 /** Returns states that two programs have in common, in words. */
-function sameStates(number) {
+function formatSameStates(number) {
   return number === 1 ? "the same state" : `the same ${number} states`;
 }
 
 /** Returns the words on how many of some states have the condition: of several, which are called by a name, or of the only `one`. */
-function holdingIn({ states, positive }, several = `${states} states`, one = "the only state") {
+function formatHolding({ states, positive }, several = `${states} states`, one = "the only state") {
   if (states === 1) return `the condition ${positive ? "holds" : "does not hold"} in ${one}.`;
   return `the condition holds in ${positive || "none"} of ${several}.`;
 }
@@ -187,19 +188,19 @@ function verdictOnTable({ table, language }, names) {
   const { rows, enough, states } = table;
   const program = language === "SRC" ? "the compiled program" : "the test";
   const isOne = rows.length === 1;
-  if (!rows.length) return [`${program[0].toUpperCase()}${program.slice(1)} has no MFENCE to leave out: ${holdingIn(table)}`];
+  if (!rows.length) return [`${program[0].toUpperCase()}${program.slice(1)} has no MFENCE to leave out: ${formatHolding(table)}`];
   if (!enough.length) {
     const [fences, all] = isOne ? ["The fence changes", "it and without it"] : ["The fences change", "all of them and with none"];
-    return [`${fences} nothing: with ${all} ${program} ends in ${sameStates(states)}, and ${holdingIn(table, "them", "it")}`];
+    return [`${fences} nothing: with ${all} ${program} ends in ${formatSameStates(states)}, and ${formatHolding(table, "them", "it")}`];
   }
   if (enough.length < rows.length) {
     // The comma keeps `P0 at 1` from being the start of `P0 at 12`.
     const kept = names.filter((_, index) => enough.some((it) => `${rows[index].place},`.startsWith(`${it},`)));
-    const needed = `These are enough for ${sameStates(states)}, and none of them can be left out: ${kept.join("; ")}.`;
-    return [`${needed} With them ${holdingIn(table, "these states", "this state")}`];
+    const needed = `These are enough for ${formatSameStates(states)}, and none of them can be left out: ${kept.join("; ")}.`;
+    return [`${needed} With them ${formatHolding(table, "these states", "this state")}`];
   }
   const needed = isOne ? "The fence is needed: without it" : "Every fence is needed: if any one of them is left out,";
-  return [`${needed} ${program} ends in more states. With ${isOne ? "it" : "all"} ${holdingIn(table)}`];
+  return [`${needed} ${program} ends in more states. With ${isOne ? "it" : "all"} ${formatHolding(table)}`];
 }
 
 /** Returns the first states of some lines, each with its button to watch a run, and how many others there are. */

@@ -34,7 +34,7 @@ const NOTES = [
     "lw has ordinary loads and stores to cached memory: no nontemporal store, flush or prefetch."],
   [["herd", "herd7", "litmus7", "x86_64", "aarch64", "arm", "ppc", "riscv"],
     "The page reads `SRC` and `X86` tests. `tools/from_herd.py` converts tests of herd for X86 and X86_64, and none of other processors."],
-  [["c", "c11", "c++", "rust", "stdatomic"], "The page reads `SRC` and `X86` tests. `tools/from_c.py` converts small programs in C, C++ and Rust."],
+  [["c11", "rust", "stdatomic"], "The page reads `SRC` and `X86` tests. `tools/from_c.py` converts small programs in C, C++ and Rust."],
   [["at&t", "att", "movl", "intel"], "An instruction has its destination first, as in `MOV EAX,[x]`. The page turns a text in AT&T's order by a button."],
   [["sfence", "lfence"], "The only fence is `MFENCE`; a locked instruction does the same."],
 ];

@@ -6,10 +6,10 @@ import { readTest } from "./tests.js";
 import { withoutComments } from "./tokens.js";
 
 const HERE = "Here only `SRC` and `X86` tests are read.";
-const OF_C = `${HERE} \`tools/from_c.py\` compiles programs in C, and converts what the compiler makes of them.`;
+const OF_C = `${HERE} \`tools/from_c.py\` compiles programs and herd's tests in C, and converts the result.`;
 const OF_HERD = `${HERE} \`tools/from_herd.py\` converts tests of herd for X86 and X86_64.`;
 const OF_OTHERS = `${HERE} They are of x86 processors, and no tool of lw converts tests of others.`;
-const OTHERS = /^(?:AArch64|ARM|PPC|RISCV|MIPS|LISA|Bell|BPF|ASL|JAVA)$/i;
+const OTHERS = /^(?:AArch64|ARM|PPC|RISCV|MIPS)$/i;
 const C = /^\s*(?:C\s|#\s*(?:include|define)\b|\/\/[^\n]*\n\s*#|(?:extern\s+|static\s+|volatile\s+|_Atomic\s+)*(?:atomic_\w+|std::\w+|int|void|uint\d+_t)\s)/;
 const NO_TYPES = "The initial values have no types.";
 // Words that declare the type of a location.
@@ -22,7 +22,7 @@ const TYPED = new RegExp(`(?:[{;]|^)\\s*${TYPES}(?:\\d\\s*:\\s*)?\\w`);
  * @param {Place} place
  * @returns {{words: string, document: string} | null}
  */
-export function explainOtherLanguage({ text, index, token }) {
+export function findOtherLanguage({ text, index, token }) {
   if (withoutComments(text.slice(0, index)).trim()) return null;
   const rest = text.slice(index);
   if (C.test(rest)) return { words: `This begins as a program or a test in C does. ${OF_C}`, document: "from-c.html" };

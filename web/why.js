@@ -172,13 +172,13 @@ export class Why {
     const states = lines.filter((it) => it.startsWith(FORBIDS));
     const isOfOne = states.length > 0 && this.askedOf !== "all";
     const isProved = isOfOne && !this.report.left_out;
-    const words = isOfOne ? FORBIDS + this.askedOf : states.length ? summaryOf(states) : lines[0];
+    const words = isOfOne ? FORBIDS + this.askedOf : states.length ? describeForbidden(states) : lines[0];
     return el("p", { class: "why-head" }, of, el("b", {}, words), " ", isProved ? el("span", { class: "by" }, PROVED) : plainMark());
   }
 }
 
 /** Returns what the lines that begin the answers on forbidden states say together. A line with a word that is `?` is on no state. */
-function summaryOf(lines) {
+function describeForbidden(lines) {
   const known = lines.filter((it) => !it.includes("=?;"));
   if (lines.length === 1 && known.length) return lines[0];
   const states = known.length && `${known.length} state${known.length === 1 ? "" : "s"} that some candidate execution has`;

@@ -267,7 +267,8 @@ class Fences(PageCase):
         self.assertEqual(len(names), len(set(names)))
         for rows, verdict in (
             ("", "The test has no MFENCE to leave out: the condition holds in the only state."),
-            (" MFENCE ;\n MOV EAX,[y] ;\n", "The fence changes nothing: with it and without it the test ends in the same state, and the condition holds in it."),
+            (" MFENCE ;\n MOV EAX,[y] ;\n", "The fence changes nothing: with it and without it the test ends in the same state, and "
+             "the condition holds in it."),
         ):
             text = f"X86 One\n{{}}\n P0 ;\n MOV [x],$1 ;\n{rows}exists (x=1)\n"
             user.open(f"#text={quote(text)}&view=fences")

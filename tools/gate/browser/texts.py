@@ -203,7 +203,7 @@ class Faults(PageCase):
         user.open_listed()
         is_site = user.run("return typeof site === 'object'")
         for text, words, title in (
-            ("C SB\n{}\n", "tools/from_c.py compiles programs in C", "From C and Rust: programs as tests"),
+            ("C SB\n{}\n", "tools/from_c.py compiles programs and herd's tests in C", "From C and Rust: programs as tests"),
             ("AArch64 MP\n{}\n", "AArch64 is the language of another processor in herd's tests.", "From herd: its tests, and logs"),
             ("X86_64 SB\n{ uint32_t x; }\n", "tools/from_herd.py converts tests of herd for X86 and X86_64.", "From herd: its tests, and logs"),
         ):
