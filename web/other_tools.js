@@ -44,16 +44,20 @@ function isRead(text) {
 }
 
 /**
- * Returns a sentence that says what comments are, if a place begins one of another language; or "". It proposes lw's for all of these from there on.
+ * Returns a sentence that says what comments are, if a place begins one of another language, or that a constant has no `#`; or "". It proposes lw's for all of
+ * these comments from there on, or the constant.
  * @param {Place} place
  * @returns {string}
  */
 export function explainComment(place) {
   const { text, index } = place;
-  const mark = /^(?:\/\/|\/\*|#)/.exec(text.slice(index))?.[0];
-  if (!mark) return "";
   const rest = text.slice(index);
-  const pattern = mark === "/*" ? /\/\*([^]*?)\*\// : new RegExp(`${mark}[ \\t]?(.*)`);
+  // In ARM's assembly a constant is `#1`.
+  const number = /^#(\d+)/.exec(rest)?.[1];
+  if (number) return `A constant has no \`#\` before it.${place.propose(place.isX86 ? `$${number}` : number, index, index + number.length + 1)}`;
+  const mark = /^(?:\/\/|\/\*|#)/.exec(rest)?.[0];
+  if (!mark) return "";
+  const pattern = mark === "/*" ? /\/\*([^]*?)\*\// : new RegExp(`${mark}${mark === "#" ? "(?!\\d)" : ""}[ \\t]?(.*)`);
   // lw's own comments stay as they are.
   const either = new RegExp(`\\(\\*[^]*?\\*\\)|${pattern.source}`, "g");
   const comments = [...rest.matchAll(either)].filter(([, inner]) => inner !== undefined);

@@ -79,7 +79,8 @@ export function interleavedWords({ states, number }, interleaved) {
   if (!interleaved) return "Which of these states interleaving gives is not known: the list that would say so is refused.";
   const lines = new Set(interleaved);
   const others = states.filter(({ line }) => !lines.has(line)).map(({ line }) => `\`${line.replace(/;$/, "")}\``);
-  if (!others.length) return `Interleaving gives the same state${number === 1 ? "" : "s"}: store buffers add none.`;
-  const more = others.length > MAX_LINES ? `, and ${others.length - MAX_LINES} others` : "";
+  if (!others.length) return `Of what the question names, interleaving gives the same state${number === 1 ? "" : "s"}: store buffers add none.`;
+  const rest = others.length - MAX_LINES;
+  const more = rest > 0 ? `, and ${rest} other${rest === 1 ? "" : "s"}` : "";
   return `Interleaving gives ${lines.size} of the ${number} states. Only with store buffers: ${others.slice(0, MAX_LINES).join(", ")}${more}.`;
 }

@@ -699,6 +699,7 @@ const HINTS = [
   ["MOV [x],$1", "MOV $1,[x]", "lw does this by `MOV [x],$1`.", undefined, "MOV [x],$1 | MOV EAX,[x] ;"],
   ["EAX,[x]", "%eax,[x]", "A register has no `%` before it.", undefined, "EAX"],
   ["X86 A", "// mine\nX86 A", COMMENTS, undefined, `(* mine *)\n${RIGHT}`],
+  ["MOV [x],$1", "MOV [x],#1", "A constant has no `#` before it.", undefined, "$1"],
   ["P1 ;", "P1 ; # a\n(* b # *)", COMMENTS, undefined, `(* a *)\n(* b # *)${RIGHT.split("P1 ;")[1]}`],
   ["P1 ;", "P1 ; /* a\n b */", COMMENTS, undefined, `(* a\n b *)${RIGHT.split("P1 ;")[1]}`],
   ["P1 ;", "P1 ; // (* a *) b", COMMENTS, undefined, undefined],

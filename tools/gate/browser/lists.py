@@ -75,8 +75,8 @@ class FirstView(PageCase):
         user = self.user
         own = "X86 Mine\n{}\n P0 | P1 ;\n MOV [x],$1 | MOV [y],$1 ;\n MOV EAX,[y] | MOV EAX,[x] ;\nexists (0:EAX=0 /\\ 1:EAX=0)\n"
         some = "Interleaving gives 3 of the 4 states. Only with store buffers: 0:EAX=0; 1:EAX=0. not proved"
-        all_of_it = "Interleaving gives the same states: store buffers add none. not proved"
-        the_one = "Interleaving gives the same state: store buffers add none. not proved"
+        all_of_it = "Of what the question names, interleaving gives the same states: store buffers add none. not proved"
+        the_one = "Of what the question names, interleaving gives the same state: store buffers add none. not proved"
         no_loads = "X86 Mine\n{}\n P0 ;\n MOV [x],$1 ;\n~exists (x=0)\n"
         fenced = own.replace(" MOV EAX", " MFENCE | MFENCE ;\n MOV EAX", 1)
         for text, words in ((own, some), (fenced, all_of_it), (own.replace("exists", "~exists"), some), (no_loads, the_one)):
