@@ -40,8 +40,8 @@ pub use Rattle.lw_base.specs.Limits.{most_locations, most_name_bytes, most_nodes
 pub use Rattle.lw_base.specs.Limits.{most_threads, registers}
 pub use Rattle.lw_base.specs.ListedOutcomes.{IsListedOutcome}
 pub use Rattle.lw_base.specs.Lists.{IsDuplicateFree}
-pub use Rattle.lw_base.specs.Names.{IsLocationName, IsName, IsNameShaped, IsNameTable, IsTestName, are_digits}
-pub use Rattle.lw_base.specs.Names.{is_numbered_register, is_reserved, keywords, x86_registers}
+pub use Rattle.lw_base.specs.Names.{IsName, IsNameShaped, IsNameTable, IsTestName, IsUnreservedName}
+pub use Rattle.lw_base.specs.Names.{are_digits, is_numbered_register, is_reserved, keywords, x86_registers}
 pub use Rattle.lw_base.specs.NoParse.{HoldsOfNothing, ParsesNothing}
 pub use Rattle.lw_base.specs.Outcomes.{FinalState, HasOutcomeShape, final_state_cmp}
 pub use Rattle.lw_base.specs.Propositions.{formula_of}

@@ -41,7 +41,8 @@ module _ {A : Type 0} (arch : Arch) (names : NameTable) where
       → OnOk answer (end ≡ start ++ text_of p)
   text_written-same_prop answer start end p q is written = rw (← is) at written
 
-  -- The text of a part v of a proposition, in parentheses if it is binary, is what was written: d and e are names of v, and e was tested.
+  -- If d and e are both the part v of a proposition, and `needed` says whether e needs parentheses, then d's text, in
+  -- parentheses if they are needed, is v's text, in parentheses if v needs them.
   pub parenthesized_if-same_part : (joins : Formula → Bool) (needed : Bool) (d e v : Prop A)
       → d ≡ v
       → e ≡ v

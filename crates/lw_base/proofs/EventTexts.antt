@@ -7,7 +7,8 @@ use Rattle.lw_base.proofs.Common.{true≢false, eqb-true, append-nil, map, not-t
 use Rattle.lw_base.proofs.Common.{drop-append_seam, AllByRecursion, Bytes, NameTable, is_blank, first_byte_is}
 use Rattle.lw_base.proofs.Common.{Event, split_blanks, event_texts, IsEvent, event_text, IsSchedule}
 
--- Bytes that are not blank, before a blank or the end of the text, are one piece.
+-- If the pieces of r begin with the empty one, as before a blank or at the end, then the pieces of w and r in sequence, where
+-- no byte of w is blank, are w and then those of r after the first.
 split_blanks-first_piece : (w r : Bytes) (ps : List Bytes)
     → AllByRecursion (λ b. not (is_blank b) ≡ true) w
     → split_blanks r ≡ [] ∷ ps
@@ -16,7 +17,7 @@ split_blanks-first_piece [] r ps others e = e
 split_blanks-first_piece (b ∷ w) r ps others e =
     rw (not-true (is_blank b) others.0, split_blanks-first_piece w r ps others.1 e) refl
 
--- Removing the blanks at the start of a text does not change its pieces.
+-- If a text is blanks w followed by r, its pieces that are not empty are those of r.
 pub event_texts-after_blanks : (text w r : Bytes)
     → text ≡ w ++ r
     → AllByRecursion (λ b. is_blank b ≡ true) w
@@ -46,7 +47,8 @@ event_texts-first text (b ∷ w) (c ∷ r) x =
     let blank : is_blank c ≡ true = not-false (is_blank c) x.ends in
     rw (x.parts, split_blanks-first_piece (b ∷ w) (c ∷ r) (split_blanks r) x.others (rw blank refl), blank) refl
 
--- If the texts of a list of events are those of some events followed by others, the first of the others is the text of an event.
+-- If the texts of some events of the test are those of the events `done` and then w and others, w is the text of an event of
+-- the test.
 IsEvent-of_next_text : (names : NameTable) (done events : List Event) (w : Bytes) (ws : List Bytes)
     → AllByRecursion (IsEvent names) events
     → map (event_text names) events ≡ map (event_text names) done ++ w ∷ ws
@@ -93,6 +95,7 @@ pub IsEvent-push : (names : NameTable) (es fs : List Event) (e : Event)
     → AllByRecursion (IsEvent names) fs
 IsEvent-push names es fs e more all is = rw more (go es all)
   where
+    -- By induction on the events before e.
     go : (ds : List Event) → AllByRecursion (IsEvent names) ds → AllByRecursion (IsEvent names) (ds ++ e ∷ [])
     go [] h = (is, tt)
     go (d ∷ ds) h = (h.0, go ds h.1)

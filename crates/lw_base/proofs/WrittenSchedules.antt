@@ -1,12 +1,12 @@
 -- Writing schedules: the texts of their events, and that they are read back. For `write_schedule`, and for
 -- the law about its result.
-use Rattle.lw_base.proofs.Common.{◌≡◌, ℕ, zero, suc, ◌<◌, inl, inr, true, false, not, List, [], ◌∷◌, ◌++◌}
-use Rattle.lw_base.proofs.Common.{length, refl, sym, ap, ◌∙◌, arith, drop, flat_map, map, slice_index_or}
-use Rattle.lw_base.proofs.Common.{codes, AllByRecursion, not-true, cases_Bool, agree_below_at, Bytes}
-use Rattle.lw_base.proofs.Common.{NameTable, digit, is_blank, is_name_byte, first_byte_is, most_threads}
-use Rattle.lw_base.proofs.Common.{IsLocationName, IsNameTable, IsEvent, event_text, schedule_text}
-use Rattle.lw_base.proofs.Common.{event_texts, IsSchedule, Event, Step, Drain, Evict, append-nil}
-use Rattle.lw_base.proofs.Common.{append_assoc}
+use Rattle.lw_base.proofs.Common.{byte, ◌≡◌, ℕ, zero, suc, ◌<◌, inl, inr, true, false, not, List, [], ◌∷◌}
+use Rattle.lw_base.proofs.Common.{◌++◌, length, refl, sym, ap, ◌∙◌, arith, drop, flat_map, map}
+use Rattle.lw_base.proofs.Common.{slice_index_or, codes, AllByRecursion, not-true, cases_Bool, agree_below_at}
+use Rattle.lw_base.proofs.Common.{Bytes, NameTable, digit, is_blank, is_name_byte, first_byte_is}
+use Rattle.lw_base.proofs.Common.{most_threads, IsUnreservedName, IsNameTable, IsEvent, event_text}
+use Rattle.lw_base.proofs.Common.{schedule_text, event_texts, IsSchedule, Event, Step, Drain, Evict}
+use Rattle.lw_base.proofs.Common.{append-nil, append_assoc}
 use Rattle.lw_base.proofs.api.Blanks.{is_blank-passes}
 use Rattle.lw_base.proofs.EventTexts.{event_texts-after_blanks, event_texts-first}
 
@@ -20,7 +20,7 @@ flat_map-spaced_event_text : (names : NameTable) (es : List Event)
 flat_map-spaced_event_text names [] = refl
 flat_map-spaced_event_text names (e ∷ es) = ap (λ t. spaced_event_text names e ++ t) (flat_map-spaced_event_text names es)
 
--- If there are no events, the empty text is the text of the schedule.
+-- If there are no events, appending the text of the schedule changes nothing.
 pub schedule_text-nil : (names : NameTable) (events : List Event) (out : Bytes)
     → length events ≡ 0
     → out ≡ out ++ schedule_text names events
@@ -61,25 +61,25 @@ HasNoBlank-name_bytes : (w : Bytes) → AllByRecursion (λ b. is_name_byte b ≡
 HasNoBlank-name_bytes [] all = tt
 HasNoBlank-name_bytes (b ∷ w) all = (is_blank-false_of_name_byte b all.0, HasNoBlank-name_bytes w all.1)
 
--- The name of a location has no blank.
+-- The name of a location of the table has no blank, if all names are unreserved names.
 HasNoBlank-location_name : (names : NameTable) (l : ℕ)
-    → AllByRecursion IsLocationName names
+    → AllByRecursion IsUnreservedName names
     → l < length names
     → HasNoBlank (slice_index_or names l [])
 HasNoBlank-location_name [] l all lt = absurd (omega (arith, lt))
 HasNoBlank-location_name (n ∷ names) zero all lt = HasNoBlank-name_bytes n all.0.0.0.are_name_bytes
 HasNoBlank-location_name (n ∷ names) (suc l) all lt = HasNoBlank-location_name names l all.1 (omega (arith, lt))
 
--- The text of an event has no blank.
+-- If the names are a table, the text of an event of the test has no blank.
 HasNoBlank-event_text : (names : NameTable) (e : Event) → IsNameTable names → IsEvent names e → HasNoBlank (event_text names e)
 HasNoBlank-event_text names (Step c) table is = (refl, (is_blank-false_of_digit c is, tt))
 HasNoBlank-event_text names (Drain c) table is = (refl, (is_blank-false_of_digit c is, tt))
 HasNoBlank-event_text names (Evict c l) table is =
-    (refl, (is_blank-false_of_digit c is.0, (refl, HasNoBlank-location_name _ l table.are_location_names is.1)))
+    (refl, (is_blank-false_of_digit c is.0, (refl, HasNoBlank-location_name _ l table.are_unreserved is.1)))
 
 -- The texts of events, concatenated.
 module _ (names : NameTable) (table : IsNameTable names) where
-  -- The text of an event, before a blank or the end, is the first piece.
+  -- If an event's text is followed by the end or a blank, it is the first piece, and the others are those of what follows.
   event_texts-first_event : (e : Event) (r : Bytes)
       → IsEvent names e
       → first_byte_is (λ b. not (is_blank b)) r ≡ false
@@ -121,7 +121,7 @@ module _ (names : NameTable) (table : IsNameTable names) where
   event_texts-written_events e [] is all = event_texts-first_event e [] is refl
   event_texts-written_events e (f ∷ es) is all =
       let rest_texts : event_texts (rest_of (f ∷ es)) ≡ event_texts (event_text names f ++ rest_of es) =
-      event_texts-after_blanks (rest_of (f ∷ es)) (32 ∷ []) (event_text names f ++ rest_of es) refl (refl, tt) in
+      event_texts-after_blanks (rest_of (f ∷ es)) (byte " " ∷ []) (event_text names f ++ rest_of es) refl (refl, tt) in
       event_texts-first_event e (rest_of (f ∷ es)) is refl
       ∙ ap (λ ws. event_text names e ∷ ws) (rest_texts ∙ event_texts-written_events f es all.0 all.1)
 

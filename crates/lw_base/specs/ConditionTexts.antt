@@ -67,4 +67,4 @@ quantifier_text Forall = codes "forall"
 -- The text of a head's condition: the quantifier, and the proposition in parentheses.
 abbrev pub condition_text : TestHead → Bytes
 condition_text head =
-    quantifier_text head.quant ++ (codes " " ++ parenthesized (proposition_text head.arch head.locs head.condition))
+    quantifier_text head.quant ++ (codes " " ++ parenthesized (proposition_text head.arch head.locs head.proposition))

@@ -17,7 +17,7 @@ pub record TestHead : Type 0 where
   pub init_words : List ℕ
   pub listed : List Seen
   pub quant : Quant
-  pub condition : Formula
+  pub proposition : Formula
 
 -- The content of a `Head` in memory.
 abbrev pub head_of : {A : Type 0} → Head A → TestHead
@@ -31,7 +31,7 @@ head_of h =
       init_words = h.init_words;
       listed = h.listed;
       quant = h.quant;
-      condition = formula_of h.prop;
+      proposition = formula_of h.prop;
     }
 
 -- The head with a longer table. The initial word of each new location is 0.
@@ -46,5 +46,5 @@ set_location_names head names =
       init_words = head.init_words ++ replicate (length names - length head.locs) 0;
       listed = head.listed;
       quant = head.quant;
-      condition = head.condition;
+      proposition = head.proposition;
     }

@@ -46,13 +46,13 @@ is_reserved w =
     || list_any (λ r. bytes_eq (map to_ascii_lowercase w) r) x86_registers
 
 -- The text can name a location or a label: it is a name and not reserved.
-abbrev pub IsLocationName : Bytes → Type 0
-IsLocationName w = IsName w × (is_reserved w ≡ false)
+abbrev pub IsUnreservedName : Bytes → Type 0
+IsUnreservedName w = IsName w × (is_reserved w ≡ false)
 
 -- The names are a table of locations: at most eight valid names, without duplicates.
 pub record IsNameTable (names : NameTable) : Type 0 where
   pub bounded : length names ≤ most_locations
-  pub are_location_names : AllByRecursion IsLocationName names
+  pub are_unreserved : AllByRecursion IsUnreservedName names
   pub without_duplicates : IsDuplicateFree names
 
 -- The text is a test's name: 1 to 128 printable ASCII bytes.

@@ -32,7 +32,7 @@ abbrev pub prepend_to_first : ℕ → List Bytes → List Bytes
 prepend_to_first b [] = (b ∷ []) ∷ []
 prepend_to_first b (w ∷ ws) = (b ∷ w) ∷ ws
 
--- The pieces of a text between its blanks.
+-- The pieces of a text between its blanks, some of which may be empty.
 abbrev pub split_blanks : Bytes → List Bytes
 split_blanks [] = [] ∷ []
 split_blanks (b ∷ text) = if is_blank b then [] ∷ split_blanks text else prepend_to_first b (split_blanks text)
@@ -60,7 +60,7 @@ HasEventParts w ds =
     (w ≡ byte "P" ∷ ds)
     ⊎ ((w ≡ byte "D" ∷ ds) ⊎ ((n : Bytes) × IsNameShaped n × IsEviction w ds n))
 
--- The piece has the shape of an event with the digits ds.
+-- The piece has the shape of an event: ds are digits, and the piece has the parts of an event with them.
 abbrev pub HasEventShape : Bytes → Bytes → Type 0
 HasEventShape w ds = (are_digits ds ≡ true) × HasEventParts w ds
 

@@ -68,5 +68,5 @@ pub record IsWellFormedHead (h : TestHead) : Type 0 where
   pub location_words : AllByRecursion IsWordNumber h.init_words
   pub listed_in_range : AllByRecursion (IsSeenInRange h.threads (length h.locs)) h.listed
   pub ascending : IsAscending h.listed
-  pub nodes_bounded : nodes h.condition ≤ most_nodes
-  pub condition : MentionsOnly h.threads (length h.locs) h.condition
+  pub nodes_bounded : nodes h.proposition ≤ most_nodes
+  pub condition : MentionsOnly h.threads (length h.locs) h.proposition

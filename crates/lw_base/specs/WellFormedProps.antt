@@ -9,19 +9,19 @@ use Rattle.lw_base.specs.declared.head.Seen.TheVariants.{Register, Location}
 use Rattle.lw_base.specs.Formula.{Formula, Yes, No, Reg_is, Word_is, Not, And, Or}
 use Rattle.lw_base.specs.Heads.{TestHead}
 use Rattle.lw_base.specs.Lists.{IsDuplicateFree}
-use Rattle.lw_base.specs.Names.{IsLocationName, IsNameTable}
+use Rattle.lw_base.specs.Names.{IsUnreservedName, IsNameTable}
 use Rattle.lw_base.specs.WellFormed.{IsSeenInRange, IsSeenLess, IsAscending, MentionsOnly, IsWellFormedHead}
 
 -- A disjunction of two propositions that exclude each other is a proposition.
-either : {A B : Type 0} → IsProp A → IsProp B → (A → B → ⊥) → IsProp (A ⊎ B)
-either a b apart (inl x) (inl y) = ap inl (a x y)
-either a b apart (inl x) (inr y) = absurd (apart x y)
-either a b apart (inr x) (inl y) = absurd (apart y x)
-either a b apart (inr x) (inr y) = ap inr (b x y)
+IsProp-either : {A B : Type 0} → IsProp A → IsProp B → (A → B → ⊥) → IsProp (A ⊎ B)
+IsProp-either a b apart (inl x) (inl y) = ap inl (a x y)
+IsProp-either a b apart (inl x) (inr y) = absurd (apart x y)
+IsProp-either a b apart (inr x) (inl y) = absurd (apart y x)
+IsProp-either a b apart (inr x) (inr y) = ap inr (b x y)
 
--- `IsLocationName` is a proposition.
-IsLocationName-prop : (w : List ℕ) → IsProp (IsLocationName w)
-IsLocationName-prop w = hlevel props
+-- `IsUnreservedName` is a proposition.
+IsUnreservedName-prop : (w : List ℕ) → IsProp (IsUnreservedName w)
+IsUnreservedName-prop w = hlevel props
 
 -- `IsDuplicateFree` is a proposition, of lists of names.
 IsDuplicateFree-prop : (names : List (List ℕ)) → IsProp (IsDuplicateFree names)
@@ -30,7 +30,7 @@ IsDuplicateFree-prop (n ∷ ns) = hlevel (props, IsDuplicateFree-prop ns)
 
 -- `IsNameTable` is a proposition.
 IsNameTable-prop : (names : List (List ℕ)) → IsProp (IsNameTable names)
-IsNameTable-prop names = hlevel (props, IsLocationName-prop, IsDuplicateFree-prop)
+IsNameTable-prop names = hlevel (props, IsUnreservedName-prop, IsDuplicateFree-prop)
 
 -- `IsSeenInRange` is a proposition.
 IsSeenInRange-prop : (threads locs : ℕ) (s : Seen) → IsProp (IsSeenInRange threads locs s)
@@ -39,7 +39,7 @@ IsSeenInRange-prop threads locs (Location x) = hlevel props
 
 -- `IsSeenLess` is a proposition.
 IsSeenLess-prop : (s t : Seen) → IsProp (IsSeenLess s t)
-IsSeenLess-prop (Register t r) (Register u s) = either (hlevel props) (hlevel props) (λ lt same. omega (arith, lt, same.0))
+IsSeenLess-prop (Register t r) (Register u s) = IsProp-either (hlevel props) (hlevel props) (λ lt same. omega (arith, lt, same.0))
 IsSeenLess-prop (Register t r) (Location x) = hlevel props
 IsSeenLess-prop (Location x) (Register t r) = hlevel props
 IsSeenLess-prop (Location x) (Location y) = hlevel props

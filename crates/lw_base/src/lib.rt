@@ -37,8 +37,8 @@ pub use limits::{
 };
 pub use location::LocNames;
 pub use name::{
-    ascii_text, eq_ignore_ascii_case, is_blank, is_location_name, is_name, is_name_byte,
-    is_name_shaped, is_numbered,
+    ascii_text, eq_ignore_ascii_case, is_blank, is_name, is_name_byte, is_name_shaped, is_numbered,
+    is_unreserved_name,
 };
 pub use operand::Operand;
 pub use outcome::{Outcome, registers_come_first};

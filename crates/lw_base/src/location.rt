@@ -1,6 +1,6 @@
 //! The table of a test's location names.
 ghost use Rattle.lw_base.specs.Limits.{most_locations};
-ghost use Rattle.lw_base.specs.Names.{IsLocationName, IsNameTable};
+ghost use Rattle.lw_base.specs.Names.{IsUnreservedName, IsNameTable};
 ghost use Rattle.std.specs.Prelude.{◌≡◌, [], ◌∷◌, ◌++◌, ◌<◌, length, Contains, MatchOption, IfOk, OnOk, OnErr, OnSome, IfNone, Some, slice_get};
 ghost use Rattle.lw_base.specs.Tables.{insert_name, position_of_name};
 
@@ -77,7 +77,7 @@ impl<A: Allocator + Copy> LocNames<A> {
     /// Appends a name and returns its location. If memory runs out, the table is unchanged.
     pub fn add(&mut self, name: &str) -> Result<Loc, AllocError>
         requires bounded { length self.old < most_locations }
-        requires name { IsLocationName name.now }
+        requires name { IsUnreservedName name.now }
         requires fresh { ¬ Contains self.old name.now }
         ensures index { IfOk result (λ loc. loc ≡ length self.old) }
         ensures ok { OnOk result (self.new ≡ self.old ++ name.now ∷ []) }
@@ -93,7 +93,7 @@ impl<A: Allocator + Copy> LocNames<A> {
     /// Returns the location with this name, and appends the name if the table does not have it. Returns `None`, and
     /// leaves the table unchanged, if it would be the ninth.
     pub fn find_or_add(&mut self, name: &str) -> Result<Option<Loc>, AllocError>
-        requires { IsLocationName name.now }
+        requires { IsUnreservedName name.now }
         ensures index { IfOk result
             (λ o. MatchOption o (most_locations < length (insert_name self.old name.now))
             (λ loc. loc ≡ position_of_name self.new name.now)) }

@@ -4,7 +4,7 @@ ghost use Rattle.std.specs.Str.{IsAscii, bytes_eq};
 ghost use Rattle.std.specs.Char.{to_ascii_lowercase, is_ascii_digit};
 ghost use Rattle.std.specs.List.{list_any, list_all, AllByRecursion};
 ghost use Rattle.lw_base.specs.Characters as characters;
-ghost use Rattle.lw_base.specs.Names.{IsNameShaped, IsName, IsLocationName, keywords, x86_registers};
+ghost use Rattle.lw_base.specs.Names.{IsNameShaped, IsName, IsUnreservedName, keywords, x86_registers};
 ghost use Rattle.lw_base.specs.Names as names;
 
 use crate::limits::MAX_NAME_BYTES;
@@ -50,8 +50,8 @@ pub fn is_name(text: &str) -> bool
 }
 
 /// Returns whether the text can name a location or a label: it is a name and not reserved.
-pub fn is_location_name(text: &str) -> bool
-    ensures { IsTrue result ↔ IsLocationName text.now }
+pub fn is_unreserved_name(text: &str) -> bool
+    ensures { IsTrue result ↔ IsUnreservedName text.now }
 {
     is_name(text) && !is_reserved(text)
 }

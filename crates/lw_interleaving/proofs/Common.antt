@@ -11,8 +11,8 @@ pub use Rattle.std.proofs.lemmas.List.{set_comm}
 pub use Rattle.std.proofs.lemmas.Option.{slice_get-map, slice_get_within}
 pub use Rattle.lw_base.proofs.Common.{FinalState, HasReplayEnd, apply_change_if_some, changed_word}
 pub use Rattle.lw_base.proofs.Common.{thread_code, word_or_zero}
-pub use Rattle.lw_base.proofs.api.Lists.{at_index, get-set_other, get-set_same}
-pub use Rattle.lw_base.proofs.api.Replays.{RunsTo-more}
+pub use Rattle.lw_base.proofs.api.Lists.{at_index, slice_get-slice_set_other, slice_get-slice_set_same}
+pub use Rattle.lw_base.proofs.api.Replays.{RunsTo-next}
 pub use Rattle.lw_base.specs.declared.change.Change.{Change}
 pub use Rattle.lw_base.specs.declared.event.Event.{Event}
 pub use Rattle.lw_base.specs.declared.event.Event.TheVariants.{Drain, Evict, Step}

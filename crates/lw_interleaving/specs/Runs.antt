@@ -60,11 +60,12 @@ SourceTransition program e s (Err stop) after = (source_event_result program e s
 abbrev pub is_source_final : List (List Stmt) → State → Bool
 is_source_final program s = list_all (λ p. nat_le (length p.0) p.1.position) (zip program s.threads)
 
--- The events lead from one state to another, each being enabled in its turn.
+-- The events lead from one state of a program to another: each is enabled in its turn.
 abbrev pub SourceRunsTo : List (List Stmt) → List Event → State → State → Type 0
 SourceRunsTo program = replays.RunsTo (SourceTransition program)
 
--- A replay carries out the events before the first that is rejected, or all.
+-- A replay from the first state to the second carries out the events before the first that is rejected, or all, and reports in
+-- r how many they were and how it ended.
 abbrev pub IsSourceReplay : List (List Stmt) → List Event → State → Replay → State → Type 0
 IsSourceReplay program = replays.IsReplayOf (SourceTransition program) (is_source_final program)
 

@@ -18,7 +18,7 @@ module _ {Stmt : Type 0} (language : Language Stmt) where
   abbrev pub is_written : Stmt → Bool
   is_written s = writes (language.operation_of s)
 
-  -- Tests whether two statements access one location and at least one of them writes it.
+  -- Tests whether both statements are there, access one location, and at least one of them writes it.
   abbrev pub operations_conflict : Option Stmt → Option Stmt → Bool
   operations_conflict None b = false
   operations_conflict (Some a) None = false

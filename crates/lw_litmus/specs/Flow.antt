@@ -4,7 +4,7 @@ use Rattle.lw_litmus.specs.Languages.{Language}
 use Rattle.lw_litmus.specs.Operations.{IsSuccessor}
 
 module _ {Stmt : Type 0} (language : Language Stmt) where
-  -- Position k is a successor of position j, which has this statement.
+  -- Position k is a successor of position j, which has this statement; a position without a statement has no successor.
   abbrev pub IsFlowSuccessor : Option Stmt → ℕ → ℕ → Type 0
   IsFlowSuccessor None j k = ⊥
   IsFlowSuccessor (Some s) j k = IsSuccessor (language.operation_of s) j k

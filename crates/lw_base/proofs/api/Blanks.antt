@@ -1,10 +1,11 @@
 -- Lemmas on blanks, on name bytes, on the bytes of tests' names, and on the results of searches in lists.
-use Rattle.lw_base.proofs.Common.{◌≡◌, ℕ, zero, suc, ◌<◌, ◌==◌, inl, inr, Bool, true, List, [], ◌∷◌, subst}
-use Rattle.lw_base.proofs.Common.{arith, slice_index_or, eqb-true, list_any, list_all, AllByRecursion}
+use Rattle.lw_base.proofs.Common.{byte, ◌≡◌, ℕ, zero, suc, ◌<◌, ◌==◌, inl, inr, Bool, true, List, [], ◌∷◌}
+use Rattle.lw_base.proofs.Common.{subst, arith, slice_index_or, eqb-true, list_any, list_all, AllByRecursion}
 use Rattle.lw_base.proofs.Common.{or_cases, and_parts, nat_tests, Bytes, is_blank, is_name_byte, IsTestName}
 use Rattle.lw_base.proofs.Common.{is_ascii_graphic}
 
--- If all items of a list pass a test q, and b is found among them by a comparison, b passes it.
+-- If all items of a list pass a test q, and b is found among them by a comparison that holds only of equal items, then b passes
+-- q.
 pub list_all-member : {X : Type 0} (same : X → X → Bool)
     → ((x y : X) → same x y ≡ true → x ≡ y)
     → (q : X → Bool) (xs : List X) (b : X)
@@ -23,9 +24,13 @@ list_all-member same decides q (x ∷ xs) b all any =
 pub byte_eq-sound : (x y : ℕ) → (x == y) ≡ true → x ≡ y
 byte_eq-sound x y h = eqb-true x y h
 
--- If all four blanks pass a test, so does any blank byte.
-pub is_blank-passes : (q : ℕ → Bool) (b : ℕ) → list_all q (32 ∷ 9 ∷ 10 ∷ 13 ∷ []) ≡ true → is_blank b ≡ true → q b ≡ true
-is_blank-passes q b all h = list_all-member (λ x y. x == y) byte_eq-sound q (32 ∷ 9 ∷ 10 ∷ 13 ∷ []) b all h
+-- If each of the four blanks passes a test, so does every byte that is blank.
+pub is_blank-passes : (q : ℕ → Bool) (b : ℕ)
+    → list_all q (byte " " ∷ byte "\t" ∷ byte "\n" ∷ byte "\r" ∷ []) ≡ true
+    → is_blank b ≡ true
+    → q b ≡ true
+is_blank-passes q b all h =
+    list_all-member (λ x y. x == y) byte_eq-sound q (byte " " ∷ byte "\t" ∷ byte "\n" ∷ byte "\r" ∷ []) b all h
 
 -- If all bytes of a text pass a test, and whatever passes it is below 128, all bytes of the text are below 128.
 pub slice_index_or-ascii : (q : ℕ → Bool)

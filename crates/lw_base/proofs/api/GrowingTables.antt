@@ -6,7 +6,7 @@ use Rattle.lw_base.proofs.Common.{or_right, unsigned_Decides, pointwise_decides,
 use Rattle.lw_base.proofs.Common.{IsDuplicateFree, contains_name, insert_name, insert_names, position_of_name}
 use Rattle.lw_base.proofs.api.Tables.{IsDuplicateFree-push, contains_name-Contains}
 
--- A table after inserting a name, by whether it had the name.
+-- Inserting a name leaves the table unchanged if the table has the name (b is `true`), and appends it otherwise.
 insert_name-by_presence : (names : NameTable) (n : Bytes) (b : Bool)
     → contains_name names n ≡ b
     → insert_name names n ≡ (if b then names else names ++ n ∷ [])
@@ -16,6 +16,7 @@ insert_name-by_presence names n b e = rw e refl
 pub insert_name-grows : (names : NameTable) (n : Bytes) → (more : NameTable) × (insert_name names n ≡ names ++ more)
 insert_name-grows names n = go (contains_name names n) refl
   where
+    -- By whether the table has the name.
     go : (b : Bool) → contains_name names n ≡ b → (more : NameTable) × (insert_name names n ≡ names ++ more)
     go true e = ([], insert_name-by_presence names n true e ∙ sym (append-nil names))
     go false e = (n ∷ [], insert_name-by_presence names n false e)
@@ -26,12 +27,12 @@ insert_names-append names [] ms = refl
 insert_names-append names (n ∷ ns) ms = insert_names-append (insert_name names n) ns ms
 
 -- A table after inserting names is no shorter.
-pub insert_names-longer : (names ns : NameTable) → length names ≤ length (insert_names names ns)
-insert_names-longer names [] = omega arith
-insert_names-longer names (n ∷ ns) =
+pub length_le-insert_names : (names ns : NameTable) → length names ≤ length (insert_names names ns)
+length_le-insert_names names [] = omega arith
+length_le-insert_names names (n ∷ ns) =
     let grows = insert_name-grows names n in
     let longer : length names ≤ length (insert_name names n) = omega (arith, ap length grows.1, length-append names grows.0) in
-    omega (arith, insert_names-longer (insert_name names n) ns)
+    omega (arith, length_le-insert_names (insert_name names n) ns)
 
 -- A name that is in a table is in each extension of it.
 pub contains_name-append : (names more : NameTable) (n : Bytes)
@@ -40,6 +41,7 @@ pub contains_name-append : (names more : NameTable) (n : Bytes)
 contains_name-append [] more n e = absurd cc
 contains_name-append (m ∷ names) more n e = go (bytes_eq m n) refl (contains_name-append names more n)
   where
+    -- By whether the head of the table is the name n.
     go : (b : Bool)
         → bytes_eq m n ≡ b
         → (contains_name names n ≡ true → contains_name (names ++ more) n ≡ true)
@@ -54,6 +56,7 @@ pub position_of_name-append : (names more : NameTable) (n : Bytes)
 position_of_name-append [] more n e = absurd cc
 position_of_name-append (m ∷ names) more n e = go (bytes_eq m n) refl (position_of_name-append names more n)
   where
+    -- By whether the head of the table is the name n.
     go : (b : Bool)
         → bytes_eq m n ≡ b
         → (contains_name names n ≡ true → position_of_name (names ++ more) n ≡ position_of_name names n)
@@ -61,7 +64,7 @@ position_of_name-append (m ∷ names) more n e = go (bytes_eq m n) refl (positio
     go true f further = rw f refl
     go false f further = rw f (ap (λ (k : ℕ). 1 + k) (further (rw f at e)))
 
--- A name that is appended is in the table.
+-- A table with the name n appended has n.
 pub contains_name-last : (names : NameTable) (n : Bytes) → contains_name (names ++ n ∷ []) n ≡ true
 contains_name-last [] n = or_left (bytes_eq n n) false ((pointwise_decides unsigned_Decides n n).1 refl)
 contains_name-last (m ∷ names) n = or_right (bytes_eq m n) _ (contains_name-last names n)
@@ -70,6 +73,7 @@ contains_name-last (m ∷ names) n = or_right (bytes_eq m n) _ (contains_name-la
 pub contains_name-of_inserted : (names : NameTable) (n : Bytes) → contains_name (insert_name names n) n ≡ true
 contains_name-of_inserted names n = go (contains_name names n) refl
   where
+    -- By whether the table has the name.
     go : (b : Bool) → contains_name names n ≡ b → contains_name (insert_name names n) n ≡ true
     go true e = rw (insert_name-by_presence names n true e) e
     go false e = rw (insert_name-by_presence names n false e) (contains_name-last names n)
@@ -107,6 +111,7 @@ pub position_of_name-within : (names : NameTable) (n : Bytes)
 position_of_name-within [] n e = absurd cc
 position_of_name-within (m ∷ names) n e = go (bytes_eq m n) refl (position_of_name-within names n)
   where
+    -- By whether the head of the table is the name n.
     go : (b : Bool)
         → bytes_eq m n ≡ b
         → (contains_name names n ≡ true → position_of_name names n < length names)
@@ -118,6 +123,7 @@ position_of_name-within (m ∷ names) n e = go (bytes_eq m n) refl (position_of_
 pub IsDuplicateFree-insert_name : (names : NameTable) (n : Bytes) → IsDuplicateFree names → IsDuplicateFree (insert_name names n)
 IsDuplicateFree-insert_name names n once = go (contains_name names n) refl
   where
+    -- By whether the table has the name.
     go : (b : Bool) → contains_name names n ≡ b → IsDuplicateFree (insert_name names n)
     go true e = rw (insert_name-by_presence names n true e) once
     go false e =

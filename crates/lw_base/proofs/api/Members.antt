@@ -6,7 +6,7 @@ use Rattle.lw_base.proofs.Common.{◌≡◌, zero, suc, ◌⊎◌, inl, inr, Lis
 pub not-Contains-nil : {X : Type 0} (x : X) → Contains [] x → ⊥
 not-Contains-nil x (k, l, e) = absurd (omega arith)
 
--- The head of a list is a member.
+-- A list contains its head.
 pub Contains-head : {X : Type 0} (x y : X) (xs : List X) → x ≡ y → Contains (x ∷ xs) y
 Contains-head x y xs e = (0, omega arith, e)
 

@@ -12,21 +12,22 @@ module _ {State : Type 0} (Done : Event → State → Result (Unit {0}) Stop →
   RunsTo-append [] fs s mid end r q = subst (λ (m : State). RunsTo Done fs m end) r q
   RunsTo-append (e ∷ es) fs s mid end r q = (r.0, r.1, RunsTo-append es fs r.0 mid end r.2 q)
 
-  -- A run followed by one more event is a run.
+  -- If the events es lead from s to mid, and e leads from mid to end, then es and then e lead from s to end.
   RunsTo-push : (es : List Event) (e : Event) (s mid end : State)
       → RunsTo Done es s mid
       → Done e mid (Ok tt) end
       → RunsTo Done (es ++ e ∷ []) s end
   RunsTo-push es e s mid end ran done = RunsTo-append es (e ∷ []) s mid end ran (end, done, refl)
 
-  -- A run followed by one more event is a run by all these events.
-  pub RunsTo-more : (events : List Event) (n : ℕ) (e : Event) (s mid end : State)
+  -- If the first n of the events lead from s to mid, and the event at index n leads from mid to end, then the first n + 1 lead
+  -- from s to end.
+  pub RunsTo-next : (events : List Event) (n : ℕ) (e : Event) (s mid end : State)
       → n < length events
       → e ≡ get_or events n e
       → RunsTo Done (take n events) s mid
       → Done e mid (Ok tt) end
       → RunsTo Done (take (n + 1) events) s end
-  RunsTo-more events n e s mid end within is ran done =
+  RunsTo-next events n e s mid end within is ran done =
       let pushed = RunsTo-push (take n events) e s mid end ran done in
       let more = take-suc events n e within ∙ ap (λ (x : Event). take n events ++ x ∷ []) (sym is) in
       let next : suc n ≡ n + 1 = omega arith in

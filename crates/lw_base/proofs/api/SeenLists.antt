@@ -7,7 +7,7 @@ use Rattle.lw_base.proofs.Common.{thread_registers, all_registers, locations}
 use Rattle.lw_base.proofs.api.Elements.{AllByRecursion-append, AllByRecursion-filter}
 use Rattle.lw_base.proofs.api.Elements.{AllByRecursion-map_range, AllByRecursion-flat_map_range}
 
--- Two ascending lists are ascending together, if every item of the first is less than every item of the second.
+-- The concatenation of two ascending lists is ascending, if every item of the first is less than every item of the second.
 pub IsAscending-append : (xs ys : List Seen)
     → IsAscending xs
     → IsAscending ys
@@ -21,6 +21,7 @@ pub IsAscending-filter : (p : Seen → Bool) (xs : List Seen) → IsAscending xs
 IsAscending-filter p [] h = tt
 IsAscending-filter p (x ∷ xs) h = one (p x) refl (IsAscending-filter p xs h.1)
   where
+    -- By whether the head passes the filter's test.
     one : (b : Bool) → p x ≡ b → IsAscending (filter p xs) → IsAscending (filter p (x ∷ xs))
     one true e k = rw e (AllByRecursion-filter (IsSeenLess x) p xs h.0, k)
     one false e k = rw e k

@@ -36,11 +36,11 @@ IsSeenLess-irreflexive (Location x) h = omega (arith, h)
 seen_eq-false : (s t : Seen) → (s ≡ t → ⊥) → seen_eq s t ≡ false
 seen_eq-false s t ne = elim (cases_Bool (seen_eq s t)) [ inl e ↦ absurd (ne (seen_eq-sound s t e)) | inr e ↦ e ]
 
--- A lesser register or location compares unequal.
+-- If s is less than t, the comparison of s with t says that they differ.
 seen_eq-false_if_less : (s t : Seen) → IsSeenLess s t → seen_eq s t ≡ false
 seen_eq-false_if_less s t h = seen_eq-false s t (λ e. IsSeenLess-irreflexive t (subst (λ (x : Seen). IsSeenLess x t) e h))
 
--- A greater register or location compares unequal.
+-- If s is less than t, the comparison of t with s says that they differ.
 seen_eq-false_if_greater : (s t : Seen) → IsSeenLess s t → seen_eq t s ≡ false
 seen_eq-false_if_greater s t h =
     seen_eq-false t s (λ e. IsSeenLess-irreflexive t (subst (λ (x : Seen). IsSeenLess x t) (sym e) h))
@@ -70,7 +70,7 @@ module _ (us : List Seen) (u : Seen) where
   has_seen-false [] h = refl
   has_seen-false (s ∷ ss) h = let e = h.0 in rw (e, has_seen-false ss h.1) refl
 
-  -- A member of a list that differs from its head is in the tail.
+  -- If u compares unequal to each item of ls, and each is in the list u ∷ us, then each is in us.
   has_seen-tail : (ls : List Seen)
       → AllByRecursion (λ x. seen_eq u x ≡ false) ls
       → AllByRecursion (λ x. has_seen (u ∷ us) x ≡ true) ls
@@ -85,6 +85,7 @@ IsSeenLess-all : (l u : Seen) (ls : List Seen)
     → AllByRecursion (IsSeenLess u) (l ∷ ls)
 IsSeenLess-all l u ls h all = (h, go ls all)
   where
+    -- By induction on the items after l.
     go : (xs : List Seen) → AllByRecursion (IsSeenLess l) xs → AllByRecursion (IsSeenLess u) xs
     go [] a = tt
     go (x ∷ xs) a = (IsSeenLess-trans u l x h a.0, go xs a.1)
@@ -109,11 +110,12 @@ IsSeenLess-member u l (x ∷ us) all h = elim (or_cases (seen_eq x l) (has_seen 
   | inr k ↦ IsSeenLess-member u l us all.1 k
 ]
 
--- Two tests that agree on a list filter it equally.
+-- Two tests that agree on each item of a list leave the same items when they filter it.
 filter-same_on_list : (p q : Seen → Bool) (us : List Seen) → AllByRecursion (λ s. p s ≡ q s) us → filter p us ≡ filter q us
 filter-same_on_list p q [] h = refl
 filter-same_on_list p q (u ∷ us) h = go (q u) refl (filter-same_on_list p q us h.1)
   where
+    -- By whether the head passes the tests, which agree on it.
     go : (b : Bool) → q u ≡ b → filter p us ≡ filter q us → filter p (u ∷ us) ≡ filter q (u ∷ us)
     go true e rest = rw (h.0 ∙ e, e) (ap (λ (l : List Seen). u ∷ l) rest)
     go false e rest = rw (h.0 ∙ e, e) rest
@@ -143,6 +145,7 @@ filter_has_seen-sublist (u ∷ us) [] au al all = filter_has_seen-nil us
 filter_has_seen-sublist (u ∷ us) (l ∷ ls) au al all =
     go (cases_Bool (seen_eq l u)) (filter_has_seen-sublist us ls au.1 al.1) (filter_has_seen-sublist us (l ∷ ls) au.1 al)
   where
+    -- By whether the heads of both lists are the same: then it is kept; otherwise it is less than all of ls, so it is left out.
     go : (seen_eq l u ≡ true) ⊎ (seen_eq l u ≡ false)
         → (AllByRecursion (λ x. has_seen us x ≡ true) ls → filter (has_seen ls) us ≡ ls)
         → (AllByRecursion (λ x. has_seen us x ≡ true) (l ∷ ls) → filter (has_seen (l ∷ ls)) us ≡ l ∷ ls)
@@ -248,11 +251,12 @@ pub length_le-filter : (p : Seen → Bool) (us : List Seen) → length (filter p
 length_le-filter p [] = omega arith
 length_le-filter p (u ∷ us) = go (p u) refl (length_le-filter p us)
   where
+    -- By whether the head passes the test.
     go : (b : Bool) → p u ≡ b → length (filter p us) ≤ length us → length (filter p (u ∷ us)) ≤ suc (length us)
     go true e h = rw e (omega (arith, h))
     go false e h = rw e (omega (arith, h))
 
--- There are six registers for each thread.
+-- The registers of n threads are six for each thread.
 length-all_registers : (a n : ℕ) → length (flat_map thread_registers (range_with_len a n)) ≡ registers * n
 length-all_registers a zero = omega arith
 length-all_registers a (suc n) = omega (
@@ -261,7 +265,7 @@ length-all_registers a (suc n) = omega (
   length-all_registers (a + 1) n,
 )
 
--- There are six registers for each thread, and one location for each name.
+-- The registers and locations of a test are six for each thread, and one for each location.
 pub length-all_seen : (threads locs : ℕ) → length (all_registers threads ++ locations locs) ≡ registers * threads + locs
 length-all_seen threads locs = omega (
   arith,

@@ -5,7 +5,7 @@ use Rattle.lw_base.proofs.Common.{replicate, AllByRecursion, length-replicate, S
 use Rattle.lw_base.proofs.Common.{Formula, Word_is, Not, And, Or, TestHead, set_location_names, IsNameTable}
 use Rattle.lw_base.proofs.Common.{IsSeenInRange, IsWordNumber, MentionsOnly, IsWellFormedHead}
 
--- A longer table of locations preserves that a register or location is in range.
+-- If a register or location is in range for `few` locations, it is in range for `more`, if `few` ≤ `more`.
 IsSeenInRange-more_locations : (threads few more : ℕ)
     → few ≤ more
     → (s : Seen)
@@ -14,7 +14,7 @@ IsSeenInRange-more_locations : (threads few more : ℕ)
 IsSeenInRange-more_locations threads few more le (Register t r) h = h
 IsSeenInRange-more_locations threads few more le (Location x) h = omega (arith, h)
 
--- A longer table of locations preserves that registers and locations in a list are in range.
+-- If all registers and locations in a list are in range for `few` locations, they are for `more`, if `few` ≤ `more`.
 IsSeenInRange-all_more_locations : (threads few more : ℕ)
     → few ≤ more
     → (ss : List Seen)
@@ -24,7 +24,8 @@ IsSeenInRange-all_more_locations threads few more le [] h = tt
 IsSeenInRange-all_more_locations threads few more le (s ∷ ss) h =
     (IsSeenInRange-more_locations _ few _ le s h.0, IsSeenInRange-all_more_locations _ few _ le ss h.1)
 
--- More locations preserve that a formula mentions only existing threads and locations.
+-- If a formula mentions only `threads` threads and `few` locations, it mentions only `threads` threads and `more` locations, if
+-- `few` ≤ `more`.
 MentionsOnly-more_locations : (threads few more : ℕ)
     → few ≤ more
     → (p : Formula)
@@ -46,13 +47,14 @@ IsWordNumber-append_zeros [] zero h = tt
 IsWordNumber-append_zeros [] (suc n) h = (omega arith, IsWordNumber-append_zeros [] n tt)
 IsWordNumber-append_zeros (w ∷ ws) n h = (h.0, IsWordNumber-append_zeros ws n h.1)
 
--- The head of a test with a longer table, and 0 for each new location, is well-formed.
-pub set_location_names-well_formed : (head : TestHead) (names : List (List ℕ))
+-- If a head is well-formed, and `names` is a table that is no shorter than the head's, then the head with this table, and with
+-- the word 0 for each new location, is well-formed.
+pub IsWellFormedHead-set_location_names : (head : TestHead) (names : List (List ℕ))
     → IsWellFormedHead head
     → IsNameTable names
     → length head.locs ≤ length names
     → IsWellFormedHead (set_location_names head names)
-set_location_names-well_formed head names h table le = record {
+IsWellFormedHead-set_location_names head names h table le = record {
   name = h.name;
   has_thread = h.has_thread;
   bounded = h.bounded;
@@ -71,5 +73,5 @@ set_location_names-well_formed head names h table le = record {
       IsSeenInRange-all_more_locations head.threads (length head.locs) (length names) le head.listed h.listed_in_range;
   ascending = h.ascending;
   nodes_bounded = h.nodes_bounded;
-  condition = MentionsOnly-more_locations head.threads (length head.locs) (length names) le head.condition h.condition;
+  condition = MentionsOnly-more_locations head.threads (length head.locs) (length names) le head.proposition h.condition;
 }

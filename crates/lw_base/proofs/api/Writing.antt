@@ -15,7 +15,7 @@ written-two_parts (Err x) start end first second before together written = tt
 written-two_parts (Ok x) start end first second before together written =
     written ∙ ap (λ t. t ++ second) before ∙ append_assoc start first second ∙ ap (λ t. start ++ t) together
 
--- The contract of `push_str` implies that the text was written, unless it failed.
+-- If `push_str` appended the text if it succeeded, and nothing otherwise, then the text was appended unless it failed.
 pub OnOk-push_str : {T E : Type 0} (answer : Result T E) (start end text : Bytes)
     → end ≡ (if is_ok answer then start ++ text else start)
     → OnOk answer (end ≡ start ++ text)

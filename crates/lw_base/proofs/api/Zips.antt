@@ -3,13 +3,13 @@
 use Rattle.lw_base.proofs.Common.{◌≡◌, ℕ, zero, suc, Bool, true, List, [], ◌∷◌, length, map, Some, refl, sym}
 use Rattle.lw_base.proofs.Common.{ap₂, ◌∙◌, arith, slice_get, zip, list_all, and_parts, and_from}
 
--- An item of a list of images is the image of an item.
-pub get-map : {X Y : Type 0} (f : X → Y) (xs : List X) (k : ℕ) (y : Y)
+-- If y is at index k of a list of images, the list has an item there whose image is y.
+pub slice_get-map_inv : {X Y : Type 0} (f : X → Y) (xs : List X) (k : ℕ) (y : Y)
     → slice_get (map f xs) k ≡ Some y
     → (x : X) × (slice_get xs k ≡ Some x) × (y ≡ f x)
-get-map f [] k y at = absurd cc
-get-map f (x ∷ xs) zero y at = (x, refl, cc)
-get-map f (x ∷ xs) (suc k) y at = get-map f xs k y at
+slice_get-map_inv f [] k y at = absurd cc
+slice_get-map_inv f (x ∷ xs) zero y at = (x, refl, cc)
+slice_get-map_inv f (x ∷ xs) (suc k) y at = slice_get-map_inv f xs k y at
 
 -- If two lists have one length, and each item's image by f is its fellow's by g, their lists of images are equal.
 pub maps_equal-at_each_index : {X Y Z : Type 0} (f : X → Z) (g : Y → Z) (xs : List X) (ys : List Y)
@@ -22,7 +22,7 @@ maps_equal-at_each_index f g (x ∷ xs) (y ∷ ys) as_many alike =
     (maps_equal-at_each_index f g xs ys (omega arith) (λ k a b at and. alike (suc k) a b at and))
 maps_equal-at_each_index f g _ _ as_many alike = absurd (omega arith)
 
--- If each two fellows of two lists pass a test, so does the whole list of pairs.
+-- If the pair of the items at each index that two lists share passes a test, all pairs of the zipped lists pass it.
 pub list_all_zip-of_each : {X Y : Type 0} (test : X × Y → Bool) (xs : List X) (ys : List Y)
     → ((k : ℕ) (x : X) (y : Y) → slice_get xs k ≡ Some x → slice_get ys k ≡ Some y → test (x, y) ≡ true)
     → list_all test (zip xs ys) ≡ true
@@ -31,7 +31,7 @@ list_all_zip-of_each test (x ∷ xs) (y ∷ ys) each =
     (list_all_zip-of_each test xs ys (λ k a b at and. each (suc k) a b at and))
 list_all_zip-of_each test _ _ each = refl
 
--- If the whole list of pairs of two lists passes a test, so do each two fellows.
+-- If all pairs of two zipped lists pass a test, so does the pair of the items at each index that both lists have.
 pub list_all_zip-at_index : {X Y : Type 0} (test : X × Y → Bool) (xs : List X) (ys : List Y) (k : ℕ) (x : X) (y : Y)
     → list_all test (zip xs ys) ≡ true
     → slice_get xs k ≡ Some x

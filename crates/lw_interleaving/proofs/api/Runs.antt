@@ -16,19 +16,20 @@ use Rattle.lw_interleaving.proofs.Common.{state_after_step, thread_step, drop_mo
 use Rattle.lw_interleaving.proofs.Common.{map_more, set_at, slice_get-map, slice_get_within, at_index}
 use Rattle.lw_base.specs.declared.stop.End.TheVariants as at
 
--- A call for an event returned this answer and left the state `end`, where r is the event's result. If it is a refusal, Q holds.
+-- A call for an event whose result is r returned `answer` and left the state `end`: if r is `Ok`, the answer is `Ok` and `end`
+-- is r's state; if it is an `Err`, the answer has the same cause, and Q holds.
 abbrev pub ReturnsEventResult : Type 0 → Result State Stop → Result (Unit {0}) Stop → State → Type 0
 ReturnsEventResult Q r answer end = MatchResult r (λ next. (answer ≡ Ok tt) × (end ≡ next)) (λ stop. (answer ≡ Err stop) × Q)
 
 -- If a call for an event returned Ok, the event was enabled, and the call left its next state.
-pub ReturnsEventResult-ok : (Q : Type 0) (r : Result State Stop) (answer : Result (Unit {0}) Stop) (u : Unit {0}) (end : State)
+pub ReturnsEventResult-ok : {answer : Result (Unit {0}) Stop} {u : Unit {0}} {end : State} (Q : Type 0) (r : Result State Stop)
     → ReturnsEventResult Q r answer end
     → answer ≡ Ok u
     → r ≡ Ok end
-ReturnsEventResult-ok Q (Ok next) answer u end told ok = ap Ok (sym told.1)
-ReturnsEventResult-ok Q (Err stop) answer u end told ok = let e : answer ≡ Err stop = told.0 in absurd cc
+ReturnsEventResult-ok Q (Ok next) told ok = ap Ok (sym told.1)
+ReturnsEventResult-ok {answer = answer} Q (Err stop) told ok = let e : answer ≡ Err stop = told.0 in absurd cc
 
--- If a call for an event returned a refusal, the event is rejected for this cause, and Q holds, which says which state was left.
+-- If a call for an event returned a refusal, the event is rejected for this cause, and Q holds.
 ReturnsEventResult-err : (Q : Type 0) (r : Result State Stop) (answer : Result (Unit {0}) Stop) (stop : Stop) (end : State)
     → ReturnsEventResult Q r answer end
     → answer ≡ Err stop
@@ -52,7 +53,8 @@ pub record MeetsRefusal (Q : Type 0) (program : List (List Stmt)) (events : List
   pub failed : answer ≡ Err stop
   pub state_unchanged : Q → end ≡ mid
 
--- A replay whose next event is rejected stops there.
+-- If the first events are carried out and the next one is rejected, a replay of all events stops there, and reports how many
+-- were done and the cause.
 pub IsSourceReplay-stopped : (Q : Type 0) (program : List (List Stmt)) (events : List Event) (s : State) (done : ℕ) (stop : Stop)
     (end : State)
     → MeetsRefusal Q program events s done stop end
@@ -72,7 +74,7 @@ IsSourceReplay-stopped Q program events s done stop end meets =
       );
     }
 
--- A replay that carries out all events ends as its last state does.
+-- If all events lead from s to `last`, a replay carries them out, and its end is as it says of `last`.
 pub IsSourceReplay-all_events : (program : List (List Stmt)) (events : List Event) (k : ℕ) (s last : State) (end : End)
     → length events ≤ k
     → SourceRunsTo program (take k events) s last
@@ -86,7 +88,8 @@ IsSourceReplay-all_events program events k s last end done ran ends = record {
   ends = ends;
 }
 
--- A drain is rejected in a source test, whose threads have no store buffers.
+-- In a source test, whose threads have no store buffers, a call for a drain of an existing thread returns `BufferEmpty` and
+-- leaves the state unchanged.
 pub ReturnsEventResult-drain_refused : (Q : Type 0) (answer : Result (Unit {0}) Stop) (s : State) (t n : ℕ)
     → t < n
     → answer ≡ Err BufferEmpty
@@ -108,18 +111,18 @@ length-words_after_operation o th words = length-apply_change_if_some (location_
 abbrev pub SameSize : State → State → Type 0
 SameSize s end = (length end.threads ≡ length s.threads) × (length end.words ≡ length s.words)
 
--- A rejection for either of two causes leads to no state.
+-- A result that is a rejection for one cause or another, as b says, is no success.
 not-Ok-if_refused : (b : Bool) (x y : Stop) (mid : State) → (if b then Err x else Err y) ≡ Ok mid → ⊥
 not-Ok-if_refused true x y mid e = absurd cc
 not-Ok-if_refused false x y mid e = absurd cc
 
--- An event preserves the numbers of threads and words.
+-- If an event leads from s to mid, both have the same numbers of threads and words.
 pub SameSize-source_event : (program : List (List Stmt)) (e : Event) (s mid : State)
     → source_event_result program e s ≡ Ok mid
     → SameSize s mid
 SameSize-source_event program (Step t) s mid e = SameSize-of_thread (slice_get s.threads t) e
   where
-    -- By the statement at the thread's position.
+    -- By whether the thread has a statement at its position: without one the step is rejected.
     SameSize-of_statement : (th : Thread) (stmt : Option Stmt) → state_after_step t th s stmt ≡ Ok mid → SameSize s mid
     SameSize-of_statement th None e = absurd cc
     SameSize-of_statement th (Some stmt) e =
@@ -129,21 +132,21 @@ SameSize-source_event program (Step t) s mid e = SameSize-of_thread (slice_get s
         let kept : SameSize s next = (length-set s.threads t _, length-words_after_operation o th s.words) in
         subst (SameSize s) (let same : next ≡ mid = cc in same) kept
 
-    -- By the thread, if the state has it.
+    -- By whether the state has the thread: without it the step is rejected.
     SameSize-of_thread : (th : Option Thread) → thread_step program t s th ≡ Ok mid → SameSize s mid
     SameSize-of_thread None e = absurd cc
     SameSize-of_thread (Some th) e = SameSize-of_statement th (slice_get (thread_code program t) th.position) e
 SameSize-source_event program (Drain t) s mid e = absurd (not-Ok-if_refused (nat_lt t (length s.threads)) BufferEmpty NoCpu mid e)
 SameSize-source_event program (Evict t x) s mid e = SameSize-of_refusal (nat_lt t (length s.threads)) e
   where
-    -- An eviction is refused, whether there is the processor or not.
+    -- By whether there is the processor (b): an eviction is refused in both cases.
     SameSize-of_refusal : (b : Bool)
         → (if b then (if nat_lt x (length s.words) then Err NotHeld else Err NoLocation) else Err NoCpu) ≡ Ok mid
         → SameSize s mid
     SameSize-of_refusal true e = absurd (not-Ok-if_refused (nat_lt x (length s.words)) NotHeld NoLocation mid e)
     SameSize-of_refusal false e = absurd cc
 
--- The item that is read at an index is the item of an equal list at an equal index.
+-- If ys is xs, j is i, and i is in range, the item of xs at i is that of ys at j.
 pub slice_get-equal_list : {X : Type 0} (xs ys : List X) (i j : ℕ) (d : X)
     → ys ≡ xs
     → j ≡ i
@@ -151,7 +154,7 @@ pub slice_get-equal_list : {X : Type 0} (xs ys : List X) (i j : ℕ) (d : X)
     → slice_get xs i ≡ Some (get_or ys j d)
 slice_get-equal_list xs ys i j d same index in_range = rw (same, index) (at_index xs i d in_range)
 
--- The image that is read at an index of a list of images is the image of the item there.
+-- If ys is xs, j is i, and i is in range, the item at i of the images of xs is the image of the item of ys at j.
 pub slice_get-map_equal_list : {X Y : Type 0} (f : X → Y) (xs ys : List X) (i j : ℕ) (d : X)
     → ys ≡ xs
     → j ≡ i
@@ -160,7 +163,7 @@ pub slice_get-map_equal_list : {X Y : Type 0} (f : X → Y) (xs ys : List X) (i 
 slice_get-map_equal_list f xs ys i j d same index in_range =
     slice_get-map f xs i ∙ ap (option_map f) (slice_get-equal_list xs ys i j d same index in_range)
 
--- One more item's image extends the images of the first items.
+-- If `out` has the images of the first i items, appending the image of the item at i gives those of the first i + 1.
 pub take_map-push : {X Y : Type 0} {xs ys : List X} {out next : List Y} (f : X → Y) (i : ℕ) (d : X)
     → ys ≡ xs
     → i < length ys
@@ -170,7 +173,7 @@ pub take_map-push : {X Y : Type 0} {xs ys : List X} {out next : List Y} (f : X �
 take_map-push {ys} f i d same in_range so_far pushed =
     let last : suc i ≡ i + 1 = omega arith in pushed ∙ rw (so_far, ← same, ← last, (take-suc ys i d in_range), map-append) refl
 
--- The code that is read for an existing thread is its code.
+-- If a thread is in range, what is read at its index is its code.
 thread_code-in_range : (program : List (List Stmt)) (t : ℕ) (code : List Stmt)
     → t < length program
     → code ≡ get_or program t code
@@ -212,7 +215,7 @@ pub State-eq : (a b : List Thread) (u v : List ℕ)
     → (let s : State = record { threads = a; words = u } in s) ≡ record { threads = b; words = v }
 State-eq a b u v e f = rw (e, f) refl
 
--- The code of a thread is the program's.
+-- If `code` was read at the index of a thread that exists, it is the thread's code in the program.
 thread_code-of_reading : (threads : List Thread) (program : List (List Stmt)) (t : ℕ) (th : Thread) (code : List Stmt)
     → IsAtCode threads program t th code
     → thread_code program t ≡ code
@@ -230,7 +233,8 @@ pub record CarriesOut (before : SourceRunState) (t : ℕ) (end : State) : Type 0
   pub threads : end.threads ≡ slice_set before.state.threads t (thread_after (source_operation stmt) th before.state.words)
   pub words : end.words ≡ words_after (source_operation stmt) th before.state.words
 
--- A step that is enabled returns this answer, and leaves its next state.
+-- If a call returned `Ok` and carried out the next statement of thread t, its answer and its state are those of the step's
+-- result.
 pub ReturnsEventResult-step : (Q : Type 0) (answer : Result (Unit {0}) Stop) (before run : SourceRunState) (t : ℕ) (end : State)
     → before ≡ run
     → answer ≡ Ok tt
@@ -240,7 +244,7 @@ ReturnsEventResult-step Q answer before run t end same ok c =
     let at_code = thread_code-of_reading before.state.threads before.program t c.th c.code c.at in
     rw (← same) (rw (← c.at.is_thread) (rw (at_code, ← c.is_stmt) (ok, State-eq _ _ _ _ c.threads c.words)))
 
--- A step of a thread that does not exist is rejected.
+-- If the state has no thread t, a call that returns `NoCpu` and changes nothing returns the result of the step of t.
 pub ReturnsEventResult-no_thread : (Q : Type 0) (answer : Result (Unit {0}) Stop) (before run : SourceRunState) (t : ℕ)
     → before ≡ run
     → answer ≡ Err NoCpu
@@ -256,7 +260,7 @@ pub record IsAtEnd (before : SourceRunState) (t : ℕ) : Type 0 where
   pub at : IsAtCode before.state.threads before.program t th code
   pub is_stmt : None ≡ slice_get code th.position
 
--- A step of a terminated thread is rejected.
+-- If thread t is past its last statement, a call that returns `Ended` and changes nothing returns the result of the step of t.
 pub ReturnsEventResult-at_end : (Q : Type 0) (answer : Result (Unit {0}) Stop) (before run : SourceRunState) (t : ℕ)
     → before ≡ run
     → answer ≡ Err Ended
@@ -267,7 +271,7 @@ ReturnsEventResult-at_end Q answer before run t same failed end kept =
     let at_code = thread_code-of_reading before.state.threads before.program t end.th end.code end.at in
     rw (← same) (rw (← end.at.is_thread) (rw (at_code, ← end.is_stmt) (failed, kept)))
 
--- The images of all items are the list's images.
+-- If `out` has the images of the first i items, and i is at least their number, it has the images of all.
 pub take_map-all : {X Y : Type 0} {xs ys : List X} {out : List Y} (f : X → Y) (i : ℕ)
     → ys ≡ xs
     → length ys ≤ i
@@ -275,14 +279,15 @@ pub take_map-all : {X Y : Type 0} {xs ys : List X} {out : List Y} (f : X → Y) 
     → out ≡ map f xs
 take_map-all {xs} f i same end so_far = so_far ∙ ap (map f) (take_all i xs (omega (arith, end, ap length same)))
 
--- The outcome of a state, all of whose registers are listed.
+-- If regs are the registers of all threads of a state, and words are its words, they are the state's outcome.
 pub source_outcome-of_registers : (regs : List (List ℕ)) (words : List ℕ) (s : State)
     → regs ≡ map (λ t. t.regs) s.threads
     → words ≡ s.words
     → (let o : FinalState = record { regs = regs; words = words } in o) ≡ source_outcome s
 source_outcome-of_registers regs words s listed same = rw (listed, same) refl
 
--- If one more image is written, at index i, the first i + 1 items of the list are images, and the old ones follow.
+-- If xs is the images of the first i items followed by old rows, then after the image of the item at i is set at i, it is the
+-- images of the first i + 1 items followed by old rows.
 pub map_prefix-set : {X Z : Type 0} {items ys : List X} {xs : List Z} (f : X → Z) (old : List Z) (i : ℕ) (d : X)
     → items ≡ ys
     → xs ≡ map f (take i ys) ++ drop i old

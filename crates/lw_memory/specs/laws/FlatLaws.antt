@@ -14,7 +14,7 @@ use Rattle.lw_memory.specs.Memory.{Memory, memory_of, IsEnabled}
 abbrev pub words_invariant : ℕ → Invariant (List ℕ)
 words_invariant cpus = invariant_of (λ words. cpus) (λ words. Unit {0})
 
--- Every transition of words has the properties of the laws.
+-- A transition of words has what the laws state of a transition, for any number of processors.
 RequestEffect-of_words_step : {cpus : ℕ} (m : List ℕ) (r : Request) (a : Option ℕ) (n : List ℕ) → WordsStep m r a n → RequestEffect flat_memory (words_invariant cpus) m r a n
 RequestEffect-of_words_step m (Ask t x access) a n s = record { possible = tt; answer = s.0; content = s.1; cpus = refl; sound = tt }
 RequestEffect-of_words_step m (Evict t x) a n s = absurd s
@@ -41,7 +41,7 @@ flats = memory_of (λ (m : Flat). m.words) (λ (m : Flat) t x. I) FlatStep
 abbrev pub flats_invariant : Invariant Flat
 flats_invariant = invariant_of (λ (m : Flat). m.cpus) (λ (m : Flat). Unit {0})
 
--- Every transition of flat memory has the properties of the laws.
+-- A transition of flat memory's states has what the laws state of a transition.
 RequestEffect-of_flat_step : (m : Flat) (r : Request) (a : Option ℕ) (n : Flat) → FlatStep m r a n → RequestEffect flats flats_invariant m r a n
 RequestEffect-of_flat_step m r a n s =
     let w : RequestEffect flat_memory (words_invariant m.cpus) m.words r a n.words = RequestEffect-of_words_step m.words r a n.words s.0 in

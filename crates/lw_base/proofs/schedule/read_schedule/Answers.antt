@@ -12,6 +12,7 @@ use Rattle.lw_base.proofs.EventTexts.{event_texts-push, length_le-suffix, drop-b
 use Rattle.lw_base.proofs.EventTexts.{positive-if_not_zero, length_lt-after_piece}
 use Rattle.lw_base.proofs.schedule.read_schedule.Goals as goal
 
+-- After the blanks at the start no event was read, and the rest has the pieces of the whole text.
 pub loop-rest-init : goal.loop-rest-init
 loop-rest-init g c =
     let back = sym c.as_bytes.ensures.value ∙ c.prefix_of_kind.ensures.parts in
@@ -23,6 +24,7 @@ loop-rest-init g c =
       back = (c.prefix_of_kind.result.0.now, back);
     }
 
+-- One more event was read, and the rest begins after its piece and the following blanks.
 pub loop-rest-preserved : goal.loop-rest-preserved
 loop-rest-preserved g c =
     let back =
@@ -60,6 +62,7 @@ loop-rest-preserved g c =
       );
     }
 
+-- A piece that is no event's text makes the text no schedule.
 pub returns-in-Err-clause-fault : goal.returns-in-Err-clause-fault
 returns-in-Err-clause-fault g c known =
     let first = event_texts-first _ _ _ (record {
@@ -73,6 +76,7 @@ returns-in-Err-clause-fault g c known =
     not-IsSchedule-if_no_event_text c.args.names.now c.args.text.now c.loop-rest.events _ _ whole
     (not-event_text-if_faulty _ c.len-len.ensures.table _ _ c.in-Err.ensures.err)
 
+-- The pieces before the faulty one are the texts of the events that were read, so it is the first.
 pub returns-in-Err-clause-first : goal.returns-in-Err-clause-first
 returns-in-Err-clause-first g c known =
     let first = event_texts-first _ _ _ (record {

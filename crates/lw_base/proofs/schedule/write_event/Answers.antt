@@ -5,6 +5,7 @@ use Rattle.lw_base.proofs.Common.{byte, get_or_from_slice_get}
 use Rattle.lw_base.proofs.api.Writing.{written-append, OnOk-push_str, written-two_parts}
 use Rattle.lw_base.proofs.schedule.write_event.Goals as goal
 
+-- The letter, the digit, the colon and the name that were written are the text of the eviction.
 pub returns-in_ok-push-in-Evict : goal.returns-in_ok-push-in-Evict
 unfolding lib.Utf8.encode
 returns-in_ok-push-in-Evict g c =

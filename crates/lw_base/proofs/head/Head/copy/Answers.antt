@@ -2,6 +2,7 @@
 -- own contracts, and the others are the same.
 use Rattle.lw_base.proofs.head.Head.copy.Goals as goal
 
+-- The copy of a head has equal fields, one by one.
 pub returns : goal.returns
 returns g c = λ i. record {
   name = c.in_ok-copy.ensures i;
@@ -12,5 +13,5 @@ returns g c = λ i. record {
   init_words = c.in_ok-copy-4.ensures i;
   listed = c.in_ok-copy-5.ensures i;
   quant = c.args.self.now.quant;
-  condition = c.in_ok-copy-6.ensures i;
+  proposition = c.in_ok-copy-6.ensures i;
 }

@@ -14,6 +14,7 @@ loop-index-preserved g c =
     (record { entry = c.known-item.result; index_in_range = within; entry_is = c.known-item.is; named = c.as_str.ensures.value })
     _ (sym c.eq.ensures ∙ c.if-eq.false))
 
+-- The name at this index compares equal, so it is found there.
 pub returns-then-eq : goal.returns-then-eq
 returns-then-eq g c =
     let within : c.loop-index.index < length c.deref-known-items.result.now = omega arith in

@@ -4,6 +4,7 @@ use Rattle.lw_base.proofs.Common.{◌∙◌, ap, length, sym, arith, string_byte
 use Rattle.lw_base.proofs.api.Tables.{slice_get-entry_name}
 use Rattle.lw_base.proofs.location.LocNames.name.Goals as goal
 
+-- The name that is read at the location's index is the table's name there.
 pub returns : goal.returns
 returns g c =
     slice_get-entry_name string_bytes _ c.index.result _ (record {

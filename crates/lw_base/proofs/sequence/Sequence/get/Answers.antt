@@ -5,7 +5,8 @@ use Rattle.lw_base.proofs.Common.{◌≤◌, ◌∙◌, ℕ, List, MatchOption, 
 use Rattle.lw_base.proofs.Common.{refl, sym, slice_get_read}
 use Rattle.lw_base.proofs.sequence.Sequence.get.Goals as goal
 
--- The result of a look-up in a list, from its two clauses, for an item and for none.
+-- If what was read is the list's item at i, or there is none and i is not in range, then it is, copied, what `slice_get` gives
+-- at i.
 option_copied-slice_get : {X : Type 0} (read : Option (Bor X)) (xs : List X) (i : ℕ)
     → IfSome read (λ x. x.now ≡ get_or xs i x.now)
     → MatchOption read (length xs ≤ i) (λ x. (i < length xs) × HoldsAt (λ y. x.now ≡ y) xs i)

@@ -25,6 +25,7 @@ returns-clause-state g c =
     c.loop-regs.invariant in
     State-eq _ _ _ _ threads (c.in_ok-words.ensures ∙ c.as_slice.ensures)
 
+-- The run that is made has a thread for each code, and a word for each location.
 pub invariant_of-result : goal.invariant_of-result
 invariant_of-result g c =
     let source = c.args.source.now in

@@ -1,30 +1,30 @@
 -- Proves `SourceRun::run`, which carries out events up to the first that is refused, and reports how the
--- replay ended. `RunsTo-more` adds one event. A refused event changes nothing, so the replay stops there
+-- replay ended. `RunsTo-next` adds one event. A refused event changes nothing, so the replay stops there
 -- (`IsSourceReplay-stopped`); otherwise all events are carried out.
-use Rattle.lw_interleaving.proofs.Common.{◌≡◌, ◌∙◌, ap, refl, sym, true≢false, RunsTo-more, SourceTransition}
+use Rattle.lw_interleaving.proofs.Common.{◌≡◌, ◌∙◌, ap, refl, sym, true≢false, RunsTo-next, SourceTransition}
 use Rattle.lw_interleaving.proofs.Common.{SourceRunState}
 use Rattle.lw_interleaving.proofs.api.Runs.{SameSize-source_event, ReturnsEventResult-ok}
 use Rattle.lw_interleaving.proofs.api.Runs.{IsSourceReplay-stopped, IsSourceReplay-all_events}
 use Rattle.lw_interleaving.proofs.run.SourceRun.run.Goals as goal
 
+-- One more event was carried out, so the run so far is that of one event more.
 pub loop-done-preserved : goal.loop-done-preserved
 loop-done-preserved g c =
     let done = rw (c.loop-done.invariant.program, c.loop-done.invariant.start) at c.carry_out_event.ensures.done in
-    let one =
-    ReturnsEventResult-ok _ _ c.carry_out_event.result c.in_default.field-0 c.carry_out_event.new.self.state done
-    c.in_default.is in
+    let one = ReturnsEventResult-ok {end = c.carry_out_event.new.self.state} _ _ done c.in_default.is in
     let kept = SameSize-source_event c.args.self.now.program _ c.loop-done.self.state c.carry_out_event.new.self.state one in
     record {
       program = c.carry_out_event.ensures.program ∙ c.loop-done.invariant.program;
       start = c.carry_out_event.ensures.start ∙ c.loop-done.invariant.start;
       ran =
-          RunsTo-more (SourceTransition c.args.self.now.program) c.args.events.now c.loop-done.done c.index-events-done.result
+          RunsTo-next (SourceTransition c.args.self.now.program) c.args.events.now c.loop-done.done c.index-events-done.result
           c.args.self.now.state c.loop-done.self.state c.carry_out_event.new.self.state c.loop-done-test.true
           c.index-events-done.is c.loop-done.invariant.ran one;
       threads = kept.0 ∙ c.loop-done.invariant.threads;
       words = kept.1 ∙ c.loop-done.invariant.words;
     }
 
+-- The next event is rejected, so the replay stops there.
 pub returns-in-Err-clause-replayed : goal.returns-in-Err-clause-replayed
 returns-in-Err-clause-replayed g c =
     let before : SourceRunState =

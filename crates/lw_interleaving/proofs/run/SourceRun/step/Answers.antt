@@ -8,6 +8,7 @@ use Rattle.lw_interleaving.proofs.api.Runs.{ReturnsEventResult-no_thread, Return
 use Rattle.lw_interleaving.proofs.api.Runs.{length-apply_change_if_some}
 use Rattle.lw_interleaving.proofs.run.SourceRun.step.Goals as goal
 
+-- The statement was executed, so the answer and the run are those of an enabled step.
 pub returns-clause-done : goal.returns-clause-done
 returns-clause-done g c =
     let thread = rw c.index.ensures.value at c.in-Some.ensures in
@@ -45,6 +46,7 @@ bounds-as_slice-index g c =
     let within = slice_get_within c.self.inside.threads c.args.cpu c.in-Some.thread.now (sym thread) in
     omega (arith, within, c.self.invariant.0, ap length c.as_slice.ensures, c.index-2.ensures.value)
 
+-- The thread has no next statement, so its step is rejected.
 pub returns-in_default-get-clause-done : goal.returns-in_default-get-clause-done
 returns-in_default-get-clause-done g c =
     let thread = rw c.index.ensures.value at c.in-Some.ensures in

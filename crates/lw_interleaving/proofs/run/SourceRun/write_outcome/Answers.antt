@@ -4,6 +4,7 @@ use Rattle.lw_interleaving.proofs.Common.{ap, arith, length, ◌∙◌, FinalSta
 use Rattle.lw_interleaving.proofs.api.Runs.{map_prefix-set}
 use Rattle.lw_interleaving.proofs.run.SourceRun.write_outcome.Goals as goal
 
+-- One more row has the registers of its thread.
 pub loop-cpu-preserved : goal.loop-cpu-preserved
 loop-cpu-preserved g c =
     let threads = c.as_slice-thread-items.ensures ∙ ap (λ r. r.state.threads) c.self.view_is in
